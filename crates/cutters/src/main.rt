@@ -1,0 +1,71 @@
+//! `cutters`: the tools that cut files, in one program.
+#![tactic(auto)]
+
+mod messages;
+mod run;
+mod settings;
+#[cfg(test)]
+mod tests;
+mod words;
+
+ghost use Rattle.std.specs.Prelude.{◌≡◌};
+ghost use Rattle.ports_core.specs.Slot.{streams};
+ghost use Rattle.ports_core.specs.Source.{IsFresh};
+
+use crate::messages::say;
+use crate::run::run;
+use ports_core::{DirIn, DirOut, Fault, Tool, UsageKind};
+use std::alloc::{AllocError, Global};
+use std::env;
+use std::io::ErrorKind;
+use std::process::ExitCode;
+
+/// Runs the tool that the program's words name, over standard input, standard output and standard error.
+fn main(rt: HostRuntime) -> ExitCode {
+    let alloc = rt.alloc();
+    let mut outs = DirOut::new(rt.stdout(), rt.stderr());
+    let status = match read_args(&rt, alloc) {
+        Ok(args) => run_args(alloc, &args, &mut DirIn::new(rt.stdin()), &mut outs),
+        Err(fault) => refuse(alloc, &fault, &mut outs),
+    };
+    ExitCode::from(status)
+}
+
+/// The program's words.
+///
+/// # Errors
+///
+/// `Memory` where there is no room for them. Words that aren't UTF-8 can't be read, so there is no tool then.
+fn read_args(rt: &HostRuntime, alloc: Global) -> Result<Vec<String>, Fault> {
+    let args = match env::args(rt) {
+        Ok(args) => args,
+        Err(error) if error.kind() == ErrorKind::OutOfMemory => return Err(Fault::Memory),
+        Err(_) => return Err(Fault::Usage(UsageKind::MissingTool, 0)),
+    };
+    match args.skip(1).collect(alloc) {
+        Ok(words) => Ok(words),
+        Err(AllocError) => Err(Fault::Memory),
+    }
+}
+
+fn run_args(alloc: Global, args: &Vec<String>, inputs: &mut DirIn, outs: &mut DirOut) -> u8
+    requires inputs { IsFresh inputs.old }
+    requires outputs { outs.old ≡ streams }
+{
+    match args
+        .iter()
+        .map(|word| word.as_str())
+        .collect::<Vec<&str>>(alloc)
+    {
+        Ok(words) => run(alloc, &words, inputs, outs),
+        Err(AllocError) => refuse(alloc, &Fault::Memory, outs),
+    }
+}
+
+/// Says what is wrong, and answers the status.
+fn refuse(alloc: Global, fault: &Fault, outs: &mut DirOut) -> u8
+    requires { outs.old ≡ streams }
+{
+    say(alloc, Tool::Cutters, fault, "", outs);
+    1
+}

@@ -1,0 +1,31 @@
+//! What the program says on standard error.
+ghost use Rattle.std.specs.Prelude.{IsTrue};
+ghost use Rattle.ports_core.specs.Slot.{is_writable};
+ghost use Rattle.ports_core.specs.Text.{message_of};
+ghost use Rattle.cutters.specs.Message.{Prints, Says};
+
+use ports_core::{Fault, Outs, Tool, memory_exhausted, message, write_whole};
+use std::alloc::Global;
+
+/// The output for messages.
+const STANDARD_ERROR: usize = 1;
+
+/// Says what went wrong. The name is that of the file or the word that the fault speaks of. Where there is no memory for
+/// the message, the line that says so stands in its place; where it can't be written, it is passed over.
+pub fn say<O: Outs>(alloc: Global, tool: Tool, fault: &Fault, name: &str, outs: &mut O)
+    requires { IsTrue (is_writable (O.slots outs.old) 1) }
+    ensures { Says O.told tool (message_of tool fault.now name.now) (O.slots outs.old) (O.slots outs.new) }
+{
+    match message(alloc, tool, fault, name) {
+        Ok(text) => print(&text, outs),
+        Err(_) => print(memory_exhausted(tool), outs),
+    }
+}
+
+/// Writes a text to standard error, as far as that takes it.
+fn print<O: Outs>(text: &[u8], outs: &mut O)
+    requires { IsTrue (is_writable (O.slots outs.old) 1) }
+    ensures { Prints O.told text.now (O.slots outs.old) (O.slots outs.new) }
+{
+    let _ = write_whole(outs, STANDARD_ERROR, text);
+}

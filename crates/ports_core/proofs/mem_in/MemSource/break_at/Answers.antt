@@ -1,0 +1,14 @@
+use Rattle.std.proofs.Common.{◌≡◌, ap, ◌∙◌, ◌≤◌, length, drop, take, arith, length-drop, true}
+use Rattle.std.proofs.lemmas.List.{drop-take}
+use Rattle.ports_core.specs.Source.{cut}
+use Rattle.ports_core.proofs.SourceLemmas.{cut_within}
+use Rattle.ports_core.proofs.mem_in.MemSource.break_at.Goals as goal
+
+pub returns-then-at-len : goal.returns-then-at-len
+returns-then-at-len c =
+    let bytes : drop c.self.inside.given c.truncate.new.self.items ≡ take c.args.at (drop c.self.inside.given c.self.inside.bytes.items)
+    = ap (drop c.self.inside.given) c.truncate.ensures.items ∙ drop-take c.self.inside.given c.args.at c.self.inside.bytes.items in
+    let enough : c.args.at ≤ length (drop c.self.inside.given c.self.inside.bytes.items) = rw length-drop (omega arith) in
+    ap (λ those. record { left = record { bytes = those; breaks_off = true }; is_open = true; is_broken = c.self.inside.is_broken }) bytes
+    ∙ cut_within (record { left = record { bytes = drop c.self.inside.given c.self.inside.bytes.items; breaks_off = c.self.inside.breaks_off }; is_open = true; is_broken = c.self.inside.is_broken }) c.args.at enough
+    ∙ ap (cut c.args.at) c.self.view_is

@@ -1,0 +1,45 @@
+-- What each call of an engine owes. `Holds engine fed` says that the engine can have been fed these bytes, and
+-- `settled engine fed` is what its outputs must have got by then.
+use Rattle.std.specs.Prelude.{◌≡◌, ℕ, ◌+◌, ◌≤◌, ◌^◌, Bool, true, false, List, ◌++◌}
+use Rattle.ports_core.specs.Slot.{Slot, Rose}
+use Rattle.ports_core.specs.Part.{Part, OutputsAt, StoppedBetween}
+use Rattle.ports_core.specs.declared.fault.Fault.{Fault}
+use Rattle.ports_core.specs.declared.fault.Fault.TheVariants.{Memory, Write, Read, Open, Suffixes, NoMatch, Range, Usage, Failed, TooLong}
+
+-- whatever the engine was fed before, it was fed this piece behind it
+abbrev pub TakesIn : {E : Type 0} → (E → List ℕ → Type 0) → List ℕ → E → E → Type 0
+TakesIn Holds piece old new = (x : List ℕ) → Holds old x → Holds new (x ++ piece)
+
+-- if the outputs had got what was settled before the piece, they have got what is settled with it
+abbrev pub PutsOut : {E : Type 0} → (E → List ℕ → Type 0) → (E → List ℕ → Part) → E → List ℕ → Bool → List Slot → List Slot → Type 0
+PutsOut Holds settled engine piece told old new = (before : List Slot) (x : List ℕ) → Holds engine x
+    → OutputsAt told before (settled engine x) old → OutputsAt told before (settled engine (x ++ piece)) new
+
+-- after a fault they have got a part between these two
+abbrev pub CutsOff : {E : Type 0} → (E → List ℕ → Type 0) → (E → List ℕ → Part) → E → List ℕ → Bool → List Slot → List Slot → Fault → Type 0
+CutsOff Holds settled engine piece told old new fault = (before : List Slot) (x : List ℕ) → Holds engine x
+    → OutputsAt told before (settled engine x) old
+    → StoppedBetween told before (settled engine x) (settled engine (x ++ piece)) fault new
+
+-- the causes of the faults of an engine that writes to standard output alone and takes no memory
+abbrev pub IsCaused : Bool → ℕ → ℕ → List Slot → List Slot → Fault → Type 0
+IsCaused is_over fed size old new (Write slot) = (is_over ≡ false) × (slot ≡ 0) × Rose slot old new
+IsCaused is_over fed size old new Failed = (is_over ≡ true) × (new ≡ old)
+IsCaused is_over fed size old new TooLong = (is_over ≡ false) × (2 ^ 63 ≤ fed + size) × (new ≡ old)
+IsCaused is_over fed size old new Memory = ⊥
+IsCaused is_over fed size old new (Read slot) = ⊥
+IsCaused is_over fed size old new (Open slot) = ⊥
+IsCaused is_over fed size old new Suffixes = ⊥
+IsCaused is_over fed size old new (NoMatch operand repetition) = ⊥
+IsCaused is_over fed size old new (Range operand repetition) = ⊥
+IsCaused is_over fed size old new (Usage kind word) = ⊥
+
+-- at the end the outputs have got the whole part, where they had got what was settled
+abbrev pub Finishes : {E : Type 0} → (E → List ℕ → Type 0) → (E → List ℕ → Part) → (E → List ℕ → Part) → E → Bool → List Slot → List Slot → Type 0
+Finishes Holds settled whole engine told old new = (before : List Slot) (x : List ℕ) → Holds engine x
+    → OutputsAt told before (settled engine x) old → OutputsAt told before (whole engine x) new
+
+-- after a fault at the end they have got a part between these two
+abbrev pub EndsShort : {E : Type 0} → (E → List ℕ → Type 0) → (E → List ℕ → Part) → (E → List ℕ → Part) → E → Bool → List Slot → List Slot → Fault → Type 0
+EndsShort Holds settled whole engine told old new fault = (before : List Slot) (x : List ℕ) → Holds engine x
+    → OutputsAt told before (settled engine x) old → StoppedBetween told before (settled engine x) (whole engine x) fault new

@@ -1,0 +1,72 @@
+-- What a tool has put out by a moment: bytes on standard output, and files in the order in which they were opened.
+use Rattle.std.specs.Prelude.{◌≡◌, ℕ, ◌<◌, Bool, List, [], ◌∷◌, ◌++◌, length, map}
+use Rattle.ports_core.specs.Slot.{Slot, with_written, with_broken, unopened, told_of}
+use Rattle.ports_core.specs.declared.slot.Mode.{Mode}
+use Rattle.ports_core.specs.declared.fault.Fault.{Fault}
+use Rattle.ports_core.specs.declared.fault.Fault.TheVariants.{Memory, Write, Read, Open, Suffixes, NoMatch, Range, Usage, Failed, TooLong}
+
+pub record File : Type 0 where
+  pub name : List ℕ
+  pub mode : Mode
+  pub bytes : List ℕ
+
+pub record Part : Type 0 where
+  pub out : List ℕ
+  pub files : List File
+
+abbrev pub nothing : Part
+nothing = record { out = []; files = [] }
+
+abbrev pub only_out : List ℕ → Part
+only_out bytes = record { out = bytes; files = [] }
+
+-- a slot without its state
+abbrev pub file_of : Slot → File
+file_of slot = record { name = slot.name; mode = slot.mode; bytes = slot.written }
+
+abbrev pub told_file : Bool → File → File
+told_file told file = record file { bytes = told_of told file.bytes }
+
+-- From the state `before` on, the outputs have got this part: standard output has its bytes behind what it had, and
+-- the slots that were opened since are its files, in order, no more and no fewer.
+pub record OutputsAt (told : Bool) (before : List Slot) (part : Part) (now : List Slot) : Type 0 where
+  pub standard : 0 < length before
+  pub since : List Slot
+  pub slots : now ≡ with_written 0 (told_of told part.out) before ++ since
+  pub files : map file_of since ≡ map (told_file told) part.files
+
+-- the bytes are a beginning of the whole, perhaps empty, perhaps all
+abbrev pub IsBeginning : List ℕ → List ℕ → Type 0
+IsBeginning bytes whole = (rest : List ℕ) × (whole ≡ bytes ++ rest)
+
+-- each file begins the one at its place, and there may be more of these
+abbrev pub FilesBegin : List File → List File → Type 0
+FilesBegin [] wholes = Unit {0}
+FilesBegin (file ∷ files) [] = ⊥
+FilesBegin (file ∷ files) (whole ∷ wholes) = (file.name ≡ whole.name) × (file.mode ≡ whole.mode) × IsBeginning file.bytes whole.bytes × FilesBegin files wholes
+
+pub record Begins (low high : Part) : Type 0 where
+  pub out : IsBeginning low.out high.out
+  pub files : FilesBegin low.files high.files
+
+-- what a fault leaves in the slots by itself
+abbrev pub Marks : Fault → List Slot → List Slot → Type 0
+Marks (Write slot) before after = after ≡ with_broken slot before
+Marks (Open slot) before after = (slot ≡ length before) × ((kept : List ℕ) × (after ≡ before ++ unopened kept ∷ []))
+Marks Memory before after = after ≡ before
+Marks (Read slot) before after = after ≡ before
+Marks Suffixes before after = after ≡ before
+Marks (NoMatch operand repetition) before after = after ≡ before
+Marks (Range operand repetition) before after = after ≡ before
+Marks (Usage kind word) before after = after ≡ before
+Marks Failed before after = after ≡ before
+Marks TooLong before after = after ≡ before
+
+-- A fault stopped the outputs at some part between two, and left its mark.
+pub record StoppedBetween (told : Bool) (before : List Slot) (low high : Part) (fault : Fault) (now : List Slot) : Type 0 where
+  pub part : Part
+  pub above : Begins low part
+  pub below : Begins part high
+  pub reached : List Slot
+  pub outputs : OutputsAt told before part reached
+  pub marks : Marks fault reached now

@@ -1,0 +1,31 @@
+//! The edge of the tools: where their bytes come from and go to, the faults that they can meet there, and the texts
+//! that they print.
+#![tactic(auto)]
+
+mod dir_in;
+mod dir_out;
+mod fault;
+mod inputs;
+mod length;
+mod mem_in;
+mod mem_out;
+mod outs;
+mod slot;
+#[cfg(test)]
+mod tests;
+mod text;
+mod tool;
+mod whole;
+
+pub use dir_in::DirIn;
+pub use dir_out::DirOut;
+pub use fault::{Fault, UsageKind};
+pub use inputs::Inputs;
+pub use length::{MOST_BYTES, fed_with};
+pub use mem_in::MemIn;
+pub use mem_out::MemOut;
+pub use outs::Outs;
+pub use slot::{Mode, State};
+pub use text::{memory_exhausted, message};
+pub use tool::Tool;
+pub use whole::{WriteCut, write_whole};

@@ -1,0 +1,168 @@
+//! The lines of a text: a line is a run of bytes that ends with a newline, and the last line of a
+//! text may lack it (POSIX.1-2017, XBD 3.206).
+ghost use Rattle.std.specs.Prelude.{◌≡◌, ℕ, ◌+◌, ◌<◌, ◌≤◌, false, List, [], ◌∷◌, ◌++◌, if◌then◌else◌, length, take};
+ghost use Rattle.seg_core.specs.Line.{IsLines, Reaches, ends_with_newline, lines_of, newlines};
+
+use crate::line_iter::Lines;
+use crate::line_reach::Reach;
+use memchr::memchr;
+use std::simd::prelude::*;
+
+// How many bytes are counted in one step.
+const STEP: usize = 64;
+
+/// The lines of `bytes`, each a slice of it. It takes no memory.
+pub fn lines(bytes: &[u8]) -> Lines<'_>
+    ensures left { result ≡ bytes.now }
+    ensures are { IsLines bytes.now (lines_of bytes.now) }
+    ensures only { (others : List (List ℕ)) → IsLines bytes.now others → others ≡ lines_of bytes.now }
+{
+    Lines::new(bytes)
+}
+
+/// The first line of `bytes`, empty where `bytes` is, and the rest. It takes no memory.
+pub fn next_line(bytes: &[u8]) -> (&[u8], &[u8])
+    ensures joined { bytes.now ≡ result.0.now ++ result.1.now }
+    ensures first { 0 < length bytes.now → lines_of bytes.now ≡ result.0.now ∷ lines_of result.1.now }
+    ensures some { 0 < length bytes.now → 0 < length result.0.now }
+    ensures count { newlines bytes.now ≡ (if ends_with_newline result.0.now then newlines result.1.now + 1 else newlines result.1.now) }
+    ensures last { ends_with_newline result.0.now ≡ false → result.1.now ≡ [] }
+{
+    match memchr(b'\n', bytes) {
+        Some(place) => bytes.split_at(place + 1),
+        None => bytes.split_at(bytes.len()),
+    }
+}
+
+/// How many newlines `bytes` has, and so how many complete lines. It takes no memory.
+pub fn count_newlines(bytes: &[u8]) -> usize
+    ensures { result ≡ newlines bytes.now }
+{
+    let mut count = 0;
+    let mut left = bytes;
+    while STEP <= left.len() {
+        count += count_in_step(left) as usize;
+        left = &left[STEP..];
+    }
+    count + count_one_by_one(left)
+}
+
+// The newlines of the first bytes, as many as a step counts.
+#[inline(always)]
+fn count_in_step(bytes: &[u8]) -> u32
+    requires { STEP ≤ length bytes.now }
+    ensures { result ≡ newlines (take STEP bytes.now) }
+{
+    let lanes = u8x64::from_slice(bytes);
+    lanes.simd_eq(u8x64::splat(b'\n')).to_bitmask().count_ones()
+}
+
+fn count_one_by_one(bytes: &[u8]) -> usize
+    ensures { result ≡ newlines bytes.now }
+{
+    let mut count = 0;
+    for byte in bytes {
+        if *byte == b'\n' {
+            count += 1;
+        }
+    }
+    count
+}
+
+/// Where the first `lines` lines of `bytes` end, if it has that many complete lines. It takes no
+/// memory.
+pub fn reach(bytes: &[u8], lines: u64) -> Reach
+    ensures { Reaches lines bytes.now result }
+{
+    if lines == 0 {
+        return Reach::Ends(0);
+    }
+    let (at, count) = skip_steps(bytes, lines);
+    reach_from(bytes, at, count, lines)
+}
+
+// Passes steps as long as the last of the lines ends behind them: how many bytes, and how many
+// newlines they have.
+fn skip_steps(bytes: &[u8], lines: u64) -> (usize, usize)
+    requires { 0 < lines }
+    ensures within { result.0 ≤ length bytes.now }
+    ensures counted { result.1 ≡ newlines (take result.0 bytes.now) }
+    ensures fewer { result.1 < lines }
+{
+    let mut count = 0;
+    let mut at = 0;
+    while STEP <= bytes.len() - at {
+        let more = count + count_in_step(&bytes[at..]) as usize;
+        if lines <= more as u64 {
+            return (at, count);
+        }
+        count = more;
+        at += STEP;
+    }
+    (at, count)
+}
+
+// Where the lines end that go past the first `at` bytes, which have `count` newlines, byte by byte.
+fn reach_from(bytes: &[u8], at: usize, count: usize, lines: u64) -> Reach
+    requires within { at ≤ length bytes.now }
+    requires counted { count ≡ newlines (take at bytes.now) }
+    requires fewer { count < lines }
+    ensures { Reaches lines bytes.now result }
+{
+    let mut seen = count;
+    for i in at..bytes.len() {
+        // Added and not branched on: where lines are short, a branch would often be guessed wrong.
+        seen += usize::from(bytes[i] == b'\n');
+        if seen as u64 == lines {
+            return Reach::Ends(i + 1);
+        }
+    }
+    Reach::Short(seen)
+}
+
+#[cfg(test)]
+mod tests {
+    use super::*;
+
+    #[test]
+    fn cuts_a_text(rt: HostRuntime) {
+        let text: &[u8] = b"a\nbc\n\nd";
+        let (line, rest) = next_line(text);
+        assert_eq!(rt; line, b"a\n".as_slice());
+        assert_eq!(rt; rest, b"bc\n\nd".as_slice());
+        let wanted: [&[u8]; 4] = [b"a\n", b"bc\n", b"\n", b"d"];
+        let mut at = 0;
+        for line in lines(text) {
+            assert!(rt; at < 4);
+            assert_eq!(rt; line, wanted[at]);
+            at += 1;
+        }
+        assert_eq!(rt; at, 4);
+        assert_eq!(rt; count_newlines(text), 3);
+        let none: &[u8] = b"";
+        assert_eq!(rt; next_line(none).0.len(), 0);
+        assert!(rt; lines(none).next().is_none());
+    }
+
+    #[test]
+    fn reaches_lines(rt: HostRuntime) {
+        let text: &[u8] = b"a\nbc\n\nd";
+        for (lines, wanted) in [
+            (0, Reach::Ends(0)),
+            (1, Reach::Ends(2)),
+            (2, Reach::Ends(5)),
+            (3, Reach::Ends(6)),
+            (4, Reach::Short(3)),
+        ] {
+            assert_eq!(rt; reach(text, lines), wanted, "at {lines}");
+        }
+        let mut long = [b'\n'; 200];
+        for byte in long[..150].iter_mut() {
+            *byte = b'x';
+        }
+        assert_eq!(rt; count_newlines(&long), 50);
+        assert_eq!(rt; reach(&long, 1), Reach::Ends(151));
+        assert_eq!(rt; reach(&long, 50), Reach::Ends(200));
+        assert_eq!(rt; reach(&long, 51), Reach::Short(50));
+    }
+}

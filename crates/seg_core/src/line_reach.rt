@@ -1,0 +1,10 @@
+//! Where a number of lines ends in a text.
+
+/// Where a number of lines ends in a text.
+#[derive(Clone, Copy, Debug, PartialEq, Eq)]
+pub enum Reach {
+    /// The text has that many complete lines: they are its first bytes, this many.
+    Ends(usize),
+    /// The text has fewer newlines than that: this many.
+    Short(usize),
+}
