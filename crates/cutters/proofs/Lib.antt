@@ -1,3 +1,4 @@
 pub mod CopyLemmas
 pub mod MessageLemmas
 pub mod RunLemmas
+pub mod SpellingLemmas

@@ -1,5 +1,5 @@
 -- Lemmas on how a run ends.
-use Rattle.std.proofs.Common.{◌≡◌, ℕ, ◌<◌, ◌≤◌, Bool, true, false, not, ◌||◌, nat_le, if◌then◌else◌, List, [], ◌∷◌, Ok, Err, Some, None, codes, arith, inl, inr, ◌⊎◌, refl, sym, ◌∙◌, ap, subst, lit<}
+use Rattle.std.proofs.Common.{◌≡◌, ℕ, ◌<◌, ◌≤◌, Bool, true, false, not, ◌||◌, nat_le, if◌then◌else◌, List, [], ◌∷◌, Result, Ok, Err, Some, None, codes, arith, inl, inr, ◌⊎◌, refl, sym, ◌∙◌, ap, subst, lit<}
 use Rattle.std.proofs.lemmas.Bool.Decides.{nat_tests}
 use Rattle.std.specs.Str.{bytes_eq}
 use Rattle.ports_core.specs.Slot.{Slot, streams}
@@ -20,7 +20,8 @@ use Rattle.cutters.specs.Message.{Says}
 use Rattle.cutters.specs.Outcome.{in_silence, at_fault, is_enough, head_outcome, tool_of, tool_outcome, outcome, outcome_at, speaker, or_cutters, word_of}
 use Rattle.cutters.specs.RunEnds.{Stops, stream_of, EndsAs, as_defined, RunEnds}
 use Rattle.cutters.specs.RunEnds as run
-use Rattle.cutters.specs.Words.{settings_of, tool_settings}
+use Rattle.cutters.specs.Reads.{ReadsAt}
+use Rattle.cutters.specs.Words.{AreRefused, settings_of, tool_settings}
 use Rattle.cutters.proofs.CopyLemmas.{settings_at}
 use Rattle.cutters.proofs.MessageLemmas.{says_nothing}
 
@@ -86,3 +87,18 @@ pub refused : (told : Bool) (words : List (List ℕ)) (fault : Fault) (input : C
 refused told words fault input old new is fresh says =
     subst (λ made. EndsAs told (speaker words) made input new 1) (ap (outcome_at words input) is)
     (as_defined streams (nothing_out told streams (lit< tt)) (subst (λ slots. Says told (speaker words) (message_of (speaker words) fault (word_of words fault)) slots new) fresh says) refl)
+
+-- words that are refused, or weren't read for want of memory
+pub refused_or_memory : (told : Bool) (words : List (List ℕ)) (fault : Fault) (input : Content) (old new : List Slot) → (fault ≡ Memory) ⊎ AreRefused words fault → old ≡ streams → Says told (speaker words) (message_of (speaker words) fault (word_of words fault)) old new → RunEnds told words input new 1
+refused_or_memory told words fault input old new (inr is) fresh says = refused told words fault input old new (sym is) fresh says
+refused_or_memory told words fault input old new (inl is) fresh says =
+    run.stopped Memory streams tt
+    (stopped_here told streams nothing (outcome words input).part Memory streams streams (nothing_out told streams (lit< tt)) (nothing_begins_part _) refl)
+    (subst (λ why. Says told (speaker words) (message_of (speaker words) why (word_of words why)) streams new) is
+    (subst (λ slots. Says told (speaker words) (message_of (speaker words) fault (word_of words fault)) slots new) fresh says))
+    refl
+
+-- nothing read is no more than was needed
+pub nothing_read : (meant : Result Settings Fault) (there : Content) → ReadsAt meant there there
+nothing_read (Ok (Head settings)) there = ([], inl refl, refl)
+nothing_read (Err fault) there = refl

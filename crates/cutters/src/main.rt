@@ -2,8 +2,10 @@
 #![tactic(auto)]
 
 mod messages;
+mod options;
 mod run;
 mod settings;
+mod spelling;
 #[cfg(test)]
 mod tests;
 mod words;

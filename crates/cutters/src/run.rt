@@ -26,7 +26,7 @@ pub fn run<I: Inputs, O: Outs>(alloc: Global, words: &[&str], inputs: &mut I, ou
     ensures ends { OfInput I.told (source_at (I.sources inputs.old) 0).left (λ input. RunEnds O.told (map (λ word. word.now) words.now) input (O.slots outs.new) result) }
     ensures reads { I.told ≡ true → Reads (map (λ word. word.now) words.now) (source_at (I.sources inputs.old) 0).left (source_at (I.sources inputs.new) 0).left }
 {
-    match read_words(words) {
+    match read_words(alloc, words) {
         Ok(settings) => run_tool(alloc, settings, inputs, outs),
         Err(fault) => {
             say(alloc, speaker(words), &fault, word_of(words, &fault), outs);

@@ -1,26 +1,28 @@
-//! The words of the command line: POSIX.1-2017, XCU head, without its obsolete forms.
-ghost use Rattle.std.specs.Prelude.{◌≡◌, ◌≤◌, ◌∷◌, ℕ, List, Option, map};
-ghost use Rattle.cutters.specs.Words.{tool_named, is_option, first_option, left_over, head_lines, valued, head_settings, settings_of};
+//! The words of the command line, from the tool's name on: POSIX.1-2017, XBD 12.2 and XCU head.
+ghost use Rattle.std.specs.Prelude.{◌≡◌, ◌⊎◌, map, IfOk, IfErr};
+ghost use Rattle.cutters.specs.Words.{AreRefused, AreRefusedByHead, Spells, SpellsHead, first_operand, last_count, tool_named};
 
+use crate::options::head_options;
 use crate::settings::{HeadSettings, Settings};
+use crate::spelling::{Item, State, read_items};
 use ends_core::Unit;
 use ports_core::{Fault, Tool, UsageKind};
-use seg_core::count::CountFault;
-use seg_core::digits::read_digits;
+use std::alloc::Global;
 
 /// Reads what the words ask for. The first is the tool's name.
 ///
 /// # Errors
 ///
-/// `Usage`: what is wrong, and with which word.
-pub fn read_words(words: &[&str]) -> Result<Settings, Fault>
-    ensures { result ≡ settings_of (map (λ word. word.now) words.now) }
+/// `Usage`: what is wrong, and with which word. `Memory` where there is no room for what they spell.
+pub fn read_words(alloc: Global, words: &[&str]) -> Result<Settings, Fault>
+    ensures ok { IfOk result (Spells (map (λ word. word.now) words.now)) }
+    ensures err { IfErr result (λ fault. (fault ≡ Fault.Memory) ⊎ AreRefused (map (λ word. word.now) words.now) fault) }
 {
     let [name, words @ ..] = words else {
         return Err(Fault::Usage(UsageKind::MissingTool, 0));
     };
     match find_tool(name) {
-        Some(_) => read_head(words),
+        Some(_) => read_head(alloc, words),
         None => Err(Fault::Usage(UsageKind::UnknownTool, 0)),
     }
 }
@@ -36,75 +38,54 @@ pub fn find_tool(name: &str) -> Option<Tool>
     }
 }
 
-fn read_head(words: &[&str]) -> Result<Settings, Fault>
-    ensures { result ≡ head_settings (map (λ word. word.now) words.now) }
+fn read_head(alloc: Global, words: &[&str]) -> Result<Settings, Fault>
+    ensures ok { IfOk result (SpellsHead (map (λ word. word.now) words.now)) }
+    ensures err { IfErr result (λ fault. (fault ≡ Fault.Memory) ⊎ AreRefusedByHead (map (λ word. word.now) words.now) fault) }
 {
-    let [word, behind @ ..] = words else {
-        return Ok(lines(10));
+    let items = match read_items(alloc, head_options(), State::First(Unit::Lines), words) {
+        Ok(items) => items,
+        Err(fault) => return Err(fault),
     };
-    if *word == "-n" {
-        return read_value(behind);
-    }
-    Err(refuse(1, words))
-}
-
-fn read_value(words: &[&str]) -> Result<Settings, Fault>
-    ensures { result ≡ valued (map (λ word. word.now) words.now) }
-{
-    let [value, behind @ ..] = words else {
-        return Err(Fault::Usage(UsageKind::MissingValue, 1));
-    };
-    match read_digits(value.as_bytes()) {
-        Ok(count) => only_lines(count, behind),
-        Err(CountFault::TooLarge) => Err(Fault::Usage(UsageKind::NumberTooLarge, 2)),
-        Err(CountFault::NoDigits | CountFault::Suffix) => Err(Fault::Usage(
-            UsageKind::BadNumber,
-            2,
-        )),
+    match find_operand(&items) {
+        Some(place) => Err(Fault::Usage(UsageKind::ExtraOperand, place)),
+        None => Ok(Settings::Head(choose_count(&items))),
     }
 }
 
-fn only_lines(count: u64, words: &[&str]) -> Result<Settings, Fault>
-    ensures { result ≡ head_lines count (map (λ word. word.now) words.now) }
+/// The place of the first operand.
+fn find_operand(items: &[Item]) -> Option<usize>
+    ensures { result ≡ first_operand items.now }
 {
-    if words.is_empty() {
-        return Ok(lines(count));
-    }
-    Err(refuse(3, words))
-}
-
-fn lines(count: u64) -> Settings
-    ensures { result ≡ Settings.Head (record { unit = Unit.Lines; count = count }) }
-{
-    Settings::Head(HeadSettings {
-        unit: Unit::Lines,
-        count,
-    })
-}
-
-/// What is wrong with words that are left over, the first of which stands at this place.
-fn refuse(place: usize, words: &[&str]) -> Fault
-    requires { place ≤ 3 }
-    ensures { result ≡ left_over place (first_option place (map (λ word. word.now) words.now)) }
-{
-    let mut at = place;
-    let mut left = words;
-    while let [word, behind @ ..] = left {
-        if is_option(word) {
-            return Fault::Usage(UsageKind::UnknownOption, at);
+    let mut left = items;
+    while let [item, behind @ ..] = left {
+        match item {
+            Item::Operand(place) => return Some(*place),
+            Item::Chosen(_) | Item::Counted(_, _) => left = behind,
         }
-        at += 1;
+    }
+    None
+}
+
+/// What the last count says: ten lines where there is none.
+fn choose_count(items: &[Item]) -> HeadSettings
+    ensures { result ≡ last_count (record { unit = Unit.Lines; count = 10 }) items.now }
+{
+    let mut settings = HeadSettings {
+        unit: Unit::Lines,
+        count: 10,
+    };
+    let mut left = items;
+    while let [item, behind @ ..] = left {
+        match item {
+            Item::Counted(unit, count) => {
+                settings = HeadSettings {
+                    unit: *unit,
+                    count: *count,
+                };
+            }
+            Item::Chosen(_) | Item::Operand(_) => {}
+        }
         left = behind;
     }
-    Fault::Usage(UsageKind::ExtraOperand, place)
-}
-
-/// Whether the word begins with a hyphen and isn't a hyphen alone.
-fn is_option(word: &str) -> bool
-    ensures { result ≡ is_option word.now }
-{
-    match word.as_bytes() {
-        [b'-', _, ..] => true,
-        _ => false,
-    }
+    settings
 }

@@ -1,5 +1,5 @@
 -- The first lines or bytes of an input: POSIX.1-2017, XCU head; the option -c is GNU's.
-use Rattle.std.specs.Prelude.{◌≡◌, ℕ, ◌<◌, ◌-◌, ◌++◌, false, List, length, take, All}
+use Rattle.std.specs.Prelude.{◌≡◌, ℕ, ◌<◌, ◌-◌, ◌++◌, false, List, [], length, take, All}
 use Rattle.seg_core.specs.Line.{newlines, first_lines}
 use Rattle.ports_core.specs.Part.{Part, only_out}
 use Rattle.ends_core.specs.declared.unit.Unit.{Unit as Counted}
@@ -22,6 +22,10 @@ AreBytes x = All (λ byte. byte < 256) x
 -- what must be out once x came in: all of it that belongs to the head, since more input changes none of that
 abbrev pub settled : HeadState → List ℕ → Part
 settled head x = only_out (head_of head.unit head.count x)
+
+-- what came in and belongs to the head, and isn't out yet: nothing
+abbrev pub waiting : HeadState → List ℕ → List ℕ
+waiting head x = []
 
 -- what must be out at the end
 abbrev pub whole : HeadState → List ℕ → Part

@@ -4,3 +4,6 @@ pub mod SlotLemmas
 pub mod SourceLemmas
 pub mod TextLemmas
 pub mod WriteLemmas
+pub mod NameLemmas
+pub mod CounterLemmas
+pub mod OrderLemmas

@@ -1,6 +1,9 @@
+pub mod MemInState
 pub mod Slot
 pub mod Source
 pub mod Write
 pub mod Part
 pub mod Engine
 pub mod Text
+pub mod Name
+pub mod Counter

@@ -2,13 +2,18 @@
 //! that they print.
 #![tactic(auto)]
 
+mod alphabet;
 mod dir_in;
 mod dir_out;
 mod fault;
 mod inputs;
+mod laws;
 mod length;
 mod mem_in;
 mod mem_out;
+#[cfg(test)]
+mod name_tests;
+mod names;
 mod outs;
 mod slot;
 #[cfg(test)]
@@ -17,15 +22,18 @@ mod text;
 mod tool;
 mod whole;
 
+pub use alphabet::Alphabet;
 pub use dir_in::DirIn;
 pub use dir_out::DirOut;
 pub use fault::{Fault, UsageKind};
 pub use inputs::Inputs;
+pub use laws::{names_are_in_order, no_name_is_given_twice};
 pub use length::{MOST_BYTES, fed_with};
 pub use mem_in::MemIn;
 pub use mem_out::MemOut;
+pub use names::{Names, numbered};
 pub use outs::Outs;
 pub use slot::{Mode, State};
-pub use text::{memory_exhausted, message};
+pub use text::{header, memory_exhausted, message};
 pub use tool::Tool;
 pub use whole::{WriteCut, write_whole};

@@ -1,5 +1,5 @@
 ghost use Rattle.std.specs.Prelude.{◌≡◌, ◌++◌, ◌∷◌, [], ℕ, ◌+◌, ◌≤◌, ◌<◌, List, length, take, replicate, string_bytes, true, false, IsTrue, IfOk, IfErr, IfSome, OnOk, OnErr, OnSome, IfNone};
-ghost use Rattle.ports_core.specs.Slot.{Slot, adds, breaks, closes, removes, opened, unopened, streams, slot_at};
+ghost use Rattle.ports_core.specs.Slot.{Slot, adds, breaks, closes, removes, opened, unopened, streams, slot_at, is_removed};
 
 use crate::{Fault, Mode, Outs, State};
 use std::alloc::{AllocError, Global};
@@ -34,11 +34,11 @@ impl MemSlot {
         })
     }
 
-    fn unopened(alloc: Global) -> Self
-        ensures { result ≡ unopened [] }
+    fn unopened(alloc: Global, name: String) -> Self
+        ensures { result ≡ unopened (string_bytes name) }
     {
         MemSlot {
-            name: String::new(alloc),
+            name,
             mode: Mode::Fresh,
             bytes: Vec::new(alloc),
             state: State::Unopened,
@@ -58,7 +58,7 @@ impl MemSlot {
         if fits && self.bytes.extend_from_slice(&piece[..taken]).is_ok() {
             return Some(taken);
         }
-        self.is_broken = true;
+        self.break_off();
         None
     }
 
@@ -66,6 +66,20 @@ impl MemSlot {
         ensures { self.new ≡ closes self.old }
     {
         self.state = State::Closed;
+    }
+
+    fn break_off(&mut self)
+        ensures { self.new ≡ breaks self.old }
+    {
+        self.is_broken = true;
+    }
+
+    /// Closes the output by a close or a removal that fails.
+    fn close_broken(&mut self)
+        ensures { self.new ≡ breaks (closes self.old) }
+    {
+        self.close();
+        self.break_off();
     }
 
     fn remove(&mut self)
@@ -91,6 +105,10 @@ pub struct MemOut {
     /// How many outputs behind `slots` were opened in vain and found no room to be kept.
     lost: usize,
     limits: Vec<Limit>,
+    /// The most bytes that a write takes.
+    most: usize,
+    /// How many calls there are to the one that fails, that one counted.
+    failing_in: Option<u64>,
 }
 
 impl Model for MemOut {
@@ -115,6 +133,8 @@ impl MemOut {
                 slots,
                 lost: 0,
                 limits: Vec::new(alloc),
+                most: usize::MAX,
+                failing_in: None,
             }),
             Err(AllocError) => Err(Fault::Memory),
         }
@@ -133,6 +153,34 @@ impl MemOut {
         match self.limits.push(Limit { slot, bytes }) {
             Ok(()) => Ok(()),
             Err(_) => Err(Fault::Memory),
+        }
+    }
+
+    /// Bounds each write by this many bytes.
+    pub fn short(&mut self, n: usize)
+        requires { 0 < n }
+        ensures { self.new ≡ self.old }
+    {
+        self.most = n;
+    }
+
+    /// Makes one of the calls of `open`, `write`, `close` and `remove` from here on fail, the first being 1.
+    pub fn fail_at(&mut self, call: u64)
+        ensures { self.new ≡ self.old }
+    {
+        self.failing_in = Some(call);
+    }
+
+    /// Whether the file of an output was removed; false where there is no output of that number.
+    pub fn removed(&self, slot: usize) -> bool
+        ensures { result ≡ is_removed (slot_at self.now slot).state }
+    {
+        match slot_in(&self.slots, slot) {
+            Some(out) => match out.state {
+                State::Removed => true,
+                State::Open | State::Closed | State::Unopened => false,
+            },
+            None => false,
         }
     }
 
@@ -174,13 +222,31 @@ fn room(limits: &[Limit], slot: usize, held: usize) -> usize {
     usize::MAX
 }
 
+/// Whether this is the call that is to fail.
+fn fails(failing_in: &mut Option<u64>) -> bool {
+    match *failing_in {
+        Some(1) => {
+            *failing_in = None;
+            true
+        }
+        Some(calls) => {
+            *failing_in = Some(calls.saturating_sub(1));
+            false
+        }
+        None => false,
+    }
+}
+
 /// Gives outputs that were opened in vain a place of their own, as far as there is memory.
 fn restore(alloc: Global, slots: &mut Vec<MemSlot>, lost: &mut usize)
     ensures same { slots.new.items ++ replicate lost.new (unopened []) ≡ slots.old.items ++ replicate lost.old (unopened []) }
     ensures fewer { lost.new ≤ lost.old }
 {
     while *lost > 0 {
-        if slots.push(MemSlot::unopened(alloc)).is_err() {
+        if slots
+            .push(MemSlot::unopened(alloc, String::new(alloc)))
+            .is_err()
+        {
             return;
         }
         *lost -= 1;
@@ -194,6 +260,17 @@ fn place(alloc: Global, slots: &mut Vec<MemSlot>, name: &str, mode: Mode) -> boo
 {
     match MemSlot::opened(alloc, name, mode) {
         Ok(slot) => slots.push(slot).is_ok(),
+        Err(AllocError) => false,
+    }
+}
+
+/// Puts an output that couldn't be opened behind the others. Whether there was memory for it.
+fn place_unopened(alloc: Global, slots: &mut Vec<MemSlot>, name: &str) -> bool
+    ensures placed { IsTrue result → slots.new.items ≡ slots.old.items ++ unopened name.now ∷ [] }
+    ensures unplaced { result ≡ false → slots.new.items ≡ slots.old.items }
+{
+    match String::from_str(alloc, name) {
+        Ok(name) => slots.push(MemSlot::unopened(alloc, name)).is_ok(),
         Err(AllocError) => false,
     }
 }
@@ -216,6 +293,13 @@ impl Outs for MemOut {
             self.lost += 1;
             return Err(Fault::Open(slot));
         }
+        if fails(&mut self.failing_in) {
+            if place_unopened(self.alloc, &mut self.slots, name) {
+                return Err(Fault::Open(slot));
+            }
+            self.lost += 1;
+            return Err(Fault::Open(slot));
+        }
         if place(self.alloc, &mut self.slots, name, mode) {
             return Ok(slot);
         }
@@ -225,7 +309,11 @@ impl Outs for MemOut {
 
     fn write(&mut self, slot: usize, piece: &[u8]) -> Result<usize, Fault> {
         let out = &mut self.slots[slot];
-        let room = room(&self.limits, slot, out.bytes.len());
+        if fails(&mut self.failing_in) {
+            out.break_off();
+            return Err(Fault::Write(slot));
+        }
+        let room = room(&self.limits, slot, out.bytes.len()).min(self.most);
         let Some(taken) = out.append(piece, room) else {
             return Err(Fault::Write(slot));
         };
@@ -233,12 +321,22 @@ impl Outs for MemOut {
     }
 
     fn close(&mut self, slot: usize) -> Result<(), Fault> {
-        self.slots[slot].close();
+        let out = &mut self.slots[slot];
+        if fails(&mut self.failing_in) {
+            out.close_broken();
+            return Err(Fault::Write(slot));
+        }
+        out.close();
         Ok(())
     }
 
     fn remove(&mut self, slot: usize) -> Result<(), Fault> {
-        self.slots[slot].remove();
+        let out = &mut self.slots[slot];
+        if fails(&mut self.failing_in) {
+            out.close_broken();
+            return Err(Fault::Write(slot));
+        }
+        out.remove();
         Ok(())
     }
 

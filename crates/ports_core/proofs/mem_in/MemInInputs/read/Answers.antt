@@ -1,7 +1,19 @@
-use Rattle.std.proofs.Common.{subst}
-use Rattle.ports_core.specs.Source.{Source, Gave}
-use Rattle.ports_core.proofs.SourceLemmas.{only_standard}
+use Rattle.std.proofs.Common.{◌≡◌, List, IsTrue, true, refl, ap, sym, subst}
+use Rattle.ports_core.specs.Source.{Source, fails, gives, is_readable}
+use Rattle.ports_core.specs.MemInState.{MemInState}
+use Rattle.ports_core.proofs.SourceLemmas.{one_changes, readable_within}
 use Rattle.ports_core.proofs.mem_in.MemInInputs.read.Goals as goal
 
-pub returns-clause-bytes : goal.returns-clause-bytes
-returns-clause-bytes c _ = subst (λ (source : Source). Gave source.left c.args.buffer.now c.read.new.buffer c.in-Some.n) (only_standard _ _ _ c.args.slot c.self.view_is c.requires) c.in-Some.ensures.gave
+pub returns-in_default-clause-err : goal.returns-in_default-clause-err
+returns-in_default-clause-err c = (
+  refl,
+  one_changes _ _ c.args.slot fails _ _ (ap (λ (those : MemInState). those.sources) c.self.view_is)
+      (readable_within _ c.args.slot (subst (λ (those : MemInState). is_readable those.sources c.args.slot ≡ true) (sym c.self.view_is) c.requires))
+      c.index_mut.ensures.value c.in_default.ensures.broken,
+)
+
+pub returns-clause-rest : goal.returns-clause-rest
+returns-clause-rest c =
+    one_changes _ _ c.args.slot (gives c.in-Some.n) _ _ (ap (λ (those : MemInState). those.sources) c.self.view_is)
+    (readable_within _ c.args.slot (subst (λ (those : MemInState). is_readable those.sources c.args.slot ≡ true) (sym c.self.view_is) c.requires))
+    c.index_mut.ensures.value c.in-Some.ensures.rest

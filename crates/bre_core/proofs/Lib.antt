@@ -1,0 +1,17 @@
+pub mod Chains
+pub mod Counts
+pub mod Existence
+pub mod Leaves
+pub mod Lists
+pub mod Matching
+pub mod Members
+pub mod Names
+pub mod Numbers
+pub mod Places
+pub mod Reach
+pub mod Refusals
+pub mod Repeats
+pub mod Sets
+pub mod SoFar
+pub mod Tokens
+pub mod Trees

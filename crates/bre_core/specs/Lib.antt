@@ -1,0 +1,17 @@
+pub mod Answers
+pub mod Bracket
+pub mod ByteSet
+pub mod Class
+pub mod Code
+pub mod Counting
+pub mod Fault
+pub mod Flat
+pub mod Interval
+pub mod Match
+pub mod Pattern
+pub mod Plain
+pub mod PlainState
+pub mod Refusal
+pub mod Spans
+pub mod Steps
+pub mod Token
