@@ -1,4 +1,6 @@
-pub mod CopyLemmas
+pub mod EndsLemmas
+pub mod FeedingLemmas
 pub mod MessageLemmas
+pub mod NamesLemmas
 pub mod RunLemmas
 pub mod SpellingLemmas

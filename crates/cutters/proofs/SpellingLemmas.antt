@@ -1,5 +1,5 @@
 -- Lemmas on what words spell, item after item.
-use Rattle.std.proofs.Common.{◌≡◌, ℕ, ◌+◌, ◌-◌, ◌<◌, ◌≤◌, Bor, get_or, take, drop, length, map, arith, List, [], ◌∷◌, ◌++◌, Result, Ok, Err, Option, Some, None, append_assoc, refl, sym, ◌∙◌, ap, subst, inl, inr, ◌⊎◌}
+use Rattle.std.proofs.Common.{◌≡◌, ℕ, ◌+◌, ◌-◌, ◌<◌, ◌≤◌, Bor, get_or, take, drop, length, map, arith, List, [], ◌∷◌, ◌++◌, Result, Ok, Err, append_assoc, refl, sym, ◌∙◌, ap, inl, inr, ◌⊎◌}
 use Rattle.std.proofs.lemmas.List.{append-nil, take_rest}
 use Rattle.ports_core.specs.declared.fault.Fault.{Fault}
 use Rattle.ports_core.specs.declared.fault.Fault.TheVariants.{Memory, Usage}
@@ -38,11 +38,11 @@ stopped_at front rest meant fault is = behind-onward front rest meant ∙ ap (on
 
 -- the loop over words: what is left of them
 
-front_and_rest : (none : Bor (List ℕ)) (left : List (Bor (List ℕ))) → 1 ≤ length left → map (λ word. word.now) left ≡ (get_or left 0 none).now ∷ map (λ word. word.now) (take (length left - 1) (drop 1 left))
+pub front_and_rest : (none : Bor (List ℕ)) (left : List (Bor (List ℕ))) → 1 ≤ length left → map (λ word. word.now) left ≡ (get_or left 0 none).now ∷ map (λ word. word.now) (take (length left - 1) (drop 1 left))
 front_and_rest none [] some = absurd (omega arith)
 front_and_rest none (word ∷ words) some = ap (λ (rest : List (Bor (List ℕ))). word.now ∷ map (λ word. word.now) rest) (sym (take_rest (word ∷ words) 1))
 
-none_left : (left : List (Bor (List ℕ))) → length left < 1 → map (λ word. word.now) left ≡ []
+pub none_left : (left : List (Bor (List ℕ))) → length left < 1 → map (λ word. word.now) left ≡ []
 none_left [] none = refl
 none_left (word ∷ words) none = absurd (omega arith)
 

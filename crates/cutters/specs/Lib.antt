@@ -1,4 +1,9 @@
-pub mod Copy
+pub mod Ends
+pub mod EndsAsked
+pub mod EndsPlain
+pub mod EndsSteps
+pub mod Feeding
+pub mod Input
 pub mod Message
 pub mod Options
 pub mod Outcome

@@ -4,12 +4,15 @@ use Rattle.std.specs.Str.{bytes_eq}
 use Rattle.ends_core.specs.declared.unit.Unit.TheVariants.{Lines, Bytes}
 use Rattle.cutters.specs.declared.options.Choice.{Choice}
 use Rattle.cutters.specs.declared.options.Choice.TheVariants.{Bare, Valued}
+use Rattle.cutters.specs.declared.options.Flag.TheVariants.{Quiet, Verbose}
 
--- each name as it is written, and its option
-unfoldable pub head_options : List (List ℕ × Choice)
-head_options =
+-- the options of `head` and `tail`: each name as it is written, and its option
+unfoldable pub ends_options : List (List ℕ × Choice)
+ends_options =
     (codes "-n", Valued Lines) ∷ (codes "--lines", Valued Lines)
     ∷ (codes "-c", Valued Bytes) ∷ (codes "--bytes", Valued Bytes)
+    ∷ (codes "-q", Bare Quiet) ∷ (codes "--quiet", Bare Quiet) ∷ (codes "--silent", Bare Quiet)
+    ∷ (codes "-v", Bare Verbose) ∷ (codes "--verbose", Bare Verbose)
     ∷ []
 
 -- the option beside a name in a table

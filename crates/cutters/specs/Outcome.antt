@@ -1,47 +1,44 @@
 -- What a whole run puts out, where its outputs take all that they are given.
-use Rattle.std.specs.Prelude.{ℕ, Bool, nat_le, ◌||◌, not, List, [], ◌∷◌, Option, Some, None, Result, Ok, Err, codes, slice_index_or, if◌then◌else◌}
+use Rattle.std.specs.Prelude.{ℕ, true, List, [], ◌∷◌, Option, Some, None, Result, Ok, Err, slice_index_or, if◌then◌else◌}
 use Rattle.ports_core.specs.Part.{Part, nothing, only_out}
-use Rattle.ports_core.specs.Source.{Content}
 use Rattle.ports_core.specs.Text.{message_of}
 use Rattle.ports_core.specs.declared.tool.Tool.{Tool}
 use Rattle.ports_core.specs.declared.tool.Tool.TheVariants as tool
 use Rattle.ports_core.specs.declared.fault.Fault.{Fault}
 use Rattle.ports_core.specs.declared.fault.Fault.TheVariants.{Memory, Write, Read, Open, Suffixes, NoMatch, Range, Usage, Failed, TooLong}
-use Rattle.ends_core.specs.Head.{head_of, measure}
-use Rattle.cutters.specs.declared.settings.HeadSettings.{HeadSettings}
 use Rattle.cutters.specs.declared.settings.Settings.{Settings}
-use Rattle.cutters.specs.declared.settings.Settings.TheVariants.{Head}
+use Rattle.cutters.specs.declared.settings.Settings.TheVariants.{Head, Tail}
+use Rattle.cutters.specs.EndsAsked.{EndsAsked}
+use Rattle.cutters.specs.Ends.{Made, head_work, tail_work, has_headers, names_in, of_inputs}
+use Rattle.cutters.specs.Feeding.{Work}
+use Rattle.cutters.specs.Input.{Input}
 use Rattle.cutters.specs.Words.{tool_named, settings_of}
 
 pub record Outcome : Type 0 where
   -- standard output, and the files in order
   pub part : Part
-  -- the bytes of standard error
-  pub messages : List ℕ
+  -- the texts on standard error, in order
+  pub messages : List (List ℕ)
   pub status : ℕ
 
-abbrev pub in_silence : Part → Outcome
-in_silence part = record { part = part; messages = []; status = 0 }
+abbrev pub outcome_of : Made → Outcome
+outcome_of made = record { part = only_out made.out; messages = made.messages; status = if made.failed then 1 else 0 }
 
--- a run that met this fault, and said so
-abbrev pub at_fault : Tool → Fault → List ℕ → Part → Outcome
-at_fault tool fault name part = record { part = part; messages = message_of tool fault name; status = 1 }
-
--- the input isn't read to where it breaks off, if it does, since the head is complete before that
-abbrev pub is_enough : HeadSettings → Content → Bool
-is_enough settings input = not input.breaks_off || nat_le settings.count (measure settings.unit input.bytes)
-
--- `head` puts out the first lines or bytes
-abbrev pub head_outcome : HeadSettings → Content → Outcome
-head_outcome settings input =
-    let part = only_out (head_of settings.unit settings.count input.bytes) in
-    if is_enough settings input then in_silence part else at_fault tool.Head (Read 0) (codes "standard input") part
+abbrev pub ends_outcome : Tool → Work → EndsAsked → List (List ℕ) → List Input → Outcome
+ends_outcome tool work asked names inputs = outcome_of (of_inputs tool work (has_headers asked.headers names) true inputs)
 
 abbrev pub tool_of : Settings → Tool
-tool_of (Head settings) = tool.Head
+tool_of (Head asked) = tool.Head
+tool_of (Tail asked) = tool.Tail
 
-abbrev pub tool_outcome : Settings → Content → Outcome
-tool_outcome (Head settings) input = head_outcome settings input
+-- the names of the inputs that a tool reads, among these words
+abbrev pub names_of : List (List ℕ) → Settings → List (List ℕ)
+names_of words (Head asked) = names_in words asked.operands
+names_of words (Tail asked) = names_in words asked.operands
+
+abbrev pub tool_outcome : List (List ℕ) → List Input → Settings → Outcome
+tool_outcome words inputs (Head asked) = ends_outcome tool.Head (head_work asked) asked (names_in words asked.operands) inputs
+tool_outcome words inputs (Tail asked) = ends_outcome tool.Tail (tail_work asked) asked (names_in words asked.operands) inputs
 
 -- who refuses words: their tool, or the program where they name none
 abbrev pub or_cutters : Option Tool → Tool
@@ -65,10 +62,22 @@ word_of words (Range operand repetition) = []
 word_of words Failed = []
 word_of words TooLong = []
 
-abbrev pub outcome_at : List (List ℕ) → Content → Result Settings Fault → Outcome
-outcome_at words input (Ok settings) = tool_outcome settings input
-outcome_at words input (Err fault) = at_fault (speaker words) fault (word_of words fault) nothing
+-- words that are refused: a message and nothing else
+abbrev pub refusal : List (List ℕ) → Fault → Outcome
+refusal words fault = record { part = nothing; messages = message_of (speaker words) fault (word_of words fault) ∷ []; status = 1 }
 
--- what these words make of this standard input
-abbrev pub outcome : List (List ℕ) → Content → Outcome
-outcome words input = outcome_at words input (settings_of words)
+abbrev pub outcome_at : List (List ℕ) → List Input → Result Settings Fault → Outcome
+outcome_at words inputs (Ok settings) = tool_outcome words inputs settings
+outcome_at words inputs (Err fault) = refusal words fault
+
+-- what these words make of these inputs
+abbrev pub outcome : List (List ℕ) → List Input → Outcome
+outcome words inputs = outcome_at words inputs (settings_of words)
+
+-- the names that these words read
+abbrev pub names_at : List (List ℕ) → Result Settings Fault → List (List ℕ)
+names_at words (Ok settings) = names_of words settings
+names_at words (Err fault) = []
+
+abbrev pub names_read : List (List ℕ) → List (List ℕ)
+names_read words = names_at words (settings_of words)

@@ -1,9 +1,10 @@
 -- What the words behind a tool's name spell: options with their values, and operands. What a word means depends on what
--- the words before it left. 43 is `+`, 45 a hyphen, 61 `=`.
-use Rattle.std.specs.Prelude.{◌≡◌, ℕ, ◌+◌, ◌==◌, ◌||◌, Bool, false, List, [], ◌∷◌, ◌++◌, length, ◌⊎◌, Option, Some, None, Result, Ok, Err, if◌then◌else◌}
+-- the words before it left. 45 is a hyphen, 61 `=`.
+use Rattle.std.specs.Prelude.{◌≡◌, ℕ, ◌+◌, ◌==◌, Bool, List, [], ◌∷◌, ◌++◌, length, ◌⊎◌, Option, Some, None, Result, Ok, Err, if◌then◌else◌}
 use Rattle.std.specs.List.{before_first, after_first, position_or_len}
 use Rattle.seg_core.specs.Count.{count_of, digits_of}
 use Rattle.seg_core.specs.declared.count.Count.{Count}
+use Rattle.seg_core.specs.declared.count.Sign.TheVariants.{Plain}
 use Rattle.seg_core.specs.declared.count.CountFault.{CountFault}
 use Rattle.seg_core.specs.declared.count.CountFault.TheVariants.{NoDigits, Suffix, TooLarge}
 use Rattle.ports_core.specs.declared.fault.Fault.{Fault}
@@ -35,28 +36,20 @@ abbrev pub before : List Item → Result Meaning Fault → Result Meaning Fault
 before items (Ok meaning) = Ok (record { items = items ++ meaning.items; next = meaning.next })
 before items (Err fault) = Err fault
 
--- the count that a text writes, or what is wrong with it: no option takes a sign yet
-
-abbrev pub is_signed : List ℕ → Bool
-is_signed [] = false
-is_signed (byte ∷ text) = byte == 43 || byte == 45
-
-abbrev pub unsigned : Result Count CountFault → Result ℕ UsageKind
-unsigned (Ok count) = Ok count.amount
-unsigned (Err NoDigits) = Err BadNumber
-unsigned (Err Suffix) = Err BadNumber
-unsigned (Err TooLarge) = Err NumberTooLarge
-
-abbrev pub amount_of : List ℕ → Result ℕ UsageKind
-amount_of text = if is_signed text then Err BadNumber else unsigned (count_of text)
+-- the count that a text writes, or what is wrong with it
+abbrev pub counted : Result Count CountFault → Result Count UsageKind
+counted (Ok count) = Ok count
+counted (Err NoDigits) = Err BadNumber
+counted (Err Suffix) = Err BadNumber
+counted (Err TooLarge) = Err NumberTooLarge
 
 -- an option with its value, which stands in the word at this place
-abbrev pub given : Measure → ℕ → Result ℕ UsageKind → Result Meaning Fault
-given unit place (Ok amount) = one (Counted unit amount)
+abbrev pub given : Measure → ℕ → Result Count UsageKind → Result Meaning Fault
+given unit place (Ok count) = one (Counted unit count)
 given unit place (Err kind) = Err (Usage kind place)
 
 abbrev pub valued : Measure → ℕ → List ℕ → Result Meaning Fault
-valued unit place text = given unit place (amount_of text)
+valued unit place text = given unit place (counted (count_of text))
 
 -- A cluster: letters, each an option. The value of one that takes one is the rest of the word, or the next word.
 
@@ -113,7 +106,7 @@ mixed rows place (byte ∷ next ∷ rest) =
 
 -- the first word may be a hyphen and digits, and is a count of this then
 abbrev pub numbered : Measure → ℕ → Result Meaning Fault → Result ℕ CountFault → Result Meaning Fault
-numbered unit place else_wise (Ok amount) = one (Counted unit amount)
+numbered unit place else_wise (Ok amount) = one (Counted unit (record { sign = Plain; amount = amount }))
 numbered unit place else_wise (Err TooLarge) = Err (Usage NumberTooLarge place)
 numbered unit place else_wise (Err NoDigits) = else_wise
 numbered unit place else_wise (Err Suffix) = else_wise

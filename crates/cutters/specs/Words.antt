@@ -5,57 +5,87 @@ use Rattle.ports_core.specs.declared.tool.Tool.{Tool}
 use Rattle.ports_core.specs.declared.tool.Tool.TheVariants as tool
 use Rattle.ports_core.specs.declared.fault.Fault.{Fault}
 use Rattle.ports_core.specs.declared.fault.Fault.TheVariants.{Usage}
-use Rattle.ports_core.specs.declared.fault.UsageKind.TheVariants.{MissingTool, UnknownTool, ExtraOperand}
+use Rattle.ports_core.specs.declared.fault.UsageKind.TheVariants.{MissingTool, UnknownTool}
+use Rattle.seg_core.specs.declared.count.Sign.TheVariants.{Plain}
 use Rattle.ends_core.specs.declared.unit.Unit.TheVariants.{Lines}
-use Rattle.cutters.specs.declared.settings.HeadSettings.{HeadSettings}
+use Rattle.cutters.specs.declared.options.Flag.{Flag}
+use Rattle.cutters.specs.declared.options.Flag.TheVariants.{Quiet, Verbose}
+use Rattle.cutters.specs.declared.settings.Headers.{Headers}
+use Rattle.cutters.specs.declared.settings.Headers.TheVariants.{ForSeveral, Never, Always}
 use Rattle.cutters.specs.declared.settings.Settings.{Settings}
-use Rattle.cutters.specs.declared.settings.Settings.TheVariants.{Head}
+use Rattle.cutters.specs.declared.settings.Settings.TheVariants.{Head, Tail}
 use Rattle.cutters.specs.declared.spelling.Item.{Item}
 use Rattle.cutters.specs.declared.spelling.Item.TheVariants.{Chosen, Counted, Operand}
 use Rattle.cutters.specs.declared.spelling.State.TheVariants.{First}
-use Rattle.cutters.specs.Options.{head_options}
+use Rattle.cutters.specs.declared.words.Amount.{Amount}
+use Rattle.cutters.specs.EndsAsked.{EndsAsked}
+use Rattle.cutters.specs.Options.{ends_options}
 use Rattle.cutters.specs.Spelling.{spelled}
 
 -- the tool of this name
 abbrev pub tool_named : List ℕ → Option Tool
-tool_named name = if bytes_eq name (codes "head") then Some tool.Head else None
+tool_named name = if bytes_eq name (codes "head") then Some tool.Head else (if bytes_eq name (codes "tail") then Some tool.Tail else None)
 
--- the place of the first operand
-abbrev pub first_operand : List Item → Option ℕ
-first_operand [] = None
-first_operand (Operand place ∷ items) = Some place
-first_operand (Chosen flag ∷ items) = first_operand items
-first_operand (Counted unit count ∷ items) = first_operand items
+-- the places of the operands
+abbrev pub operands_of : List Item → List ℕ
+operands_of [] = []
+operands_of (Operand place ∷ items) = place ∷ operands_of items
+operands_of (Chosen flag ∷ items) = operands_of items
+operands_of (Counted unit count ∷ items) = operands_of items
 
 -- the last count, in lines or bytes; where there is none, this one
-abbrev pub last_count : HeadSettings → List Item → HeadSettings
+abbrev pub last_count : Amount → List Item → Amount
 last_count default [] = default
 last_count default (Counted unit count ∷ items) = last_count (record { unit = unit; count = count }) items
 last_count default (Chosen flag ∷ items) = last_count default items
 last_count default (Operand place ∷ items) = last_count default items
 
--- `head` takes no operand yet, and puts out ten lines where no count is given
-abbrev pub without_operand : List Item → Option ℕ → Result Settings Fault
-without_operand items (Some place) = Err (Usage ExtraOperand place)
-without_operand items None = Ok (Head (last_count (record { unit = Lines; count = 10 }) items))
+-- what the last option for headers says; where there is none, this
+abbrev pub asks : Flag → Headers
+asks Quiet = Never
+asks Verbose = Always
 
-abbrev pub asked : Result (List Item) Fault → Result Settings Fault
-asked (Ok items) = without_operand items (first_operand items)
-asked (Err fault) = Err fault
+abbrev pub last_headers : Headers → List Item → Headers
+last_headers default [] = default
+last_headers default (Chosen flag ∷ items) = last_headers (asks flag) items
+last_headers default (Counted unit count ∷ items) = last_headers default items
+last_headers default (Operand place ∷ items) = last_headers default items
 
--- the words behind `head`: a first word of a hyphen and digits counts lines
-abbrev pub head_settings : List (List ℕ) → Result Settings Fault
-head_settings words = asked (spelled head_options words 1 (First Lines))
+-- ten lines where no count is given, and headers where there are several files
+abbrev pub ends_asked : List Item → EndsAsked
+ends_asked items =
+    let amount = last_count (record { unit = Lines; count = record { sign = Plain; amount = 10 } }) items in
+    record { unit = amount.unit; count = amount.count; headers = last_headers ForSeveral items; operands = operands_of items }
 
-abbrev pub SpellsHead : List (List ℕ) → Settings → Type 0
-SpellsHead words settings = head_settings words ≡ Ok settings
+abbrev pub asked_by : Result (List Item) Fault → Result EndsAsked Fault
+asked_by (Ok items) = Ok (ends_asked items)
+asked_by (Err fault) = Err fault
 
-abbrev pub AreRefusedByHead : List (List ℕ) → Fault → Type 0
-AreRefusedByHead words fault = head_settings words ≡ Err fault
+-- the words behind `head` or `tail`: a first word of a hyphen and digits counts lines
+abbrev pub ends_settings : List (List ℕ) → Result EndsAsked Fault
+ends_settings words = asked_by (spelled ends_options words 1 (First Lines))
+
+abbrev pub SpellEnds : List (List ℕ) → EndsAsked → Type 0
+SpellEnds words asked = ends_settings words ≡ Ok asked
+
+abbrev pub AreRefusedByEnds : List (List ℕ) → Fault → Type 0
+AreRefusedByEnds words fault = ends_settings words ≡ Err fault
+
+abbrev pub for_tool : Tool → EndsAsked → Result Settings Fault
+for_tool tool.Head asked = Ok (Head asked)
+for_tool tool.Tail asked = Ok (Tail asked)
+for_tool tool.Split asked = Err (Usage UnknownTool 0)
+for_tool tool.Csplit asked = Err (Usage UnknownTool 0)
+for_tool tool.Tee asked = Err (Usage UnknownTool 0)
+for_tool tool.Cutters asked = Err (Usage UnknownTool 0)
+
+abbrev pub by_tool : Tool → Result EndsAsked Fault → Result Settings Fault
+by_tool tool (Ok asked) = for_tool tool asked
+by_tool tool (Err fault) = Err fault
 
 abbrev pub tool_settings : List (List ℕ) → Option Tool → Result Settings Fault
 tool_settings words None = Err (Usage UnknownTool 0)
-tool_settings words (Some tool) = head_settings words
+tool_settings words (Some tool) = by_tool tool (ends_settings words)
 
 -- what the words ask for, or what is wrong with them
 abbrev pub settings_of : List (List ℕ) → Result Settings Fault

@@ -1,6 +1,10 @@
 //! `cutters`: the tools that cut files, in one program.
 #![tactic(auto)]
 
+mod ends;
+#[cfg(test)]
+mod ends_tests;
+mod feeding;
 mod messages;
 mod options;
 mod run;
@@ -18,16 +22,22 @@ use crate::messages::say;
 use crate::run::run;
 use ports_core::{DirIn, DirOut, Fault, Tool, UsageKind};
 use std::alloc::{AllocError, Global};
-use std::env;
 use std::io::ErrorKind;
 use std::process::ExitCode;
+use std::{env, fs};
 
 /// Runs the tool that the program's words name, over standard input, standard output and standard error.
 fn main(rt: HostRuntime) -> ExitCode {
     let alloc = rt.alloc();
-    let mut outs = DirOut::new(rt.stdout(), rt.stderr());
+    // A standard stream that was closed would be the first file that is opened. A folder that stands in its place can be
+    // neither read nor written, so the stream fails as it should.
+    let _places = [fs::open(&rt, "/"), fs::open(&rt, "/"), fs::open(&rt, "/")];
+    let mut outs = DirOut::new(rt, alloc, rt.stdout(), rt.stderr());
     let status = match read_args(&rt, alloc) {
-        Ok(args) => run_args(alloc, &args, &mut DirIn::new(rt.stdin()), &mut outs),
+        Ok(args) => {
+            let mut inputs = DirIn::new(rt, alloc, rt.stdin());
+            run_args(alloc, &args, &mut inputs, &mut outs)
+        }
         Err(fault) => refuse(alloc, &fault, &mut outs),
     };
     ExitCode::from(status)
@@ -50,7 +60,12 @@ fn read_args(rt: &HostRuntime, alloc: Global) -> Result<Vec<String>, Fault> {
     }
 }
 
-fn run_args(alloc: Global, args: &Vec<String>, inputs: &mut DirIn, outs: &mut DirOut) -> u8
+fn run_args(
+    alloc: Global,
+    args: &Vec<String>,
+    inputs: &mut DirIn<HostRuntime>,
+    outs: &mut DirOut<HostRuntime>,
+) -> u8
     requires inputs { IsFresh inputs.old }
     requires outputs { outs.old ≡ streams }
 {
@@ -65,7 +80,7 @@ fn run_args(alloc: Global, args: &Vec<String>, inputs: &mut DirIn, outs: &mut Di
 }
 
 /// Says what is wrong, and answers the status.
-fn refuse(alloc: Global, fault: &Fault, outs: &mut DirOut) -> u8
+fn refuse(alloc: Global, fault: &Fault, outs: &mut DirOut<HostRuntime>) -> u8
     requires { outs.old ≡ streams }
 {
     say(alloc, Tool::Cutters, fault, "", outs);

@@ -1,8 +1,8 @@
 //! What the program says on standard error.
-ghost use Rattle.std.specs.Prelude.{IsTrue};
-ghost use Rattle.ports_core.specs.Slot.{is_writable};
+ghost use Rattle.std.specs.Prelude.{◌≡◌, ◌∷◌, List, true, IsTrue};
+ghost use Rattle.ports_core.specs.Slot.{Slot, is_open, is_writable, slot_at};
 ghost use Rattle.ports_core.specs.Text.{message_of};
-ghost use Rattle.cutters.specs.Message.{Prints, Says};
+ghost use Rattle.cutters.specs.Message.{PrintsOn, SaysOn};
 
 use ports_core::{Fault, Outs, Tool, memory_exhausted, message, write_whole};
 use std::alloc::Global;
@@ -13,8 +13,8 @@ const STANDARD_ERROR: usize = 1;
 /// Says what went wrong. The name is that of the file or the word that the fault speaks of. Where there is no memory for
 /// the message, the line that says so stands in its place; where it can't be written, it is passed over.
 pub fn say<O: Outs>(alloc: Global, tool: Tool, fault: &Fault, name: &str, outs: &mut O)
-    requires { IsTrue (is_writable (O.slots outs.old) 1) }
-    ensures { Says O.told tool (message_of tool fault.now name.now) (O.slots outs.old) (O.slots outs.new) }
+    requires { is_open (slot_at (O.slots outs.old) 1).state ≡ true }
+    ensures { SaysOn O.told tool (message_of tool fault.now name.now) (O.slots outs.old) (O.slots outs.new) }
 {
     match message(alloc, tool, fault, name) {
         Ok(text) => print(&text, outs),
@@ -24,8 +24,11 @@ pub fn say<O: Outs>(alloc: Global, tool: Tool, fault: &Fault, name: &str, outs: 
 
 /// Writes a text to standard error, as far as that takes it.
 fn print<O: Outs>(text: &[u8], outs: &mut O)
-    requires { IsTrue (is_writable (O.slots outs.old) 1) }
-    ensures { Prints O.told text.now (O.slots outs.old) (O.slots outs.new) }
+    requires { is_open (slot_at (O.slots outs.old) 1).state ≡ true }
+    ensures { PrintsOn O.told text.now (O.slots outs.old) (O.slots outs.new) }
 {
+    if outs.broken(STANDARD_ERROR) {
+        return;
+    }
     let _ = write_whole(outs, STANDARD_ERROR, text);
 }

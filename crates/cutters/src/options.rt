@@ -1,6 +1,7 @@
-//! The options of the tools, as their manuals list them: POSIX.1-2017, XCU head; `-c` and the long names are GNU's.
+//! The options of the tools, as their manuals list them: POSIX.1-2017, XCU head and tail; `-q`, `-v`, the `-c` of
+//! `head` and the long names are GNU's.
 ghost use Rattle.std.specs.Prelude.{◌≡◌, map};
-ghost use Rattle.cutters.specs.Options.{beside, head_options};
+ghost use Rattle.cutters.specs.Options.{beside, ends_options};
 
 use ends_core::Unit;
 
@@ -20,19 +21,24 @@ pub enum Choice {
     Valued(Unit),
 }
 
-/// The options of `head`.
-const HEAD: [(&[u8], Choice); 4] = [
+/// The options of `head` and `tail`.
+const ENDS: [(&[u8], Choice); 9] = [
     (b"-n", Choice::Valued(Unit::Lines)),
     (b"--lines", Choice::Valued(Unit::Lines)),
     (b"-c", Choice::Valued(Unit::Bytes)),
     (b"--bytes", Choice::Valued(Unit::Bytes)),
+    (b"-q", Choice::Bare(Flag::Quiet)),
+    (b"--quiet", Choice::Bare(Flag::Quiet)),
+    (b"--silent", Choice::Bare(Flag::Quiet)),
+    (b"-v", Choice::Bare(Flag::Verbose)),
+    (b"--verbose", Choice::Bare(Flag::Verbose)),
 ];
 
-/// The table of the options of `head`.
-pub fn head_options() -> &'static [(&'static [u8], Choice)]
-    ensures { map (λ row. (row.0.now, row.1)) result.now ≡ head_options }
+/// The table of the options of `head` and `tail`.
+pub fn ends_options() -> &'static [(&'static [u8], Choice)]
+    ensures { map (λ row. (row.0.now, row.1)) result.now ≡ ends_options }
 {
-    &HEAD
+    &ENDS
 }
 
 /// The option of this name in a table.

@@ -1,12 +1,13 @@
 //! What words spell: options with their values, and operands (POSIX.1-2017, XBD 12.2; long options are GNU's).
 ghost use Rattle.std.specs.Prelude.{◌≡◌, ◌++◌, [], ◌∷◌, map, option_map, IfOk, IfErr};
 ghost use Rattle.std.specs.List.{before_first};
-ghost use Rattle.cutters.specs.Spelling.{Adds, Gives, Refuses, amount_of, attached, cluster, foremost, is_equals, long, meaning_of, mixed, one, spelled, value_in, valued};
+ghost use Rattle.seg_core.specs.Count.{count_of};
+ghost use Rattle.cutters.specs.Spelling.{Adds, Gives, Refuses, attached, cluster, counted, foremost, is_equals, long, meaning_of, mixed, one, spelled, value_in, valued};
 
 use crate::options::{Choice, Flag, find_option};
 use ends_core::Unit;
 use ports_core::{Fault, UsageKind};
-use seg_core::count::{CountFault, read_count};
+use seg_core::count::{Count, CountFault, Sign, read_count};
 use seg_core::digits::read_digits;
 use std::alloc::Global;
 
@@ -16,7 +17,7 @@ pub enum Item {
     /// An option without a value.
     Chosen(Flag),
     /// An option that counts lines or bytes, with its count, at most 2^63-1.
-    Counted(Unit, u64),
+    Counted(Unit, Count),
     /// The operand at this place among the words.
     Operand(usize),
 }
@@ -98,7 +99,7 @@ fn read_first(
 {
     match word.as_bytes() {
         [b'-', digits @ ..] => match read_digits(digits) {
-            Ok(count) => read_one(Item::Counted(unit, count), items),
+            Ok(amount) => read_one(Item::Counted(unit, plain(amount)), items),
             Err(CountFault::TooLarge) => Err(Fault::Usage(UsageKind::NumberTooLarge, place)),
             Err(CountFault::NoDigits | CountFault::Suffix) => read_mixed(rows, place, word, items),
         },
@@ -201,21 +202,28 @@ fn read_value(unit: Unit, place: usize, text: &[u8], items: &mut Vec<Item>) -> R
     ensures { Adds (valued unit place text.now) items.old.items items.new.items result }
 {
     match read_amount(text) {
-        Ok(amount) => read_one(Item::Counted(unit, amount), items),
+        Ok(count) => read_one(Item::Counted(unit, count), items),
         Err(kind) => Err(Fault::Usage(kind, place)),
     }
 }
 
-fn read_amount(text: &[u8]) -> Result<u64, UsageKind>
-    ensures { result ≡ amount_of text.now }
+fn read_amount(text: &[u8]) -> Result<Count, UsageKind>
+    ensures { result ≡ counted (count_of text.now) }
 {
-    if let [b'+' | b'-', ..] = text {
-        return Err(UsageKind::BadNumber);
-    }
     match read_count(text) {
-        Ok(count) => Ok(count.amount),
+        Ok(count) => Ok(count),
         Err(CountFault::TooLarge) => Err(UsageKind::NumberTooLarge),
         Err(CountFault::NoDigits | CountFault::Suffix) => Err(UsageKind::BadNumber),
+    }
+}
+
+/// A count without a sign.
+fn plain(amount: u64) -> Count
+    ensures { result ≡ record { sign = Sign.Plain; amount = amount } }
+{
+    Count {
+        sign: Sign::Plain,
+        amount,
     }
 }
 
@@ -259,11 +267,11 @@ mod tests {
             [
                 Item::Chosen(Flag::Quiet),
                 Item::Chosen(Flag::Verbose),
-                Item::Counted(Unit::Lines, 5),
+                Item::Counted(Unit::Lines, plain(5)),
                 Item::Operand(2),
                 Item::Chosen(Flag::Quiet),
                 Item::Chosen(Flag::Verbose),
-                Item::Counted(Unit::Lines, 7),
+                Item::Counted(Unit::Lines, plain(7)),
                 Item::Operand(7),
             ]
             .as_slice()

@@ -1,136 +1,123 @@
 -- Lemmas on heads.
-use Rattle.std.proofs.Common.{◌≡◌, ℕ, ◌+◌, ◌-◌, ◌<◌, ◌≤◌, zero, suc, List, [], ◌∷◌, ◌++◌, length, take, Bool, IsTrue, nat_eq, refl, sym, ◌∙◌, ap, subst, arith, length-append, inl, inr, ◌↔◌, get_or, lit<}
-use Rattle.std.proofs.lemmas.List.{append-nil, take_all}
-use Rattle.std.proofs.lemmas.Bool.{cases_lt, eq-eqb, eqb-true}
-use Rattle.seg_core.proofs.Newlines.{newlines-append}
-use Rattle.seg_core.proofs.FirstLines.{first_lines-append, first_lines-nil, first_lines-zero, first_lines-short, first_lines-more}
-use Rattle.ports_core.specs.Slot.{Slot, with_written, told_of}
-use Rattle.ports_core.specs.Write.{BrokeAfter}
-use Rattle.ports_core.specs.Part.{only_out, OutputsAt, Begins, StoppedBetween}
-use Rattle.ports_core.specs.Engine.{TakesIn, PutsOut, CutsOff}
+use Rattle.std.proofs.Common.{◌≡◌, ℕ, ◌+◌, ◌-◌, ◌<◌, ◌==◌, ◌&&◌, not, List, [], ◌∷◌, ◌++◌, length, Bool, true, false, cond, IsTrue, nat_le, refl, sym, ◌∙◌, ap, subst, arith, length-append, ◌↔◌, replicate, lit<}
+use Rattle.std.proofs.lemmas.Bool.{false≢true, leb-false}
+use Rattle.std.proofs.lemmas.Bool.Decides.{nat_tests}
+use Rattle.std.proofs.lemmas.List.Elements.{All-replicate}
+use Rattle.ports_core.specs.Slot.{Slot, is_writable, with_written, told_of}
+use Rattle.ports_core.specs.Part.{only_out}
+use Rattle.ports_core.specs.Engine.{TakesIn, PutsOut, CutsOff, IsCaused, SameWork}
+use Rattle.ports_core.specs.declared.fault.Fault.{Fault}
 use Rattle.ports_core.specs.declared.fault.Fault.TheVariants as fault
-use Rattle.ports_core.proofs.EngineLemmas.{Engine}
-use Rattle.ports_core.proofs.PartLemmas.{out_more, out_cut, out_begins, stopped_here}
+use Rattle.ports_core.proofs.PartLemmas.{stopped_here}
 use Rattle.ends_core.specs.declared.unit.Unit.{Unit as Counted}
-use Rattle.ends_core.specs.declared.unit.Unit.TheVariants.{Lines, Bytes}
+use Rattle.ends_core.specs.declared.head.Way.{Way}
+use Rattle.ends_core.specs.declared.head.Way.TheVariants.{First, ButLast}
 use Rattle.ends_core.specs.HeadState.{HeadState}
-use Rattle.ends_core.specs.Head.{measure, head_of, AreBytes, settled, Holds, SameSettings, IsDone}
+use Rattle.ends_core.specs.Ends.{measure, first_of, last_of, but_last_of, head_of}
+use Rattle.ends_core.specs.Head.{settled, whole, waiting, is_complete, Holds, IsDone}
+use Rattle.ends_core.specs.HeadWay.{unit_of, is_but_last, count_of, left_of, waiting_of, due, left_waiting, is_full, SameWay, state_of}
+use Rattle.ends_core.specs.Kept.{most_of, unit_of as kept_unit}
+use Rattle.ends_core.specs.Stops.{Stops}
+use Rattle.ends_core.specs.HeadLaws.{grows, full_head}
+use Rattle.ends_core.specs.EndsLaws.{measure-append, measure-newlines, first_of-append, first_of-short, first_of-more, last_of-append, but_last_of-append, but_last_grows, ends_together}
+use Rattle.ends_core.proofs.StopLemmas as stop
 
-pub measure-append : (unit : Counted) (x y : List ℕ) → measure unit (x ++ y) ≡ measure unit x + measure unit y
-measure-append Lines x y = newlines-append x y
-measure-append Bytes x y = length-append x y
+-- the same way settles the same
+pub same_work : (old new : HeadState) → new.unit ≡ old.unit → new.but_last ≡ old.but_last → new.count ≡ old.count → SameWork settled whole is_complete old new
+same_work old new unit but_last count = record { settled_same = same; whole_same = same; complete_same = same_complete } where
+  same : (x : List ℕ) → settled new x ≡ settled old x
+  same x = ap (λ u. only_out (head_of u new.but_last new.count x)) unit ∙ ap (λ b. only_out (head_of old.unit b new.count x)) but_last ∙ ap (λ n. only_out (head_of old.unit old.but_last n x)) count
 
-take_both : (n : ℕ) (x y : List ℕ) → take n (x ++ y) ≡ take n x ++ take (n - length x) y
-take_both zero [] y = refl
-take_both (suc n) [] y = let all : suc n - 0 ≡ suc n = omega arith in ap (λ m. take m y) (sym all)
-take_both zero (byte ∷ x) y = let none : 0 - suc (length x) ≡ 0 = omega arith in ap (λ m. take m y) (sym none)
-take_both (suc n) (byte ∷ x) y =
-    let less : n - length x ≡ suc n - suc (length x) = omega arith in
-    ap (λ rest. byte ∷ rest) (take_both n x y ∙ ap (λ m. take n x ++ take m y) less)
+  same_complete : (x : List ℕ) → is_complete new x ≡ is_complete old x
+  same_complete x = ap (λ (u : Counted). not new.but_last && nat_le new.count (measure u x)) unit ∙ ap (λ (b : Bool). not b && nat_le new.count (measure old.unit x)) but_last ∙ ap (λ (n : ℕ). not old.but_last && nat_le n (measure old.unit x)) count
 
--- what a head has of a text and of what follows it
-pub head_of-append : (unit : Counted) (n : ℕ) (x y : List ℕ) → head_of unit n (x ++ y) ≡ head_of unit n x ++ head_of unit (n - measure unit x) y
-head_of-append Lines n x y = first_lines-append n x y
-head_of-append Bytes n x y = take_both n x y
+-- what goes out with a piece is what the head has more
+went_out : (way : Way) (fed : ℕ) (is_over : Bool) (x piece : List ℕ) → Holds (state_of way fed is_over) x
+    → record (settled (state_of way fed is_over) x) { out = (settled (state_of way fed is_over) x).out ++ due way piece } ≡ settled (state_of way fed is_over) (x ++ piece)
+went_out (First count front) fed is_over x piece holds =
+    ap (λ left. only_out (first_of front.unit count x ++ first_of front.unit left piece)) (holds.left refl) ∙ ap only_out (sym (first_of-append front.unit count x piece))
+went_out (ButLast kept) fed is_over x piece holds =
+    ap (λ held. only_out (but_last_of (kept_unit kept) (most_of kept) x ++ but_last_of (kept_unit kept) (most_of kept) (held ++ piece))) holds.waits
+    ∙ ap only_out (sym (but_last_of-append (kept_unit kept) (most_of kept) x piece))
 
-pub head_of-zero : (unit : Counted) (x : List ℕ) → head_of unit 0 x ≡ []
-head_of-zero Lines x = first_lines-zero x
-head_of-zero Bytes x = refl
+pub puts_out : (told : Bool) (way : Way) (fed : ℕ) (is_over : Bool) (head : HeadState) (piece : List ℕ) (old new : List Slot) → state_of way fed is_over ≡ head
+    → new ≡ with_written 0 (told_of told (due way piece)) old → PutsOut Holds settled head piece told old new
+puts_out told way fed is_over head piece old new is wrote =
+    subst (λ those. PutsOut Holds settled those piece told old new) is
+    (stop.puts_out Holds settled told (state_of way fed is_over) piece (due way piece) old new (λ x holds. went_out way fed is_over x piece holds) wrote)
 
--- a text that has too little belongs to its head whole, and so does a byte more
-pub head_of-short : (unit : Counted) (n : ℕ) (x : List ℕ) → measure unit x < n → head_of unit n x ≡ x
-head_of-short Lines n x short = first_lines-short n x short
-head_of-short Bytes n x short = take_all n x (omega arith)
-
-pub head_of-more : (unit : Counted) (n : ℕ) (x : List ℕ) (byte : ℕ) → measure unit x < n → head_of unit n (x ++ byte ∷ []) ≡ x ++ byte ∷ []
-head_of-more Lines n x byte short = first_lines-more n x byte short
-head_of-more Bytes n x byte short = take_all n (x ++ byte ∷ []) (let e : length (x ++ byte ∷ []) ≡ length x + 1 = length-append x (byte ∷ []) in omega arith)
-
-pub grows : (head : HeadState) (x y : List ℕ) → Begins (settled head x) (settled head (x ++ y))
-grows head x y = out_begins _ _ (head_of head.unit (head.count - measure head.unit x) y, head_of-append head.unit head.count x y)
-
--- the next state holds what came in with the piece
-pub takes_in : (old new : HeadState) (piece : List ℕ) (counted : ℕ) → SameSettings old new → new.is_over ≡ old.is_over → new.fed ≡ old.fed + length piece → new.left ≡ old.left - counted → old.left - counted ≡ old.left - measure old.unit piece → TakesIn Holds piece old new
-takes_in old new piece counted same over fed left is x holds = record {
-  live = over ∙ holds.live;
-  fed = fed ∙ ap (λ n. n + length piece) holds.fed ∙ sym (length-append x piece);
-  left = left ∙ is ∙ ap (λ n. n - measure old.unit piece) holds.left ∙ minus_both old.count (measure old.unit x) (measure old.unit piece)
-      ∙ ap (λ n. old.count - n) (sym (measure-append old.unit x piece))
-      ∙ sym (ap (λ count. count - measure new.unit (x ++ piece)) same.count ∙ ap (λ unit. old.count - measure unit (x ++ piece)) same.unit);
-} where
-  minus_both : (n a b : ℕ) → (n - a) - b ≡ n - (a + b)
-  minus_both n a b = omega arith
-
--- what of the piece goes out is what the head has more
-went_out : (head : HeadState) (x piece : List ℕ) (n : ℕ) → Holds head x → take n piece ≡ head_of head.unit head.left piece → head_of head.unit head.count x ++ take n piece ≡ head_of head.unit head.count (x ++ piece)
-went_out head x piece n holds front =
-    ap (λ more. head_of head.unit head.count x ++ more) (front ∙ ap (λ left. head_of head.unit left piece) holds.left)
-    ∙ sym (head_of-append head.unit head.count x piece)
-
-pub puts_out : (told : Bool) (head : HeadState) (piece : List ℕ) (n : ℕ) (old new : List Slot) → take n piece ≡ head_of head.unit head.left piece → new ≡ with_written 0 (told_of told (take n piece)) old → PutsOut Holds settled head piece told old new
-puts_out told head piece n old new front wrote before x holds at =
-    subst (λ bytes. OutputsAt told before (only_out bytes) new) (went_out head x piece n holds front) (out_more told before (settled head x) old new (take n piece) at wrote)
-
-pub cuts_off : (told : Bool) (head : HeadState) (piece : List ℕ) (n written : ℕ) (old new : List Slot) → take n piece ≡ head_of head.unit head.left piece → BrokeAfter told old new 0 (take n piece) written → CutsOff Holds settled head piece told old new (fault.Write 0)
-cuts_off told head piece n written old new front broke before x holds at =
-    subst (λ bytes. StoppedBetween told before (settled head x) (only_out bytes) (fault.Write 0) new) (went_out head x piece n holds front) (out_cut told before (settled head x) old new (take n piece) written at broke)
+pub cuts_off : (told keeps : Bool) (way : Way) (fed : ℕ) (is_over : Bool) (head : HeadState) (piece : List ℕ) (old new : List Slot) (fault : Fault) → state_of way fed is_over ≡ head
+    → Stops told keeps (due way piece) old new fault → CutsOff Holds settled head piece told old new fault
+cuts_off told keeps way fed is_over head piece old new fault is stops =
+    subst (λ those. CutsOff Holds settled those piece told old new fault) is
+    (stop.cuts_off Holds settled told keeps (state_of way fed is_over) piece (due way piece) old new fault (λ x holds. went_out way fed is_over x piece holds) stops)
 
 pub too_long : (told : Bool) (head : HeadState) (piece : List ℕ) (old : List Slot) → CutsOff Holds settled head piece told old old fault.TooLong
 too_long told head piece old before x holds at = stopped_here told before (settled head x) (settled head (x ++ piece)) fault.TooLong old old at (grows head x piece) refl
 
--- a head is complete exactly where nothing is left of it
+minus_both : (n a b : ℕ) → (n - a) - b ≡ n - (a + b)
+minus_both n a b = omega arith
 
-complete : (unit : Counted) (n : ℕ) (x : List ℕ) → n - measure unit x ≡ 0 → IsDone unit n x
-complete unit n x none y bytes = head_of-append unit n x y ∙ ap (λ left. head_of unit n x ++ head_of unit left y) none
-    ∙ ap (λ more. head_of unit n x ++ more) (head_of-zero unit y) ∙ append-nil (head_of unit n x)
+-- what waits behind the piece
+waits_next : (way : Way) (fed : ℕ) (is_over : Bool) (x piece : List ℕ) → Holds (state_of way fed is_over) x → left_waiting way piece ≡ waiting (state_of way fed is_over) (x ++ piece)
+waits_next (First count front) fed is_over x piece holds = refl
+waits_next (ButLast kept) fed is_over x piece holds =
+    ap (λ held. last_of (kept_unit kept) (most_of kept) (held ++ piece)) holds.waits ∙ sym (last_of-append (kept_unit kept) (most_of kept) x piece)
 
-zero_is_byte : AreBytes (0 ∷ [])
-zero_is_byte k d within = let first : k ≡ 0 = omega arith in subst (λ i. get_or (0 ∷ []) i d < 256) (sym first) (lit< tt)
+waiting_same : (old new : HeadState) (x : List ℕ) → new.unit ≡ old.unit → new.but_last ≡ old.but_last → new.count ≡ old.count → waiting old x ≡ waiting new x
+waiting_same old new x unit but_last count =
+    sym (ap (λ (u : Counted). cond new.but_last (last_of u new.count x) []) unit ∙ ap (λ (b : Bool). cond b (last_of old.unit new.count x) []) but_last ∙ ap (λ (n : ℕ). cond old.but_last (last_of old.unit n x) []) count)
 
-incomplete : (unit : Counted) (n : ℕ) (x : List ℕ) → IsDone unit n x → measure unit x < n → ⊥
-incomplete unit n x done short =
-    let same : x ++ 0 ∷ [] ≡ x = sym (head_of-more unit n x 0 short) ∙ done (0 ∷ []) zero_is_byte ∙ head_of-short unit n x short in
-    let longer : length x + 1 ≡ length x = sym (length-append x (0 ∷ [])) ∙ ap length same in
-    omega arith
-
-pub done_tells : (head : HeadState) (count seen : ℕ) → head.left ≡ count - seen → seen ≤ count → (x : List ℕ) → Holds head x → IsTrue (nat_eq seen count) ↔ IsDone head.unit head.count x
-done_tells head count seen left within x holds = (
-  λ same. complete head.unit head.count x (sym holds.left ∙ left ∙ (let e : seen ≡ count = eqb-true seen count same in omega arith)),
-  λ done. elim (cases_lt (measure head.unit x) head.count) [
-    | inl short ↦ absurd (incomplete head.unit head.count x done short)
-    | inr full ↦ eq-eqb seen count (let l : count - seen ≡ head.count - measure head.unit x = sym left ∙ holds.left in omega arith)
-  ],
-)
-
-abbrev pub head_engine : Engine HeadState Holds settled
-head_engine = record {
-  Same = SameSettings;
-  same_itself = λ e. record { unit = refl; count = refl };
-  same_again = λ a b c first second. record { unit = second.unit ∙ first.unit; count = second.count ∙ first.count };
-  settled_same = λ e now x same. ap (λ unit. only_out (head_of unit now.count x)) same.unit ∙ ap (λ count. only_out (head_of e.unit count x)) same.count;
-  grows = λ e x y holds. grows e x y;
+takes_in_here : (way next : Way) (fed more : ℕ) (is_over : Bool) (piece : List ℕ) → SameWay way next → more ≡ fed + length piece
+    → left_of next ≡ left_of way - measure (unit_of way) piece → waiting_of next ≡ left_waiting way piece → TakesIn Holds piece (state_of way fed is_over) (state_of next more is_over)
+takes_in_here way next fed more is_over piece same sum left waits x holds = record {
+  live = holds.live;
+  fed = sum ∙ ap (λ n. n + length piece) holds.fed ∙ sym (length-append x piece);
+  left = λ front. left ∙ ap (λ n. n - measure (unit_of way) piece) (holds.left (sym same.but_last ∙ front)) ∙ minus_both (count_of way) (measure (unit_of way) x) (measure (unit_of way) piece)
+      ∙ ap (λ n. count_of way - n) (sym (measure-append (unit_of way) x piece))
+      ∙ sym (ap (λ count. count - measure (unit_of next) (x ++ piece)) same.count ∙ ap (λ unit. count_of way - measure unit (x ++ piece)) same.unit);
+  waits = waits ∙ waits_next way fed is_over x piece holds ∙ waiting_same (state_of way fed is_over) (state_of next more is_over) (x ++ piece) same.unit same.but_last same.count;
 }
 
-pub head_of-nil : (unit : Counted) (n : ℕ) → head_of unit n [] ≡ []
-head_of-nil Lines n = first_lines-nil n
-head_of-nil Bytes zero = refl
-head_of-nil Bytes (suc n) = refl
+pub takes_in : (way next : Way) (fed more : ℕ) (is_over : Bool) (old : HeadState) (piece : List ℕ) → state_of way fed is_over ≡ old → SameWay way next → more ≡ fed + length piece
+    → left_of next ≡ left_of way - measure (unit_of way) piece → waiting_of next ≡ left_waiting way piece → TakesIn Holds piece old (state_of next more is_over)
+takes_in way next fed more is_over old piece is same sum left waits =
+    subst (λ those. TakesIn Holds piece those (state_of next more is_over)) is (takes_in_here way next fed more is_over piece same sum left waits)
 
--- a head that has all that it counts is complete, and only such a one
+-- a head is complete exactly where it is done
 
-pub head_of-full : (unit : Counted) (n : ℕ) (x y : List ℕ) → n ≤ measure unit x → head_of unit n (x ++ y) ≡ head_of unit n x
-head_of-full unit n x y full =
-    let none : n - measure unit x ≡ 0 = omega arith in
-    head_of-append unit n x y ∙ ap (λ left. head_of unit n x ++ head_of unit left y) none ∙ ap (λ more. head_of unit n x ++ more) (head_of-zero unit y) ∙ append-nil (head_of unit n x)
+incomplete : (unit : Counted) (but_last : Bool) (n : ℕ) (x : List ℕ) → (not but_last && nat_le n (measure unit x)) ≡ false → IsDone unit but_last n x → ⊥
+incomplete unit false n x short done =
+    let few : measure unit x < n = leb-false n (measure unit x) short in
+    let same : x ++ 0 ∷ [] ≡ x = sym (first_of-more unit n x 0 few) ∙ done (0 ∷ []) (All-replicate (λ byte. byte < 256) 1 0 (lit< tt)) ∙ first_of-short unit n x few in
+    let longer : length x + 1 ≡ length x = sym (length-append x (0 ∷ [])) ∙ ap length same in
+    omega arith
+incomplete unit true n x short done =
+    but_last_grows unit n x (replicate (n + 1) 10) (let many = measure-newlines unit (n + 1) in omega arith) (done (replicate (n + 1) 10) (All-replicate (λ byte. byte < 256) (n + 1) 10 (lit< tt)))
 
-pub done_is_full : (unit : Counted) (n : ℕ) (x : List ℕ) → IsDone unit n x → n ≤ measure unit x
-done_is_full unit n x done = elim (cases_lt (measure unit x) n) [
-  | inl short ↦ absurd (incomplete unit n x done short)
-  | inr full ↦ full
-]
+pub done_is_exact : (head : HeadState) (x : List ℕ) (full : Bool) → full ≡ is_complete head x → IsTrue full ↔ IsDone head.unit head.but_last head.count x
+done_is_exact head x true is = (λ yes y bytes. (full_head head.unit head.but_last head.count x y (sym is)).1, λ done. refl)
+done_is_exact head x false is = (λ yes. absurd (false≢true yes), λ done. absurd (incomplete head.unit head.but_last head.count x (sym is) done))
 
-pub undone_is_short : (unit : Counted) (n : ℕ) (x : List ℕ) → (IsDone unit n x → ⊥) → measure unit x < n
-undone_is_short unit n x going = elim (cases_lt (measure unit x) n) [
-  | inl short ↦ short
-  | inr full ↦ absurd (going (λ y bytes. head_of-full unit n x y full))
-]
+full_here : (way : Way) (fed : ℕ) (is_over : Bool) (x : List ℕ) → Holds (state_of way fed is_over) x → is_full way ≡ is_complete (state_of way fed is_over) x
+full_here (First count front) fed is_over x holds = ap (λ left. left == 0) (holds.left refl) ∙ none_left count (measure front.unit x) where
+  none_left : (n m : ℕ) → (n - m == 0) ≡ nat_le n m
+  none_left n m = grind (arith, nat_tests)
+full_here (ButLast kept) fed is_over x holds = refl
+
+pub full_is : (way : Way) (fed : ℕ) (is_over : Bool) (head : HeadState) (x : List ℕ) → state_of way fed is_over ≡ head → Holds head x → is_full way ≡ is_complete head x
+full_is way fed is_over head x is holds =
+    subst (λ those. is_full way ≡ is_complete those x) is (full_here way fed is_over x (subst (λ those. Holds those x) (sym is) holds))
+
+pub caused : (told : Bool) (way : Way) (fed : ℕ) (is_over : Bool) (head : HeadState) (size : ℕ) (bytes : List ℕ) (old new : List Slot) (fault : Fault) → state_of way fed is_over ≡ head → is_over ≡ false → IsTrue (is_writable old 0)
+    → Stops told (is_but_last way) bytes old new fault → IsCaused head.but_last head.is_over head.fed size old new fault
+caused told way fed is_over head size bytes old new fault is going can stops =
+    subst (λ (those : HeadState). IsCaused those.but_last those.is_over those.fed size old new fault) is (stop.caused_by told (is_but_last way) is_over fed size bytes old new fault going can stops)
+
+-- where all but the last go out, what went out and what waits are what came in
+all_by : (unit : Counted) (but_last : Bool) (n : ℕ) (x : List ℕ) → but_last ≡ true → head_of unit but_last n x ++ cond but_last (last_of unit n x) [] ≡ x
+all_by unit true n x is = ends_together unit n x
+all_by unit false n x is = absurd (false≢true is)
+
+pub all_there : (head : HeadState) (x : List ℕ) → head.but_last ≡ true → head_of head.unit head.but_last head.count x ++ waiting head x ≡ x
+all_there head x is = all_by head.unit head.but_last head.count x is

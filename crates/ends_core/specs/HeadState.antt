@@ -1,13 +1,17 @@
 -- What contracts see of a head.
-use Rattle.std.specs.Prelude.{ℕ, Bool}
+use Rattle.std.specs.Prelude.{ℕ, Bool, List}
 use Rattle.ends_core.specs.declared.unit.Unit.{Unit as Counted}
 
 pub record HeadState : Type 0 where
   pub unit : Counted
-  -- how many lines or bytes go out
+  -- all but the last go out, and not the first
+  pub but_last : Bool
+  -- how many lines or bytes those are
   pub count : ℕ
-  -- how many of them are still to come
+  -- how many of the first are still to come
   pub left : ℕ
+  -- the bytes that wait
+  pub waiting : List ℕ
   -- how many bytes came in
   pub fed : ℕ
   -- a fault came, or the end

@@ -1,15 +1,48 @@
 //! Laws of the definitions, with no code: each stands on the contract of a function whose body is empty.
-ghost use Rattle.std.specs.Prelude.{◌≡◌, ◌-◌, ◌++◌, ℕ, List};
-ghost use Rattle.ends_core.specs.Head.{head_of, measure, settled, waiting};
+ghost use Rattle.std.specs.Prelude.{◌≡◌, ◌<◌, ◌≤◌, ◌+◌, ◌-◌, ◌++◌, ℕ, List, length, true, false};
+ghost use Rattle.seg_core.specs.Line.{ends_with_newline, line_count, newlines};
+ghost use Rattle.ends_core.specs.Ends.{behind_of, but_last_of, first_of, last_of, measure, size, tail_of};
+ghost use Rattle.ends_core.specs.Head.{settled, waiting};
 ghost use Rattle.ends_core.specs.HeadState.{HeadState};
+ghost use Rattle.ends_core.specs.Tail.{waiting as waiting_in_tail};
+ghost use Rattle.ends_core.specs.TailState.{TailState};
 
 use crate::Unit;
 
-/// What a head has of a text and of what follows it: its part of the text, and of the rest as much as is still to come.
-/// So what went out never changes. What is settled and what waits are together the head of what came in.
+/// What a head has of a text and of what follows it: of the first lines or bytes their part of the text, and of the rest as
+/// much as is still to come; of all but the last those of the text, and then those of what waited and the rest. So what
+/// went out never changes.
 pub fn head_goes_on(unit: Unit)
-    ensures goes_on { (n : ℕ) (x y : List ℕ) → head_of unit n (x ++ y) ≡ head_of unit n x ++ head_of unit (n - measure unit x) y }
-    ensures all_out { (head : HeadState) (x : List ℕ) → (settled head x).out ++ waiting head x ≡ head_of head.unit head.count x }
+    ensures first { (n : ℕ) (x y : List ℕ) → first_of unit n (x ++ y) ≡ first_of unit n x ++ first_of unit (n - measure unit x) y }
+    ensures but_last { (n : ℕ) (x y : List ℕ) → but_last_of unit n (x ++ y) ≡ but_last_of unit n x ++ but_last_of unit n (last_of unit n x ++ y) }
 {
     let _ = unit;
 }
+
+/// The first of a text and what stands behind them are the text, and so are all but the last and the last. Where all but
+/// the last go out, what went out and what waits are together what came in.
+pub fn nothing_is_lost(unit: Unit)
+    ensures first { (n : ℕ) (x : List ℕ) → first_of unit n x ++ behind_of unit n x ≡ x }
+    ensures last { (n : ℕ) (x : List ℕ) → but_last_of unit n x ++ last_of unit n x ≡ x }
+    ensures waits { (head : HeadState) (x : List ℕ) → head.but_last ≡ true → (settled head x).out ++ waiting head x ≡ x }
+{
+    let _ = unit;
+}
+
+/// What a tail has of a text and of what follows it. From the nth on it is what it has of the text, and of the rest what
+/// stands behind those that are still to be passed over. The last are the last of what waited and the rest: so what waits,
+/// the last of what came in, is all that has to be kept, and it is no more than was asked for.
+pub fn tail_goes_on(unit: Unit)
+    ensures from_nth { (n : ℕ) (x y : List ℕ) → tail_of unit true n (x ++ y) ≡ tail_of unit true n x ++ behind_of unit (n - 1 - measure unit x) y }
+    ensures last { (n : ℕ) (x y : List ℕ) → last_of unit n (x ++ y) ≡ last_of unit n (last_of unit n x ++ y) }
+    ensures waits { (tail : TailState) (x : List ℕ) → tail.from_nth ≡ false → waiting_in_tail tail x ≡ last_of tail.unit tail.count x }
+    ensures few { (n : ℕ) (x : List ℕ) → size unit (last_of unit n x) ≤ n }
+{
+    let _ = unit;
+}
+
+/// How many lines a text has, by its newlines and its end.
+pub fn lines_are_counted()
+    ensures ended { (x : List ℕ) → ends_with_newline x ≡ true → line_count x ≡ newlines x }
+    ensures open { (x : List ℕ) → 0 < length x → ends_with_newline x ≡ false → line_count x ≡ newlines x + 1 }
+{}

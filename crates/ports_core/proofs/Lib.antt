@@ -1,4 +1,3 @@
-pub mod EngineLemmas
 pub mod PartLemmas
 pub mod SlotLemmas
 pub mod SourceLemmas
@@ -7,3 +6,5 @@ pub mod WriteLemmas
 pub mod NameLemmas
 pub mod CounterLemmas
 pub mod OrderLemmas
+pub mod DirInLemmas
+pub mod DirOutLemmas

@@ -21,18 +21,19 @@ CutsOff Holds settled engine piece told old new fault = (before : List Slot) (x 
     → OutputsAt told before (settled engine x) old
     → StoppedBetween told before (settled engine x) (settled engine (x ++ piece)) fault new
 
--- the causes of the faults of an engine that writes to standard output alone and takes no memory
-abbrev pub IsCaused : Bool → ℕ → ℕ → List Slot → List Slot → Fault → Type 0
-IsCaused is_over fed size old new (Write slot) = (is_over ≡ false) × (slot ≡ 0) × Rose slot old new
-IsCaused is_over fed size old new Failed = (is_over ≡ true) × (new ≡ old)
-IsCaused is_over fed size old new TooLong = (is_over ≡ false) × (2 ^ 63 ≤ fed + size) × (new ≡ old)
-IsCaused is_over fed size old new Memory = ⊥
-IsCaused is_over fed size old new (Read slot) = ⊥
-IsCaused is_over fed size old new (Open slot) = ⊥
-IsCaused is_over fed size old new Suffixes = ⊥
-IsCaused is_over fed size old new (NoMatch operand repetition) = ⊥
-IsCaused is_over fed size old new (Range operand repetition) = ⊥
-IsCaused is_over fed size old new (Usage kind word) = ⊥
+-- The causes of the faults of an engine that writes to standard output alone. `keeps` where it keeps bytes that wait, and so
+-- takes memory.
+abbrev pub IsCaused : Bool → Bool → ℕ → ℕ → List Slot → List Slot → Fault → Type 0
+IsCaused keeps is_over fed size old new Memory = (keeps ≡ true) × (is_over ≡ false)
+IsCaused keeps is_over fed size old new (Write slot) = (is_over ≡ false) × (slot ≡ 0) × Rose slot old new
+IsCaused keeps is_over fed size old new Failed = (is_over ≡ true) × (new ≡ old)
+IsCaused keeps is_over fed size old new TooLong = (is_over ≡ false) × (2 ^ 63 ≤ fed + size) × (new ≡ old)
+IsCaused keeps is_over fed size old new (Read slot) = ⊥
+IsCaused keeps is_over fed size old new (Open slot) = ⊥
+IsCaused keeps is_over fed size old new Suffixes = ⊥
+IsCaused keeps is_over fed size old new (NoMatch operand repetition) = ⊥
+IsCaused keeps is_over fed size old new (Range operand repetition) = ⊥
+IsCaused keeps is_over fed size old new (Usage kind word) = ⊥
 
 -- at the end the outputs have got the whole part, where they had got what was settled
 abbrev pub Finishes : {E : Type 0} → (E → List ℕ → Type 0) → (E → List ℕ → Part) → (E → List ℕ → Part) → E → Bool → List Slot → List Slot → Type 0
@@ -43,3 +44,15 @@ Finishes Holds settled whole engine told old new = (before : List Slot) (x : Lis
 abbrev pub EndsShort : {E : Type 0} → (E → List ℕ → Type 0) → (E → List ℕ → Part) → (E → List ℕ → Part) → E → Bool → List Slot → List Slot → Fault → Type 0
 EndsShort Holds settled whole engine told old new fault = (before : List Slot) (x : List ℕ) → Holds engine x
     → OutputsAt told before (settled engine x) old → StoppedBetween told before (settled engine x) (whole engine x) fault new
+
+-- the engine does the same work as before: the same bytes settle the same
+pub record SameWork {E : Type 0} (settled whole : E → List ℕ → Part) (is_complete : E → List ℕ → Bool) (old new : E) : Type 0 where
+  pub settled_same : (x : List ℕ) → settled new x ≡ settled old x
+  pub whole_same : (x : List ℕ) → whole new x ≡ whole old x
+  pub complete_same : (x : List ℕ) → is_complete new x ≡ is_complete old x
+
+-- more input changes nothing
+pub record IsComplete {E : Type 0} (settled whole : E → List ℕ → Part) (is_complete : E → List ℕ → Bool) (engine : E) (x y : List ℕ) : Type 0 where
+  pub still : is_complete engine (x ++ y) ≡ true
+  pub settled_stays : settled engine (x ++ y) ≡ settled engine x
+  pub whole_stays : whole engine (x ++ y) ≡ settled engine x

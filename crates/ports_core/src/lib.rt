@@ -5,6 +5,11 @@
 mod alphabet;
 mod dir_in;
 mod dir_out;
+mod dir_slot;
+mod dir_stream;
+#[cfg(test)]
+mod dir_tests;
+mod engine;
 mod fault;
 mod inputs;
 mod laws;
@@ -25,6 +30,7 @@ mod whole;
 pub use alphabet::Alphabet;
 pub use dir_in::DirIn;
 pub use dir_out::DirOut;
+pub use engine::Engine;
 pub use fault::{Fault, UsageKind};
 pub use inputs::Inputs;
 pub use laws::{names_are_in_order, no_name_is_given_twice};

@@ -25,7 +25,7 @@ cut true byte n lines = refl
 cut false byte n [] = ap (λ (x : List (List ℕ)). byte ∷ joined x) (take-nil n)
 cut false byte n (line ∷ lines) = refl
 
-first_lines-cons : (byte n : ℕ) (x : List ℕ) → first_lines (suc n) (byte ∷ x) ≡ byte ∷ cond (eqb byte 10) (first_lines n x) (first_lines (suc n) x)
+pub first_lines-cons : (byte n : ℕ) (x : List ℕ) → first_lines (suc n) (byte ∷ x) ≡ byte ∷ cond (eqb byte 10) (first_lines n x) (first_lines (suc n) x)
 first_lines-cons byte n x = cut (eqb byte 10) byte n (lines_of x)
 
 append_step : (is_newline : Bool) (n : ℕ) (x y : List ℕ)
@@ -89,7 +89,7 @@ first_lines-more n x byte h =
     ∙ ap (λ k. x ++ first_lines k (byte ∷ [])) some
     ∙ ap (λ z. x ++ z) (one_byte byte (n - newlines x - 1))
 
-joined-append : (front back : List (List ℕ)) → joined (front ++ back) ≡ joined front ++ joined back
+pub joined-append : (front back : List (List ℕ)) → joined (front ++ back) ≡ joined front ++ joined back
 joined-append [] back = refl
 joined-append (line ∷ front) back =
     ap (λ x. line ++ x) (joined-append front back) ∙ sym (append_assoc line (joined front) (joined back))

@@ -4,3 +4,10 @@ pub mod Newlines
 pub mod FirstLines
 pub mod LinesOf
 pub mod NextLine
+pub mod LineCounts
+pub mod LastLines
+pub mod BackLines
+pub mod BlockLemmas
+pub mod Taken
+pub mod Carried
+pub mod EndLines

@@ -63,7 +63,7 @@ line_first : (line rest : List ℕ) → IsComplete line → lines_of (line ++ re
 line_first line rest (text, whole, none) =
     subst (λ l. lines_of (l ++ rest) ≡ l ∷ lines_of rest) (sym whole) (lines_of-complete text rest none)
 
-lines_of-joined : (lines : List (List ℕ)) → AreLines lines → lines_of (joined lines) ≡ lines
+pub lines_of-joined : (lines : List (List ℕ)) → AreLines lines → lines_of (joined lines) ≡ lines
 lines_of-joined [] each = refl
 lines_of-joined (line ∷ []) (inl complete) = line_first line [] complete
 lines_of-joined (line ∷ []) (inr (some, none)) = ap lines_of (append-nil line) ∙ lines_of-open line some none

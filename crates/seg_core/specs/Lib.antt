@@ -1,2 +1,5 @@
+pub mod Blocks
 pub mod Count
 pub mod Line
+pub mod Rooms
+pub mod Window

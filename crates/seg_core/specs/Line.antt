@@ -1,8 +1,10 @@
 -- The lines of a text. A text is a list of bytes, and the byte 10 is the newline.
-use Rattle.std.specs.Prelude.{◌≡◌, ◌≢◌, ℕ, ◌+◌, ◌<◌, ◌≤◌, ◌==◌, Bool, false, List, [], ◌∷◌, ◌++◌, ◌⊎◌, if◌then◌else◌, length, take}
+use Rattle.std.specs.Prelude.{◌≡◌, ◌≢◌, ℕ, ◌+◌, ◌-◌, ◌<◌, ◌≤◌, ◌==◌, Bool, true, false, List, [], ◌∷◌, ◌++◌, ◌⊎◌, if◌then◌else◌, length, take, drop}
 use Rattle.std.specs.List.{onto_first}
 use Rattle.seg_core.specs.declared.line_reach.Reach.{Reach}
 use Rattle.seg_core.specs.declared.line_reach.Reach.TheVariants.{Ends, Short}
+use Rattle.seg_core.specs.declared.line_reach.ReachBack.{ReachBack}
+use Rattle.seg_core.specs.declared.line_reach.ReachBack.TheVariants as back
 
 -- the lines one after another
 abbrev pub joined : List (List ℕ) → List ℕ
@@ -51,6 +53,22 @@ ends_with_newline (byte ∷ next ∷ bytes) = ends_with_newline (next ∷ bytes)
 abbrev pub first_lines : ℕ → List ℕ → List ℕ
 first_lines n x = joined (take n (lines_of x))
 
+-- how many lines a text has; an open last line counts
+abbrev pub line_count : List ℕ → ℕ
+line_count x = length (lines_of x)
+
+-- what stands behind the first n lines of a text
+abbrev pub behind_lines : ℕ → List ℕ → List ℕ
+behind_lines n x = joined (drop n (lines_of x))
+
+-- the last n lines of a text, or all of it where it has no more
+abbrev pub last_lines : ℕ → List ℕ → List ℕ
+last_lines n x = behind_lines (line_count x - n) x
+
+-- what stands before them
+abbrev pub but_last_lines : ℕ → List ℕ → List ℕ
+but_last_lines n x = first_lines (line_count x - n) x
+
 -- the first n lines of the text are complete, and they are its first `end` bytes
 pub record EndsAt (n : ℕ) (x : List ℕ) (end : ℕ) : Type 0 where
   pub within : end ≤ length x
@@ -66,3 +84,14 @@ pub record FallsShort (n : ℕ) (x : List ℕ) (count : ℕ) : Type 0 where
 abbrev pub Reaches : ℕ → List ℕ → Reach → Type 0
 Reaches n x (Ends end) = EndsAt n x end
 Reaches n x (Short count) = FallsShort n x count
+
+-- behind the n-th newline from the end, the text goes on at `at`
+pub record BeginsAt (n : ℕ) (x : List ℕ) (at : ℕ) : Type 0 where
+  pub within : at ≤ length x
+  pub behind : ends_with_newline (take at x) ≡ true
+  pub counted : newlines (drop at x) + 1 ≡ n
+
+-- where the text begins behind n newlines, counted from the end
+abbrev pub ReachesBack : ℕ → List ℕ → ReachBack → Type 0
+ReachesBack n x (back.Begins at) = BeginsAt n x at
+ReachesBack n x (back.Short count) = FallsShort n x count

@@ -1,8 +1,16 @@
-//! Lines and counts of texts.
+//! Lines and counts of texts, and windows over the last bytes or lines of what came in.
 #![tactic(auto)]
 
+pub mod byte_window;
 pub mod count;
 pub mod digits;
+pub mod fault;
 pub mod line;
+pub mod line_back;
+mod line_block;
+mod line_blocks;
 pub mod line_iter;
 pub mod line_reach;
+pub mod line_window;
+#[cfg(test)]
+mod window_tests;

@@ -9,7 +9,7 @@ use memchr::memchr;
 use std::simd::prelude::*;
 
 // How many bytes are counted in one step.
-const STEP: usize = 64;
+pub(crate) const STEP: usize = 64;
 
 /// The lines of `bytes`, each a slice of it. It takes no memory.
 pub fn lines(bytes: &[u8]) -> Lines<'_>
@@ -49,7 +49,7 @@ pub fn count_newlines(bytes: &[u8]) -> usize
 
 // The newlines of the first bytes, as many as a step counts.
 #[inline(always)]
-fn count_in_step(bytes: &[u8]) -> u32
+pub(crate) fn count_in_step(bytes: &[u8]) -> u32
     requires { STEP ≤ length bytes.now }
     ensures { result ≡ newlines (take STEP bytes.now) }
 {

@@ -1,6 +1,4 @@
-use Rattle.std.proofs.Common.{◌≡◌, ◌+◌, ◌-◌, map, length, List, [], ◌∷◌, ℕ, take, drop, Result, Ok, ap, ◌∙◌, sym, arith, refl}
-use Rattle.std.proofs.lemmas.List.{take_rest}
-use Rattle.cutters.specs.Spelling.{spelled}
+use Rattle.std.proofs.Common.{map, refl}
 use Rattle.cutters.proofs.SpellingLemmas.{one_more, none_more, lacks_value, ends_well, behind-nil, one_place_more, takes_no_value}
 use Rattle.cutters.proofs.spelling.read_items.Goals as goal
 

@@ -1,0 +1,67 @@
+-- What a run finds at the names that it is to read, one after another.
+use Rattle.std.specs.Prelude.{◌≡◌, ℕ, ◌+◌, Bool, true, false, ◌||◌, List, [], ◌∷◌, Option, Some, None, codes, if◌then◌else◌}
+use Rattle.std.specs.Str.{bytes_eq}
+use Rattle.ports_core.specs.Source.{Content}
+
+pub record Input : Type 0 where
+  -- what headers and messages call it
+  pub name : List ℕ
+  -- its number among the inputs, where it has one
+  pub slot : Option ℕ
+  -- what it holds; none where it can't be opened
+  pub content : Option Content
+
+abbrev pub empty : Content
+empty = record { bytes = []; breaks_off = false }
+
+-- the operand `-` is standard input
+abbrev pub is_dash : List ℕ → Bool
+is_dash name = bytes_eq name (codes "-")
+
+abbrev pub standard_input : Content → Input
+standard_input content = record { name = codes "standard input"; slot = Some 0; content = Some content }
+
+-- what came in once doesn't come again: a `-` after the first is an empty input
+abbrev pub read_before : Input
+read_before = record { name = codes "standard input"; slot = None; content = Some empty }
+
+abbrev pub file_input : List ℕ → ℕ → Option Content → Input
+file_input name slot content = record { name = name; slot = Some slot; content = content }
+
+-- what the inputs are: what lies at a name for a number, and what standard input holds
+pub record World : Type 0 where
+  pub laid : ℕ → List ℕ → Option Content
+  pub standard : Content
+
+-- the input for one name: was a `-` before it, and which number comes next
+abbrev pub input_of : World → Bool → ℕ → List ℕ → Bool → Input
+input_of world was_read slot name is_standard =
+    if is_standard
+    then (if was_read then read_before else standard_input world.standard)
+    else file_input name slot (world.laid slot name)
+
+abbrev pub next_slot : ℕ → List ℕ → ℕ
+next_slot slot name = if is_dash name then slot else slot + 1
+
+abbrev pub inputs_from : World → Bool → ℕ → List (List ℕ) → List Input
+inputs_from world was_read slot [] = []
+inputs_from world was_read slot (name ∷ names) = input_of world was_read slot name (is_dash name) ∷ inputs_from world (was_read || is_dash name) (next_slot slot name) names
+
+-- the inputs for names: files have the numbers 1, 2, ..
+abbrev pub inputs_at : World → List (List ℕ) → List Input
+inputs_at world names = inputs_from world false 1 names
+
+-- the input may be the one for the name, whatever it holds
+abbrev pub IsFor : Bool → ℕ → List ℕ → Input → Type 0
+IsFor was_read slot name input = (world : World) × (input ≡ input_of world was_read slot name (is_dash name))
+
+abbrev pub AreFrom : Bool → ℕ → List (List ℕ) → List Input → Type 0
+AreFrom was_read slot [] inputs = inputs ≡ []
+AreFrom was_read slot (name ∷ names) [] = ⊥
+AreFrom was_read slot (name ∷ names) (input ∷ inputs) = IsFor was_read slot name input × AreFrom (was_read || is_dash name) (next_slot slot name) names inputs
+
+-- Inputs that tell their bytes are those that are there; of others it is known that they are inputs for these names, and no
+-- more than their reads gave.
+pub record Finds (told : Bool) (world : World) (names : List (List ℕ)) (inputs : List Input) : Type 0 where
+  pub are : AreFrom false 1 names inputs
+  pub there : told ≡ true → inputs ≡ inputs_at world names

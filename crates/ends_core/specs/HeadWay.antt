@@ -1,0 +1,62 @@
+-- The two ways of a head: the first lines or bytes, or all but the last.
+use Rattle.std.specs.Prelude.{◌≡◌, ℕ, ◌==◌, Bool, true, false, List, [], ◌++◌}
+use Rattle.ends_core.specs.declared.unit.Unit.{Unit as Counted}
+use Rattle.ends_core.specs.declared.head.Way.{Way}
+use Rattle.ends_core.specs.declared.head.Way.TheVariants.{First, ButLast}
+use Rattle.ends_core.specs.Ends.{first_of, last_of, but_last_of}
+use Rattle.ends_core.specs.Kept.{held_of, most_of, unit_of as kept_unit}
+use Rattle.ends_core.specs.HeadState.{HeadState}
+
+abbrev pub unit_of : Way → Counted
+unit_of (First count front) = front.unit
+unit_of (ButLast kept) = kept_unit kept
+
+abbrev pub is_but_last : Way → Bool
+is_but_last (First count front) = false
+is_but_last (ButLast kept) = true
+
+abbrev pub count_of : Way → ℕ
+count_of (First count front) = count
+count_of (ButLast kept) = most_of kept
+
+-- how many of the first are still to come
+abbrev pub left_of : Way → ℕ
+left_of (First count front) = front.left
+left_of (ButLast kept) = 0
+
+-- the bytes that wait
+abbrev pub waiting_of : Way → List ℕ
+waiting_of (First count front) = []
+waiting_of (ButLast kept) = held_of kept
+
+-- what goes out with a piece
+abbrev pub due : Way → List ℕ → List ℕ
+due (First count front) piece = first_of front.unit front.left piece
+due (ButLast kept) piece = but_last_of (kept_unit kept) (most_of kept) (held_of kept ++ piece)
+
+-- what waits then
+abbrev pub left_waiting : Way → List ℕ → List ℕ
+left_waiting (First count front) piece = []
+left_waiting (ButLast kept) piece = last_of (kept_unit kept) (most_of kept) (held_of kept ++ piece)
+
+-- nothing more is to come
+abbrev pub is_full : Way → Bool
+is_full (First count front) = front.left == 0
+is_full (ButLast kept) = false
+
+pub record SameWay (old new : Way) : Type 0 where
+  pub unit : unit_of new ≡ unit_of old
+  pub but_last : is_but_last new ≡ is_but_last old
+  pub count : count_of new ≡ count_of old
+
+-- what contracts see of a head that goes this way
+abbrev pub state_of : Way → ℕ → Bool → HeadState
+state_of way fed is_over = record {
+  unit = unit_of way;
+  but_last = is_but_last way;
+  count = count_of way;
+  left = left_of way;
+  waiting = waiting_of way;
+  fed = fed;
+  is_over = is_over;
+}

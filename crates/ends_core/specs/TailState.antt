@@ -1,0 +1,18 @@
+-- What contracts see of a tail.
+use Rattle.std.specs.Prelude.{ℕ, Bool, List}
+use Rattle.ends_core.specs.declared.unit.Unit.{Unit as Counted}
+
+pub record TailState : Type 0 where
+  pub unit : Counted
+  -- all from the nth on go out, and not the last
+  pub from_nth : Bool
+  -- which n that is, or how many the last are
+  pub count : ℕ
+  -- how many are still to be passed over, before the nth
+  pub left : ℕ
+  -- the bytes that wait
+  pub waiting : List ℕ
+  -- how many bytes came in
+  pub fed : ℕ
+  -- a fault came, or the end
+  pub is_over : Bool

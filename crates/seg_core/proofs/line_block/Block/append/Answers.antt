@@ -1,0 +1,23 @@
+use Rattle.std.proofs.Common.{drop, arith}
+use Rattle.std.proofs.lemmas.List.{length-drop}
+use Rattle.seg_core.proofs.Newlines.{newlines-le-length}
+use Rattle.seg_core.proofs.BlockLemmas.{block_grows}
+use Rattle.seg_core.proofs.line_block.Block.append.Goals as goal
+
+pub overflow_add-self : goal.overflow_add-self
+overflow_add-self c =
+    let old = c.self.inside.bytes in
+    let new = c.extend_from_slice.new.self in
+    let counted = c.self.invariant.1 in
+    let few = newlines-le-length (drop c.self.inside.start old.items) in
+    let short = length-drop c.self.inside.start old.items in
+    let more = newlines-le-length c.args.part.now in
+    let long = c.in_ok-extend_from_slice.ensures.len in
+    let old_ok = old.ok in
+    let ok = new.ok in
+    let small = new.small in
+    let part = c.count_newlines-more.ensures in
+    omega arith
+
+pub invariant_of-self-2 : goal.invariant_of-self-2
+invariant_of-self-2 c = block_grows c.self.inside.bytes.items c.args.part.now c.extend_from_slice.new.self.items c.self.inside.start c.self.inside.count c.count_newlines-more.result c.self.invariant.0 c.self.invariant.1 c.count_newlines-more.ensures c.in_ok-extend_from_slice.ensures.items

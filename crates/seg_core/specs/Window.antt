@@ -1,0 +1,34 @@
+-- What contracts see of a window: the last bytes or lines of what came in.
+use Rattle.std.specs.Prelude.{ℕ, Bool, ◌==◌, ◌||◌, List, ◌++◌, length, drop}
+
+-- a window over lines
+pub record Window : Type 0 where
+  -- how many lines it is to keep
+  pub most : ℕ
+  -- the bytes that it holds: what was put, less what left at the front
+  pub held : List ℕ
+
+-- a window over bytes
+pub record ByteWindowState : Type 0 where
+  -- how many bytes it is to keep
+  pub most : ℕ
+  -- the bytes that it holds: what was put, less what left at the front
+  pub held : List ℕ
+  -- it once held `most` bytes
+  pub grown : Bool
+
+-- the window behind a put
+abbrev pub with_put : ByteWindowState → List ℕ → ByteWindowState
+with_put window piece = record {
+  most = window.most;
+  held = window.held ++ piece;
+  grown = window.grown || (length (window.held ++ piece) == window.most);
+}
+
+-- the window once n bytes left at the front
+abbrev pub without_front : ByteWindowState → ℕ → ByteWindowState
+without_front window n = record { most = window.most; held = drop n window.held; grown = window.grown }
+
+-- the same of a window over lines
+abbrev pub without_first : Window → ℕ → Window
+without_first window n = record { most = window.most; held = drop n window.held }

@@ -1,0 +1,182 @@
+//! A queue of bytes in blocks: it grows behind and goes at the front, and nothing in it moves.
+ghost use Rattle.std.specs.Prelude.{◌≡◌, ℕ, ◌+◌, ◌^◌, ◌≤◌, ◌<◌, List, [], ◌++◌, length, take, drop, IfOk, OnOk, OnErr};
+ghost use Rattle.std.specs.VecDeque.{deque_len, deque_capacity};
+ghost use Rattle.seg_core.specs.Line.{joined, newlines, first_lines};
+ghost use Rattle.seg_core.specs.Blocks.{Gone, first_of};
+
+use crate::line::reach;
+use crate::line_back::reach_back;
+use crate::line_block::{BLOCK, Block};
+use crate::line_reach::{Reach, ReachBack};
+use std::alloc::{AllocError, Global};
+use std::collections::VecDeque;
+
+/// What is left to drop once whole blocks are gone, and how many newlines those had.
+#[derive(Clone, Copy)]
+pub(crate) struct Left {
+    pub(crate) bytes: u64,
+    pub(crate) newlines: u64,
+}
+
+/// Puts a piece behind the others, and says how many newlines it has. Room for all of it is found
+/// before anything is changed.
+pub(crate) fn extend(
+    queue: &mut VecDeque<Block>,
+    alloc: Global,
+    piece: &[u8],
+) -> Result<usize, AllocError>
+    ensures ok { OnOk result (joined queue.new.items ≡ joined queue.old.items ++ piece.now) }
+    ensures err { OnErr result (queue.new.items ≡ queue.old.items) }
+    ensures count { IfOk result (λ count. count ≡ newlines piece.now) }
+{
+    let (near, far) = piece.split_at(room_behind(queue).min(piece.len()));
+    let (mut fresh, far_count) = blocks_of(alloc, far)?;
+    queue.reserve(fresh.len())?;
+    let near_count = fill(queue, near)?;
+    match queue.append(&mut fresh) {
+        Ok(()) => Ok(near_count + far_count),
+        Err(_) => unreachable!(),
+    }
+}
+
+// The room in the last block.
+fn room_behind(queue: &VecDeque<Block>) -> usize
+    ensures { deque_len queue.now ≡ 0 → result ≡ 0 }
+{
+    match queue.back() {
+        Some(last) => last.room(),
+        None => 0,
+    }
+}
+
+// Fresh blocks of these bytes, and how many newlines they have.
+fn blocks_of(alloc: Global, bytes: &[u8]) -> Result<(VecDeque<Block>, usize), AllocError>
+    ensures { IfOk result (λ fresh. (joined fresh.0.items ≡ bytes.now) × (fresh.1 ≡ newlines bytes.now)) }
+{
+    let mut queue: VecDeque<Block> = VecDeque::new(alloc);
+    let mut count = 0;
+    let mut left = bytes;
+    while !left.is_empty() {
+        let (near, far) = left.split_at(BLOCK.min(left.len()));
+        let block = Block::holding(alloc, near)?;
+        count += block.newlines();
+        match queue.push_back(block) {
+            Ok(()) => {}
+            Err(_) => return Err(AllocError),
+        }
+        left = far;
+    }
+    Ok((queue, count))
+}
+
+// Puts bytes behind those of the last block, and says how many newlines they have.
+fn fill(queue: &mut VecDeque<Block>, part: &[u8]) -> Result<usize, AllocError>
+    requires { deque_len queue.old ≡ 0 → part.now ≡ [] }
+    ensures ok { OnOk result (joined queue.new.items ≡ joined queue.old.items ++ part.now) }
+    ensures err { OnErr result (queue.new.items ≡ queue.old.items) }
+    ensures len { deque_len queue.new ≡ deque_len queue.old }
+    ensures capacity { deque_capacity queue.new ≡ deque_capacity queue.old }
+    ensures count { IfOk result (λ count. count ≡ newlines part.now) }
+{
+    match queue.back_mut() {
+        Some(last) => last.append(part),
+        None => Ok(0),
+    }
+}
+
+/// The bytes of the first block that has any.
+pub(crate) fn front_of(queue: &VecDeque<Block>) -> &[u8]
+    ensures front { (rest : List ℕ) × (joined queue.now.items ≡ result.now ++ rest) }
+    ensures some { 0 < length (joined queue.now.items) → 0 < length result.now }
+{
+    for i in 0..queue.len() {
+        let bytes = queue[i].bytes();
+        if !bytes.is_empty() {
+            return bytes;
+        }
+    }
+    &[]
+}
+
+/// Drops this many bytes at the front, and says how many newlines they had.
+pub(crate) fn drop_front(queue: &mut VecDeque<Block>, n: u64) -> u64
+    requires within { n ≤ length (joined queue.old.items) }
+    requires fits { length (joined queue.old.items) < 2 ^ 64 }
+    ensures left { joined queue.new.items ≡ drop n (joined queue.old.items) }
+    ensures newlines { result ≡ newlines (take n (joined queue.old.items)) }
+{
+    let left = drop_whole(queue, n);
+    left.newlines + drop_within(queue, left.bytes)
+}
+
+// Drops the blocks that lie within the first n bytes.
+fn drop_whole(queue: &mut VecDeque<Block>, n: u64) -> Left
+    requires fits { length (joined queue.old.items) < 2 ^ 64 }
+    ensures gone { Gone n (joined queue.old.items) queue.new.items result.bytes result.newlines }
+    ensures within { n ≤ length (joined queue.old.items) → result.bytes ≤ length (first_of queue.new.items) }
+{
+    let mut left = Left {
+        bytes: n,
+        newlines: 0,
+    };
+    while let Some(first) = queue.front() {
+        if left.bytes < first.len() as u64 {
+            break;
+        }
+        left.bytes -= first.len() as u64;
+        left.newlines += first.newlines() as u64;
+        queue.pop_front();
+    }
+    left
+}
+
+// Drops bytes at the front of the first block, and says how many newlines they had.
+fn drop_within(queue: &mut VecDeque<Block>, n: u64) -> u64
+    requires { n ≤ length (first_of queue.old.items) }
+    ensures left { joined queue.new.items ≡ drop n (joined queue.old.items) }
+    ensures newlines { result ≡ newlines (take n (joined queue.old.items)) }
+{
+    match queue.front_mut() {
+        Some(first) => first.drop_front(n as usize) as u64,
+        None => 0,
+    }
+}
+
+/// Where the first `lines` lines end, which are complete.
+pub(crate) fn reach_in(queue: &VecDeque<Block>, lines: u64) -> u64
+    requires some { 0 < lines }
+    requires enough { lines ≤ newlines (joined queue.now.items) }
+    requires fits { length (joined queue.now.items) < 2 ^ 64 }
+    ensures { result ≡ length (first_lines lines (joined queue.now.items)) }
+{
+    let mut passed: u64 = 0;
+    let mut left = lines;
+    for i in 0..queue.len() {
+        let block = &queue[i];
+        if left <= block.newlines() as u64 {
+            return passed + end_of(block, left);
+        }
+        left -= block.newlines() as u64;
+        passed += block.len() as u64;
+    }
+    unreachable!()
+}
+
+// Where complete lines end in a block.
+fn end_of(block: &Block, lines: u64) -> u64
+    requires { lines ≤ newlines block.now }
+    ensures { result ≡ length (first_lines lines block.now) }
+{
+    let behind = block.newlines() as u64 - lines;
+    if behind < lines {
+        // Nearer to the block's end: behind them is what stands behind its last newlines but these.
+        return match reach_back(block.bytes(), behind + 1) {
+            ReachBack::Begins(at) => at as u64,
+            ReachBack::Short(_) => unreachable!(),
+        };
+    }
+    match reach(block.bytes(), lines) {
+        Reach::Ends(end) => end as u64,
+        Reach::Short(_) => unreachable!(),
+    }
+}

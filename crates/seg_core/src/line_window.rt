@@ -1,0 +1,173 @@
+//! The last lines of what came in.
+ghost use Rattle.std.specs.Prelude.{◌≡◌, ℕ, ◌+◌, ◌-◌, ◌^◌, ◌<◌, ◌≤◌, ◌==◌, List, [], ◌++◌, length, take, drop, min, IsOk, IfOk, IfErr, OnOk};
+ghost use Rattle.seg_core.specs.Line.{but_last_lines, first_lines, line_count, newlines};
+ghost use Rattle.seg_core.specs.Window.{without_first};
+
+use crate::fault::Fault;
+use crate::line_back::{last_newline_off, reach_back};
+use crate::line_block::Block;
+use crate::line_blocks::{drop_front, extend, front_of, reach_in};
+use crate::line_reach::ReachBack;
+use std::alloc::{AllocError, Global};
+use std::collections::VecDeque;
+use std::marker::Model;
+
+/// A window over lines: it keeps the last `most` of what came in. It takes as much memory as it
+/// holds bytes, in blocks of 64 KiB, of which the first and the last may be used in part only. No
+/// byte moves from block to block.
+#[derive(Drop)]
+pub struct LineWindow {
+    alloc: Global,
+    most: u64,
+    blocks: VecDeque<Block>,
+    len: u64,
+    newlines: u64,
+}
+
+impl Model for LineWindow {
+    ghost use Rattle.seg_core.specs.Window.{Window};
+    ghost use Rattle.seg_core.specs.Blocks.{IsCounted};
+    ghost use Rattle.seg_core.specs.Line.{joined};
+
+    ghost Value = { Window };
+
+    ghost view = { λ w. record { most = w.most; held = joined w.blocks.items } };
+
+    ghost invariant = { λ w. IsCounted w.most (joined w.blocks.items) w.len w.newlines };
+}
+
+impl LineWindow {
+    /// A window that is to keep the last `most` lines, and holds none yet. An open last line counts.
+    ///
+    /// # Errors
+    ///
+    /// `Memory` where there is no room for it.
+    pub fn new(alloc: Global, most: u64) -> Result<Self, Fault>
+        ensures ok { IfOk result (λ window. window ≡ record { most = most; held = [] }) }
+        ensures err { IfErr result (λ fault. fault ≡ Fault.Memory) }
+    {
+        Ok(LineWindow {
+            alloc,
+            most,
+            blocks: VecDeque::new(alloc),
+            len: 0,
+            newlines: 0,
+        })
+    }
+
+    /// How many bytes it holds.
+    pub fn len(&self) -> u64
+        ensures len { result ≡ length self.now.held }
+        ensures lines { line_count self.now.held ≤ self.now.most }
+    {
+        self.len
+    }
+
+    /// Whether it holds none.
+    pub fn is_empty(&self) -> bool
+        ensures { result ≡ (length self.now.held == 0) }
+    {
+        self.len == 0
+    }
+
+    /// How many bytes stand before the last `most` lines of what it holds and the piece behind it:
+    /// so many must leave at the front. It may be more than it holds.
+    pub fn over(&self, piece: &[u8]) -> u64
+        requires fits { length self.now.held + length piece.now < 2 ^ 64 }
+        ensures { result ≡ length (but_last_lines self.now.most (self.now.held ++ piece.now)) }
+    {
+        let len = self.len;
+        if piece.is_empty() {
+            return 0;
+        }
+        if self.most == 0 {
+            return len + piece.len() as u64;
+        }
+        match reach_back(last_newline_off(piece), self.most) {
+            ReachBack::Begins(at) => len + at as u64,
+            ReachBack::Short(count) => {
+                let lines = self.newlines + count as u64 + 1;
+                self.end_of_first(lines.saturating_sub(self.most))
+            }
+        }
+    }
+
+    // Where the first `lines` lines end, which are complete.
+    fn end_of_first(&self, lines: u64) -> u64
+        requires { lines ≤ newlines self.now.held }
+        ensures { result ≡ length (first_lines lines self.now.held) }
+    {
+        if lines == 0 {
+            return 0;
+        }
+        let _len = self.len;
+        reach_in(&self.blocks, lines)
+    }
+
+    /// The longest stretch at the front that stands together, empty only where it holds nothing.
+    pub fn front(&self) -> &[u8]
+        ensures front { (rest : List ℕ) × (self.now.held ≡ result.now ++ rest) }
+        ensures some { 0 < length self.now.held → 0 < length result.now }
+    {
+        front_of(&self.blocks)
+    }
+
+    /// Moves out as many bytes at the front as there are and fit, and says how many.
+    pub fn take_front(&mut self, out: &mut [u8]) -> usize
+        ensures count { result ≡ min (length out.old) (length self.old.held) }
+        ensures out { out.new ≡ take result self.old.held ++ drop result out.old }
+        ensures left { self.new ≡ without_first self.old result }
+    {
+        let mut at = 0;
+        while at < out.len() && !self.is_empty() {
+            let count = copy_front(self.front(), out, at);
+            self.drop_front(count as u64);
+            at += count;
+        }
+        at
+    }
+
+    /// Drops this many bytes at the front.
+    pub fn drop_front(&mut self, n: u64)
+        requires { n ≤ length self.old.held }
+        ensures { self.new ≡ without_first self.old n }
+    {
+        self.newlines -= drop_front(&mut self.blocks, n);
+        self.len -= n;
+    }
+
+    /// Puts a piece behind what it holds, where no more lines than `most` come of it.
+    ///
+    /// # Errors
+    ///
+    /// `Memory` where there is no room for it, and the window stays as it was.
+    pub fn put(&mut self, piece: &[u8]) -> Result<(), Fault>
+        requires within { but_last_lines self.old.most (self.old.held ++ piece.now) ≡ [] }
+        requires fits { length self.old.held + length piece.now < 2 ^ 64 }
+        ensures ok { OnOk result (self.new ≡ record { most = self.old.most; held = self.old.held ++ piece.now }) }
+        ensures err { IfErr result (λ fault. (fault ≡ Fault.Memory) × (self.new ≡ self.old)) }
+        ensures empty { length piece.now ≡ 0 → IsOk result }
+    {
+        if piece.is_empty() {
+            return Ok(());
+        }
+        let count = match extend(&mut self.blocks, self.alloc, piece) {
+            Ok(count) => count,
+            Err(AllocError) => return Err(Fault::Memory),
+        };
+        self.len += piece.len() as u64;
+        self.newlines += count as u64;
+        Ok(())
+    }
+}
+
+// Copies bytes to a slice from `at` on, as many as there are and fit.
+fn copy_front(from: &[u8], to: &mut [u8], at: usize) -> usize
+    requires { at ≤ length to.old }
+    ensures count { result ≡ min (length to.old - at) (length from.now) }
+    ensures copied { to.new ≡ take at to.old ++ (take result from.now ++ drop (at + result) to.old) }
+{
+    let count = from.len().min(to.len() - at);
+    to[at..at + count].copy_from_slice(&from[..count]);
+    count
+}
