@@ -1,10 +1,15 @@
 /* Loaded before the C library, for tests: by the variable FAULT, every other read and write is interrupted ("interrupt"),
-   each moves at most 7 bytes ("short"), or one growth of memory is refused ("memory", the one that FAULT_AT counts). */
+   each moves at most 7 bytes ("short"), or one call fails, the one that FAULT_AT counts: a growth of memory ("memory"), a
+   write ("write": no space), a read ("read": input error) or an open ("open": too many files). When it does, the file
+   FAULT_MET is made. */
 #define _GNU_SOURCE
 #include <dlfcn.h>
 #include <errno.h>
+#include <fcntl.h>
+#include <stdarg.h>
 #include <stdlib.h>
 #include <string.h>
+#include <sys/syscall.h>
 #include <unistd.h>
 
 static int fault_is(const char *name)
@@ -22,12 +27,41 @@ static int interrupts(void)
     return 1;
 }
 
+/* Whether this call, of this kind, is the one that fails. */
+static int fails(const char *kind, int *calls, int error)
+{
+    const char *at = getenv("FAULT_AT"), *met = getenv("FAULT_MET");
+    if (!fault_is(kind) || !at || ++*calls != atoi(at))
+        return 0;
+    if (met)
+        syscall(SYS_close, syscall(SYS_openat, AT_FDCWD, met, O_CREAT | O_WRONLY, 0600));
+    errno = error;
+    return 1;
+}
+
+int open(const char *name, int flags, ...)
+{
+    static int (*next)(const char *, int, ...);
+    static int calls;
+    va_list more;
+    mode_t mode;
+    if (!next)
+        next = dlsym(RTLD_NEXT, "open");
+    if (fails("open", &calls, EMFILE))
+        return -1;
+    va_start(more, flags);
+    mode = flags & O_CREAT ? va_arg(more, mode_t) : 0;
+    va_end(more);
+    return next(name, flags, mode);
+}
+
 ssize_t read(int fd, void *buffer, size_t size)
 {
     static ssize_t (*next)(int, void *, size_t);
+    static int calls;
     if (!next)
         next = dlsym(RTLD_NEXT, "read");
-    if (interrupts())
+    if (interrupts() || fails("read", &calls, EIO))
         return -1;
     return next(fd, buffer, fault_is("short") && size > 7 ? 7 : size);
 }
@@ -35,9 +69,10 @@ ssize_t read(int fd, void *buffer, size_t size)
 ssize_t write(int fd, const void *buffer, size_t size)
 {
     static ssize_t (*next)(int, const void *, size_t);
+    static int calls;
     if (!next)
         next = dlsym(RTLD_NEXT, "write");
-    if (interrupts())
+    if (interrupts() || fails("write", &calls, ENOSPC))
         return -1;
     return next(fd, buffer, fault_is("short") && size > 7 ? 7 : size);
 }
@@ -45,8 +80,7 @@ ssize_t write(int fd, const void *buffer, size_t size)
 static int refuses(void)
 {
     static int growths;
-    const char *at = getenv("FAULT_AT");
-    return fault_is("memory") && at && ++growths == atoi(at);
+    return fails("memory", &growths, ENOMEM);
 }
 
 extern void *__libc_malloc(size_t);
