@@ -15,7 +15,7 @@ use Rattle.ports_core.proofs.WriteLemmas.{told_of-nil}
 use Rattle.cutters.specs.declared.ends.Progress.{Progress}
 use Rattle.cutters.specs.Ends.{Made, nothing_made, joined, of_input, of_inputs, is_missing}
 use Rattle.cutters.specs.Feeding.{Work, KeepsOthers, ReadsFor}
-use Rattle.cutters.specs.Input.{Input, World, AreFrom, is_dash, input_of, inputs_from, inputs_at, file_input, standard_input, read_before, next_slot, empty}
+use Rattle.cutters.specs.Input.{has_dash, Input, World, AreFrom, is_dash, input_of, inputs_from, inputs_at, file_input, standard_input, read_before, next_slot, empty}
 use Rattle.cutters.specs.Message.{SaysAll, SaysOn}
 use Rattle.cutters.specs.RunEnds.{standard_output, standard_error, StopsAt, RunsOver}
 use Rattle.cutters.specs.EndsSteps.{HasStreams, streams_at, after_input, TookInput, took, cut_off, TookAll, all, stopped_at, OfSource, KeepsOther, OpensOne, OfName, ReadsSource, ReadsStandard, standard_source, world_of}
@@ -387,3 +387,39 @@ reads_on is_complete most false there old new unread so_far reads = subst (λ (s
 
 pub reads_on_at : (is_complete : List ℕ → Bool) (room most : ℕ) (was_read : Bool) (there : Content) (old new : List Source) → room ≡ most → (was_read ≡ false → source_at old 0 ≡ source_of there) → ReadsFor is_complete most there (source_at old 0).left → ReadsStandard is_complete room was_read old new → ReadsFor is_complete most there (source_at new 0).left
 reads_on_at is_complete room most was_read there old new same unread so_far reads = reads_on is_complete most was_read there old new unread so_far (subst (λ n. ReadsStandard is_complete n was_read old new) same reads)
+
+-- standard input is untouched where no name asks for it
+
+pub file_untouched : (told : Bool) (laid : ℕ → List ℕ → Option Content) (name : List ℕ) (old mid new : List Source) (slot : ℕ) → 0 < length old → Opens told laid old mid name slot → KeepsOthers slot mid new → source_at new 0 ≡ source_at old 0
+file_untouched told laid name old mid new slot some opens keeps =
+    keeps.others 0 (λ same. let at : slot ≡ length old = opens.number in omega (arith, same)) ∙ ap (λ those. source_at those 0) opens.sources ∙ first_source old (source_of opens.content ∷ []) some
+
+pub missing_untouched : (told : Bool) (laid : ℕ → List ℕ → Option Content) (name : List ℕ) (old new : List Source) (fault : Fault) → 0 < length old → OpensNothing told laid old new name fault → source_at new 0 ≡ source_at old 0
+missing_untouched told laid name old new fault some (from.broke at number lies is) = ap (λ those. source_at those 0) is ∙ first_source old (missing ∷ []) some
+missing_untouched told laid name old new fault some (from.no_room is) = ap (λ those. source_at those 0) is
+
+pub dash_is_none : (name : List ℕ) (first again : Source) → is_dash name ≡ true → is_dash name ≡ false → first ≡ again
+dash_is_none name first again dash differs = absurd (false≢true (sym differs ∙ dash))
+
+-- what a loop over names has left of standard input
+pub record Untouched (names left : List (List ℕ)) (start now : List Source) : Type 0 where
+  pub none_left : has_dash names ≡ false → has_dash left ≡ false
+  pub same : has_dash names ≡ false → source_at now 0 ≡ source_at start 0
+
+pub untouched_at_first : (names : List (List ℕ)) (start : List Source) → Untouched names names start start
+untouched_at_first names start = record { none_left = λ none. none; same = λ none. refl }
+
+pub untouched_by : (names : List (List ℕ)) (none : Bor (List ℕ)) (left : List (Bor (List ℕ))) (start now new : List Source) → 1 ≤ length left → Untouched names (map (λ word. word.now) left) start now
+    → (is_dash (get_or left 0 none).now ≡ false → source_at new 0 ≡ source_at now 0)
+    → has_dash names ≡ false → source_at new 0 ≡ source_at start 0
+untouched_by names none left start now new some untouched keeps has_none =
+    let both = neither (is_dash (get_or left 0 none).now) (has_dash (map (λ word. word.now) (take (length left - 1) (drop 1 left)))) (sym (ap has_dash (front_and_rest none left some)) ∙ untouched.none_left has_none) in
+    keeps both.0 ∙ untouched.same has_none
+
+pub untouched_on : (names : List (List ℕ)) (none : Bor (List ℕ)) (left : List (Bor (List ℕ))) (start now new : List Source) → 1 ≤ length left → Untouched names (map (λ word. word.now) left) start now
+    → (is_dash (get_or left 0 none).now ≡ false → source_at new 0 ≡ source_at now 0)
+    → Untouched names (map (λ word. word.now) (take (length left - 1) (drop 1 left))) start new
+untouched_on names none left start now new some untouched keeps = record {
+  none_left = λ has_none. (neither (is_dash (get_or left 0 none).now) (has_dash (map (λ word. word.now) (take (length left - 1) (drop 1 left)))) (sym (ap has_dash (front_and_rest none left some)) ∙ untouched.none_left has_none)).1;
+  same = untouched_by names none left start now new some untouched keeps;
+}

@@ -18,6 +18,10 @@ empty = record { bytes = []; breaks_off = false }
 abbrev pub is_dash : List ℕ → Bool
 is_dash name = bytes_eq name (codes "-")
 
+abbrev pub has_dash : List (List ℕ) → Bool
+has_dash [] = false
+has_dash (name ∷ names) = is_dash name || has_dash names
+
 abbrev pub standard_input : Content → Input
 standard_input content = record { name = codes "standard input"; slot = Some 0; content = Some content }
 

@@ -8,7 +8,7 @@ ghost use Rattle.cutters.specs.EndsAsked.{EndsAsked};
 ghost use Rattle.cutters.specs.EndsSteps.{Does, HasStreams, HeaderFails, IsPlain, KeepsOther, OfName, OfSource, OpensOne, ReadsSource, ReadsStandard, TookAll, TookInput, standard_source, streams_at, world_of};
 ghost use Rattle.cutters.specs.EndsPlain.{head_is_plain, tail_is_plain};
 ghost use Rattle.cutters.specs.Feeding.{FedAs, ReadsFor, Work};
-ghost use Rattle.cutters.specs.Input.{is_dash};
+ghost use Rattle.cutters.specs.Input.{has_dash, is_dash};
 ghost use Rattle.cutters.specs.Outcome.{ends_outcome};
 ghost use Rattle.cutters.specs.RunEnds.{EndsAs, RunsOver, stream_of};
 
@@ -86,6 +86,7 @@ fn take_name<E: Ends + Drop, I: Inputs, O: Outs>(
         → OfName I.told (world_of (I.laid inputs.old) (I.sources inputs.old)) progress.was_read (length (I.sources inputs.old)) name.now
         (λ input. TookInput O.told job.now.tool (of_input job.now.tool (E.work job.now.settings.now) job.now.with_header progress.is_first input) input.content progress (progress.was_read || is_dash name.now) out error (O.slots outs.new) result) }
     ensures reads { I.told ≡ true → ReadsStandard (E.work job.now.settings.now).is_complete (length buffer.old) progress.was_read (I.sources inputs.old) (I.sources inputs.new) }
+    ensures untouched { is_dash name.now ≡ false → source_at (I.sources inputs.new) 0 ≡ source_at (I.sources inputs.old) 0 }
     ensures opens { OnOk result (OpensOne name.now (I.sources inputs.old) (I.sources inputs.new)) }
     ensures laid { I.laid inputs.new ≡ I.laid inputs.old }
 {
@@ -237,6 +238,7 @@ fn take_names<E: Ends + Drop, I: Inputs, O: Outs>(
     requires outputs { O.slots outs.old ≡ streams }
     ensures took { RunsOver I.told (world_of (I.laid inputs.old) (I.sources inputs.old)) (map (λ name. name.now) names.now)
         (λ found. TookAll O.told job.now.tool (of_inputs job.now.tool (E.work job.now.settings.now) job.now.with_header true) found (O.slots outs.new) result) }
+    ensures untouched { has_dash (map (λ name. name.now) names.now) ≡ false → source_at (I.sources inputs.new) 0 ≡ source_at (I.sources inputs.old) 0 }
     ensures reads { I.told ≡ true → ReadsFor (E.work job.now.settings.now).is_complete (length buffer.old) (source_at (I.sources inputs.old) 0).left (source_at (I.sources inputs.new) 0).left }
 {
     let mut progress = Progress {
@@ -301,6 +303,7 @@ fn take_operands<E: Ends + Drop, I: Inputs, O: Outs>(
     requires outputs { O.slots outs.old ≡ streams }
     ensures took { RunsOver I.told (world_of (I.laid inputs.old) (I.sources inputs.old)) (names_in (map (λ word. word.now) words.now) settings.now.operands)
         (λ found. TookAll O.told tool (of_inputs tool (E.work settings.now) (has_headers settings.now.headers (names_in (map (λ word. word.now) words.now) settings.now.operands)) true) found (O.slots outs.new) result) }
+    ensures untouched { has_dash (names_in (map (λ word. word.now) words.now) settings.now.operands) ≡ false → source_at (I.sources inputs.new) 0 ≡ source_at (I.sources inputs.old) 0 }
     ensures reads { I.told ≡ true → ReadsFor (E.work settings.now).is_complete PIECE (source_at (I.sources inputs.old) 0).left (source_at (I.sources inputs.new) 0).left }
 {
     let names = match names_of(alloc, words, &settings.operands) {
@@ -331,6 +334,7 @@ pub fn run_ends<E: Ends + Drop, I: Inputs, O: Outs>(
 ) -> u8
     requires fresh { IsFresh (I.sources inputs.old) }
     requires outputs { O.slots outs.old ≡ streams }
+    ensures untouched { has_dash (names_in (map (λ word. word.now) words.now) settings.now.operands) ≡ false → source_at (I.sources inputs.new) 0 ≡ source_at (I.sources inputs.old) 0 }
     ensures reads { I.told ≡ true → ReadsFor (E.work settings.now).is_complete PIECE (source_at (I.sources inputs.old) 0).left (source_at (I.sources inputs.new) 0).left }
     ensures ends { RunsOver I.told (world_of (I.laid inputs.old) (I.sources inputs.old)) (names_in (map (λ word. word.now) words.now) settings.now.operands)
         (λ found. EndsAs O.told tool (ends_outcome tool (E.work settings.now) settings.now (names_in (map (λ word. word.now) words.now) settings.now.operands)) found (O.slots outs.new) result) }

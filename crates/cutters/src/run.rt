@@ -1,10 +1,11 @@
 //! One whole run: from words and inputs to outputs and a status.
-ghost use Rattle.std.specs.Prelude.{◌≡◌, true, map};
+ghost use Rattle.std.specs.Prelude.{◌≡◌, true, false, map};
 ghost use Rattle.ports_core.specs.Slot.{streams};
 ghost use Rattle.ports_core.specs.Source.{source_at, IsFresh};
 ghost use Rattle.cutters.specs.EndsSteps.{world_of};
 ghost use Rattle.cutters.specs.Feeding.{ReadsFor};
 ghost use Rattle.cutters.specs.Reads.{AreNone, Reads, complete_for};
+ghost use Rattle.cutters.specs.Input.{has_dash};
 ghost use Rattle.cutters.specs.Outcome.{names_of, names_read, speaker, tool_of, tool_outcome, word_of};
 ghost use Rattle.cutters.specs.RunEnds.{EndsAs, RunEnds, RunsOver};
 
@@ -24,6 +25,7 @@ pub fn run<I: Inputs, O: Outs>(alloc: Global, words: &[&str], inputs: &mut I, ou
     ensures ends { RunsOver I.told (world_of (I.laid inputs.old) (I.sources inputs.old)) (names_read (map (λ word. word.now) words.now))
         (λ found. RunEnds O.told (map (λ word. word.now) words.now) found (O.slots outs.new) result) }
     ensures unopened { AreNone (map (λ word. word.now) words.now) → I.sources inputs.new ≡ I.sources inputs.old }
+    ensures untouched { has_dash (names_read (map (λ word. word.now) words.now)) ≡ false → source_at (I.sources inputs.new) 0 ≡ source_at (I.sources inputs.old) 0 }
     ensures reads { I.told ≡ true → Reads (map (λ word. word.now) words.now) (source_at (I.sources inputs.old) 0).left (source_at (I.sources inputs.new) 0).left }
 {
     match read_words(alloc, words) {
@@ -46,6 +48,7 @@ fn run_tool<I: Inputs, O: Outs>(
     requires outputs { O.slots outs.old ≡ streams }
     ensures ends { RunsOver I.told (world_of (I.laid inputs.old) (I.sources inputs.old)) (names_of (map (λ word. word.now) words.now) settings.now)
         (λ found. EndsAs O.told (tool_of settings.now) (λ those. tool_outcome (map (λ word. word.now) words.now) those settings.now) found (O.slots outs.new) result) }
+    ensures untouched { has_dash (names_of (map (λ word. word.now) words.now) settings.now) ≡ false → source_at (I.sources inputs.new) 0 ≡ source_at (I.sources inputs.old) 0 }
     ensures reads { I.told ≡ true → ReadsFor (complete_for settings.now) PIECE (source_at (I.sources inputs.old) 0).left (source_at (I.sources inputs.new) 0).left }
 {
     match settings {

@@ -1,5 +1,5 @@
 use Rattle.std.proofs.Common.{◌∙◌, length, sym}
-use Rattle.cutters.proofs.NamesLemmas.{of_dash, of_opened, of_missing, of_any, took_dash, took_file, took_missing, took_no_memory, reads_dash, reads_file, reads_missing}
+use Rattle.cutters.proofs.NamesLemmas.{of_dash, of_opened, of_missing, of_any, took_dash, took_file, took_missing, took_no_memory, reads_dash, reads_file, reads_missing, file_untouched, missing_untouched, dash_is_none}
 use Rattle.cutters.proofs.ends.take_name.Goals as goal
 
 pub returns-then-is_dash-clause-took : goal.returns-then-is_dash-clause-took
@@ -39,3 +39,15 @@ returns-in-Err-Open-clause-reads g c told = reads_missing _ _ _ _ _ _ _ _ _ c.re
 
 pub returns-in-Err-clause-reads : goal.returns-in-Err-clause-reads
 returns-in-Err-clause-reads g c told = reads_missing _ _ _ _ _ _ _ _ _ c.requires.some c.in-Err.ensures.err
+
+pub returns-then-is_dash-clause-untouched : goal.returns-then-is_dash-clause-untouched
+returns-then-is_dash-clause-untouched g c differs = dash_is_none c.args.name.now _ _ (sym c.is_dash.ensures ∙ c.if-is_dash.true) differs
+
+pub returns-in-Ok-clause-untouched : goal.returns-in-Ok-clause-untouched
+returns-in-Ok-clause-untouched g c differs = file_untouched _ _ _ _ _ _ _ c.requires.some c.in-Ok.ensures.ok c.take_input-in-Ok.ensures.others
+
+pub returns-in-Err-Open-clause-untouched : goal.returns-in-Err-Open-clause-untouched
+returns-in-Err-Open-clause-untouched g c differs = missing_untouched _ _ _ _ _ _ c.requires.some c.in-Err-Open.ensures.err
+
+pub returns-in-Err-clause-untouched : goal.returns-in-Err-clause-untouched
+returns-in-Err-clause-untouched g c differs = missing_untouched _ _ _ _ _ _ c.requires.some c.in-Err.ensures.err

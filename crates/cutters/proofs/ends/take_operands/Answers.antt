@@ -2,6 +2,7 @@ use Rattle.std.proofs.Common.{◌∙◌, refl, sym, ap, map, ℕ, List, Bor}
 use Rattle.cutters.specs.declared.settings.Headers.{Headers}
 use Rattle.cutters.specs.EndsAsked.{EndsAsked}
 use Rattle.cutters.specs.Ends.{has_headers, names_in}
+use Rattle.cutters.specs.Input.{has_dash}
 use Rattle.ports_core.specs.Source.{source_at}
 use Rattle.cutters.proofs.FeedingLemmas.{reads_none, reads_room}
 use Rattle.cutters.proofs.RunLemmas.{no_memory_first, took_operands}
@@ -32,3 +33,7 @@ returns-clause-took g c =
     (ap (map (λ name. name.now)) c.deref-3.ensures.value ∙ c.in-Ok.ensures.ok
     ∙ ap (names_in (map (λ word. word.now) c.args.words.now)) (c.deref.ensures.value ∙ ap (λ (asked : EndsAsked). asked.operands) c.settings.view_is))
     c.take_names.ensures.took
+
+pub returns-clause-untouched : goal.returns-clause-untouched
+returns-clause-untouched g c none = c.take_names.ensures.untouched (ap has_dash (ap (map (λ name. name.now)) c.deref-3.ensures.value ∙ c.in-Ok.ensures.ok
+    ∙ ap (names_in (map (λ word. word.now) c.args.words.now)) (c.deref.ensures.value ∙ ap (λ (asked : EndsAsked). asked.operands) c.settings.view_is)) ∙ none)

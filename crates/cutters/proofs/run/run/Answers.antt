@@ -1,15 +1,19 @@
-use Rattle.std.proofs.Common.{ℕ, List, map, refl, subst}
+use Rattle.std.proofs.Common.{◌∙◌, sym, ap, Result, ℕ, List, map, refl, subst}
+use Rattle.ports_core.specs.declared.fault.Fault.{Fault}
+use Rattle.cutters.specs.declared.settings.Settings.{Settings}
+use Rattle.cutters.specs.Input.{has_dash}
 use Rattle.ports_core.specs.Source.{source_at}
 use Rattle.cutters.specs.Words.{settings_of}
 use Rattle.ports_core.specs.Text.{message_of}
 use Rattle.ports_core.specs.declared.tool.Tool.{Tool}
 use Rattle.cutters.specs.Message.{SaysOn}
-use Rattle.cutters.specs.Outcome.{speaker}
+use Rattle.cutters.specs.Outcome.{names_at, speaker}
 use Rattle.cutters.proofs.RunLemmas.{tool_runs, refused_or_memory, reads_by, unread, asked_or_none}
 use Rattle.cutters.proofs.run.run.Goals as goal
 
 pub returns-in-Ok : goal.returns-in-Ok
 returns-in-Ok g c = record {
+  untouched = λ none. c.run_tool.ensures.untouched (sym (ap (λ (meant : Result Settings Fault). has_dash (names_at (map (λ word. word.now) c.args.words.now) meant)) c.in-Ok.ensures.ok) ∙ none);
   unopened = λ none. absurd (asked_or_none (map (λ word. word.now) c.args.words.now) c.in-Ok.settings none.0 c.in-Ok.ensures.ok none.1);
   ends = tool_runs _ _ _ _ _ _ _ c.in-Ok.ensures.ok c.run_tool.ensures.ends;
   reads = λ told. reads_by (map (λ word. word.now) c.args.words.now) c.in-Ok.settings (source_at (g.I.Inputs.sources c.args.inputs.now) 0).left (source_at (g.I.Inputs.sources c.run_tool.new.inputs) 0).left c.in-Ok.ensures.ok (c.run_tool.ensures.reads told);
@@ -17,6 +21,7 @@ returns-in-Ok g c = record {
 
 pub returns-in-Err : goal.returns-in-Err
 returns-in-Err g c = record {
+  untouched = λ none. refl;
   unopened = λ none. refl;
   ends = refused_or_memory _ _ _ (map (λ word. word.now) c.args.words.now) c.in-Err.fault _ _ c.in-Err.ensures.err c.requires.outputs
       (subst (λ (name : List ℕ). SaysOn g.O.Outs.told (speaker (map (λ word. word.now) c.args.words.now)) (message_of (speaker (map (λ word. word.now) c.args.words.now)) c.in-Err.fault name) (g.O.Outs.slots c.args.outs.now) (g.O.Outs.slots c.say.new.outs)) c.word_of.ensures
