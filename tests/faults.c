@@ -1,7 +1,7 @@
 /* Loaded before the C library, for tests: by the variable FAULT, every other read and write is interrupted ("interrupt"),
-   each moves at most 7 bytes ("short"), or one call fails, the one that FAULT_AT counts: a growth of memory ("memory"), a
-   write ("write": no space), a read ("read": input error) or an open ("open": too many files). When it does, the file
-   FAULT_MET is made. */
+   each moves at most 7 bytes ("short"), or one call is disturbed, the one that FAULT_AT counts: a growth of memory is refused
+   ("memory"), a write fails ("write": no space), a read ("read": input error) or an open ("open": too many files); a read or
+   write is interrupted ("once"), or a write moves at most 7 bytes ("cut"). Then the file FAULT_MET is made. */
 #define _GNU_SOURCE
 #include <dlfcn.h>
 #include <errno.h>
@@ -27,7 +27,7 @@ static int interrupts(void)
     return 1;
 }
 
-/* Whether this call, of this kind, is the one that fails. */
+/* Whether this call, of this kind, is the one that is disturbed. */
 static int fails(const char *kind, int *calls, int error)
 {
     const char *at = getenv("FAULT_AT"), *met = getenv("FAULT_MET");
@@ -55,13 +55,20 @@ int open(const char *name, int flags, ...)
     return next(name, flags, mode);
 }
 
+/* Reads and writes are counted together. */
+static int interrupted_once(void)
+{
+    static int calls;
+    return fails("once", &calls, EINTR);
+}
+
 ssize_t read(int fd, void *buffer, size_t size)
 {
     static ssize_t (*next)(int, void *, size_t);
     static int calls;
     if (!next)
         next = dlsym(RTLD_NEXT, "read");
-    if (interrupts() || fails("read", &calls, EIO))
+    if (interrupts() || interrupted_once() || fails("read", &calls, EIO))
         return -1;
     return next(fd, buffer, fault_is("short") && size > 7 ? 7 : size);
 }
@@ -69,12 +76,12 @@ ssize_t read(int fd, void *buffer, size_t size)
 ssize_t write(int fd, const void *buffer, size_t size)
 {
     static ssize_t (*next)(int, const void *, size_t);
-    static int calls;
+    static int calls, cuts;
     if (!next)
         next = dlsym(RTLD_NEXT, "write");
-    if (interrupts() || fails("write", &calls, ENOSPC))
+    if (interrupts() || interrupted_once() || fails("write", &calls, ENOSPC))
         return -1;
-    return next(fd, buffer, fault_is("short") && size > 7 ? 7 : size);
+    return next(fd, buffer, (fault_is("short") || fails("cut", &cuts, 0)) && size > 7 ? 7 : size);
 }
 
 static int refuses(void)
