@@ -1,14 +1,14 @@
 -- Lemmas on taking the inputs for names, one after another.
-use Rattle.std.proofs.Common.{◌≡◌, ℕ, ◌+◌, ◌-◌, ◌<◌, ◌≤◌, Bool, true, false, not, ◌&&◌, ◌||◌, IsTrue, if◌then◌else◌, List, [], ◌∷◌, ◌++◌, length, take, drop, map, get_or, Bor, Option, Some, None, IfSome, Result, Ok, Err, arith, append_assoc, length-append, refl, sym, ◌∙◌, ap, subst, inl, inr, lit<}
+use Rattle.std.proofs.Common.{◌≡◌, ℕ, ◌+◌, ◌-◌, ◌<◌, ◌≤◌, Bool, true, false, not, ◌&&◌, ◌||◌, IsTrue, if◌then◌else◌, List, [], ◌∷◌, ◌++◌, length, take, drop, map, get_or, Bor, Option, Some, None, IfSome, Result, Ok, Err, arith, append_assoc, length-append, refl, sym, ◌∙◌, ap, subst, lit<}
 use Rattle.std.proofs.lemmas.List.{append-nil}
 use Rattle.std.proofs.lemmas.Bool.{false≢true}
 use Rattle.ports_core.specs.Slot.{Slot, is_open, told_of, streams}
 use Rattle.ports_core.specs.Source.{Content, Source, source_at, source_of, missing, is_readable, IsFresh, Opens, OpensNothing}
 use Rattle.ports_core.specs.Source as from
-use Rattle.ports_core.specs.Part.{nothing, only_out, StoppedBetween}
+use Rattle.ports_core.specs.Part.{only_out, StoppedBetween}
 use Rattle.ports_core.specs.Text.{message_of}
 use Rattle.ports_core.specs.declared.fault.Fault.{Fault}
-use Rattle.ports_core.specs.declared.fault.Fault.TheVariants.{Memory, Write, Read, Open, Suffixes, NoMatch, Range, Usage, Failed, TooLong}
+use Rattle.ports_core.specs.declared.fault.Fault.TheVariants.{Memory, Open}
 use Rattle.ports_core.specs.declared.tool.Tool.{Tool}
 use Rattle.ports_core.proofs.PartLemmas.{begins_more, begins_itself}
 use Rattle.ports_core.proofs.WriteLemmas.{told_of-nil}
@@ -17,26 +17,14 @@ use Rattle.cutters.specs.Ends.{Made, nothing_made, joined, of_input, of_inputs, 
 use Rattle.cutters.specs.Feeding.{Work, KeepsOthers, ReadsFor}
 use Rattle.cutters.specs.Input.{has_dash, Input, World, AreFrom, is_dash, input_of, inputs_from, inputs_at, file_input, standard_input, read_before, next_slot, empty}
 use Rattle.cutters.specs.Message.{SaysAll, SaysOn}
-use Rattle.cutters.specs.RunEnds.{standard_output, standard_error, StopsAt, RunsOver}
+use Rattle.cutters.specs.RunEnds.{standard_output, standard_error, RunsOver}
 use Rattle.cutters.specs.EndsSteps.{HasStreams, streams_at, after_input, TookInput, took, cut_off, TookAll, all, stopped_at, OfSource, KeepsOther, OpensOne, OfName, ReadsSource, ReadsStandard, standard_source, world_of}
 use Rattle.cutters.proofs.MessageLemmas.{says_behind, all_said_state}
 use Rattle.cutters.proofs.FeedingLemmas.{reads_none}
-use Rattle.cutters.proofs.EndsLemmas.{stops_here}
+use Rattle.cutters.proofs.EndsLemmas.{stops_here, and_true, or_false, or_true}
 use Rattle.cutters.proofs.SpellingLemmas.{front_and_rest}
 
 -- tests
-
-and_true : (a : Bool) → (a && true) ≡ a
-and_true true = refl
-and_true false = refl
-
-or_false : (a : Bool) → (a || false) ≡ a
-or_false true = refl
-or_false false = refl
-
-or_true : (a : Bool) → (a || true) ≡ true
-or_true true = refl
-or_true false = refl
 
 or_assoc : (a b c : Bool) → (a || (b || c)) ≡ ((a || b) || c)
 or_assoc true b c = refl

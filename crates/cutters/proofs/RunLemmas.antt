@@ -13,8 +13,7 @@ use Rattle.ports_core.specs.declared.fault.Fault.{Fault}
 use Rattle.ports_core.specs.declared.fault.Fault.TheVariants.{Memory, Write, Read, Open, Suffixes, NoMatch, Range, Usage, Failed, TooLong}
 use Rattle.ports_core.specs.declared.tool.Tool.{Tool}
 use Rattle.ports_core.specs.declared.tool.Tool.TheVariants as tool
-use Rattle.ports_core.proofs.PartLemmas.{nothing_begins_part, nothing_begins, nothing_out, stopped_here}
-use Rattle.ports_core.proofs.WriteLemmas.{told_of-nil}
+use Rattle.ports_core.proofs.PartLemmas.{nothing_out}
 use Rattle.cutters.specs.Ends.{Made, has_headers, of_inputs}
 use Rattle.cutters.specs.declared.settings.Headers.{Headers}
 use Rattle.cutters.specs.EndsSteps.{streams_at, TookAll, all, stopped_at, not_begun}

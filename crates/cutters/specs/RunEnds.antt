@@ -1,5 +1,5 @@
 -- How a whole run ends, from the streams as it found them.
-use Rattle.std.specs.Prelude.{◌≡◌, ℕ, ◌≤◌, ◌^◌, Bool, List, [], ◌∷◌, ◌++◌, ◌⊎◌, length, codes, Option, Some, None}
+use Rattle.std.specs.Prelude.{◌≡◌, ℕ, ◌≤◌, ◌^◌, Bool, List, [], ◌∷◌, ◌++◌, length, codes, Option, Some, None}
 use Rattle.ports_core.specs.Slot.{Slot, opened}
 use Rattle.ports_core.specs.declared.slot.Mode.TheVariants.{Append}
 use Rattle.ports_core.specs.Source.{Content}
