@@ -64,8 +64,8 @@ AreFrom was_read slot [] inputs = inputs ≡ []
 AreFrom was_read slot (name ∷ names) [] = ⊥
 AreFrom was_read slot (name ∷ names) (input ∷ inputs) = IsFor was_read slot name input × AreFrom (was_read || is_dash name) (next_slot slot name) names inputs
 
--- Inputs that tell their bytes are those that are there; of others it is known that they are inputs for these names, and no
--- more than their reads gave.
+-- Inputs that tell their bytes are those that are there; of others it is known only that they are inputs for these names:
+-- nothing is said of their bytes.
 pub record Finds (told : Bool) (world : World) (names : List (List ℕ)) (inputs : List Input) : Type 0 where
   pub are : AreFrom false 1 names inputs
   pub there : told ≡ true → inputs ≡ inputs_at world names
