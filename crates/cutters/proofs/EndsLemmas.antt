@@ -5,7 +5,7 @@ use Rattle.std.proofs.lemmas.Bool.{false≢true}
 use Rattle.ports_core.specs.Slot.{Slot, is_open, slot_at, is_writable, told_of, with_written, with_broken}
 use Rattle.ports_core.specs.Write.{BrokeAfter}
 use Rattle.ports_core.specs.Source.{Content, Source, source_at}
-use Rattle.ports_core.specs.Part.{Part, File, nothing, only_out, file_of, told_file, OutputsAt, IsBeginning, FilesBegin, Begins, Marks, StoppedBetween}
+use Rattle.ports_core.specs.Part.{Part, File, nothing, only_out, file_of, told_file, OutputsAt, IsBeginning, FilesBegin, Begins, IsNext, Marks, StoppedBetween}
 use Rattle.ports_core.specs.Text.{message_of}
 use Rattle.ports_core.specs.declared.fault.Fault.{Fault}
 use Rattle.ports_core.specs.declared.fault.Fault.TheVariants.{Memory, Write, Read, Open, Suffixes, NoMatch, Range, Usage, Failed, TooLong}
@@ -16,13 +16,13 @@ use Rattle.ports_core.proofs.SlotLemmas.{with_written-nil}
 use Rattle.cutters.proofs.FeedingLemmas.{reads_none, reads_as}
 use Rattle.cutters.specs.declared.ends.Progress.{Progress}
 use Rattle.cutters.specs.declared.feeding.Fed.{Fed}
-use Rattle.cutters.specs.declared.feeding.Fed.TheVariants.{Whole, Broken}
+use Rattle.cutters.specs.declared.feeding.Fed.TheVariants.{Whole, Enough, Broken}
 use Rattle.cutters.specs.Ends.{header_text, of_content}
-use Rattle.cutters.specs.Feeding.{Work, is_enough, made_of, Stops, FedAs, whole, broke_off, stopped, OfContent, ReadsFor}
+use Rattle.cutters.specs.Feeding.{Does, Work, is_enough, made_of, IsLong, Stops, FedAs, whole, had_enough, broke_off, ran_out, stopped, OfContent, ReadsFor}
 use Rattle.cutters.specs.Input.{empty}
 use Rattle.cutters.specs.Message.{SaysOn}
-use Rattle.cutters.specs.RunEnds.{standard_output, StopsAt}
-use Rattle.cutters.specs.EndsSteps.{Does, IsPlain, HasStreams, HeaderFails, no_room, broke, streams_at, TookInput, took, cut_off, OfSource, ReadsSource}
+use Rattle.cutters.specs.RunEnds.{standard_output}
+use Rattle.cutters.specs.EndsSteps.{IsPlain, HasStreams, HeaderFails, no_room, broke, streams_at, TookInput, took, cut_off, OfSource, ReadsSource}
 
 -- headers
 
@@ -89,18 +89,41 @@ files_none low high begins none = all_none low.files (subst (FilesBegin low.file
 behind : (a low high : List ℕ) → IsBeginning low high → IsBeginning (a ++ low) (a ++ high)
 behind a low high (rest, is) = (rest, ap (λ bytes. a ++ bytes) is ∙ sym (append_assoc a low rest))
 
+-- what stops a tool that writes to standard output alone
+pub data AtOutput : Fault → Type 0 where
+  memory : AtOutput Memory
+  too_long : AtOutput TooLong
+  broken : AtOutput (Write 0)
+
+pub stops_at_output : (work : Work) (most : ℕ) (content : Option Content) (fault : Fault) → IsPlain work → Stops work most content fault → AtOutput fault
+stops_at_output work most content Memory plain stops = memory
+stops_at_output work most content TooLong plain stops = too_long
+stops_at_output work most content (Write slot) plain stops = subst (λ place. AtOutput (Write place)) (sym (stops plain.no_files)) broken
+stops_at_output work most content (Open slot) plain stops = absurd (false≢true (sym plain.no_files ∙ stops))
+stops_at_output work most content (Read slot) plain stops = absurd stops
+stops_at_output work most content Suffixes plain stops = absurd stops
+stops_at_output work most content (NoMatch operand repetition) plain stops = absurd stops
+stops_at_output work most content (Range operand repetition) plain stops = absurd stops
+stops_at_output work most content (Usage kind word) plain stops = absurd stops
+stops_at_output work most content Failed plain stops = absurd stops
+
+marks_here : (IsName IsOther : List ℕ → Type 0) (fault : Fault) (old new : List Slot) → AtOutput fault → Marks IsName fault old new → Marks IsOther fault old new
+marks_here IsName IsOther fault old new memory marks = marks
+marks_here IsName IsOther fault old new too_long marks = marks
+marks_here IsName IsOther fault old new broken marks = marks
+
 -- what stopped behind what was out before, stopped
-pub stops_behind : (told : Bool) (a : List ℕ) (error : Slot) (low : List ℕ) (high : Part) (whole_out : List ℕ) (fault : Fault) (new : List Slot) → high.files ≡ [] → IsBeginning low a → IsBeginning (a ++ high.out) whole_out → StoppedBetween told (streams_at told a error) nothing high fault new → StoppedBetween told (standard_output ∷ error ∷ []) (only_out low) (only_out whole_out) fault new
-stops_behind told a error low high whole_out fault new none above below stop = record {
+pub stops_behind : (told : Bool) (a : List ℕ) (error : Slot) (low : List ℕ) (high : Part) (whole_out : List ℕ) (fault : Fault) (new : List Slot) → AtOutput fault → high.files ≡ [] → IsBeginning low a → IsBeginning (a ++ high.out) whole_out → StoppedBetween told (streams_at told a error) nothing high fault new → StoppedBetween told (standard_output ∷ error ∷ []) (only_out low) (only_out whole_out) fault new
+stops_behind told a error low high whole_out fault new at_output none above below stop = record {
   part = only_out (a ++ stop.part.out);
   above = record { out = begins_trans _ _ _ above (begins_more a stop.part.out); files = tt };
   below = record { out = begins_trans _ _ _ (behind a _ _ stop.below.out) below; files = tt };
   reached = stop.reached;
   outputs = subst (OutputsAt told (standard_output ∷ error ∷ []) (only_out (a ++ stop.part.out))) (sym (put_out told a error stop.part stop.reached (files_none stop.part high stop.below none) stop.outputs)) (streams_part told (a ++ stop.part.out) error);
-  marks = stop.marks;
+  marks = marks_here _ _ fault stop.reached new at_output stop.marks;
 }
 
-pub stops_here : (told : Bool) (a : List ℕ) (error : Slot) (low whole_out : List ℕ) (fault : Fault) (new : List Slot) → IsBeginning low a → IsBeginning a whole_out → Marks fault (streams_at told a error) new → StoppedBetween told (standard_output ∷ error ∷ []) (only_out low) (only_out whole_out) fault new
+pub stops_here : (told : Bool) (a : List ℕ) (error : Slot) (low whole_out : List ℕ) (fault : Fault) (new : List Slot) → IsBeginning low a → IsBeginning a whole_out → Marks (IsNext (only_out a) (only_out whole_out)) fault (streams_at told a error) new → StoppedBetween told (standard_output ∷ error ∷ []) (only_out low) (only_out whole_out) fault new
 stops_here told a error low whole_out fault new above below marks = record {
   part = only_out a;
   above = record { out = above; files = tt };
@@ -115,16 +138,42 @@ stops_here told a error low whole_out fault new above below marks = record {
 same_if : (one other : Bool) (a b c d : Part) → one ≡ other → a ≡ c → b ≡ d → (if one then a else b) ≡ (if other then c else d)
 same_if one other a b c d is first second = ap (λ (x : Bool). if x then a else b) is ∙ ap (λ part. if other then part else b) first ∙ ap (λ part. if other then c else part) second
 
-enough_same : (done work : Work) (content : Content) → Does done.settled done.whole done.is_complete work → is_enough done content ≡ is_enough work content
+enough_same : (done work : Work) (content : Content) → Does done.settled done.whole done.is_complete done.means work → is_enough done content ≡ is_enough work content
 enough_same done work content does = ap (λ (b : Bool). not content.breaks_off || b) (does.complete_as content.bytes)
 
-made_same : (done work : Work) (content : Content) → Does done.settled done.whole done.is_complete work → made_of done content ≡ made_of work content
+made_same : (done work : Work) (content : Content) → Does done.settled done.whole done.is_complete done.means work → made_of done content ≡ made_of work content
 made_same done work content does = same_if (is_enough done content) (is_enough work content) _ _ _ _ (enough_same done work content does) (does.whole_as content.bytes) (does.settled_as content.bytes)
 
-pub fed_same : (told : Bool) (before : List Slot) (done work : Work) (content : Content) (new : List Slot) (result : Result Fed Fault) → Does done.settled done.whole done.is_complete work → FedAs told before done content new result → FedAs told before work content new result
-fed_same told before done work content new result does (whole enough at) = whole (sym (enough_same done work content does) ∙ enough) (subst (λ part. OutputsAt told before part new) (made_same done work content does) at)
-fed_same told before done work content new result does (broke_off short at) = broke_off (sym (enough_same done work content does) ∙ short) (subst (λ part. OutputsAt told before part new) (made_same done work content does) at)
-fed_same told before done work content new result does (stopped fault stops stop) = stopped fault stops (subst (λ part. StoppedBetween told before nothing part fault new) (made_same done work content does) stop)
+long_same : (one other : List ℕ → Bool) (most : ℕ) (bytes : List ℕ) → ((x : List ℕ) → one x ≡ other x) → IsLong one most bytes → IsLong other most bytes
+long_same one other most bytes same long = record {
+  before = long.before;
+  piece = long.piece;
+  rest = long.rest;
+  cut = long.cut;
+  within = long.within;
+  going = sym (same long.before) ∙ long.going;
+  long = long.long;
+}
+
+stops_same : (done work : Work) (most : ℕ) (content : Content) (fault : Fault) → Does done.settled done.whole done.is_complete done.means work → Stops done most (Some content) fault → Stops work most (Some content) fault
+stops_same done work most content Memory does stops = tt
+stops_same done work most content (Write slot) does stops = λ alone. stops (ap (λ using. using.files) does.means_as ∙ alone)
+stops_same done work most content (Open slot) does stops = sym (ap (λ using. using.files) does.means_as) ∙ stops
+stops_same done work most content TooLong does stops = long_same done.is_complete work.is_complete most content.bytes does.complete_as stops
+stops_same done work most content (Read slot) does stops = absurd stops
+stops_same done work most content Suffixes does stops = absurd stops
+stops_same done work most content (NoMatch operand repetition) does stops = absurd stops
+stops_same done work most content (Range operand repetition) does stops = absurd stops
+stops_same done work most content (Usage kind word) does stops = absurd stops
+stops_same done work most content Failed does stops = absurd stops
+
+pub fed_same : (told : Bool) (before : List Slot) (done work : Work) (most : ℕ) (content : Content) (new : List Slot) (result : Result Fed Fault) → Does done.settled done.whole done.is_complete done.means work → FedAs told before done most content new result → FedAs told before work most content new result
+fed_same told before done work most content new result does (whole ends going at) = whole ends (sym (does.complete_as content.bytes) ∙ going) (subst (λ part. OutputsAt told before part new) (does.whole_as content.bytes) at)
+fed_same told before done work most content new result does (had_enough complete at) = had_enough (sym (does.complete_as content.bytes) ∙ complete) (subst (λ part. OutputsAt told before part new) (does.whole_as content.bytes) at)
+fed_same told before done work most content new result does (broke_off breaks going at) = broke_off breaks (sym (does.complete_as content.bytes) ∙ going) (subst (λ part. OutputsAt told before part new) (does.settled_as content.bytes) at)
+fed_same told before done work most content new result does (ran_out names complete at) =
+    ran_out (sym (ap (λ using. using.names) does.means_as) ∙ names) (sym (does.complete_as content.bytes) ∙ complete) (subst (λ part. OutputsAt told before part new) (does.whole_as content.bytes) at)
+fed_same told before done work most content new result does (stopped fault stops stop) = stopped fault (stops_same done work most content fault does stops) (subst (λ part. StoppedBetween told before nothing part fault new) (made_same done work content does) stop)
 
 if_files : (enough : Bool) (a b : Part) → a.files ≡ [] → b.files ≡ [] → (if enough then a else b).files ≡ []
 if_files true a b first second = first
@@ -132,6 +181,27 @@ if_files false a b first second = second
 
 made_files : (work : Work) (content : Content) → IsPlain work → (made_of work content).files ≡ []
 made_files work content plain = if_files (is_enough work content) (work.whole content.bytes) (work.settled content.bytes) (plain.whole_files content.bytes) (plain.settled_files content.bytes)
+
+pub or_true : (a : Bool) → (a || true) ≡ true
+or_true true = refl
+or_true false = refl
+
+-- what is made of an input, by how it ends
+
+ended_enough : (work : Work) (content : Content) → content.breaks_off ≡ false → is_enough work content ≡ true
+ended_enough work content sound = ap (λ (b : Bool). not b || work.is_complete content.bytes) sound
+
+complete_enough : (work : Work) (content : Content) → work.is_complete content.bytes ≡ true → is_enough work content ≡ true
+complete_enough work content complete = ap (λ (b : Bool). not content.breaks_off || b) complete ∙ or_true (not content.breaks_off)
+
+breaks_short : (work : Work) (content : Content) → content.breaks_off ≡ true → work.is_complete content.bytes ≡ false → is_enough work content ≡ false
+breaks_short work content breaks going = ap (λ (b : Bool). not b || work.is_complete content.bytes) breaks ∙ going
+
+made_whole : (work : Work) (content : Content) → is_enough work content ≡ true → made_of work content ≡ work.whole content.bytes
+made_whole work content enough = ap (λ (b : Bool). if b then work.whole content.bytes else work.settled content.bytes) enough
+
+made_settled : (work : Work) (content : Content) → content.breaks_off ≡ true → work.is_complete content.bytes ≡ false → made_of work content ≡ work.settled content.bytes
+made_settled work content breaks going = ap (λ (b : Bool). if b then work.whole content.bytes else work.settled content.bytes) (breaks_short work content breaks going)
 
 pub of_source_too : (told : Bool) (source : Option ℕ) (sources : List Source) (P Q : Content → Type 0) → ((content : Content) → P content → Q content) → OfSource told source sources P → OfSource told source sources Q
 of_source_too told None sources P Q more holds = more _ holds
@@ -159,10 +229,6 @@ pub or_false : (a : Bool) → (a || false) ≡ a
 or_false true = refl
 or_false false = refl
 
-pub or_true : (a : Bool) → (a || true) ≡ true
-or_true true = refl
-or_true false = refl
-
 made_enough : (tool : Tool) (work : Work) (with_header is_first : Bool) (name : List ℕ) (content : Content) → is_enough work content ≡ true
     → of_content tool work with_header is_first name (Some content) ≡ record { out = header_text with_header is_first name ++ (made_of work content).out; messages = []; failed = false }
 made_enough tool work with_header is_first name content enough =
@@ -173,75 +239,77 @@ made_short : (tool : Tool) (work : Work) (with_header is_first : Bool) (name : L
 made_short tool work with_header is_first name content short =
     ap (λ (b : Bool). record { out = header_text with_header is_first name ++ (made_of work content).out; messages = if b then [] else message_of tool (Read 0) name ∷ []; failed = not b }) short
 
-stops_one : (content : Content) (fault : Fault) → Stops content fault → StopsAt (Some content) fault
-stops_one content Memory stops = tt
-stops_one content (Write place) stops = stops
-stops_one content TooLong stops = stops
-stops_one content (Read place) stops = absurd stops
-stops_one content (Open place) stops = absurd stops
-stops_one content Suffixes stops = absurd stops
-stops_one content (NoMatch operand repetition) stops = absurd stops
-stops_one content (Range operand repetition) stops = absurd stops
-stops_one content (Usage kind word) stops = absurd stops
-stops_one content Failed stops = absurd stops
-
 header_begins : (out header part : List ℕ) → IsBeginning (out ++ header) (out ++ (header ++ part))
 header_begins out header part = (part, sym (append_assoc out header part))
 
 -- the header could not go out
-pub stopped_in_header : (told : Bool) (tool : Tool) (work : Work) (with_header is_first : Bool) (name : List ℕ) (content : Content) (progress : Progress) (was_read : Bool) (out : List ℕ) (error : Slot) (old new : List Slot) (fault : Fault) → old ≡ streams_at told out error
-    → HeaderFails told (header_text with_header is_first name) old new fault → TookInput told tool (of_content tool work with_header is_first name (Some content)) (Some content) progress was_read out error new (Err fault)
-stopped_in_header told tool work with_header is_first name content progress was_read out error old new fault shape (no_room is) =
+pub stopped_in_header : (told : Bool) (tool : Tool) (work : Work) (most : ℕ) (with_header is_first : Bool) (name : List ℕ) (content : Content) (progress : Progress) (was_read : Bool) (out : List ℕ) (error : Slot) (old new : List Slot) (fault : Fault) → old ≡ streams_at told out error
+    → HeaderFails told (header_text with_header is_first name) old new fault → TookInput told tool work most (of_content tool work with_header is_first name (Some content)) (Some content) progress was_read out error new (Err fault)
+stopped_in_header told tool work most with_header is_first name content progress was_read out error old new fault shape (no_room is) =
     cut_off Memory tt (stops_here told out error out _ Memory new (begins_itself out) (begins_more out _) (is ∙ shape))
-stopped_in_header told tool work with_header is_first name content progress was_read out error old new fault shape (broke n after) =
+stopped_in_header told tool work most with_header is_first name content progress was_read out error old new fault shape (broke n after) =
     let text = header_text with_header is_first name in
-    cut_off (Write 0) refl
+    cut_off (Write 0) (λ alone. refl)
     (stops_here told (out ++ take n text) error out _ (Write 0) new (begins_more out (take n text))
     (begins_trans _ _ _ (behind out _ _ (take_begins n text)) (header_begins out text (made_of work content).out))
     (after.slots ∙ ap (λ slots. with_broken 0 (with_written 0 (told_of told (take n text)) slots)) shape ∙ ap (with_broken 0) (written_more told out (take n text) error)))
 
-module _ (told : Bool) (tool : Tool) (work : Work) (with_header is_first : Bool) (name : List ℕ) (progress : Progress) (out : List ℕ) (error : Slot) (mid : List Slot) (plain : IsPlain work) (shape : mid ≡ streams_at told (out ++ header_text with_header is_first name) error) where
+module _ (told : Bool) (tool : Tool) (work : Work) (most : ℕ) (with_header is_first : Bool) (name : List ℕ) (progress : Progress) (out : List ℕ) (error : Slot) (mid : List Slot) (plain : IsPlain work) (shape : mid ≡ streams_at told (out ++ header_text with_header is_first name) error) where
   put_behind : (content : Content) (new : List Slot) → OutputsAt told mid (made_of work content) new → new ≡ streams_at told (out ++ (header_text with_header is_first name ++ (made_of work content).out)) error
   put_behind content new at =
       put_out told (out ++ header_text with_header is_first name) error (made_of work content) new (made_files work content plain) (subst (λ slots. OutputsAt told slots (made_of work content) new) shape at)
       ∙ ap (λ bytes. streams_at told bytes error) (append_assoc out (header_text with_header is_first name) (made_of work content).out)
 
-  took_at_end : (content : Content) (new : List Slot) → FedAs told mid work content new (Ok Whole)
-      → TookInput told tool (of_content tool work with_header is_first name (Some content)) (Some content) progress progress.was_read out error new (Ok (record progress { is_first = false }))
-  took_at_end content new (whole enough at) =
-      subst (λ made. TookInput told tool made (Some content) progress progress.was_read out error new (Ok (record progress { is_first = false }))) (sym (made_enough tool work with_header is_first name content enough))
+  took_at_end : (content : Content) (new : List Slot) → is_enough work content ≡ true → OutputsAt told mid (made_of work content) new
+      → TookInput told tool work most (of_content tool work with_header is_first name (Some content)) (Some content) progress progress.was_read out error new (Ok (record progress { is_first = false }))
+  took_at_end content new enough at =
+      subst (λ made. TookInput told tool work most made (Some content) progress progress.was_read out error new (Ok (record progress { is_first = false }))) (sym (made_enough tool work with_header is_first name content enough))
       (took (record progress { is_first = false }) error
       (ap (λ (b : Bool). record { was_read = progress.was_read; is_first = b; failed = progress.failed }) (sym (and_false progress.is_first)) ∙ ap (λ (b : Bool). record { was_read = progress.was_read; is_first = progress.is_first && false; failed = b }) (sym (or_false progress.failed)))
       refl (put_behind content new at))
 
-  broken_here : (content : Content) (new : List Slot) → is_open error.state ≡ true → FedAs told mid work content new (Ok Broken) → HasStreams told new
-  broken_here content new opened (broke_off short at) = record { out = _; error = error; are = put_behind content new at; opened = opened }
+  -- an input that ended, or of which the engine had enough
+  at_end : (content : Content) (new : List Slot) → is_enough work content ≡ true → OutputsAt told mid (work.whole content.bytes) new
+      → TookInput told tool work most (of_content tool work with_header is_first name (Some content)) (Some content) progress progress.was_read out error new (Ok (record progress { is_first = false }))
+  at_end content new enough at = took_at_end content new enough (subst (λ part. OutputsAt told mid part new) (sym (made_whole work content enough)) at)
 
-  took_short : (content : Content) (old new : List Slot) → FedAs told mid work content old (Ok Broken) → SaysOn told tool (message_of tool (Read 0) name) old new
-      → TookInput told tool (of_content tool work with_header is_first name (Some content)) (Some content) progress progress.was_read out error new (Ok (record progress { is_first = false; failed = true }))
-  took_short content old new (broke_off short at) says =
-      let said = says (record standard_output { written = told_of told (out ++ (header_text with_header is_first name ++ (made_of work content).out)) }) error [] (put_behind content old at) in
-      subst (λ made. TookInput told tool made (Some content) progress progress.was_read out error new (Ok (record progress { is_first = false; failed = true }))) (sym (made_short tool work with_header is_first name content short))
+  pub took_whole : (content : Content) (new : List Slot) (fed : Fed) → fed ≡ Whole → FedAs told mid work most content new (Ok fed)
+      → TookInput told tool work most (of_content tool work with_header is_first name (Some content)) (Some content) progress progress.was_read out error new (Ok (record progress { is_first = false }))
+  took_whole content new fed is ends = from_whole (subst (λ those. FedAs told mid work most content new (Ok those)) is ends) where
+    from_whole : FedAs told mid work most content new (Ok Whole) → TookInput told tool work most (of_content tool work with_header is_first name (Some content)) (Some content) progress progress.was_read out error new (Ok (record progress { is_first = false }))
+    from_whole (whole sound going at) = at_end content new (ended_enough work content sound) at
+
+  pub took_enough : (content : Content) (new : List Slot) (fed : Fed) → fed ≡ Enough → FedAs told mid work most content new (Ok fed)
+      → TookInput told tool work most (of_content tool work with_header is_first name (Some content)) (Some content) progress progress.was_read out error new (Ok (record progress { is_first = false }))
+  took_enough content new fed is ends = from_enough (subst (λ those. FedAs told mid work most content new (Ok those)) is ends) where
+    from_enough : FedAs told mid work most content new (Ok Enough) → TookInput told tool work most (of_content tool work with_header is_first name (Some content)) (Some content) progress progress.was_read out error new (Ok (record progress { is_first = false }))
+    from_enough (had_enough complete at) = at_end content new (complete_enough work content complete) at
+
+  broken_here : (content : Content) (new : List Slot) → is_open error.state ≡ true → FedAs told mid work most content new (Ok Broken) → HasStreams told new
+  broken_here content new opened (broke_off breaks going at) = record { out = _; error = error; are = put_behind content new (subst (λ part. OutputsAt told mid part new) (sym (made_settled work content breaks going)) at); opened = opened }
+
+  took_short : (content : Content) (old new : List Slot) → FedAs told mid work most content old (Ok Broken) → SaysOn told tool (message_of tool (Read 0) name) old new
+      → TookInput told tool work most (of_content tool work with_header is_first name (Some content)) (Some content) progress progress.was_read out error new (Ok (record progress { is_first = false; failed = true }))
+  took_short content old new (broke_off breaks going at) says =
+      let said = says (record standard_output { written = told_of told (out ++ (header_text with_header is_first name ++ (made_of work content).out)) }) error [] (put_behind content old (subst (λ part. OutputsAt told mid part old) (sym (made_settled work content breaks going)) at)) in
+      subst (λ made. TookInput told tool work most made (Some content) progress progress.was_read out error new (Ok (record progress { is_first = false; failed = true }))) (sym (made_short tool work with_header is_first name content (breaks_short work content breaks going)))
       (took (record progress { is_first = false; failed = true }) said.0
       (ap (λ (b : Bool). record { was_read = progress.was_read; is_first = b; failed = true }) (sym (and_false progress.is_first)) ∙ ap (λ (b : Bool). record { was_read = progress.was_read; is_first = progress.is_first && false; failed = b }) (sym (or_true progress.failed)))
       (said.0, said.1, refl) said.2)
 
-  pub took_whole : (content : Content) (new : List Slot) (fed : Fed) → fed ≡ Whole → FedAs told mid work content new (Ok fed)
-      → TookInput told tool (of_content tool work with_header is_first name (Some content)) (Some content) progress progress.was_read out error new (Ok (record progress { is_first = false }))
-  took_whole content new fed is ends = took_at_end content new (subst (λ those. FedAs told mid work content new (Ok those)) is ends)
+  pub broken_streams : (content : Content) (new : List Slot) (fed : Fed) → fed ≡ Broken → is_open error.state ≡ true → FedAs told mid work most content new (Ok fed) → HasStreams told new
+  broken_streams content new fed is opened ends = broken_here content new opened (subst (λ those. FedAs told mid work most content new (Ok those)) is ends)
 
-  pub broken_streams : (content : Content) (new : List Slot) (fed : Fed) → fed ≡ Broken → is_open error.state ≡ true → FedAs told mid work content new (Ok fed) → HasStreams told new
-  broken_streams content new fed is opened ends = broken_here content new opened (subst (λ those. FedAs told mid work content new (Ok those)) is ends)
+  pub took_broken : (content : Content) (old new : List Slot) (fed : Fed) → fed ≡ Broken → FedAs told mid work most content old (Ok fed) → SaysOn told tool (message_of tool (Read 0) name) old new
+      → TookInput told tool work most (of_content tool work with_header is_first name (Some content)) (Some content) progress progress.was_read out error new (Ok (record progress { is_first = false; failed = true }))
+  took_broken content old new fed is ends says = took_short content old new (subst (λ those. FedAs told mid work most content old (Ok those)) is ends) says
 
-  pub took_broken : (content : Content) (old new : List Slot) (fed : Fed) → fed ≡ Broken → FedAs told mid work content old (Ok fed) → SaysOn told tool (message_of tool (Read 0) name) old new
-      → TookInput told tool (of_content tool work with_header is_first name (Some content)) (Some content) progress progress.was_read out error new (Ok (record progress { is_first = false; failed = true }))
-  took_broken content old new fed is ends says = took_short content old new (subst (λ those. FedAs told mid work content old (Ok those)) is ends) says
-
-  pub took_stopped : (content : Content) (new : List Slot) (fault : Fault) → FedAs told mid work content new (Err fault)
-      → TookInput told tool (of_content tool work with_header is_first name (Some content)) (Some content) progress progress.was_read out error new (Err fault)
+  pub took_stopped : (content : Content) (new : List Slot) (fault : Fault) → FedAs told mid work most content new (Err fault)
+      → TookInput told tool work most (of_content tool work with_header is_first name (Some content)) (Some content) progress progress.was_read out error new (Err fault)
+  took_stopped content new _ (ran_out names complete at) = absurd (false≢true (sym plain.no_names ∙ names))
   took_stopped content new fault (stopped _ stops stop) =
-      cut_off fault (stops_one content fault stops)
-      (stops_behind told (out ++ header_text with_header is_first name) error out (made_of work content) _ fault new (made_files work content plain) (begins_more out (header_text with_header is_first name))
+      cut_off fault stops
+      (stops_behind told (out ++ header_text with_header is_first name) error out (made_of work content) _ fault new (stops_at_output work most (Some content) fault plain stops) (made_files work content plain) (begins_more out (header_text with_header is_first name))
       ([], ap (λ bytes. bytes) (sym (append_nil_behind out (header_text with_header is_first name) (made_of work content).out)))
       (subst (λ slots. StoppedBetween told slots nothing (made_of work content) fault new) shape stop)) where
         append_nil_behind : (a b c : List ℕ) → ((a ++ b) ++ c) ++ [] ≡ a ++ (b ++ c)
@@ -249,30 +317,30 @@ module _ (told : Bool) (tool : Tool) (work : Work) (with_header is_first : Bool)
 
 -- an engine that found no memory
 
-pub no_memory_fed : (told : Bool) (before : List Slot) (work : Work) (content : Content) → 0 < length before → FedAs told before work content before (Err Memory)
-no_memory_fed told before work content some =
+pub no_memory_fed : (told : Bool) (before : List Slot) (work : Work) (most : ℕ) (content : Content) → 0 < length before → FedAs told before work most content before (Err Memory)
+no_memory_fed told before work most content some =
     stopped Memory tt (stopped_here told before nothing _ Memory before before (nothing_out told before some) (nothing_begins_part _) refl)
 
 -- an engine that was fed a source
 
-begins_here : (told : Bool) (before : List Slot) (done work : Work) → Does done.settled done.whole done.is_complete work → IsPlain work → 0 < length before → OutputsAt told before (done.settled []) before
+begins_here : (told : Bool) (before : List Slot) (done work : Work) → Does done.settled done.whole done.is_complete done.means work → IsPlain work → 0 < length before → OutputsAt told before (done.settled []) before
 begins_here told before done work does plain some =
     subst (λ part. OutputsAt told before part before) (sym (does.settled_as [] ∙ plain.begins)) (nothing_out told before some)
 
-pub fed_from : (told_in told : Bool) (source : Option ℕ) (sources : List Source) (slot : ℕ) (before : List Slot) (done work : Work) (new : List Slot) (result : Result Fed Fault) → source ≡ Some slot → Does done.settled done.whole done.is_complete work → IsPlain work → 0 < length before
-    → ((start : List Slot) → OutputsAt told start (done.settled []) before → OfContent told_in (source_at sources slot).left (λ content. FedAs told start done content new result))
-    → OfSource told_in source sources (λ content. FedAs told before work content new result)
-fed_from told_in told source sources slot before done work new result is does plain some fed =
-    subst (λ from. OfSource told_in from sources (λ content. FedAs told before work content new result)) (sym is)
+pub fed_from : (told_in told : Bool) (source : Option ℕ) (sources : List Source) (slot : ℕ) (before : List Slot) (done work : Work) (most : ℕ) (new : List Slot) (result : Result Fed Fault) → source ≡ Some slot → Does done.settled done.whole done.is_complete done.means work → IsPlain work → 0 < length before
+    → ((start : List Slot) → OutputsAt told start (done.settled []) before → OfContent told_in (source_at sources slot).left (λ content. FedAs told start done most content new result))
+    → OfSource told_in source sources (λ content. FedAs told before work most content new result)
+fed_from told_in told source sources slot before done work most new result is does plain some fed =
+    subst (λ from. OfSource told_in from sources (λ content. FedAs told before work most content new result)) (sym is)
     (let it = fed before (begins_here told before done work does plain some) in
-    (it.0, it.1, fed_same told before done work it.0 new result does it.2))
+    (it.0, it.1, fed_same told before done work most it.0 new result does it.2))
 
-pub closed_from : (told_in told : Bool) (source : Option ℕ) (sources : List Source) (before : List Slot) (done work : Work) (new : List Slot) (result : Result Fed Fault) → source ≡ None → Does done.settled done.whole done.is_complete work → IsPlain work → 0 < length before
-    → ((start : List Slot) → OutputsAt told start (done.settled []) before → FedAs told start done empty new result)
-    → OfSource told_in source sources (λ content. FedAs told before work content new result)
-closed_from told_in told source sources before done work new result is does plain some fed =
-    subst (λ from. OfSource told_in from sources (λ content. FedAs told before work content new result)) (sym is)
-    (fed_same told before done work empty new result does (fed before (begins_here told before done work does plain some)))
+pub closed_from : (told_in told : Bool) (source : Option ℕ) (sources : List Source) (before : List Slot) (done work : Work) (most : ℕ) (new : List Slot) (result : Result Fed Fault) → source ≡ None → Does done.settled done.whole done.is_complete done.means work → IsPlain work → 0 < length before
+    → ((start : List Slot) → OutputsAt told start (done.settled []) before → FedAs told start done most empty new result)
+    → OfSource told_in source sources (λ content. FedAs told before work most content new result)
+closed_from told_in told source sources before done work most new result is does plain some fed =
+    subst (λ from. OfSource told_in from sources (λ content. FedAs told before work most content new result)) (sym is)
+    (fed_same told before done work most empty new result does (fed before (begins_here told before done work does plain some)))
 
 -- what was read
 

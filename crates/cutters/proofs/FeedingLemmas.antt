@@ -1,18 +1,19 @@
 -- Lemmas on the loop that feeds an engine.
-use Rattle.std.proofs.Common.{◌≡◌, ℕ, ◌+◌, ◌<◌, ◌≤◌, ◌^◌, zero, suc, Bool, true, false, not, ◌&&◌, ◌||◌, IsTrue, if◌then◌else◌, List, [], ◌∷◌, ◌++◌, length, take, drop, slice_index_or, Result, Ok, Err, OnOk, IfOk, IfErr, arith, append_assoc, length-append, length-take, inl, inr, refl, sym, ◌∙◌, ap, subst}
+use Rattle.std.proofs.Common.{◌≡◌, ℕ, ◌+◌, ◌<◌, ◌≤◌, ◌^◌, zero, suc, Bool, true, false, not, ◌&&◌, ◌||◌, IsTrue, if◌then◌else◌, List, [], ◌∷◌, ◌++◌, length, take, drop, slice_index_or, Result, Ok, Err, OnOk, IfOk, IfErr, Some, ◌⊎◌, arith, append_assoc, length-append, length-take, inl, inr, refl, sym, ◌∙◌, ap, subst}
 use Rattle.std.proofs.lemmas.List.{append-nil, take-append-drop}
 use Rattle.std.proofs.lemmas.Bool.{false≢true}
-use Rattle.ports_core.specs.Slot.{Slot, is_writable, changed_at}
+use Rattle.ports_core.specs.Slot.{Slot, changed_at}
 use Rattle.ports_core.specs.Source.{Content, Source, source_at, is_readable, gives, fails, without, Gave, BrokeOff}
 use Rattle.ports_core.specs.Part.{Part, OutputsAt, Begins}
-use Rattle.ports_core.specs.Engine.{TakesIn, PutsOut, CutsOff, Finishes, EndsShort, IsCaused, SameWork, IsComplete}
+use Rattle.ports_core.specs.Engine.{TakesIn, PutsOut, CutsOff, Finishes, EndsShort, IsCaused, RunsOut, Means, at_end, SameWork, IsComplete}
 use Rattle.ports_core.specs.declared.fault.Fault.{Fault}
 use Rattle.ports_core.specs.declared.fault.Fault.TheVariants.{Memory, Write, Read, Open, Suffixes, NoMatch, Range, Usage, Failed, TooLong}
 use Rattle.ports_core.proofs.PartLemmas.{stopped_wider, part_begins_itself, part_trans}
 use Rattle.ports_core.proofs.SlotLemmas.{length-changed_at}
+use Rattle.cutters.specs.Input.{empty}
 use Rattle.cutters.specs.declared.feeding.Fed.{Fed}
-use Rattle.cutters.specs.declared.feeding.Fed.TheVariants.{Whole, Broken}
-use Rattle.cutters.specs.Feeding.{Work, is_enough, made_of, Stops, FedAs, whole, broke_off, stopped, OfContent, KeepsOthers, IsNeeded, ReadsFor}
+use Rattle.cutters.specs.declared.feeding.Fed.TheVariants.{Whole, Enough, Broken}
+use Rattle.cutters.specs.Feeding.{Work, is_enough, made_of, IsLong, Stops, FedAs, whole, had_enough, broke_off, ran_out, stopped, OfContent, KeepsOthers, IsNeeded, ReadsFor}
 
 -- what was read of the input with this number so far, and what is left of it
 pub record HasRead (content : Content) (x : List ℕ) (slot : ℕ) (sources : List Source) : Type 0 where
@@ -75,33 +76,32 @@ read_more content x slot sources new old_buffer buffer n read can gave is =
       breaks_off = ap (λ left. left.breaks_off) after ∙ read.breaks_off;
     }
 
-module _ {E : Type 0} (Holds : E → List ℕ → Type 0) (settled whole_of : E → List ℕ → Part) (complete : E → List ℕ → Bool) (is_over : E → Bool) (fed : E → ℕ) where
+module _ {E : Type 0} (Holds : E → List ℕ → Type 0) (settled whole_of : E → List ℕ → Part) (complete : E → List ℕ → Bool) (means : E → Means) (is_over : E → Bool) (fed_of : E → ℕ) where
   abbrev pub work_of : E → Work
-  work_of e = record { settled = settled e; whole = whole_of e; is_complete = complete e }
+  work_of e = record { settled = settled e; whole = whole_of e; is_complete = complete e; means = means e }
 
   -- the loop has fed the engine x
   pub record Feeds (told : Bool) (start now : E) (x : List ℕ) (old slots : List Slot) : Type 0 where
-    pub same : SameWork settled whole_of complete start now
+    pub same : SameWork settled whole_of complete means start now
     pub holds : Holds now x
     pub outputs : (before : List Slot) → OutputsAt told before (settled start []) old → OutputsAt told before (settled start x) slots
-    pub bound : fed now < 2 ^ 63
-    pub writable : IsTrue (is_writable slots 0)
+    pub bound : fed_of now < 2 ^ 63
 
-  pub begins : (told : Bool) (start : E) (old : List Slot) → Holds start [] → fed start < 2 ^ 63 → IsTrue (is_writable old 0) → Feeds told start start [] old old
-  begins told start old holds bound can = record {
-    same = record { settled_same = λ x. refl; whole_same = λ x. refl; complete_same = λ x. refl };
+  pub begins : (told : Bool) (start : E) (old : List Slot) → Holds start [] → fed_of start < 2 ^ 63 → Feeds told start start [] old old
+  begins told start old holds bound = record {
+    same = record { settled_same = λ x. refl; whole_same = λ x. refl; complete_same = λ x. refl; means_same = refl };
     holds = holds;
     outputs = λ before at. at;
     bound = bound;
-    writable = can;
   }
 
-  pub goes_on : (told : Bool) (start now next : E) (x piece : List ℕ) (old mid new : List Slot) → Feeds told start now x old mid → SameWork settled whole_of complete now next → TakesIn Holds piece now next → PutsOut Holds settled now piece told mid new → fed next < 2 ^ 63 → IsTrue (is_writable new 0) → Feeds told start next (x ++ piece) old new
-  goes_on told start now next x piece old mid new so_far same takes puts bound can = record {
+  pub goes_on : (told : Bool) (start now next : E) (x piece : List ℕ) (old mid new : List Slot) → Feeds told start now x old mid → SameWork settled whole_of complete means now next → TakesIn Holds piece now next → PutsOut Holds settled now piece told mid new → fed_of next < 2 ^ 63 → Feeds told start next (x ++ piece) old new
+  goes_on told start now next x piece old mid new so_far same takes puts bound = record {
     same = record {
       settled_same = λ y. same.settled_same y ∙ so_far.same.settled_same y;
       whole_same = λ y. same.whole_same y ∙ so_far.same.whole_same y;
       complete_same = λ y. same.complete_same y ∙ so_far.same.complete_same y;
+      means_same = same.means_same ∙ so_far.same.means_same;
     };
     holds = takes x so_far.holds;
     outputs = λ before at.
@@ -109,30 +109,30 @@ module _ {E : Type 0} (Holds : E → List ℕ → Type 0) (settled whole_of : E 
         (puts before x so_far.holds
         (subst (λ part. OutputsAt told before part mid) (sym (so_far.same.settled_same x)) (so_far.outputs before at)));
     bound = bound;
-    writable = can;
   }
 
   -- what is settled by now is out
   at_now : (told : Bool) (start now : E) (x : List ℕ) (old slots before : List Slot) → Feeds told start now x old slots → OutputsAt told before (settled start []) old → OutputsAt told before (settled now x) slots
   at_now told start now x old slots before so_far at = subst (λ part. OutputsAt told before part slots) (sym (so_far.same.settled_same x)) (so_far.outputs before at)
 
-  -- what stops the loop, of the faults of an engine that is live
-  stops : (content : Content) (keeps : Bool) (fault : Fault) (taken size : ℕ) (old new : List Slot) → IsCaused keeps false taken size old new fault → taken + size ≤ length content.bytes → Stops content fault
-  stops content keeps Memory taken size old new caused within = tt
-  stops content keeps (Write slot) taken size old new caused within = caused.1
-  stops content keeps TooLong taken size old new caused within = let long : 2 ^ 63 ≤ taken + size = caused.1 in omega arith
-  stops content keeps Failed taken size old new caused within = absurd (false≢true caused.0)
-  stops content keeps (Read slot) taken size old new caused within = absurd caused
-  stops content keeps (Open slot) taken size old new caused within = absurd caused
-  stops content keeps Suffixes taken size old new caused within = absurd caused
-  stops content keeps (NoMatch operand repetition) taken size old new caused within = absurd caused
-  stops content keeps (Range operand repetition) taken size old new caused within = absurd caused
-  stops content keeps (Usage kind word) taken size old new caused within = absurd caused
+  -- why an engine that is live answers a fault: its names ran out, or something stops it
+  causes : (start : E) (content : Content) (most : ℕ) (using : Means) (NeedsName : Type 0) (fault : Fault) (taken size : ℕ) (old new : List Slot) → using.files ≡ (means start).files → (2 ^ 63 ≤ taken + size → IsLong (complete start) most content.bytes) → IsCaused using NeedsName false taken size old new fault
+      → ((fault ≡ Suffixes) × (using.names ≡ true) × NeedsName) ⊎ Stops (work_of start) most (Some content) fault
+  causes start content most using NeedsName Memory taken size old new files long caused = inr tt
+  causes start content most using NeedsName (Write slot) taken size old new files long caused = inr (λ alone. caused.1 (files ∙ alone))
+  causes start content most using NeedsName (Open slot) taken size old new files long caused = inr (sym files ∙ caused.1)
+  causes start content most using NeedsName TooLong taken size old new files long caused = inr (long caused.1)
+  causes start content most using NeedsName Suffixes taken size old new files long caused = inl (refl, caused.1, caused.2)
+  causes start content most using NeedsName Failed taken size old new files long caused = absurd (false≢true caused.0)
+  causes start content most using NeedsName (Read slot) taken size old new files long caused = absurd caused
+  causes start content most using NeedsName (NoMatch operand repetition) taken size old new files long caused = absurd caused
+  causes start content most using NeedsName (Range operand repetition) taken size old new files long caused = absurd caused
+  causes start content most using NeedsName (Usage kind word) taken size old new files long caused = absurd caused
 
   -- the laws that engines keep
   pub record Laws : Type 0 where
     pub live : (e : E) (x : List ℕ) → Holds e x → is_over e ≡ false
-    pub counts : (e : E) (x : List ℕ) → Holds e x → fed e ≡ length x
+    pub counts : (e : E) (x : List ℕ) → Holds e x → fed_of e ≡ length x
     pub grows : (e : E) (x y : List ℕ) → Begins (settled e x) (settled e (x ++ y))
     pub ends : (e : E) (x : List ℕ) → Begins (settled e x) (whole_of e x)
     pub stays : (e : E) (x y : List ℕ) → complete e x ≡ true → IsComplete settled whole_of complete e x y
@@ -148,33 +148,22 @@ module _ {E : Type 0} (Holds : E → List ℕ → Type 0) (settled whole_of : E 
       (subst (λ bytes. Begins (settled start x) (settled start bytes)) (sym is) (laws.grows start x rest))
       (laws.ends start content.bytes)
 
-  -- the loop ended at a fault of the engine, in the midst of the input
-  pub stopped_feeding : (laws : Laws) (told keeps : Bool) (start now : E) (content : Content) (x piece rest : List ℕ) (old mid new before : List Slot) (fault : Fault) → Feeds told start now x old mid → OutputsAt told before (settled start []) old → content.bytes ≡ (x ++ piece) ++ rest → CutsOff Holds settled now piece told mid new fault → IsCaused keeps (is_over now) (fed now) (length piece) mid new fault → FedAs told before (work_of start) content new (Err fault)
-  stopped_feeding laws told keeps start now content x piece rest old mid new before fault so_far at is cuts caused =
-      stopped fault
-      (stops content keeps fault (fed now) (length piece) mid new (subst (λ over. IsCaused keeps over (fed now) (length piece) mid new fault) (laws.live now x so_far.holds) caused)
-      (let taken : fed now ≡ length x = laws.counts now x so_far.holds in
-      let all : length content.bytes ≡ length (x ++ piece) + length rest = ap length is ∙ length-append (x ++ piece) rest in
-      let front : length (x ++ piece) ≡ length x + length piece = length-append x piece in omega arith))
-      (stopped_wider told before (settled now x) (settled now (x ++ piece)) _ fault new
-      (cuts before x so_far.holds (at_now told start now x old mid before so_far at))
-      (subst (λ part. Begins part (made_of (work_of start) content)) (sym (so_far.same.settled_same (x ++ piece)))
-      (settled_below laws start content (x ++ piece) rest is)))
+  -- what is known of an input that the engine has got all of, by what became of it
+  abbrev pub IsAll : E → Content → Fed → Type 0
+  IsAll start content Whole = (content.breaks_off ≡ false) × (complete start content.bytes ≡ false)
+  IsAll start content Enough = complete start content.bytes ≡ true
+  IsAll start content Broken = ⊥
 
   -- the engine has got all of the input that it needs
-  pub record HasAll (start : E) (content : Content) (x : List ℕ) : Type 0 where
+  pub record HasAll (start : E) (content : Content) (x : List ℕ) (fed : Fed) : Type 0 where
     pub rest : List ℕ
     pub bytes : content.bytes ≡ x ++ rest
-    pub enough : is_enough (work_of start) content ≡ true
+    pub all : IsAll start content fed
     pub made : whole_of start x ≡ whole_of start content.bytes
 
   if_enough : (enough : Bool) (whole_part settled_part : Part) → enough ≡ true → whole_part ≡ (if enough then whole_part else settled_part)
   if_enough true whole_part settled_part is = refl
   if_enough false whole_part settled_part is = absurd (false≢true is)
-
-  if_short : (enough : Bool) (whole_part settled_part : Part) → enough ≡ false → settled_part ≡ (if enough then whole_part else settled_part)
-  if_short false whole_part settled_part is = refl
-  if_short true whole_part settled_part is = absurd (false≢true (sym is))
 
   ends_whole : (breaks complete : Bool) → breaks ≡ false → (not breaks || complete) ≡ true
   ends_whole false complete is = refl
@@ -187,22 +176,60 @@ module _ {E : Type 0} (Holds : E → List ℕ → Type 0) (settled whole_of : E 
     either_way false = refl
   or_complete breaks false is = absurd (false≢true is)
 
-  breaks_short : (breaks complete : Bool) → breaks ≡ true → complete ≡ false → (not breaks || complete) ≡ false
-  breaks_short true false is short = refl
-  breaks_short true true is short = absurd (false≢true (sym short))
-  breaks_short false complete is short = absurd (false≢true is)
+  all_enough : (start : E) (content : Content) (fed : Fed) → IsAll start content fed → is_enough (work_of start) content ≡ true
+  all_enough start content Whole all = ends_whole content.breaks_off (complete start content.bytes) all.0
+  all_enough start content Enough all = or_complete content.breaks_off (complete start content.bytes) all
+  all_enough start content Broken all = absurd all
 
-  pub read_to_end : (start : E) (content : Content) (x : List ℕ) (slot : ℕ) (sources : List Source) → HasRead content x slot sources → (source_at sources slot).left.bytes ≡ [] → (source_at sources slot).left.breaks_off ≡ false → HasAll start content x
-  read_to_end start content x slot sources read none sound =
-      let all : content.bytes ≡ x = read.bytes ∙ ap (λ rest. x ++ rest) none ∙ append-nil x in
+  -- the names ran out in the midst of the input
+  names_ran_out : (laws : Laws) (told : Bool) (most : ℕ) (start now : E) (content : Content) (x piece rest : List ℕ) (old mid new before : List Slot) → Feeds told start now x old mid → OutputsAt told before (settled start []) old → content.bytes ≡ (x ++ piece) ++ rest → (means now).names ≡ true → RunsOut Holds settled complete now piece told mid new
+      → FedAs told before (work_of start) most content new (Err Suffixes)
+  names_ran_out laws told most start now content x piece rest old mid new before so_far at is names runs =
+      let out = runs before x so_far.holds (at_now told start now x old mid before so_far at) in
+      let stays : IsComplete settled whole_of complete start (x ++ piece) rest = laws.stays start (x ++ piece) rest (sym (so_far.same.complete_same (x ++ piece)) ∙ out.0) in
+      let done : complete start content.bytes ≡ true = ap (complete start) is ∙ stays.still in
+      ran_out (sym (ap (λ using. using.names) so_far.same.means_same) ∙ names) done
+      (subst (λ part. OutputsAt told before part new)
+      (so_far.same.settled_same (x ++ piece) ∙ sym stays.whole_stays ∙ ap (whole_of start) (sym is))
+      out.1)
+
+  -- the loop ended at a fault of the engine, in the midst of the input
+  pub stopped_feeding : (laws : Laws) (told : Bool) (most : ℕ) (start now : E) (content : Content) (x piece rest : List ℕ) (old mid new before : List Slot) (fault : Fault) → Feeds told start now x old mid → OutputsAt told before (settled start []) old → content.bytes ≡ (x ++ piece) ++ rest → length piece ≤ most → complete now x ≡ false → CutsOff Holds settled now piece told mid new fault
+      → IsCaused (means now) (RunsOut Holds settled complete now piece told mid new) (is_over now) (fed_of now) (length piece) mid new fault → FedAs told before (work_of start) most content new (Err fault)
+  stopped_feeding laws told most start now content x piece rest old mid new before fault so_far at is within going cuts caused =
+      by_cause
+      (causes start content most (means now) (RunsOut Holds settled complete now piece told mid new) fault (fed_of now) (length piece) mid new
+      (ap (λ using. using.files) so_far.same.means_same)
+      (λ long. record {
+        before = x;
+        piece = piece;
+        rest = rest;
+        cut = is;
+        within = within;
+        going = sym (so_far.same.complete_same x) ∙ going;
+        long = let taken : fed_of now ≡ length x = laws.counts now x so_far.holds in let size : length (x ++ piece) ≡ length x + length piece = length-append x piece in omega (arith, long);
+      })
+      (subst (λ over. IsCaused (means now) (RunsOut Holds settled complete now piece told mid new) over (fed_of now) (length piece) mid new fault) (laws.live now x so_far.holds) caused)) where
+        by_cause : ((fault ≡ Suffixes) × ((means now).names ≡ true) × RunsOut Holds settled complete now piece told mid new) ⊎ Stops (work_of start) most (Some content) fault → FedAs told before (work_of start) most content new (Err fault)
+        by_cause (inl ran) = subst (λ why. FedAs told before (work_of start) most content new (Err why)) (sym ran.0) (names_ran_out laws told most start now content x piece rest old mid new before so_far at is ran.1 ran.2)
+        by_cause (inr stops) =
+            stopped fault stops
+            (stopped_wider told before (settled now x) (settled now (x ++ piece)) _ fault new
+            (cuts before x so_far.holds (at_now told start now x old mid before so_far at))
+            (subst (λ part. Begins part (made_of (work_of start) content)) (sym (so_far.same.settled_same (x ++ piece)))
+            (settled_below laws start content (x ++ piece) rest is)))
+
+  pub read_to_end : (start : E) (content : Content) (x : List ℕ) (slot : ℕ) (sources : List Source) → HasRead content x slot sources → (source_at sources slot).left.bytes ≡ [] → (source_at sources slot).left.breaks_off ≡ false → complete start x ≡ false → HasAll start content x Whole
+  read_to_end start content x slot sources read none sound going =
+      let same : content.bytes ≡ x = read.bytes ∙ ap (λ rest. x ++ rest) none ∙ append-nil x in
       record {
         rest = [];
-        bytes = all ∙ sym (append-nil x);
-        enough = ends_whole content.breaks_off (complete start content.bytes) (sym read.breaks_off ∙ sound);
-        made = ap (whole_of start) (sym all);
+        bytes = same ∙ sym (append-nil x);
+        all = (sym read.breaks_off ∙ sound, ap (complete start) same ∙ going);
+        made = ap (whole_of start) (sym same);
       }
 
-  pub read_enough : (laws : Laws) (start now : E) (content : Content) (x rest : List ℕ) → SameWork settled whole_of complete start now → content.bytes ≡ x ++ rest → complete now x ≡ true → HasAll start content x
+  pub read_enough : (laws : Laws) (start now : E) (content : Content) (x rest : List ℕ) → SameWork settled whole_of complete means start now → content.bytes ≡ x ++ rest → complete now x ≡ true → HasAll start content x Enough
   read_enough laws start now content x rest same is done =
       let done_here : complete start x ≡ true = sym (same.complete_same x) ∙ done in
       let stays : IsComplete settled whole_of complete start x rest = laws.stays start x rest done_here in
@@ -210,45 +237,49 @@ module _ {E : Type 0} (Holds : E → List ℕ → Type 0) (settled whole_of : E 
       record {
         rest = rest;
         bytes = is;
-        enough = or_complete content.breaks_off (complete start content.bytes) (ap (complete start) is ∙ stays.still);
+        all = ap (complete start) is ∙ stays.still;
         made = ap (whole_of start) (sym (append-nil x)) ∙ here.whole_stays ∙ sym stays.whole_stays ∙ ap (whole_of start) (sym is);
       }
 
+  fed_all : (told : Bool) (most : ℕ) (start : E) (content : Content) (new before : List Slot) (fed : Fed) → IsAll start content fed → OutputsAt told before (whole_of start content.bytes) new → FedAs told before (work_of start) most content new (Ok fed)
+  fed_all told most start content new before Whole all at = whole all.0 all.1 at
+  fed_all told most start content new before Enough all at = had_enough all at
+  fed_all told most start content new before Broken all at = absurd all
+
   -- the loop ended with the input, or where nothing more can follow
-  pub ended : (laws : Laws) (told : Bool) (start now : E) (content : Content) (x : List ℕ) (old mid new before : List Slot) (result : Result Fed Fault) → Feeds told start now x old mid → OutputsAt told before (settled start []) old → HasAll start content x → IfOk result (λ fed. fed ≡ Whole)
-      → OnOk result (Finishes Holds settled whole_of now told mid new) → IfErr result (EndsShort Holds settled whole_of now told mid new) → IfErr result (IsCaused false (is_over now) (fed now) 0 mid new) → FedAs told before (work_of start) content new result
-  ended laws told start now content x old mid new before (Ok fed_whole) so_far at all is finishes short caused =
-      subst (λ fed_so. FedAs told before (work_of start) content new (Ok fed_so)) (sym is)
-      (whole all.enough
-      (subst (λ part. OutputsAt told before part new)
-      (so_far.same.whole_same x ∙ all.made ∙ if_enough (is_enough (work_of start) content) (whole_of start content.bytes) (settled start content.bytes) all.enough)
-      (finishes before x so_far.holds (at_now told start now x old mid before so_far at))))
-  ended laws told start now content x old mid new before (Err fault) so_far at all is finishes short caused =
+  pub ended : (laws : Laws) (told : Bool) (most : ℕ) (start now : E) (content : Content) (x : List ℕ) (old mid new before : List Slot) (fed : Fed) (result : Result Fed Fault) → Feeds told start now x old mid → OutputsAt told before (settled start []) old → HasAll start content x fed → IfOk result (λ ended. ended ≡ fed)
+      → OnOk result (Finishes Holds settled whole_of now told mid new) → IfErr result (EndsShort Holds settled whole_of now told mid new) → IfErr result (IsCaused (at_end (means now)) ⊥ (is_over now) (fed_of now) 0 mid new) → FedAs told before (work_of start) most content new result
+  ended laws told most start now content x old mid new before fed (Ok fed_so) so_far at all is finishes short caused =
+      subst (λ those. FedAs told before (work_of start) most content new (Ok those)) (sym is)
+      (fed_all told most start content new before fed all.all
+      (subst (λ part. OutputsAt told before part new) (so_far.same.whole_same x ∙ all.made) (finishes before x so_far.holds (at_now told start now x old mid before so_far at))))
+  ended laws told most start now content x old mid new before fed (Err fault) so_far at all is finishes short caused =
       stopped fault
-      (stops content false fault (fed now) 0 mid new (subst (λ over. IsCaused false over (fed now) 0 mid new fault) (laws.live now x so_far.holds) caused)
-      (let taken : fed now ≡ length x = laws.counts now x so_far.holds in
-      let size : length content.bytes ≡ length x + length all.rest = ap length all.bytes ∙ length-append x all.rest in omega arith))
+      (no_name
+      (causes start content most (at_end (means now)) ⊥ fault (fed_of now) 0 mid new
+      (ap (λ using. using.files) so_far.same.means_same)
+      (λ long. let bound = so_far.bound in absurd (omega (arith, bound, long)))
+      (subst (λ over. IsCaused (at_end (means now)) ⊥ over (fed_of now) 0 mid new fault) (laws.live now x so_far.holds) caused)))
       (stopped_wider told before (settled now x) (whole_of now x) _ fault new
       (short before x so_far.holds (at_now told start now x old mid before so_far at))
       (subst (λ part. Begins part (made_of (work_of start) content)) (sym (so_far.same.whole_same x ∙ all.made))
-      (subst (Begins (whole_of start content.bytes)) (if_enough (is_enough (work_of start) content) (whole_of start content.bytes) (settled start content.bytes) all.enough) (part_begins_itself _))))
+      (subst (Begins (whole_of start content.bytes)) (if_enough (is_enough (work_of start) content) (whole_of start content.bytes) (settled start content.bytes) (all_enough start content fed all.all)) (part_begins_itself _)))) where
+        no_name : ((fault ≡ Suffixes) × (false ≡ true) × ⊥) ⊎ Stops (work_of start) most (Some content) fault → Stops (work_of start) most (Some content) fault
+        no_name (inl ran) = absurd ran.2
+        no_name (inr stops) = stops
 
   -- the loop ended where the input broke off
-  pub broken_off : (told : Bool) (start now : E) (content : Content) (x : List ℕ) (old slots before : List Slot) → Feeds told start now x old slots → OutputsAt told before (settled start []) old → content.bytes ≡ x → content.breaks_off ≡ true → complete now x ≡ false → FedAs told before (work_of start) content slots (Ok Broken)
-  broken_off told start now content x old slots before so_far at all breaks going =
-      let short : is_enough (work_of start) content ≡ false
-      = breaks_short content.breaks_off (complete start content.bytes) breaks (ap (complete start) all ∙ sym (so_far.same.complete_same x) ∙ going) in
-      broke_off short
-      (subst (λ part. OutputsAt told before part slots)
-      (ap (settled start) (sym all) ∙ if_short (is_enough (work_of start) content) (whole_of start content.bytes) (settled start content.bytes) short)
-      (so_far.outputs before at))
+  pub broken_off : (told : Bool) (most : ℕ) (start now : E) (content : Content) (x : List ℕ) (old slots before : List Slot) → Feeds told start now x old slots → OutputsAt told before (settled start []) old → content.bytes ≡ x → content.breaks_off ≡ true → complete now x ≡ false → FedAs told before (work_of start) most content slots (Ok Broken)
+  broken_off told most start now content x old slots before so_far at all breaks going =
+      broke_off breaks (ap (complete start) all ∙ sym (so_far.same.complete_same x) ∙ going)
+      (subst (λ part. OutputsAt told before part slots) (ap (settled start) (sym all)) (so_far.outputs before at))
 
   -- an input without bytes: the engine is closed at once
-  pub closed_at_start : (laws : Laws) (told : Bool) (start : E) (old new before : List Slot) (result : Result Fed Fault) → Holds start [] → fed start < 2 ^ 63 → IsTrue (is_writable old 0) → OutputsAt told before (settled start []) old → IfOk result (λ fed. fed ≡ Whole)
-      → OnOk result (Finishes Holds settled whole_of start told old new) → IfErr result (EndsShort Holds settled whole_of start told old new) → IfErr result (IsCaused false (is_over start) (fed start) 0 old new) → FedAs told before (work_of start) (record { bytes = []; breaks_off = false }) new result
-  closed_at_start laws told start old new before result holds bound can at is finishes short caused =
-      ended laws told start start (record { bytes = []; breaks_off = false }) [] old old new before result (begins told start old holds bound can) at
-      (record { rest = []; bytes = refl; enough = refl; made = refl })
+  pub closed_at_start : (laws : Laws) (told : Bool) (most : ℕ) (start : E) (old new before : List Slot) (fed : Fed) (result : Result Fed Fault) → Holds start [] → fed_of start < 2 ^ 63 → OutputsAt told before (settled start []) old → IsAll start empty fed → IfOk result (λ ended. ended ≡ fed)
+      → OnOk result (Finishes Holds settled whole_of start told old new) → IfErr result (EndsShort Holds settled whole_of start told old new) → IfErr result (IsCaused (at_end (means start)) ⊥ (is_over start) (fed_of start) 0 old new) → FedAs told before (work_of start) most empty new result
+  closed_at_start laws told most start old new before fed result holds bound at all is finishes short caused =
+      ended laws told most start start empty [] old old new before fed result (begins told start old holds bound) at
+      (record { rest = []; bytes = refl; all = all; made = refl })
       is finishes short caused
 
 pub read_broken : (content : Content) (x : List ℕ) (slot : ℕ) (sources : List Source) → HasRead content x slot sources → BrokeOff (source_at sources slot).left → (content.bytes ≡ x) × (content.breaks_off ≡ true)
@@ -263,8 +294,11 @@ of_content false there seen P told untold = (seen, λ t. absurd (false≢true t)
 pub needed_none : (is_complete : List ℕ → Bool) (most : ℕ) → IsNeeded is_complete most []
 needed_none is_complete most = inl refl
 
+pub piece_within : (n most : ℕ) (buffer : List ℕ) → n ≤ most → length (take n buffer) ≤ most
+piece_within n most buffer within = omega (arith, length-take n buffer)
+
 pub needed_more : (is_complete : List ℕ → Bool) (most n : ℕ) (x buffer : List ℕ) → is_complete x ≡ false → n ≤ most → IsNeeded is_complete most (x ++ take n buffer)
-needed_more is_complete most n x buffer going within = inr (x, take n buffer, refl, omega (arith, length-take n buffer), going)
+needed_more is_complete most n x buffer going within = inr (x, take n buffer, refl, piece_within n most buffer within, going)
 
 pub read_failed : (content : Content) (x : List ℕ) (slot : ℕ) (sources new : List Source) → HasRead content x slot sources → IsTrue (is_readable sources slot) → new ≡ changed_at slot fails sources → content.bytes ≡ x ++ (source_at new slot).left.bytes
 read_failed content x slot sources new read can is =

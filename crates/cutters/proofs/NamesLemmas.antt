@@ -139,28 +139,28 @@ of_any told was_read laid old name Q differs holds = of_file told (world_of laid
 
 -- the same step, seen from the name
 
-took_as : (told : Bool) (tool : Tool) (made : Made) (content : Option Content) (progress other : Progress) (was_read is_read : Bool) (out : List ℕ) (error : Slot) (new : List Slot) (result : Result Progress Fault)
+took_as : (told : Bool) (tool : Tool) (work : Work) (most : ℕ) (made : Made) (content : Option Content) (progress other : Progress) (was_read is_read : Bool) (out : List ℕ) (error : Slot) (new : List Slot) (result : Result Progress Fault)
     → ((failed : Bool) → after_input progress was_read failed content ≡ after_input other is_read failed content)
-    → TookInput told tool made content progress was_read out error new result → TookInput told tool made content other is_read out error new result
-took_as told tool made content progress other was_read is_read out error new result same (took next after is says shape) = took next after (is ∙ same made.failed) says shape
-took_as told tool made content progress other was_read is_read out error new result same (cut_off fault stops stop) = cut_off fault stops stop
+    → TookInput told tool work most made content progress was_read out error new result → TookInput told tool work most made content other is_read out error new result
+took_as told tool work most made content progress other was_read is_read out error new result same (took next after is says shape) = took next after (is ∙ same made.failed) says shape
+took_as told tool work most made content progress other was_read is_read out error new result same (cut_off fault stops stop) = cut_off fault stops stop
 
-pub took_dash : (told : Bool) (tool : Tool) (made : Made) (content : Option Content) (progress : Progress) (name : List ℕ) (out : List ℕ) (error : Slot) (new : List Slot) (result : Result Progress Fault) → is_dash name ≡ true
-    → TookInput told tool made content (record progress { was_read = true }) true out error new result → TookInput told tool made content progress (progress.was_read || is_dash name) out error new result
-took_dash told tool made content progress name out error new result dash =
-    took_as told tool made content (record progress { was_read = true }) progress true (progress.was_read || is_dash name) out error new result
+pub took_dash : (told : Bool) (tool : Tool) (work : Work) (most : ℕ) (made : Made) (content : Option Content) (progress : Progress) (name : List ℕ) (out : List ℕ) (error : Slot) (new : List Slot) (result : Result Progress Fault) → is_dash name ≡ true
+    → TookInput told tool work most made content (record progress { was_read = true }) true out error new result → TookInput told tool work most made content progress (progress.was_read || is_dash name) out error new result
+took_dash told tool work most made content progress name out error new result dash =
+    took_as told tool work most made content (record progress { was_read = true }) progress true (progress.was_read || is_dash name) out error new result
     (λ failed. ap (λ (b : Bool). record { was_read = b; is_first = progress.is_first && is_missing content; failed = progress.failed || failed }) (sym (ap (λ (b : Bool). progress.was_read || b) dash ∙ or_true progress.was_read)))
 
-pub took_file : (told : Bool) (tool : Tool) (made : Made) (content : Option Content) (progress : Progress) (name : List ℕ) (out : List ℕ) (error : Slot) (new : List Slot) (result : Result Progress Fault) → is_dash name ≡ false
-    → TookInput told tool made content progress progress.was_read out error new result → TookInput told tool made content progress (progress.was_read || is_dash name) out error new result
-took_file told tool made content progress name out error new result differs =
-    took_as told tool made content progress progress progress.was_read (progress.was_read || is_dash name) out error new result
+pub took_file : (told : Bool) (tool : Tool) (work : Work) (most : ℕ) (made : Made) (content : Option Content) (progress : Progress) (name : List ℕ) (out : List ℕ) (error : Slot) (new : List Slot) (result : Result Progress Fault) → is_dash name ≡ false
+    → TookInput told tool work most made content progress progress.was_read out error new result → TookInput told tool work most made content progress (progress.was_read || is_dash name) out error new result
+took_file told tool work most made content progress name out error new result differs =
+    took_as told tool work most made content progress progress progress.was_read (progress.was_read || is_dash name) out error new result
     (λ failed. ap (λ (b : Bool). record { was_read = b; is_first = progress.is_first && is_missing content; failed = progress.failed || failed }) (sym (ap (λ (b : Bool). progress.was_read || b) differs ∙ or_false progress.was_read)))
 
-pub took_missing : (told : Bool) (tool : Tool) (work : Work) (with_header : Bool) (progress : Progress) (name : List ℕ) (number slot : ℕ) (out : List ℕ) (error : Slot) (old new : List Slot) → is_dash name ≡ false → old ≡ streams_at told out error
+pub took_missing : (told : Bool) (tool : Tool) (work : Work) (most : ℕ) (with_header : Bool) (progress : Progress) (name : List ℕ) (number slot : ℕ) (out : List ℕ) (error : Slot) (old new : List Slot) → is_dash name ≡ false → old ≡ streams_at told out error
     → SaysOn told tool (message_of tool (Open slot) name) old new
-    → TookInput told tool (of_input tool work with_header progress.is_first (file_input name number None)) None progress (progress.was_read || is_dash name) out error new (Ok (record progress { failed = true }))
-took_missing told tool work with_header progress name number slot out error old new differs shape says =
+    → TookInput told tool work most (of_input tool work with_header progress.is_first (file_input name number None)) None progress (progress.was_read || is_dash name) out error new (Ok (record progress { failed = true }))
+took_missing told tool work most with_header progress name number slot out error old new differs shape says =
     let said = says (record standard_output { written = told_of told out }) error [] shape in
     took (record progress { failed = true }) said.0
     (ap (λ (b : Bool). record { was_read = b; is_first = progress.is_first; failed = true }) (sym (ap (λ (b : Bool). progress.was_read || b) differs ∙ or_false progress.was_read))
@@ -169,8 +169,8 @@ took_missing told tool work with_header progress name number slot out error old 
     (said.0, said.1, refl)
     (said.2 ∙ ap (λ bytes. streams_at told bytes said.0) (sym (append-nil out)))
 
-pub took_no_memory : (told : Bool) (tool : Tool) (made : Made) (content : Option Content) (progress : Progress) (was_read : Bool) (out : List ℕ) (error : Slot) (old : List Slot) → old ≡ streams_at told out error → TookInput told tool made content progress was_read out error old (Err Memory)
-took_no_memory told tool made content progress was_read out error old shape = cut_off Memory tt (stops_here told out error out _ Memory old (begins_itself out) (begins_more out _) shape)
+pub took_no_memory : (told : Bool) (tool : Tool) (work : Work) (most : ℕ) (made : Made) (content : Option Content) (progress : Progress) (was_read : Bool) (out : List ℕ) (error : Slot) (old : List Slot) → old ≡ streams_at told out error → TookInput told tool work most made content progress was_read out error old (Err Memory)
+took_no_memory told tool work most made content progress was_read out error old shape = cut_off Memory tt (stops_here told out error out _ Memory old (begins_itself out) (begins_more out _) shape)
 
 -- the loop over names
 
@@ -247,14 +247,14 @@ same_input world true slot name true laid sources same standard = refl
 same_input world false slot name true laid sources same standard = ap (λ (source : Source). standard_input source.left) (standard refl)
 
 -- one more name was taken
-pub walk_goes_on : (told_in told : Bool) (tool : Tool) (work : Work) (with_header : Bool) (world : World) (names : List (List ℕ)) (name : List ℕ) (left : List (List ℕ)) (progress next : Progress) (laid new_laid : ℕ → List ℕ → Option Content) (sources new_sources : List Source) (slots new : List Slot)
+pub walk_goes_on : (told_in told : Bool) (tool : Tool) (work : Work) (most : ℕ) (with_header : Bool) (world : World) (names : List (List ℕ)) (name : List ℕ) (left : List (List ℕ)) (progress next : Progress) (laid new_laid : ℕ → List ℕ → Option Content) (sources new_sources : List Source) (slots new : List Slot)
     → Walked told_in told tool work with_header world names (name ∷ left) progress laid sources slots
-    → ((out : List ℕ) (error : Slot) → slots ≡ streams_at told out error → OfName told_in (world_of laid sources) progress.was_read (length sources) name (λ input. TookInput told tool (of_input tool work with_header progress.is_first input) input.content progress (progress.was_read || is_dash name) out error new (Ok next)))
+    → ((out : List ℕ) (error : Slot) → slots ≡ streams_at told out error → OfName told_in (world_of laid sources) progress.was_read (length sources) name (λ input. TookInput told tool work most (of_input tool work with_header progress.is_first input) input.content progress (progress.was_read || is_dash name) out error new (Ok next)))
     → OpensOne name sources new_sources → new_laid ≡ laid
     → Walked told_in told tool work with_header world names left next new_laid new_sources new
-walk_goes_on told_in told tool work with_header world names name left progress next laid new_laid sources new_sources slots new walked takes opens same =
+walk_goes_on told_in told tool work most with_header world names name left progress next laid new_laid sources new_sources slots new walked takes opens same =
     goes_with (takes walked.made.out walked.error walked.shape) where
-      goes_with : OfName told_in (world_of laid sources) progress.was_read (length sources) name (λ input. TookInput told tool (of_input tool work with_header progress.is_first input) input.content progress (progress.was_read || is_dash name) walked.made.out walked.error new (Ok next)) → Walked told_in told tool work with_header world names left next new_laid new_sources new
+      goes_with : OfName told_in (world_of laid sources) progress.was_read (length sources) name (λ input. TookInput told tool work most (of_input tool work with_header progress.is_first input) input.content progress (progress.was_read || is_dash name) walked.made.out walked.error new (Ok next)) → Walked told_in told tool work with_header world names left next new_laid new_sources new
       goes_with (input, is_for, there, took _ after is says shape) =
           let one = of_input tool work with_header progress.is_first input in
           let was : next.was_read ≡ (progress.was_read || is_dash name) = ap (λ (p : Progress). p.was_read) is in
@@ -285,13 +285,13 @@ walk_goes_on told_in told tool work with_header world names name left progress n
             more_some false = let had = walked.some in omega (arith, had)
 
 -- a fault stopped the run at a name
-pub walk_stops : (told_in told : Bool) (tool : Tool) (work : Work) (with_header : Bool) (world : World) (names : List (List ℕ)) (name : List ℕ) (left : List (List ℕ)) (progress : Progress) (laid : ℕ → List ℕ → Option Content) (sources : List Source) (slots new : List Slot) (fault : Fault)
+pub walk_stops : (told_in told : Bool) (tool : Tool) (work : Work) (most : ℕ) (with_header : Bool) (world : World) (names : List (List ℕ)) (name : List ℕ) (left : List (List ℕ)) (progress : Progress) (laid : ℕ → List ℕ → Option Content) (sources : List Source) (slots new : List Slot) (fault : Fault)
     → Walked told_in told tool work with_header world names (name ∷ left) progress laid sources slots
-    → ((out : List ℕ) (error : Slot) → slots ≡ streams_at told out error → OfName told_in (world_of laid sources) progress.was_read (length sources) name (λ input. TookInput told tool (of_input tool work with_header progress.is_first input) input.content progress (progress.was_read || is_dash name) out error new (Err fault)))
-    → RunsOver told_in world names (λ found. TookAll told tool (of_inputs tool work with_header true) found new (Err fault))
-walk_stops told_in told tool work with_header world names name left progress laid sources slots new fault walked takes =
+    → ((out : List ℕ) (error : Slot) → slots ≡ streams_at told out error → OfName told_in (world_of laid sources) progress.was_read (length sources) name (λ input. TookInput told tool work most (of_input tool work with_header progress.is_first input) input.content progress (progress.was_read || is_dash name) out error new (Err fault)))
+    → RunsOver told_in world names (λ found. TookAll told tool work most (of_inputs tool work with_header true) found new (Err fault))
+walk_stops told_in told tool work most with_header world names name left progress laid sources slots new fault walked takes =
     stops_with (takes walked.made.out walked.error walked.shape) where
-      stops_with : OfName told_in (world_of laid sources) progress.was_read (length sources) name (λ input. TookInput told tool (of_input tool work with_header progress.is_first input) input.content progress (progress.was_read || is_dash name) walked.made.out walked.error new (Err fault)) → RunsOver told_in world names (λ found. TookAll told tool (of_inputs tool work with_header true) found new (Err fault))
+      stops_with : OfName told_in (world_of laid sources) progress.was_read (length sources) name (λ input. TookInput told tool work most (of_input tool work with_header progress.is_first input) input.content progress (progress.was_read || is_dash name) walked.made.out walked.error new (Err fault)) → RunsOver told_in world names (λ found. TookAll told tool work most (of_inputs tool work with_header true) found new (Err fault))
       stops_with (input, is_for, there, cut_off _ stops stop) =
           let one = of_input tool work with_header progress.is_first input in
           let rest = inputs_from world (progress.was_read || is_dash name) (next_slot (length sources) name) left in
@@ -311,10 +311,10 @@ walk_stops told_in told tool work with_header world names name left progress lai
           )
 
 -- all names were taken
-pub walk_ends : (told_in told : Bool) (tool : Tool) (work : Work) (with_header : Bool) (world : World) (names left : List (List ℕ)) (progress : Progress) (laid : ℕ → List ℕ → Option Content) (sources : List Source) (slots : List Slot) → left ≡ []
+pub walk_ends : (told_in told : Bool) (tool : Tool) (work : Work) (most : ℕ) (with_header : Bool) (world : World) (names left : List (List ℕ)) (progress : Progress) (laid : ℕ → List ℕ → Option Content) (sources : List Source) (slots : List Slot) → left ≡ []
     → Walked told_in told tool work with_header world names left progress laid sources slots
-    → RunsOver told_in world names (λ found. TookAll told tool (of_inputs tool work with_header true) found slots (Ok progress.failed))
-walk_ends told_in told tool work with_header world names left progress laid sources slots none walked =
+    → RunsOver told_in world names (λ found. TookAll told tool work most (of_inputs tool work with_header true) found slots (Ok progress.failed))
+walk_ends told_in told tool work most with_header world names left progress laid sources slots none walked =
     let made : of_inputs tool work with_header true (walked.done ++ []) ≡ walked.made = walked.rest_made [] ∙ joined_nothing walked.made in (
       walked.done ++ [],
       record {
@@ -328,22 +328,23 @@ walk_ends told_in told tool work with_header world names left progress laid sour
 
 -- the same over the words that a loop has left
 
-pub walk_goes_on_at : (told_in told : Bool) (tool : Tool) (work : Work) (with_header : Bool) (world : World) (names : List (List ℕ)) (none : Bor (List ℕ)) (left : List (Bor (List ℕ))) (progress next : Progress) (laid new_laid : ℕ → List ℕ → Option Content) (sources new_sources : List Source) (slots new : List Slot)
+pub walk_goes_on_at : (told_in told : Bool) (tool : Tool) (work : Work) (most : ℕ) (with_header : Bool) (world : World) (names : List (List ℕ)) (none : Bor (List ℕ)) (left : List (Bor (List ℕ))) (progress next : Progress) (laid new_laid : ℕ → List ℕ → Option Content) (sources new_sources : List Source) (slots new : List Slot)
     → 1 ≤ length left → Walked told_in told tool work with_header world names (map (λ word. word.now) left) progress laid sources slots
-    → ((out : List ℕ) (error : Slot) → slots ≡ streams_at told out error → OfName told_in (world_of laid sources) progress.was_read (length sources) (get_or left 0 none).now (λ input. TookInput told tool (of_input tool work with_header progress.is_first input) input.content progress (progress.was_read || is_dash (get_or left 0 none).now) out error new (Ok next)))
+    → ((out : List ℕ) (error : Slot) → slots ≡ streams_at told out error → OfName told_in (world_of laid sources) progress.was_read (length sources) (get_or left 0 none).now (λ input. TookInput told tool work most (of_input tool work with_header progress.is_first input) input.content progress (progress.was_read || is_dash (get_or left 0 none).now) out error new (Ok next)))
     → OpensOne (get_or left 0 none).now sources new_sources → new_laid ≡ laid
     → Walked told_in told tool work with_header world names (map (λ word. word.now) (take (length left - 1) (drop 1 left))) next new_laid new_sources new
-walk_goes_on_at told_in told tool work with_header world names none left progress next laid new_laid sources new_sources slots new some walked takes opens same =
-    walk_goes_on told_in told tool work with_header world names (get_or left 0 none).now (map (λ word. word.now) (take (length left - 1) (drop 1 left))) progress next laid new_laid sources new_sources slots new
+walk_goes_on_at told_in told tool work most with_header world names none left progress next laid new_laid sources new_sources slots new some walked takes opens same =
+    walk_goes_on told_in told tool work most with_header world names (get_or left 0 none).now (map (λ word. word.now) (take (length left - 1) (drop 1 left))) progress next laid new_laid sources new_sources slots new
     (subst (λ those. Walked told_in told tool work with_header world names those progress laid sources slots) (front_and_rest none left some) walked) takes opens same
 
-pub walk_stops_at : (told_in told : Bool) (tool : Tool) (work : Work) (with_header : Bool) (world : World) (names : List (List ℕ)) (none : Bor (List ℕ)) (left : List (Bor (List ℕ))) (progress : Progress) (laid : ℕ → List ℕ → Option Content) (sources : List Source) (slots new : List Slot) (fault : Fault)
-    → 1 ≤ length left → Walked told_in told tool work with_header world names (map (λ word. word.now) left) progress laid sources slots
-    → ((out : List ℕ) (error : Slot) → slots ≡ streams_at told out error → OfName told_in (world_of laid sources) progress.was_read (length sources) (get_or left 0 none).now (λ input. TookInput told tool (of_input tool work with_header progress.is_first input) input.content progress (progress.was_read || is_dash (get_or left 0 none).now) out error new (Err fault)))
-    → RunsOver told_in world names (λ found. TookAll told tool (of_inputs tool work with_header true) found new (Err fault))
-walk_stops_at told_in told tool work with_header world names none left progress laid sources slots new fault some walked takes =
-    walk_stops told_in told tool work with_header world names (get_or left 0 none).now (map (λ word. word.now) (take (length left - 1) (drop 1 left))) progress laid sources slots new fault
-    (subst (λ those. Walked told_in told tool work with_header world names those progress laid sources slots) (front_and_rest none left some) walked) takes
+pub walk_stops_at : (told_in told : Bool) (tool : Tool) (work : Work) (room most : ℕ) (with_header : Bool) (world : World) (names : List (List ℕ)) (none : Bor (List ℕ)) (left : List (Bor (List ℕ))) (progress : Progress) (laid : ℕ → List ℕ → Option Content) (sources : List Source) (slots new : List Slot) (fault : Fault)
+    → room ≡ most → 1 ≤ length left → Walked told_in told tool work with_header world names (map (λ word. word.now) left) progress laid sources slots
+    → ((out : List ℕ) (error : Slot) → slots ≡ streams_at told out error → OfName told_in (world_of laid sources) progress.was_read (length sources) (get_or left 0 none).now (λ input. TookInput told tool work room (of_input tool work with_header progress.is_first input) input.content progress (progress.was_read || is_dash (get_or left 0 none).now) out error new (Err fault)))
+    → RunsOver told_in world names (λ found. TookAll told tool work most (of_inputs tool work with_header true) found new (Err fault))
+walk_stops_at told_in told tool work room most with_header world names none left progress laid sources slots new fault same some walked takes =
+    subst (λ n. RunsOver told_in world names (λ found. TookAll told tool work n (of_inputs tool work with_header true) found new (Err fault))) same
+    (walk_stops told_in told tool work room with_header world names (get_or left 0 none).now (map (λ word. word.now) (take (length left - 1) (drop 1 left))) progress laid sources slots new fault
+    (subst (λ those. Walked told_in told tool work with_header world names those progress laid sources slots) (front_and_rest none left some) walked) takes)
 
 -- what was read of standard input
 

@@ -4,9 +4,9 @@ use Rattle.std.proofs.lemmas.List.{append-nil, take_rest}
 use Rattle.ports_core.specs.declared.fault.Fault.{Fault}
 use Rattle.ports_core.specs.declared.fault.Fault.TheVariants.{Memory, Usage}
 use Rattle.ports_core.specs.declared.fault.UsageKind.TheVariants.{MissingValue}
-use Rattle.ends_core.specs.declared.unit.Unit.{Unit as Measure}
 use Rattle.cutters.specs.declared.options.Choice.{Choice}
-use Rattle.cutters.specs.declared.spelling.Item.{Item}
+use Rattle.cutters.specs.declared.options.ValueKind.{ValueKind}
+use Rattle.cutters.specs.declared.item.Item.{Item}
 use Rattle.cutters.specs.declared.spelling.State.{State}
 use Rattle.cutters.specs.declared.spelling.State.TheVariants.{First, Reading, Awaiting, OnlyOperands}
 use Rattle.cutters.specs.Spelling.{Meaning, before, behind, onward, meaning_of, spelled, ended, Gives, Refuses}
@@ -69,9 +69,9 @@ at_end : (rows : List (List ℕ × Choice)) (left : List (Bor (List ℕ))) (plac
     → behind items (spelled rows (map (λ word. word.now) left) place state) ≡ whole → whole ≡ behind items (ended state)
 at_end rows left place state items whole none spells = sym spells ∙ ap (λ words. behind items (spelled rows words place state)) (none_left left none)
 
-pub lacks_value : (rows : List (List ℕ × Choice)) (left : List (Bor (List ℕ))) (place : ℕ) (state : State) (items : List Item) (whole : Result (List Item) Fault) (unit : Measure) (option : ℕ) → length left < 1
-    → behind items (spelled rows (map (λ word. word.now) left) place state) ≡ whole → state ≡ Awaiting unit option → Refuses whole (Usage MissingValue option)
-lacks_value rows left place state items whole unit option none spells is = inr (at_end rows left place state items whole none spells ∙ ap (λ those. behind items (ended those)) is)
+pub lacks_value : (rows : List (List ℕ × Choice)) (left : List (Bor (List ℕ))) (place : ℕ) (state : State) (items : List Item) (whole : Result (List Item) Fault) (kind : ValueKind) (option : ℕ) → length left < 1
+    → behind items (spelled rows (map (λ word. word.now) left) place state) ≡ whole → state ≡ Awaiting kind option → Refuses whole (Usage MissingValue option)
+lacks_value rows left place state items whole kind option none spells is = inr (at_end rows left place state items whole none spells ∙ ap (λ those. behind items (ended those)) is)
 
 pub ends_well : (rows : List (List ℕ × Choice)) (left : List (Bor (List ℕ))) (place : ℕ) (state : State) (items : List Item) (whole : Result (List Item) Fault) → length left < 1
     → behind items (spelled rows (map (λ word. word.now) left) place state) ≡ whole → ended state ≡ Ok [] → Gives whole items
@@ -84,7 +84,7 @@ behind-nil items meant none = ap (λ front. behind front meant) none ∙ same me
   same (Err fault) = refl
 
 -- every state but that of an option without its value ends well
-pub takes_no_value : (state : State) → ((unit : Measure) × (state ≡ First unit)) ⊎ ((state ≡ Reading) ⊎ (state ≡ OnlyOperands)) → ended state ≡ Ok []
+pub takes_no_value : (state : State) → ((kind : ValueKind) × (state ≡ First kind)) ⊎ ((state ≡ Reading) ⊎ (state ≡ OnlyOperands)) → ended state ≡ Ok []
 takes_no_value state (inl first) = ap ended first.1
 takes_no_value state (inr (inl is)) = ap ended is
 takes_no_value state (inr (inr is)) = ap ended is

@@ -3,6 +3,7 @@
 use Rattle.std.specs.Prelude.{ℕ, nat_lt, nat_le, not, ◌&&◌, ◌||◌, Bool, true, false, List, [], ◌∷◌, ◌++◌, length, map, Option, Some, None, codes, slice_index_or, if◌then◌else◌}
 use Rattle.ports_core.specs.Source.{Content}
 use Rattle.ports_core.specs.Part.{only_out, nothing}
+use Rattle.ports_core.specs.Engine.{on_output}
 use Rattle.ports_core.specs.Text.{message_of, header_of}
 use Rattle.ports_core.specs.declared.tool.Tool.{Tool}
 use Rattle.ports_core.specs.declared.fault.Fault.TheVariants.{Read, Open}
@@ -25,13 +26,13 @@ is_plus Plain = false
 is_plus Minus = false
 is_plus Plus = true
 
--- `head`: the first lines or bytes, with `-` before the count all but the last; those may be all the same known once enough
--- came in
+-- `head`: the first lines or bytes, and with `-` before the count all but the last. The first are complete once so many came in.
 abbrev pub head_work : EndsAsked → Work
 head_work asked = record {
   settled = λ x. only_out (head_of asked.unit (is_minus asked.count.sign) asked.count.amount x);
   whole = λ x. only_out (head_of asked.unit (is_minus asked.count.sign) asked.count.amount x);
   is_complete = λ x. not (is_minus asked.count.sign) && nat_le asked.count.amount (measure asked.unit x);
+  means = on_output (is_minus asked.count.sign);
 }
 
 -- `tail`: the last lines or bytes, with `+` before the count all from that one on
@@ -40,6 +41,7 @@ tail_work asked = record {
   settled = λ x. if is_plus asked.count.sign then only_out (tail_of asked.unit true asked.count.amount x) else nothing;
   whole = λ x. only_out (tail_of asked.unit (is_plus asked.count.sign) asked.count.amount x);
   is_complete = λ x. false;
+  means = on_output (not (is_plus asked.count.sign));
 }
 
 -- the names of the inputs: the operands, and standard input where there is none

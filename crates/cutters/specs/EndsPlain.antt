@@ -25,6 +25,8 @@ head_is_plain asked = record {
   begins = ap only_out (head_of-nil asked.unit (is_minus asked.count.sign) asked.count.amount);
   settled_files = λ x. refl;
   whole_files = λ x. refl;
+  no_files = refl;
+  no_names = refl;
 }
 
 tail_begins : (from_nth : Bool) (unit : Counted) (n : ℕ) → (if from_nth then only_out (tail_of unit true n []) else nothing) ≡ nothing
@@ -40,4 +42,6 @@ tail_is_plain asked = record {
   begins = tail_begins (is_plus asked.count.sign) asked.unit asked.count.amount;
   settled_files = λ x. tail_files (is_plus asked.count.sign) (tail_of asked.unit true asked.count.amount x);
   whole_files = λ x. refl;
+  no_files = refl;
+  no_names = refl;
 }

@@ -4,15 +4,16 @@ use Rattle.ports_core.specs.Slot.{Slot, is_open, told_of}
 use Rattle.ports_core.specs.Source.{Content, Source, source_at}
 use Rattle.ports_core.specs.Part.{Part, StoppedBetween, nothing, only_out}
 use Rattle.ports_core.specs.Write.{BrokeAfter}
+use Rattle.ports_core.specs.Engine.{Means}
 use Rattle.ports_core.specs.declared.fault.Fault.{Fault}
 use Rattle.ports_core.specs.declared.fault.Fault.TheVariants.{Memory, Write}
 use Rattle.ports_core.specs.declared.tool.Tool.{Tool}
 use Rattle.cutters.specs.declared.ends.Progress.{Progress}
 use Rattle.cutters.specs.Ends.{Made, is_missing}
-use Rattle.cutters.specs.Feeding.{Work, KeepsOthers, ReadsFor}
+use Rattle.cutters.specs.Feeding.{Work, Stops, KeepsOthers, ReadsFor}
 use Rattle.cutters.specs.Input.{Input, IsFor, World, is_dash, input_of, next_slot, empty}
 use Rattle.cutters.specs.Message.{SaysAll}
-use Rattle.cutters.specs.RunEnds.{standard_output, standard_error, StopsAt}
+use Rattle.cutters.specs.RunEnds.{standard_output, standard_error}
 
 -- both streams, where standard output got these bytes
 abbrev pub streams_at : Bool → List ℕ → Slot → List Slot
@@ -25,30 +26,26 @@ pub record HasStreams (told : Bool) (slots : List Slot) : Type 0 where
   pub are : slots ≡ streams_at told out error
   pub opened : is_open error.state ≡ true
 
--- an engine does this work
-pub record Does (settled whole : List ℕ → Part) (is_complete : List ℕ → Bool) (work : Work) : Type 0 where
-  pub settled_as : (x : List ℕ) → settled x ≡ work.settled x
-  pub whole_as : (x : List ℕ) → whole x ≡ work.whole x
-  pub complete_as : (x : List ℕ) → is_complete x ≡ work.is_complete x
-
--- it writes to standard output alone, and nothing before the first byte came in
+-- the work is written to standard output alone, and nothing of it before the first byte came in
 pub record IsPlain (work : Work) : Type 0 where
   pub begins : work.settled [] ≡ nothing
   pub settled_files : (x : List ℕ) → (work.settled x).files ≡ []
   pub whole_files : (x : List ℕ) → (work.whole x).files ≡ []
+  pub no_files : work.means.files ≡ false
+  pub no_names : work.means.names ≡ false
 
 -- what an input leaves to the next one
 abbrev pub after_input : Progress → Bool → Bool → Option Content → Progress
 after_input progress was_read failed content = record { was_read = was_read; is_first = progress.is_first && is_missing content; failed = progress.failed || failed }
 
 -- one input was put out, or a fault stopped the run there
-pub data TookInput (told : Bool) (tool : Tool) (made : Made) (content : Option Content) (progress : Progress) (was_read : Bool) (out : List ℕ) (error : Slot) (new : List Slot) : Result Progress Fault → Type 0 where
+pub data TookInput (told : Bool) (tool : Tool) (work : Work) (most : ℕ) (made : Made) (content : Option Content) (progress : Progress) (was_read : Bool) (out : List ℕ) (error : Slot) (new : List Slot) : Result Progress Fault → Type 0 where
   took : (next : Progress) (after : Slot) → next ≡ after_input progress was_read made.failed content
       → SaysAll told tool made.messages error after → new ≡ streams_at told (out ++ made.out) after
-      → TookInput told tool made content progress was_read out error new (Ok next)
-  cut_off : (fault : Fault) → StopsAt content fault
+      → TookInput told tool work most made content progress was_read out error new (Ok next)
+  cut_off : (fault : Fault) → Stops work most content fault
       → StoppedBetween told (standard_output ∷ error ∷ []) (only_out out) (only_out (out ++ made.out)) fault new
-      → TookInput told tool made content progress was_read out error new (Err fault)
+      → TookInput told tool work most made content progress was_read out error new (Err fault)
 
 -- the input that a source gives: standard input or a file by its number, or one that is empty
 abbrev pub OfSource : Bool → Option ℕ → List Source → (Content → Type 0) → Type 0
@@ -56,14 +53,14 @@ OfSource told None sources P = P empty
 OfSource told (Some slot) sources P = (content : Content) × (told ≡ true → content ≡ (source_at sources slot).left) × P content
 
 -- all inputs were put out, or a fault stopped the run at one of them, or before the first
-pub data TookAll (told : Bool) (tool : Tool) (made : List Input → Made) (inputs : List Input) (new : List Slot) : Result Bool Fault → Type 0 where
+pub data TookAll (told : Bool) (tool : Tool) (work : Work) (most : ℕ) (made : List Input → Made) (inputs : List Input) (new : List Slot) : Result Bool Fault → Type 0 where
   all : (failed : Bool) (error : Slot) → failed ≡ (made inputs).failed → SaysAll told tool (made inputs).messages standard_error error
-      → new ≡ streams_at told (made inputs).out error → TookAll told tool made inputs new (Ok failed)
+      → new ≡ streams_at told (made inputs).out error → TookAll told tool work most made inputs new (Ok failed)
   stopped_at : (fault : Fault) (before : List Input) (input : Input) (after : List Input) (error : Slot)
-      → inputs ≡ before ++ input ∷ after → StopsAt input.content fault → SaysAll told tool (made before).messages standard_error error
+      → inputs ≡ before ++ input ∷ after → Stops work most input.content fault → SaysAll told tool (made before).messages standard_error error
       → StoppedBetween told (standard_output ∷ error ∷ []) (only_out (made before).out) (only_out (made (before ++ input ∷ [])).out) fault new
-      → TookAll told tool made inputs new (Err fault)
-  not_begun : new ≡ standard_output ∷ standard_error ∷ [] → TookAll told tool made inputs new (Err Memory)
+      → TookAll told tool work most made inputs new (Err fault)
+  not_begun : new ≡ standard_output ∷ standard_error ∷ [] → TookAll told tool work most made inputs new (Err Memory)
 
 -- how a header fails to go out
 pub data HeaderFails (told : Bool) (text : List ℕ) (old new : List Slot) : Fault → Type 0 where

@@ -4,10 +4,16 @@ pub mod EndsPlain
 pub mod EndsSteps
 pub mod Feeding
 pub mod Input
+pub mod Item
 pub mod Message
 pub mod Options
 pub mod Outcome
 pub mod Reads
 pub mod RunEnds
+pub mod RunOutcome
 pub mod Spelling
+pub mod SplitAsked
+pub mod SplitSteps
+pub mod SplitWords
+pub mod Splitting
 pub mod Words

@@ -1,25 +1,21 @@
 -- What a whole run puts out, where its outputs take all that they are given.
-use Rattle.std.specs.Prelude.{ℕ, true, List, [], ◌∷◌, Option, Some, None, Result, Ok, Err, slice_index_or, if◌then◌else◌}
-use Rattle.ports_core.specs.Part.{Part, nothing, only_out}
+use Rattle.std.specs.Prelude.{ℕ, true, false, List, [], ◌∷◌, Option, Some, None, Result, Ok, Err, slice_index_or, if◌then◌else◌}
+use Rattle.ports_core.specs.Part.{nothing, only_out}
 use Rattle.ports_core.specs.Text.{message_of}
+use Rattle.ports_core.specs.Engine.{on_output}
 use Rattle.ports_core.specs.declared.tool.Tool.{Tool}
 use Rattle.ports_core.specs.declared.tool.Tool.TheVariants as tool
 use Rattle.ports_core.specs.declared.fault.Fault.{Fault}
 use Rattle.ports_core.specs.declared.fault.Fault.TheVariants.{Memory, Write, Read, Open, Suffixes, NoMatch, Range, Usage, Failed, TooLong}
 use Rattle.cutters.specs.declared.settings.Settings.{Settings}
-use Rattle.cutters.specs.declared.settings.Settings.TheVariants.{Head, Tail}
+use Rattle.cutters.specs.declared.settings.Settings.TheVariants.{Head, Tail, Split}
 use Rattle.cutters.specs.EndsAsked.{EndsAsked}
 use Rattle.cutters.specs.Ends.{Made, head_work, tail_work, has_headers, names_in, of_inputs}
 use Rattle.cutters.specs.Feeding.{Work}
+use Rattle.cutters.specs.RunOutcome.{Outcome}
+use Rattle.cutters.specs.Splitting.{input_name, plan_of, split_outcome, split_work}
 use Rattle.cutters.specs.Input.{Input}
 use Rattle.cutters.specs.Words.{tool_named, settings_of}
-
-pub record Outcome : Type 0 where
-  -- standard output, and the files in order
-  pub part : Part
-  -- the texts on standard error, in order
-  pub messages : List (List ℕ)
-  pub status : ℕ
 
 abbrev pub outcome_of : Made → Outcome
 outcome_of made = record { part = only_out made.out; messages = made.messages; status = if made.failed then 1 else 0 }
@@ -30,15 +26,24 @@ ends_outcome tool work asked names inputs = outcome_of (of_inputs tool work (has
 abbrev pub tool_of : Settings → Tool
 tool_of (Head asked) = tool.Head
 tool_of (Tail asked) = tool.Tail
+tool_of (Split asked) = tool.Split
+
+-- what a tool makes of one input
+abbrev pub work_of : List (List ℕ) → Settings → Work
+work_of words (Head asked) = head_work asked
+work_of words (Tail asked) = tail_work asked
+work_of words (Split asked) = split_work (plan_of words asked)
 
 -- the names of the inputs that a tool reads, among these words
 abbrev pub names_of : List (List ℕ) → Settings → List (List ℕ)
 names_of words (Head asked) = names_in words asked.operands
 names_of words (Tail asked) = names_in words asked.operands
+names_of words (Split asked) = input_name words asked ∷ []
 
 abbrev pub tool_outcome : List (List ℕ) → List Input → Settings → Outcome
 tool_outcome words inputs (Head asked) = ends_outcome tool.Head (head_work asked) asked (names_in words asked.operands) inputs
 tool_outcome words inputs (Tail asked) = ends_outcome tool.Tail (tail_work asked) asked (names_in words asked.operands) inputs
+tool_outcome words inputs (Split asked) = split_outcome (split_work (plan_of words asked)) inputs
 
 -- who refuses words: their tool, or the program where they name none
 abbrev pub or_cutters : Option Tool → Tool
@@ -81,3 +86,14 @@ names_at words (Err fault) = []
 
 abbrev pub names_read : List (List ℕ) → List (List ℕ)
 names_read words = names_at words (settings_of words)
+
+-- what these words make of one input; nothing where they are refused
+abbrev pub no_work : Work
+no_work = record { settled = λ x. nothing; whole = λ x. nothing; is_complete = λ x. true; means = on_output false }
+
+abbrev pub work_at : List (List ℕ) → Result Settings Fault → Work
+work_at words (Ok settings) = work_of words settings
+work_at words (Err fault) = no_work
+
+abbrev pub work_asked : List (List ℕ) → Work
+work_asked words = work_at words (settings_of words)

@@ -1,26 +1,20 @@
 -- What a run reads of standard input.
-use Rattle.std.specs.Prelude.{◌≡◌, ℕ, Bool, List, Result, Ok, Err}
+use Rattle.std.specs.Prelude.{◌≡◌, ℕ, List, Result, Ok, Err}
 use Rattle.ports_core.specs.Source.{Content}
 use Rattle.ports_core.specs.declared.fault.Fault.{Fault}
 use Rattle.cutters.specs.declared.settings.Settings.{Settings}
-use Rattle.cutters.specs.declared.settings.Settings.TheVariants.{Head, Tail}
 use Rattle.cutters.specs.declared.ends.TheConstants.{PIECE}
-use Rattle.cutters.specs.Ends.{head_work, tail_work}
+use Rattle.cutters.specs.Outcome.{work_of}
 use Rattle.cutters.specs.Feeding.{ReadsFor}
 use Rattle.cutters.specs.Words.{settings_of}
 
--- whether nothing more can follow in the output of these bytes
-abbrev pub complete_for : Settings → List ℕ → Bool
-complete_for (Head asked) x = (head_work asked).is_complete x
-complete_for (Tail asked) x = (tail_work asked).is_complete x
-
-abbrev pub ReadsAt : Result Settings Fault → Content → Content → Type 0
-ReadsAt (Ok settings) there left = ReadsFor (complete_for settings) PIECE there left
-ReadsAt (Err fault) there left = left ≡ there
+abbrev pub ReadsAt : List (List ℕ) → Result Settings Fault → Content → Content → Type 0
+ReadsAt words (Ok settings) there left = ReadsFor (work_of words settings).is_complete PIECE there left
+ReadsAt words (Err fault) there left = left ≡ there
 
 -- nothing for words that are refused; else pieces of at most so many bytes, and none once the output was complete
 abbrev pub Reads : List (List ℕ) → Content → Content → Type 0
-Reads words there left = ReadsAt (settings_of words) there left
+Reads words there left = ReadsAt words (settings_of words) there left
 
 -- the words ask for nothing
 abbrev pub AreNone : List (List ℕ) → Type 0

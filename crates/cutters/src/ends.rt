@@ -5,15 +5,15 @@ ghost use Rattle.ports_core.specs.Slot.{Slot, is_open, slot_at, is_writable, str
 ghost use Rattle.ports_core.specs.Source.{source_at, is_readable, IsFresh};
 ghost use Rattle.cutters.specs.Ends.{has_headers, head_work, is_minus, is_plus, tail_work, names_in, header_text, of_content, of_input, of_inputs};
 ghost use Rattle.cutters.specs.EndsAsked.{EndsAsked};
-ghost use Rattle.cutters.specs.EndsSteps.{Does, HasStreams, HeaderFails, IsPlain, KeepsOther, OfName, OfSource, OpensOne, ReadsSource, ReadsStandard, TookAll, TookInput, standard_source, streams_at, world_of};
+ghost use Rattle.cutters.specs.EndsSteps.{HasStreams, HeaderFails, IsPlain, KeepsOther, OfName, OfSource, OpensOne, ReadsSource, ReadsStandard, TookAll, TookInput, standard_source, streams_at, world_of};
 ghost use Rattle.cutters.specs.EndsPlain.{head_is_plain, tail_is_plain};
-ghost use Rattle.cutters.specs.Feeding.{FedAs, ReadsFor, Work};
+ghost use Rattle.cutters.specs.Feeding.{Does, FedAs, ReadsFor, Work};
 ghost use Rattle.cutters.specs.Input.{has_dash, is_dash};
 ghost use Rattle.cutters.specs.Outcome.{ends_outcome};
-ghost use Rattle.cutters.specs.RunEnds.{EndsAs, RunsOver, stream_of};
+ghost use Rattle.cutters.specs.RunEnds.{EndsAs, RunsOver};
 
-use crate::feeding::{Fed, end, feed_input};
-use crate::messages::say;
+use crate::feeding::{Fed, feed_input, feed_nothing};
+use crate::messages::{say, tell};
 use crate::settings::{EndsSettings, Headers};
 use ends_core::{Head, Tail};
 use ports_core::{Engine, Fault, Inputs, Outs, Tool, header, write_whole};
@@ -24,7 +24,7 @@ use std::alloc::{AllocError, Global};
 pub const PIECE: usize = 65_536;
 
 /// The operand that stands for standard input.
-const STANDARD_INPUT: &str = "-";
+pub const STANDARD_INPUT: &str = "-";
 
 /// An engine that puts out the same part of each input.
 pub trait Ends: Engine {
@@ -39,7 +39,8 @@ pub trait Ends: Engine {
     fn open(alloc: Global, settings: &EndsSettings) -> Result<Self, Fault>
         ensures fresh { IfOk result (λ engine. Self.Holds engine []) }
         ensures bound { IfOk result (λ engine. Self.fed engine < 2 ^ 63) }
-        ensures does { IfOk result (λ engine. Does (Self.settled engine) (Self.whole engine) (Self.is_complete engine) (work settings.now)) }
+        ensures does { IfOk result (λ engine. Does (Self.settled engine) (Self.whole engine) (Self.is_complete engine) (Self.means engine) (work settings.now)) }
+        ensures ready { IfOk result (λ engine. (slots : List Slot) → IsTrue (is_writable slots 0) → Self.Ready engine slots) }
         ensures err { IfErr result (λ fault. fault ≡ Fault.Memory) };
 
     ghost plain: { (asked : EndsAsked) → IsPlain (work asked) };
@@ -84,7 +85,7 @@ fn take_name<E: Ends + Drop, I: Inputs, O: Outs>(
     requires outputs { HasStreams O.told (O.slots outs.old) }
     ensures took { (out : List ℕ) (error : Slot) → O.slots outs.old ≡ streams_at O.told out error
         → OfName I.told (world_of (I.laid inputs.old) (I.sources inputs.old)) progress.was_read (length (I.sources inputs.old)) name.now
-        (λ input. TookInput O.told job.now.tool (of_input job.now.tool (E.work job.now.settings.now) job.now.with_header progress.is_first input) input.content progress (progress.was_read || is_dash name.now) out error (O.slots outs.new) result) }
+        (λ input. TookInput O.told job.now.tool (E.work job.now.settings.now) (length buffer.old) (of_input job.now.tool (E.work job.now.settings.now) job.now.with_header progress.is_first input) input.content progress (progress.was_read || is_dash name.now) out error (O.slots outs.new) result) }
     ensures reads { I.told ≡ true → ReadsStandard (E.work job.now.settings.now).is_complete (length buffer.old) progress.was_read (I.sources inputs.old) (I.sources inputs.new) }
     ensures untouched { is_dash name.now ≡ false → source_at (I.sources inputs.new) 0 ≡ source_at (I.sources inputs.old) 0 }
     ensures opens { OnOk result (OpensOne name.now (I.sources inputs.old) (I.sources inputs.new)) }
@@ -120,7 +121,7 @@ fn take_name<E: Ends + Drop, I: Inputs, O: Outs>(
 }
 
 /// Whether the operand stands for standard input.
-fn is_dash(name: &str) -> bool
+pub fn is_dash(name: &str) -> bool
     ensures { result ≡ is_dash name.now }
 {
     name == STANDARD_INPUT
@@ -149,7 +150,7 @@ fn take_input<E: Ends + Drop, I: Inputs, O: Outs>(
     requires outputs { HasStreams O.told (O.slots outs.old) }
     ensures took { (out : List ℕ) (error : Slot) → O.slots outs.old ≡ streams_at O.told out error
         → OfSource I.told source (I.sources inputs.old)
-        (λ content. TookInput O.told job.now.tool (of_content job.now.tool (E.work job.now.settings.now) job.now.with_header progress.is_first name.now (Some content)) (Some content) progress progress.was_read out error (O.slots outs.new) result) }
+        (λ content. TookInput O.told job.now.tool (E.work job.now.settings.now) (length buffer.old) (of_content job.now.tool (E.work job.now.settings.now) job.now.with_header progress.is_first name.now (Some content)) (Some content) progress progress.was_read out error (O.slots outs.new) result) }
     ensures reads { I.told ≡ true → ReadsSource (E.work job.now.settings.now).is_complete (length buffer.old) source (I.sources inputs.old) (I.sources inputs.new) }
     ensures others { KeepsOther source (I.sources inputs.old) (I.sources inputs.new) }
     ensures laid { I.laid inputs.new ≡ I.laid inputs.old }
@@ -158,17 +159,18 @@ fn take_input<E: Ends + Drop, I: Inputs, O: Outs>(
         Ok(()) => {}
         Err(fault) => return Err(fault),
     }
+    let after = Progress {
+        is_first: false,
+        ..progress
+    };
     match feed_source::<E, I, O>(job, source, buffer, inputs, outs) {
-        Ok(Fed::Whole) => Ok(Progress {
-            is_first: false,
-            ..progress
-        }),
+        Ok(Fed::Whole) => Ok(after),
+        Ok(Fed::Enough) => Ok(after),
         Ok(Fed::Broken) => {
             say(job.alloc, job.tool, &Fault::Read(0), name, outs);
             Ok(Progress {
-                is_first: false,
                 failed: true,
-                ..progress
+                ..after
             })
         }
         Err(fault) => Err(fault),
@@ -206,7 +208,7 @@ fn feed_source<E: Ends + Drop, I: Inputs, O: Outs>(
     requires input { IfSome source (λ slot. IsTrue (is_readable (I.sources inputs.old) slot)) }
     requires output { IsTrue (is_writable (O.slots outs.old) 0) }
     ensures fed { 0 < length (O.slots outs.old) → OfSource I.told source (I.sources inputs.old)
-        (λ content. FedAs O.told (O.slots outs.old) (E.work job.now.settings.now) content (O.slots outs.new) result) }
+        (λ content. FedAs O.told (O.slots outs.old) (E.work job.now.settings.now) (length buffer.old) content (O.slots outs.new) result) }
     ensures reads { I.told ≡ true → ReadsSource (E.work job.now.settings.now).is_complete (length buffer.old) source (I.sources inputs.old) (I.sources inputs.new) }
     ensures others { KeepsOther source (I.sources inputs.old) (I.sources inputs.new) }
     ensures laid { I.laid inputs.new ≡ I.laid inputs.old }
@@ -217,7 +219,7 @@ fn feed_source<E: Ends + Drop, I: Inputs, O: Outs>(
     };
     match source {
         Some(slot) => feed_input(&mut engine, slot, buffer, inputs, outs),
-        None => end(&mut engine, outs),
+        None => feed_nothing(&mut engine, outs),
     }
 }
 
@@ -237,7 +239,7 @@ fn take_names<E: Ends + Drop, I: Inputs, O: Outs>(
     requires fresh { IsFresh (I.sources inputs.old) }
     requires outputs { O.slots outs.old ≡ streams }
     ensures took { RunsOver I.told (world_of (I.laid inputs.old) (I.sources inputs.old)) (map (λ name. name.now) names.now)
-        (λ found. TookAll O.told job.now.tool (of_inputs job.now.tool (E.work job.now.settings.now) job.now.with_header true) found (O.slots outs.new) result) }
+        (λ found. TookAll O.told job.now.tool (E.work job.now.settings.now) (length buffer.old) (of_inputs job.now.tool (E.work job.now.settings.now) job.now.with_header true) found (O.slots outs.new) result) }
     ensures untouched { has_dash (map (λ name. name.now) names.now) ≡ false → source_at (I.sources inputs.new) 0 ≡ source_at (I.sources inputs.old) 0 }
     ensures reads { I.told ≡ true → ReadsFor (E.work job.now.settings.now).is_complete (length buffer.old) (source_at (I.sources inputs.old) 0).left (source_at (I.sources inputs.new) 0).left }
 {
@@ -302,7 +304,7 @@ fn take_operands<E: Ends + Drop, I: Inputs, O: Outs>(
     requires fresh { IsFresh (I.sources inputs.old) }
     requires outputs { O.slots outs.old ≡ streams }
     ensures took { RunsOver I.told (world_of (I.laid inputs.old) (I.sources inputs.old)) (names_in (map (λ word. word.now) words.now) settings.now.operands)
-        (λ found. TookAll O.told tool (of_inputs tool (E.work settings.now) (has_headers settings.now.headers (names_in (map (λ word. word.now) words.now) settings.now.operands)) true) found (O.slots outs.new) result) }
+        (λ found. TookAll O.told tool (E.work settings.now) PIECE (of_inputs tool (E.work settings.now) (has_headers settings.now.headers (names_in (map (λ word. word.now) words.now) settings.now.operands)) true) found (O.slots outs.new) result) }
     ensures untouched { has_dash (names_in (map (λ word. word.now) words.now) settings.now.operands) ≡ false → source_at (I.sources inputs.new) 0 ≡ source_at (I.sources inputs.old) 0 }
     ensures reads { I.told ≡ true → ReadsFor (E.work settings.now).is_complete PIECE (source_at (I.sources inputs.old) 0).left (source_at (I.sources inputs.new) 0).left }
 {
@@ -337,24 +339,14 @@ pub fn run_ends<E: Ends + Drop, I: Inputs, O: Outs>(
     ensures untouched { has_dash (names_in (map (λ word. word.now) words.now) settings.now.operands) ≡ false → source_at (I.sources inputs.new) 0 ≡ source_at (I.sources inputs.old) 0 }
     ensures reads { I.told ≡ true → ReadsFor (E.work settings.now).is_complete PIECE (source_at (I.sources inputs.old) 0).left (source_at (I.sources inputs.new) 0).left }
     ensures ends { RunsOver I.told (world_of (I.laid inputs.old) (I.sources inputs.old)) (names_in (map (λ word. word.now) words.now) settings.now.operands)
-        (λ found. EndsAs O.told tool (ends_outcome tool (E.work settings.now) settings.now (names_in (map (λ word. word.now) words.now) settings.now.operands)) found (O.slots outs.new) result) }
+        (λ found. EndsAs O.told tool (E.work settings.now) (ends_outcome tool (E.work settings.now) settings.now (names_in (map (λ word. word.now) words.now) settings.now.operands)) found (O.slots outs.new) result) }
 {
     match take_operands::<E, I, O>(alloc, tool, words, settings, inputs, outs) {
         Ok(failed) => u8::from(failed),
         Err(fault) => {
-            say(alloc, tool, &fault, stream_of(&fault), outs);
+            tell(alloc, tool, &fault, outs);
             1
         }
-    }
-}
-
-/// The stream that a fault which stops a run speaks of.
-fn stream_of(fault: &Fault) -> &'static str
-    ensures { result.now ≡ stream_of fault.now }
-{
-    match fault {
-        Fault::Write(_) => "standard output",
-        _ => "",
     }
 }
 

@@ -5,11 +5,17 @@ mod ends;
 #[cfg(test)]
 mod ends_tests;
 mod feeding;
+mod item;
 mod messages;
 mod options;
 mod run;
 mod settings;
 mod spelling;
+mod split;
+mod split_settings;
+#[cfg(test)]
+mod split_tests;
+mod split_words;
 #[cfg(test)]
 mod tests;
 mod words;

@@ -1,8 +1,9 @@
 //! What the program says on standard error.
-ghost use Rattle.std.specs.Prelude.{◌≡◌, ◌∷◌, List, true, IsTrue};
+ghost use Rattle.std.specs.Prelude.{◌≡◌, ◌∷◌, ℕ, List, true, IfOk, IsTrue};
 ghost use Rattle.ports_core.specs.Slot.{Slot, is_open, is_writable, slot_at};
 ghost use Rattle.ports_core.specs.Text.{message_of};
 ghost use Rattle.cutters.specs.Message.{PrintsOn, SaysOn};
+ghost use Rattle.cutters.specs.RunEnds.{output_named};
 
 use ports_core::{Fault, Outs, Tool, memory_exhausted, message, write_whole};
 use std::alloc::Global;
@@ -16,7 +17,35 @@ pub fn say<O: Outs>(alloc: Global, tool: Tool, fault: &Fault, name: &str, outs: 
     requires { is_open (slot_at (O.slots outs.old) 1).state ≡ true }
     ensures { SaysOn O.told tool (message_of tool fault.now name.now) (O.slots outs.old) (O.slots outs.new) }
 {
-    match message(alloc, tool, fault, name) {
+    print_message(tool, message(alloc, tool, fault, name), outs)
+}
+
+/// Says what stopped a run. Where the fault speaks of an output, the name is that output's.
+pub fn tell<O: Outs>(alloc: Global, tool: Tool, fault: &Fault, outs: &mut O)
+    requires { is_open (slot_at (O.slots outs.old) 1).state ≡ true }
+    ensures { SaysOn O.told tool (message_of tool fault.now (output_named (O.slots outs.old) fault.now)) (O.slots outs.old) (O.slots outs.new) }
+{
+    let line = message(alloc, tool, fault, output_name(fault, outs));
+    print_message(tool, line, outs)
+}
+
+/// The name of the output that a fault speaks of.
+fn output_name<'a, O: Outs>(fault: &Fault, outs: &'a O) -> &'a str
+    ensures { result.now ≡ output_named (O.slots outs.now) fault.now }
+{
+    match fault {
+        Fault::Write(slot) => outs.name(*slot),
+        Fault::Open(slot) => outs.name(*slot),
+        _ => "",
+    }
+}
+
+/// Writes a line to standard error, or that there was no memory for it.
+fn print_message<O: Outs>(tool: Tool, line: Result<Vec<u8>, Fault>, outs: &mut O)
+    requires { is_open (slot_at (O.slots outs.old) 1).state ≡ true }
+    ensures { (text : List ℕ) → IfOk line (λ bytes. bytes.items ≡ text) → SaysOn O.told tool text (O.slots outs.old) (O.slots outs.new) }
+{
+    match line {
         Ok(text) => print(&text, outs),
         Err(_) => print(memory_exhausted(tool), outs),
     }

@@ -4,14 +4,16 @@ ghost use Rattle.ports_core.specs.Slot.{streams};
 ghost use Rattle.ports_core.specs.Source.{source_at, IsFresh};
 ghost use Rattle.cutters.specs.EndsSteps.{world_of};
 ghost use Rattle.cutters.specs.Feeding.{ReadsFor};
-ghost use Rattle.cutters.specs.Reads.{AreNone, Reads, complete_for};
+ghost use Rattle.cutters.specs.Reads.{AreNone, Reads};
 ghost use Rattle.cutters.specs.Input.{has_dash};
-ghost use Rattle.cutters.specs.Outcome.{names_of, names_read, speaker, tool_of, tool_outcome, word_of};
+ghost use Rattle.cutters.specs.Outcome.{names_of, names_read, speaker, tool_of, tool_outcome, word_of, work_of};
 ghost use Rattle.cutters.specs.RunEnds.{EndsAs, RunEnds, RunsOver};
+ghost use Rattle.cutters.specs.Words.{CanRun};
 
 use crate::ends::{PIECE, run_ends};
 use crate::messages::say;
 use crate::settings::Settings;
+use crate::split::run_split;
 use crate::words::{find_tool, read_words};
 use ends_core::{Head, Tail};
 use ports_core::{Fault, Inputs, Outs, Tool};
@@ -46,10 +48,11 @@ fn run_tool<I: Inputs, O: Outs>(
 ) -> u8
     requires inputs { IsFresh (I.sources inputs.old) }
     requires outputs { O.slots outs.old ≡ streams }
+    requires can { CanRun settings.now }
     ensures ends { RunsOver I.told (world_of (I.laid inputs.old) (I.sources inputs.old)) (names_of (map (λ word. word.now) words.now) settings.now)
-        (λ found. EndsAs O.told (tool_of settings.now) (λ those. tool_outcome (map (λ word. word.now) words.now) those settings.now) found (O.slots outs.new) result) }
+        (λ found. EndsAs O.told (tool_of settings.now) (work_of (map (λ word. word.now) words.now) settings.now) (λ those. tool_outcome (map (λ word. word.now) words.now) those settings.now) found (O.slots outs.new) result) }
     ensures untouched { has_dash (names_of (map (λ word. word.now) words.now) settings.now) ≡ false → source_at (I.sources inputs.new) 0 ≡ source_at (I.sources inputs.old) 0 }
-    ensures reads { I.told ≡ true → ReadsFor (complete_for settings.now) PIECE (source_at (I.sources inputs.old) 0).left (source_at (I.sources inputs.new) 0).left }
+    ensures reads { I.told ≡ true → ReadsFor (work_of (map (λ word. word.now) words.now) settings.now).is_complete PIECE (source_at (I.sources inputs.old) 0).left (source_at (I.sources inputs.new) 0).left }
 {
     match settings {
         Settings::Head(settings) => {
@@ -57,6 +60,9 @@ fn run_tool<I: Inputs, O: Outs>(
         }
         Settings::Tail(settings) => {
             run_ends::<Tail, I, O>(alloc, Tool::Tail, words, settings, inputs, outs)
+        }
+        Settings::Split(settings) => {
+            run_split(alloc, words, settings, inputs, outs)
         }
     }
 }

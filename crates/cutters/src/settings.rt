@@ -1,6 +1,7 @@
 ghost use Rattle.std.specs.Prelude.{List};
 ghost use Rattle.cutters.specs.EndsAsked.{EndsAsked};
 
+use crate::split_settings::SplitSettings;
 use ends_core::Unit;
 use seg_core::count::Count;
 use std::marker::Model;
@@ -12,6 +13,8 @@ pub enum Settings {
     Head(EndsSettings),
     /// The last part of each input.
     Tail(EndsSettings),
+    /// The input cut into files.
+    Split(SplitSettings),
 }
 
 /// What `head` or `tail` is to put out of its inputs.

@@ -1,36 +1,23 @@
 //! What words spell: options with their values, and operands (POSIX.1-2017, XBD 12.2; long options are GNU's).
 ghost use Rattle.std.specs.Prelude.{◌≡◌, ◌++◌, [], ◌∷◌, map, option_map, IfOk, IfErr};
 ghost use Rattle.std.specs.List.{before_first};
-ghost use Rattle.seg_core.specs.Count.{count_of};
-ghost use Rattle.cutters.specs.Spelling.{Adds, Gives, Refuses, attached, cluster, counted, foremost, is_equals, long, meaning_of, mixed, one, spelled, value_in, valued};
+ghost use Rattle.seg_core.specs.Count.{is_number};
+ghost use Rattle.cutters.specs.Spelling.{Adds, Gives, Refuses, attached, cluster, foremost, is_equals, long, meaning_of, mixed, one, operands_of, spelled, value_in, valued};
 
-use crate::options::{Choice, Flag, find_option};
-use ends_core::Unit;
+use crate::item::{Item, read_item};
+use crate::options::{Choice, ValueKind, find_option};
 use ports_core::{Fault, UsageKind};
-use seg_core::count::{Count, CountFault, Sign, read_count};
-use seg_core::digits::read_digits;
 use std::alloc::Global;
-
-/// What one word, or a part of it, stands for.
-#[derive(Clone, Copy, Debug, PartialEq, Eq)]
-pub enum Item {
-    /// An option without a value.
-    Chosen(Flag),
-    /// An option that counts lines or bytes, with its count, at most 2^63-1.
-    Counted(Unit, Count),
-    /// The operand at this place among the words.
-    Operand(usize),
-}
 
 /// What may stand in the next word.
 #[derive(Clone, Copy, Debug, PartialEq, Eq)]
 pub enum State {
-    /// What `Reading` takes, or a hyphen and digits, which count this.
-    First(Unit),
+    /// What `Reading` takes, or a hyphen and digits, which are the value of an option of this kind.
+    First(ValueKind),
     /// Options and operands.
     Reading,
-    /// The value of an option that counts this and stands at this place.
-    Awaiting(Unit, usize),
+    /// The value of an option of this kind, which stands at this place.
+    Awaiting(ValueKind, usize),
     /// An operand, whatever it begins with.
     OnlyOperands,
 }
@@ -77,9 +64,9 @@ fn read_word(
     ensures { Adds (meaning_of (map (λ row. (row.0.now, row.1)) rows.now) state place word.now) items.old.items items.new.items result }
 {
     match state {
-        State::First(unit) => read_first(rows, unit, place, word, items),
+        State::First(kind) => read_first(rows, kind, place, word, items),
         State::Reading => read_mixed(rows, place, word, items),
-        State::Awaiting(unit, _) => read_value(unit, place, word.as_bytes(), items),
+        State::Awaiting(kind, option) => read_value(kind, option, place, word.as_bytes(), items),
         State::OnlyOperands => match add(Item::Operand(place), items) {
             Ok(()) => Ok(State::OnlyOperands),
             Err(fault) => Err(fault),
@@ -87,24 +74,27 @@ fn read_word(
     }
 }
 
-/// The word behind the tool's name: a hyphen and digits are a count there.
+/// The word behind the tool's name: a hyphen and digits are a value there.
 fn read_first(
     rows: &[(&[u8], Choice)],
-    unit: Unit,
+    kind: ValueKind,
     place: usize,
     word: &str,
     items: &mut Vec<Item>,
 ) -> Result<State, Fault>
-    ensures { Adds (foremost (map (λ row. (row.0.now, row.1)) rows.now) unit place word.now) items.old.items items.new.items result }
+    ensures { Adds (foremost (map (λ row. (row.0.now, row.1)) rows.now) kind place word.now) items.old.items items.new.items result }
 {
     match word.as_bytes() {
-        [b'-', digits @ ..] => match read_digits(digits) {
-            Ok(amount) => read_one(Item::Counted(unit, plain(amount)), items),
-            Err(CountFault::TooLarge) => Err(Fault::Usage(UsageKind::NumberTooLarge, place)),
-            Err(CountFault::NoDigits | CountFault::Suffix) => read_mixed(rows, place, word, items),
-        },
+        [b'-', digits @ ..] if is_number(digits) => read_value(kind, place, place, digits, items),
         _ => read_mixed(rows, place, word, items),
     }
+}
+
+/// Whether a text is digits alone.
+fn is_number(text: &[u8]) -> bool
+    ensures { result ≡ is_number text.now }
+{
+    !text.is_empty() && text.iter().all(|byte| byte.is_ascii_digit())
 }
 
 /// A word where options and operands may stand.
@@ -141,9 +131,9 @@ fn read_long(
             None => read_one(Item::Chosen(flag), items),
             Some(_) => Err(Fault::Usage(UsageKind::UnexpectedValue, place)),
         },
-        Some(Choice::Valued(unit)) => match value {
-            None => Ok(State::Awaiting(unit, place)),
-            Some(text) => read_value(unit, place, text, items),
+        Some(Choice::Valued(kind)) => match value {
+            None => Ok(State::Awaiting(kind, place)),
+            Some(text) => read_value(kind, place, place, text, items),
         },
     }
 }
@@ -172,7 +162,7 @@ fn read_cluster(
     while let [letter, rest @ ..] = left {
         match find_option(rows, &[b'-', *letter]) {
             None => return Err(Fault::Usage(UsageKind::UnknownOption, place)),
-            Some(Choice::Valued(unit)) => return read_attached(unit, place, rest, items),
+            Some(Choice::Valued(kind)) => return read_attached(kind, place, rest, items),
             Some(Choice::Bare(flag)) => match add(Item::Chosen(flag), items) {
                 Ok(()) => left = rest,
                 Err(fault) => return Err(fault),
@@ -184,46 +174,32 @@ fn read_cluster(
 
 /// What follows a letter that takes a value.
 fn read_attached(
-    unit: Unit,
+    kind: ValueKind,
     place: usize,
     rest: &[u8],
     items: &mut Vec<Item>,
 ) -> Result<State, Fault>
-    ensures { Adds (attached unit place rest.now) items.old.items items.new.items result }
+    ensures { Adds (attached kind place rest.now) items.old.items items.new.items result }
 {
     if rest.is_empty() {
-        return Ok(State::Awaiting(unit, place));
+        return Ok(State::Awaiting(kind, place));
     }
-    read_value(unit, place, rest, items)
+    read_value(kind, place, place, rest, items)
 }
 
-/// The value of an option that counts.
-fn read_value(unit: Unit, place: usize, text: &[u8], items: &mut Vec<Item>) -> Result<State, Fault>
-    ensures { Adds (valued unit place text.now) items.old.items items.new.items result }
+/// The value in the word at `place` of an option in the word at the place `option`.
+fn read_value(
+    kind: ValueKind,
+    option: usize,
+    place: usize,
+    text: &[u8],
+    items: &mut Vec<Item>,
+) -> Result<State, Fault>
+    ensures { Adds (valued kind option place text.now) items.old.items items.new.items result }
 {
-    match read_amount(text) {
-        Ok(count) => read_one(Item::Counted(unit, count), items),
-        Err(kind) => Err(Fault::Usage(kind, place)),
-    }
-}
-
-fn read_amount(text: &[u8]) -> Result<Count, UsageKind>
-    ensures { result ≡ counted (count_of text.now) }
-{
-    match read_count(text) {
-        Ok(count) => Ok(count),
-        Err(CountFault::TooLarge) => Err(UsageKind::NumberTooLarge),
-        Err(CountFault::NoDigits | CountFault::Suffix) => Err(UsageKind::BadNumber),
-    }
-}
-
-/// A count without a sign.
-fn plain(amount: u64) -> Count
-    ensures { result ≡ record { sign = Sign.Plain; amount = amount } }
-{
-    Count {
-        sign: Sign::Plain,
-        amount,
+    match read_item(kind, option, text) {
+        Ok(item) => read_one(item, items),
+        Err(fault) => Err(Fault::Usage(fault, place)),
     }
 }
 
@@ -246,17 +222,49 @@ fn add(item: Item, items: &mut Vec<Item>) -> Result<(), Fault>
     }
 }
 
+/// The places of the operands.
+///
+/// # Errors
+///
+/// `Memory` where there is no room for them.
+pub fn find_operands(alloc: Global, items: &[Item]) -> Result<Vec<usize>, Fault>
+    ensures ok { IfOk result (λ operands. operands.items ≡ operands_of items.now) }
+    ensures err { IfErr result (λ fault. fault ≡ Fault.Memory) }
+{
+    let mut operands = Vec::new(alloc);
+    let mut left = items;
+    while let [item, behind @ ..] = left {
+        match item {
+            Item::Operand(place) => match operands.push(*place) {
+                Ok(()) => {}
+                Err(_) => return Err(Fault::Memory),
+            },
+            Item::Chosen(_) | Item::Counted(_, _) | Item::Split(_, _) | Item::Width(_) => {}
+        }
+        left = behind;
+    }
+    Ok(operands)
+}
+
 #[cfg(test)]
 mod tests {
     use super::*;
+    use crate::options::Flag;
+    use ends_core::Unit;
+    use seg_core::count::{Count, Sign};
     use std::test::Fail;
 
     const ROWS: [(&[u8], Choice); 4] = [
         (b"-q", Choice::Bare(Flag::Quiet)),
         (b"-v", Choice::Bare(Flag::Verbose)),
         (b"--quiet", Choice::Bare(Flag::Quiet)),
-        (b"-n", Choice::Valued(Unit::Lines)),
+        (b"-n", Choice::Valued(ValueKind::Amount(Unit::Lines))),
     ];
+
+    const fn lines(amount: u64) -> Item {
+        let sign = Sign::Plain;
+        Item::Counted(Unit::Lines, Count { sign, amount })
+    }
 
     #[test]
     fn reads_clusters(rt: HostRuntime) -> Result<(), Fail> {
@@ -267,11 +275,11 @@ mod tests {
             [
                 Item::Chosen(Flag::Quiet),
                 Item::Chosen(Flag::Verbose),
-                Item::Counted(Unit::Lines, plain(5)),
+                lines(5),
                 Item::Operand(2),
                 Item::Chosen(Flag::Quiet),
                 Item::Chosen(Flag::Verbose),
-                Item::Counted(Unit::Lines, plain(7)),
+                lines(7),
                 Item::Operand(7),
             ]
             .as_slice()

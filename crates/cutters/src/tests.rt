@@ -182,7 +182,7 @@ fn refuses_words(rt: HostRuntime) -> Result<(), Fail> {
         (&["cat"], b"cutters: unknown tool 'cat'\n"),
         (&[""], b"cutters: unknown tool ''\n"),
         (&["heads"], b"cutters: unknown tool 'heads'\n"),
-        (&["split"], b"cutters: unknown tool 'split'\n"),
+        (&["csplit"], b"cutters: unknown tool 'csplit'\n"),
         (&["head", "-x"], b"head: unknown option '-x'\n"),
         (&["tail", "-x"], b"tail: unknown option '-x'\n"),
         (&["tail", "-n", "1", "-x"], b"tail: unknown option '-x'\n"),

@@ -1,10 +1,12 @@
 //! The words of the command line, from the tool's name on: POSIX.1-2017, XBD 12.2, XCU head and tail.
 ghost use Rattle.std.specs.Prelude.{◌≡◌, ◌⊎◌, map, IfOk, IfErr};
-ghost use Rattle.cutters.specs.Words.{AreRefused, AreRefusedByEnds, SpellEnds, Spells, asks, for_tool, last_count, last_headers, operands_of, tool_named};
+ghost use Rattle.cutters.specs.Words.{AreRefused, AreRefusedByEnds, AreRefusedFor, CanRun, SpellEnds, SpellFor, Spells, asks, last_count, last_headers, tool_named};
 
-use crate::options::{Flag, ends_options};
+use crate::item::Item;
+use crate::options::{Flag, ValueKind, ends_options};
 use crate::settings::{EndsSettings, Headers, Settings};
-use crate::spelling::{Item, State, read_items};
+use crate::spelling::{State, find_operands, read_items};
+use crate::split_words::read_split;
 use ends_core::Unit;
 use ports_core::{Fault, Tool, UsageKind};
 use seg_core::count::{Count, Sign};
@@ -34,6 +36,7 @@ const TEN_LINES: Amount = Amount {
 pub fn read_words(alloc: Global, words: &[&str]) -> Result<Settings, Fault>
     ensures ok { IfOk result (Spells (map (λ word. word.now) words.now)) }
     ensures err { IfErr result (λ fault. (fault ≡ Fault.Memory) ⊎ AreRefused (map (λ word. word.now) words.now) fault) }
+    ensures can { IfOk result CanRun }
 {
     let [name, words @ ..] = words else {
         return Err(Fault::Usage(UsageKind::MissingTool, 0));
@@ -41,10 +44,7 @@ pub fn read_words(alloc: Global, words: &[&str]) -> Result<Settings, Fault>
     let Some(tool) = find_tool(name) else {
         return Err(Fault::Usage(UsageKind::UnknownTool, 0));
     };
-    match read_ends(alloc, words) {
-        Ok(settings) => settings_for(tool, settings),
-        Err(fault) => Err(fault),
-    }
+    read_for(alloc, tool, words)
 }
 
 /// The tool of this name.
@@ -55,20 +55,33 @@ pub fn find_tool(name: &str) -> Option<Tool>
         Some(Tool::Head)
     } else if name == "tail" {
         Some(Tool::Tail)
+    } else if name == "split" {
+        Some(Tool::Split)
     } else {
         None
     }
 }
 
-fn settings_for(tool: Tool, settings: EndsSettings) -> Result<Settings, Fault>
-    ensures { result ≡ for_tool tool settings }
+/// Reads the words behind a tool's name.
+fn read_for(alloc: Global, tool: Tool, words: &[&str]) -> Result<Settings, Fault>
+    ensures ok { IfOk result (SpellFor (map (λ word. word.now) words.now) tool) }
+    ensures err { IfErr result (λ fault. (fault ≡ Fault.Memory) ⊎ AreRefusedFor (map (λ word. word.now) words.now) tool fault) }
+    ensures can { IfOk result CanRun }
 {
     match tool {
-        Tool::Head => Ok(Settings::Head(settings)),
-        Tool::Tail => Ok(Settings::Tail(settings)),
-        Tool::Split | Tool::Csplit | Tool::Tee | Tool::Cutters => {
-            Err(Fault::Usage(UsageKind::UnknownTool, 0))
-        }
+        Tool::Head => match read_ends(alloc, words) {
+            Ok(settings) => Ok(Settings::Head(settings)),
+            Err(fault) => Err(fault),
+        },
+        Tool::Tail => match read_ends(alloc, words) {
+            Ok(settings) => Ok(Settings::Tail(settings)),
+            Err(fault) => Err(fault),
+        },
+        Tool::Split => match read_split(alloc, words) {
+            Ok(settings) => Ok(Settings::Split(settings)),
+            Err(fault) => Err(fault),
+        },
+        Tool::Csplit | Tool::Tee | Tool::Cutters => Err(Fault::Usage(UsageKind::UnknownTool, 0)),
     }
 }
 
@@ -77,7 +90,8 @@ fn read_ends(alloc: Global, words: &[&str]) -> Result<EndsSettings, Fault>
     ensures ok { IfOk result (SpellEnds (map (λ word. word.now) words.now)) }
     ensures err { IfErr result (λ fault. (fault ≡ Fault.Memory) ⊎ AreRefusedByEnds (map (λ word. word.now) words.now) fault) }
 {
-    let items = match read_items(alloc, ends_options(), State::First(Unit::Lines), words) {
+    let first = State::First(ValueKind::Amount(Unit::Lines));
+    let items = match read_items(alloc, ends_options(), first, words) {
         Ok(items) => items,
         Err(fault) => return Err(fault),
     };
@@ -94,26 +108,6 @@ fn read_ends(alloc: Global, words: &[&str]) -> Result<EndsSettings, Fault>
     })
 }
 
-/// The places of the operands.
-fn find_operands(alloc: Global, items: &[Item]) -> Result<Vec<usize>, Fault>
-    ensures ok { IfOk result (λ operands. operands.items ≡ operands_of items.now) }
-    ensures err { IfErr result (λ fault. fault ≡ Fault.Memory) }
-{
-    let mut operands = Vec::new(alloc);
-    let mut left = items;
-    while let [item, behind @ ..] = left {
-        match item {
-            Item::Operand(place) => match operands.push(*place) {
-                Ok(()) => {}
-                Err(_) => return Err(Fault::Memory),
-            },
-            Item::Chosen(_) | Item::Counted(_, _) => {}
-        }
-        left = behind;
-    }
-    Ok(operands)
-}
-
 /// What the last count says.
 fn choose_amount(items: &[Item]) -> Amount
     ensures { result ≡ last_count TEN_LINES items.now }
@@ -128,7 +122,7 @@ fn choose_amount(items: &[Item]) -> Amount
                     count: *count,
                 };
             }
-            Item::Chosen(_) | Item::Operand(_) => {}
+            Item::Chosen(_) | Item::Split(_, _) | Item::Width(_) | Item::Operand(_) => {}
         }
         left = behind;
     }
@@ -143,19 +137,20 @@ fn choose_headers(items: &[Item]) -> Headers
     let mut left = items;
     while let [item, behind @ ..] = left {
         match item {
-            Item::Chosen(flag) => headers = asked(*flag),
-            Item::Counted(_, _) | Item::Operand(_) => {}
+            Item::Chosen(flag) => headers = asked(headers, *flag),
+            Item::Counted(_, _) | Item::Split(_, _) | Item::Width(_) | Item::Operand(_) => {}
         }
         left = behind;
     }
     headers
 }
 
-fn asked(flag: Flag) -> Headers
-    ensures { result ≡ asks flag }
+fn asked(headers: Headers, flag: Flag) -> Headers
+    ensures { result ≡ asks headers flag }
 {
     match flag {
         Flag::Quiet => Headers::Never,
         Flag::Verbose => Headers::Always,
+        Flag::Numeric | Flag::Hex | Flag::Elide => headers,
     }
 }

@@ -5,7 +5,8 @@ use Rattle.std.proofs.lemmas.Bool.Decides.{nat_tests}
 use Rattle.std.proofs.lemmas.List.Elements.{All-replicate}
 use Rattle.ports_core.specs.Slot.{Slot, is_writable, with_written, told_of}
 use Rattle.ports_core.specs.Part.{only_out}
-use Rattle.ports_core.specs.Engine.{TakesIn, PutsOut, CutsOff, IsCaused, SameWork}
+use Rattle.ports_core.specs.Engine.{TakesIn, PutsOut, CutsOff, IsCaused, SameWork, on_output}
+use Rattle.ends_core.specs.Head.{means}
 use Rattle.ports_core.specs.declared.fault.Fault.{Fault}
 use Rattle.ports_core.specs.declared.fault.Fault.TheVariants as fault
 use Rattle.ports_core.proofs.PartLemmas.{stopped_here}
@@ -23,8 +24,8 @@ use Rattle.ends_core.specs.EndsLaws.{measure-append, measure-newlines, first_of-
 use Rattle.ends_core.proofs.StopLemmas as stop
 
 -- the same way settles the same
-pub same_work : (old new : HeadState) → new.unit ≡ old.unit → new.but_last ≡ old.but_last → new.count ≡ old.count → SameWork settled whole is_complete old new
-same_work old new unit but_last count = record { settled_same = same; whole_same = same; complete_same = same_complete } where
+pub same_work : (old new : HeadState) → new.unit ≡ old.unit → new.but_last ≡ old.but_last → new.count ≡ old.count → SameWork settled whole is_complete means old new
+same_work old new unit but_last count = record { settled_same = same; whole_same = same; complete_same = same_complete; means_same = ap on_output but_last } where
   same : (x : List ℕ) → settled new x ≡ settled old x
   same x = ap (λ u. only_out (head_of u new.but_last new.count x)) unit ∙ ap (λ b. only_out (head_of old.unit b new.count x)) but_last ∙ ap (λ n. only_out (head_of old.unit old.but_last n x)) count
 
@@ -109,10 +110,10 @@ pub full_is : (way : Way) (fed : ℕ) (is_over : Bool) (head : HeadState) (x : L
 full_is way fed is_over head x is holds =
     subst (λ those. is_full way ≡ is_complete those x) is (full_here way fed is_over x (subst (λ those. Holds those x) (sym is) holds))
 
-pub caused : (told : Bool) (way : Way) (fed : ℕ) (is_over : Bool) (head : HeadState) (size : ℕ) (bytes : List ℕ) (old new : List Slot) (fault : Fault) → state_of way fed is_over ≡ head → is_over ≡ false → IsTrue (is_writable old 0)
-    → Stops told (is_but_last way) bytes old new fault → IsCaused head.but_last head.is_over head.fed size old new fault
-caused told way fed is_over head size bytes old new fault is going can stops =
-    subst (λ (those : HeadState). IsCaused those.but_last those.is_over those.fed size old new fault) is (stop.caused_by told (is_but_last way) is_over fed size bytes old new fault going can stops)
+pub caused : (NeedsName : Type 0) (told : Bool) (way : Way) (fed : ℕ) (is_over : Bool) (head : HeadState) (size : ℕ) (bytes : List ℕ) (old new : List Slot) (fault : Fault) → state_of way fed is_over ≡ head → is_over ≡ false → IsTrue (is_writable old 0)
+    → Stops told (is_but_last way) bytes old new fault → IsCaused (means head) NeedsName head.is_over head.fed size old new fault
+caused NeedsName told way fed is_over head size bytes old new fault is going can stops =
+    subst (λ (those : HeadState). IsCaused (means those) NeedsName those.is_over those.fed size old new fault) is (stop.caused_by NeedsName told (is_but_last way) is_over fed size bytes old new fault going can stops)
 
 -- where all but the last go out, what went out and what waits are what came in
 all_by : (unit : Counted) (but_last : Bool) (n : ℕ) (x : List ℕ) → but_last ≡ true → head_of unit but_last n x ++ cond but_last (last_of unit n x) [] ≡ x

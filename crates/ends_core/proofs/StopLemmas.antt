@@ -6,7 +6,7 @@ use Rattle.std.proofs.Math.Seq.{take-append-add}
 use Rattle.ports_core.specs.Slot.{Slot, slot_at, is_writable, with_written, with_broken, told_of}
 use Rattle.ports_core.specs.Write.{BrokeAfter}
 use Rattle.ports_core.specs.Part.{Part, OutputsAt, StoppedBetween}
-use Rattle.ports_core.specs.Engine.{PutsOut, CutsOff, IsCaused, Finishes, EndsShort}
+use Rattle.ports_core.specs.Engine.{PutsOut, CutsOff, IsCaused, on_output, Finishes, EndsShort}
 use Rattle.ports_core.specs.declared.fault.Fault.{Fault}
 use Rattle.ports_core.specs.declared.fault.Fault.TheVariants as fault
 use Rattle.ports_core.proofs.WriteLemmas.{told_of-append, told_of-nil, with_written-append, writable-written}
@@ -80,23 +80,23 @@ ends_short Holds settled whole told keeps e bytes old new fault next stops befor
     subst (λ part. StoppedBetween told before (settled e x) part fault new) (next x holds) (between told keeps before (settled e x) bytes old new fault at stops)
 
 -- why it stopped
-pub caused : (told keeps : Bool) (fed size : ℕ) (bytes : List ℕ) (old new : List Slot) (fault : Fault) → IsTrue (is_writable old 0) → Stops told keeps bytes old new fault → IsCaused keeps false fed size old new fault
-caused told keeps fed size bytes old new _ can (broke n cut) = (
+pub caused : (NeedsName : Type 0) (told keeps : Bool) (fed size : ℕ) (bytes : List ℕ) (old new : List Slot) (fault : Fault) → IsTrue (is_writable old 0) → Stops told keeps bytes old new fault → IsCaused (on_output keeps) NeedsName false fed size old new fault
+caused NeedsName told keeps fed size bytes old new _ can (broke n cut) = (
   refl,
-  refl,
+  λ alone. refl,
   (
     sound_at 0 old can,
     subst (λ those. those.is_broken ≡ true) (ap (λ those. slot_at those 0) (sym cut.slots)) (broken_at 0 _ (writable_still told old _ (take n bytes) can refl)),
   ),
 )
-caused told keeps fed size bytes old new _ can (no_room keeping wrote) = (keeping, refl)
+caused NeedsName told keeps fed size bytes old new _ can (no_room keeping wrote) = (keeping, refl)
 
 -- the bytes in which it broke, by another name
 pub broke_in : (told keeps : Bool) (some bytes : List ℕ) (old new : List Slot) (n : ℕ) → some ≡ bytes → BrokeAfter told old new 0 some n → Stops told keeps bytes old new (fault.Write 0)
 broke_in told keeps some bytes old new n same cut = broke n (subst (λ those. BrokeAfter told old new 0 those n) same cut)
 
-pub caused_by : (told keeps is_over : Bool) (fed size : ℕ) (bytes : List ℕ) (old new : List Slot) (fault : Fault) → is_over ≡ false → IsTrue (is_writable old 0) → Stops told keeps bytes old new fault → IsCaused keeps is_over fed size old new fault
-caused_by told keeps is_over fed size bytes old new fault going can stops = subst (λ over. IsCaused keeps over fed size old new fault) (sym going) (caused told keeps fed size bytes old new fault can stops)
+pub caused_by : (NeedsName : Type 0) (told keeps is_over : Bool) (fed size : ℕ) (bytes : List ℕ) (old new : List Slot) (fault : Fault) → is_over ≡ false → IsTrue (is_writable old 0) → Stops told keeps bytes old new fault → IsCaused (on_output keeps) NeedsName is_over fed size old new fault
+caused_by NeedsName told keeps is_over fed size bytes old new fault going can stops = subst (λ over. IsCaused (on_output keeps) NeedsName over fed size old new fault) (sym going) (caused NeedsName told keeps fed size bytes old new fault can stops)
 
 -- nothing was to go out, and there was no room for what waits
 pub no_room_here : (told keeps : Bool) (slots : List Slot) (result : Result (Unit {0}) Fault) → keeps ≡ true → IfErr result (λ f. f ≡ fault.Memory) → IfErr result (Stops told keeps [] slots slots)

@@ -3,7 +3,8 @@ use Rattle.std.proofs.Common.{◌≡◌, ℕ, ◌+◌, ◌-◌, List, [], ◌++�
 use Rattle.std.proofs.lemmas.List.{append-nil}
 use Rattle.ports_core.specs.Slot.{Slot, is_writable, with_written, told_of}
 use Rattle.ports_core.specs.Part.{nothing, only_out}
-use Rattle.ports_core.specs.Engine.{TakesIn, PutsOut, CutsOff, Finishes, EndsShort, IsCaused, SameWork}
+use Rattle.ports_core.specs.Engine.{TakesIn, PutsOut, CutsOff, Finishes, EndsShort, IsCaused, SameWork, on_output, at_end}
+use Rattle.ends_core.specs.Tail.{means}
 use Rattle.ports_core.specs.declared.fault.Fault.{Fault}
 use Rattle.ports_core.specs.declared.fault.Fault.TheVariants as fault
 use Rattle.ports_core.proofs.PartLemmas.{stopped_here}
@@ -22,8 +23,8 @@ use Rattle.ends_core.specs.Stops.{Stops}
 use Rattle.ends_core.proofs.StopLemmas as stop
 
 -- the same way settles the same
-pub same_work : (old new : TailState) → new.unit ≡ old.unit → new.from_nth ≡ old.from_nth → new.count ≡ old.count → SameWork settled whole is_complete old new
-same_work old new unit from_nth count = record { settled_same = same; whole_same = same_whole; complete_same = λ x. refl } where
+pub same_work : (old new : TailState) → new.unit ≡ old.unit → new.from_nth ≡ old.from_nth → new.count ≡ old.count → SameWork settled whole is_complete means old new
+same_work old new unit from_nth count = record { settled_same = same; whole_same = same_whole; complete_same = λ x. refl; means_same = ap (λ nth. on_output (not nth)) from_nth } where
   same : (x : List ℕ) → settled new x ≡ settled old x
   same x = ap (λ (u : Counted). cond new.from_nth (only_out (tail_of u true new.count x)) nothing) unit ∙ ap (λ (b : Bool). cond b (only_out (tail_of old.unit true new.count x)) nothing) from_nth ∙ ap (λ (n : ℕ). cond old.from_nth (only_out (tail_of old.unit true n x)) nothing) count
 
@@ -99,10 +100,10 @@ pub takes_in : (way next : Way) (fed more : ℕ) (is_over : Bool) (old : TailSta
 takes_in way next fed more is_over old piece is same sum left waits =
     subst (λ those. TakesIn Holds piece those (state_of next more is_over)) is (takes_in_here way next fed more is_over piece same sum left waits)
 
-pub caused : (told : Bool) (way : Way) (fed : ℕ) (is_over : Bool) (tail : TailState) (size : ℕ) (bytes : List ℕ) (old new : List Slot) (fault : Fault) → state_of way fed is_over ≡ tail → is_over ≡ false → IsTrue (is_writable old 0)
-    → Stops told (not (is_from_nth way)) bytes old new fault → IsCaused (not tail.from_nth) tail.is_over tail.fed size old new fault
-caused told way fed is_over tail size bytes old new fault is going can stops =
-    subst (λ (those : TailState). IsCaused (not those.from_nth) those.is_over those.fed size old new fault) is (stop.caused_by told (not (is_from_nth way)) is_over fed size bytes old new fault going can stops)
+pub caused : (NeedsName : Type 0) (told : Bool) (way : Way) (fed : ℕ) (is_over : Bool) (tail : TailState) (size : ℕ) (bytes : List ℕ) (old new : List Slot) (fault : Fault) → state_of way fed is_over ≡ tail → is_over ≡ false → IsTrue (is_writable old 0)
+    → Stops told (not (is_from_nth way)) bytes old new fault → IsCaused (means tail) NeedsName tail.is_over tail.fed size old new fault
+caused NeedsName told way fed is_over tail size bytes old new fault is going can stops =
+    subst (λ (those : TailState). IsCaused (means those) NeedsName those.is_over those.fed size old new fault) is (stop.caused_by NeedsName told (not (is_from_nth way)) is_over fed size bytes old new fault going can stops)
 
 -- what a close owes, by its result
 
@@ -117,10 +118,10 @@ ended_short told way fed is_over tail old new (Ok u) is stops = tt
 ended_short told way fed is_over tail old new (Err fault) is stops = ends_short told false way fed is_over tail old new fault is stops
 
 pub end_caused : (told : Bool) (way : Way) (fed : ℕ) (is_over : Bool) (tail : TailState) (bytes : List ℕ) (old new : List Slot) (result : Result (Unit {0}) Fault) → state_of way fed is_over ≡ tail → is_over ≡ false → IsTrue (is_writable old 0)
-    → IfErr result (Stops told false bytes old new) → IfErr result (IsCaused false tail.is_over tail.fed 0 old new)
+    → IfErr result (Stops told false bytes old new) → IfErr result (IsCaused (at_end (means tail)) ⊥ tail.is_over tail.fed 0 old new)
 end_caused told way fed is_over tail bytes old new (Ok u) is going can stops = tt
 end_caused told way fed is_over tail bytes old new (Err fault) is going can stops =
-    subst (λ (those : TailState). IsCaused false those.is_over those.fed 0 old new fault) is (stop.caused_by told false is_over fed 0 bytes old new fault going can stops)
+    subst (λ (those : TailState). IsCaused (at_end (means those)) ⊥ those.is_over those.fed 0 old new fault) is (stop.caused_by ⊥ told false is_over fed 0 bytes old new fault going can stops)
 
 -- where the last are kept, nothing goes out before the end
 pub no_room : (told : Bool) (way : Way) (kept : Kept) (piece : List ℕ) (slots : List Slot) (result : Result (Unit {0}) Fault) → way ≡ Last kept → IfErr result (λ f. f ≡ fault.Memory)

@@ -2,6 +2,7 @@
 use Rattle.std.specs.Prelude.{◌≡◌, ℕ, ◌<◌, ◌-◌, ◌++◌, ◌&&◌, not, nat_le, Bool, false, List, [], length, All, if◌then◌else◌}
 use Rattle.ports_core.specs.Part.{Part, only_out}
 use Rattle.ends_core.specs.declared.unit.Unit.{Unit as Counted}
+use Rattle.ports_core.specs.Engine.{Means, on_output}
 use Rattle.ends_core.specs.Ends.{measure, last_of, head_of}
 use Rattle.ends_core.specs.HeadState.{HeadState}
 
@@ -23,6 +24,10 @@ waiting head x = if head.but_last then last_of head.unit head.count x else []
 -- nothing more is to come
 abbrev pub is_complete : HeadState → List ℕ → Bool
 is_complete head x = not head.but_last && nat_le head.count (measure head.unit x)
+
+-- it takes memory where all but the last are asked for, which then wait
+abbrev pub means : HeadState → Means
+means head = on_output head.but_last
 
 -- the head can have been fed x
 pub record Holds (head : HeadState) (x : List ℕ) : Type 0 where

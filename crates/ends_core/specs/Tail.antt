@@ -1,6 +1,7 @@
 -- The last part of an input, as an engine puts it out: POSIX.1-2017, XCU tail.
-use Rattle.std.specs.Prelude.{◌≡◌, ℕ, ◌-◌, Bool, true, false, List, [], length, if◌then◌else◌}
+use Rattle.std.specs.Prelude.{◌≡◌, ℕ, ◌-◌, Bool, not, true, false, List, [], length, if◌then◌else◌}
 use Rattle.ports_core.specs.Part.{Part, nothing, only_out}
+use Rattle.ports_core.specs.Engine.{Means, on_output}
 use Rattle.ends_core.specs.Ends.{measure, last_of, tail_of}
 use Rattle.ends_core.specs.TailState.{TailState}
 
@@ -19,6 +20,10 @@ waiting tail x = if tail.from_nth then [] else last_of tail.unit tail.count x
 -- there is always more that can come
 abbrev pub is_complete : TailState → List ℕ → Bool
 is_complete tail x = false
+
+-- it takes memory where the last are asked for, which wait
+abbrev pub means : TailState → Means
+means tail = on_output (not tail.from_nth)
 
 -- the tail can have been fed x
 pub record Holds (tail : TailState) (x : List ℕ) : Type 0 where

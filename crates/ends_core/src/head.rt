@@ -1,6 +1,6 @@
 ghost use Rattle.std.specs.Prelude.{◌≡◌, ◌+◌, ◌-◌, ◌^◌, ◌<◌, ◌≤◌, ◌↔◌, ℕ, List, [], true, false, length, IsTrue, IfOk, IfErr, OnOk};
 ghost use Rattle.ports_core.specs.Slot.{is_writable, with_written, told_of};
-ghost use Rattle.ends_core.specs.Head.{Holds, IsDone, is_complete, settled, whole};
+ghost use Rattle.ends_core.specs.Head.{Holds, IsDone, is_complete, means, settled, whole};
 ghost use Rattle.ends_core.specs.HeadState.{HeadState};
 ghost use Rattle.ends_core.specs.HeadWay.{SameWay, due, is_but_last, is_full, left_of, left_waiting, state_of, unit_of, waiting_of};
 ghost use Rattle.ends_core.specs.Ends.{measure};
@@ -94,7 +94,9 @@ impl Engine for Head {
 
     ghost is_over = { λ head. head.is_over };
 
-    ghost keeps = { λ head. head.but_last };
+    ghost means = { means };
+
+    ghost Ready = { λ head slots. IsTrue (is_writable slots 0) };
 
     fn feed<O: Outs>(&mut self, piece: &[u8], outs: &mut O) -> Result<(), Fault> {
         if self.is_over {

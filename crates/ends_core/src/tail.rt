@@ -1,6 +1,6 @@
 ghost use Rattle.std.specs.Prelude.{◌≡◌, ◌+◌, ◌-◌, ◌^◌, ◌<◌, ◌≤◌, [], true, false, not, length, IsTrue, IfOk, IfErr, OnOk};
 ghost use Rattle.ports_core.specs.Slot.{is_writable, with_written, told_of};
-ghost use Rattle.ends_core.specs.Tail.{Holds, is_complete, settled, whole};
+ghost use Rattle.ends_core.specs.Tail.{Holds, is_complete, means, settled, whole};
 ghost use Rattle.ends_core.specs.TailState.{TailState};
 ghost use Rattle.ends_core.specs.TailWay.{SameWay, due, is_from_nth, left_of, left_waiting, state_of, unit_of, waiting_of};
 ghost use Rattle.ends_core.specs.Ends.{measure};
@@ -99,7 +99,9 @@ impl Engine for Tail {
 
     ghost is_over = { λ tail. tail.is_over };
 
-    ghost keeps = { λ tail. not tail.from_nth };
+    ghost means = { means };
+
+    ghost Ready = { λ tail slots. IsTrue (is_writable slots 0) };
 
     fn feed<O: Outs>(&mut self, piece: &[u8], outs: &mut O) -> Result<(), Fault> {
         if self.is_over {

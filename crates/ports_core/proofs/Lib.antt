@@ -1,4 +1,5 @@
 pub mod PartLemmas
+pub mod FileLemmas
 pub mod SlotLemmas
 pub mod SourceLemmas
 pub mod TextLemmas

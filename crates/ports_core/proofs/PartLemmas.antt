@@ -1,12 +1,12 @@
 -- Lemmas on what outputs have got.
-use Rattle.std.proofs.Common.{◌≡◌, ℕ, ◌<◌, zero, suc, List, [], ◌∷◌, ◌++◌, length, take, drop, Bool, true, false, not, ◌&&◌, IsTrue, refl, sym, ◌∙◌, ap, subst, append_assoc}
+use Rattle.std.proofs.Common.{◌≡◌, ℕ, ◌<◌, zero, suc, List, [], ◌∷◌, ◌++◌, length, take, drop, Bool, true, false, not, ◌&&◌, IsTrue, ◌⊎◌, inl, inr, refl, sym, ◌∙◌, ap, subst, append_assoc}
 use Rattle.std.proofs.lemmas.List.{append-nil, take-append-drop}
 use Rattle.std.proofs.lemmas.Bool.{false≢true}
 use Rattle.ports_core.specs.Slot.{Slot, is_open, slot_at, is_writable, with_written, with_broken, told_of}
 use Rattle.ports_core.specs.Write.{BrokeAfter}
-use Rattle.ports_core.specs.Part.{File, Part, nothing, only_out, OutputsAt, IsBeginning, FilesBegin, Begins, Marks, StoppedBetween}
+use Rattle.ports_core.specs.Part.{File, Part, nothing, only_out, OutputsAt, IsBeginning, FilesBegin, Begins, IsNext, Marks, StoppedBetween, file_of, told_file}
 use Rattle.ports_core.specs.declared.fault.Fault.{Fault}
-use Rattle.ports_core.specs.declared.fault.Fault.TheVariants.{Write}
+use Rattle.ports_core.specs.declared.fault.Fault.TheVariants.{Memory, Write, Read, Open, Suffixes, NoMatch, Range, Usage, Failed, TooLong}
 use Rattle.ports_core.proofs.SlotLemmas.{changed_at-append, length-changed_at, with_written-nil}
 use Rattle.ports_core.proofs.WriteLemmas.{told_of-append, told_of-nil, with_written-append}
 
@@ -84,7 +84,7 @@ out_cut told before part old new more n at broke = record {
 }
 
 -- a fault that came before anything went out
-pub stopped_here : (told : Bool) (before : List Slot) (low high : Part) (fault : Fault) (old new : List Slot) → OutputsAt told before low old → Begins low high → Marks fault old new → StoppedBetween told before low high fault new
+pub stopped_here : (told : Bool) (before : List Slot) (low high : Part) (fault : Fault) (old new : List Slot) → OutputsAt told before low old → Begins low high → Marks (IsNext low high) fault old new → StoppedBetween told before low high fault new
 stopped_here told before low high fault old new at begins marks = record {
   part = low;
   above = part_begins_itself low;
@@ -111,13 +111,48 @@ sound_at place slots can = both (is_open (slot_at slots place).state) (slot_at s
 pub nothing_begins_part : (part : Part) → Begins nothing part
 nothing_begins_part part = record { out = nothing_begins part.out; files = tt }
 
--- what stopped between two parts, stopped between nothing and more
-pub stopped_wider : (told : Bool) (before : List Slot) (low high more : Part) (fault : Fault) (now : List Slot) → StoppedBetween told before low high fault now → Begins high more → StoppedBetween told before nothing more fault now
-stopped_wider told before low high more fault now stop wider = record {
+-- the mark of a fault, where the next file is known by another sentence
+marks_by : (IsName IsOther : List ℕ → Type 0) (fault : Fault) (before after : List Slot) → ((name : List ℕ) → IsName name → IsOther name) → Marks IsName fault before after → Marks IsOther fault before after
+marks_by IsName IsOther (Write slot) before after also is = is
+marks_by IsName IsOther (Open slot) before after also is = (is.0, (is.1.0, left_also is.1.0 is.1.1, is.1.2)) where
+  left_also : (kept : List ℕ) → IsName kept ⊎ (kept ≡ []) → IsOther kept ⊎ (kept ≡ [])
+  left_also kept (inl named) = inl (also kept named)
+  left_also kept (inr none) = inr none
+marks_by IsName IsOther Memory before after also is = is
+marks_by IsName IsOther (Read slot) before after also is = is
+marks_by IsName IsOther Suffixes before after also is = is
+marks_by IsName IsOther (NoMatch operand repetition) before after also is = is
+marks_by IsName IsOther (Range operand repetition) before after also is = is
+marks_by IsName IsOther (Usage kind word) before after also is = is
+marks_by IsName IsOther Failed before after also is = is
+marks_by IsName IsOther TooLong before after also is = is
+
+-- the files of a part are at their places in what it begins
+next_in : (part : Part) (name : List ℕ) (front : List File) (file : File) (rest files : List File) → FilesBegin (front ++ file ∷ rest) files → (count : ℕ) → length front ≡ count → file.name ≡ name
+    → (these : List File) × (one : File) × (more : List File) × (files ≡ these ++ one ∷ more) × (length these ≡ count) × (one.name ≡ name)
+next_in part name [] file rest [] begins count place named = absurd begins
+next_in part name [] file rest (one ∷ more) begins count place named = ([], one, more, refl, place, sym begins.0 ∙ named)
+next_in part name (first ∷ front) file rest [] begins count place named = absurd begins
+next_in part name (first ∷ front) file rest (one ∷ more) begins count place named =
+    let behind = next_in part name front file rest more begins.3 (length front) refl named in
+    (one ∷ behind.0, behind.1, behind.2, ap (λ files. one ∷ files) behind.3, ap suc behind.4 ∙ place, behind.5)
+
+next_wider : (part high more : Part) → Begins high more → (name : List ℕ) → IsNext part high name → IsNext part more name
+next_wider part high more begins name next =
+    let found = next_in part name next.front next.file next.rest more.files (subst (λ files. FilesBegin files more.files) next.files begins.files) (length part.files) next.place next.name_is in
+    record { front = found.0; file = found.1; rest = found.2; files = found.3; place = found.4; name_is = found.5 }
+
+-- what stopped between two parts, stopped between those that one begins and that the other is begun by
+pub stopped_between : (told : Bool) (before : List Slot) (less low high more : Part) (fault : Fault) (now : List Slot) → Begins less low → StoppedBetween told before low high fault now → Begins high more → StoppedBetween told before less more fault now
+stopped_between told before less low high more fault now lower stop wider = record {
   part = stop.part;
-  above = nothing_begins_part stop.part;
+  above = part_trans _ _ _ lower stop.above;
   below = part_trans _ _ _ stop.below wider;
   reached = stop.reached;
   outputs = stop.outputs;
-  marks = stop.marks;
+  marks = marks_by (IsNext stop.part high) (IsNext stop.part more) fault stop.reached now (next_wider stop.part high more wider) stop.marks;
 }
+
+-- what stopped between two parts, stopped between nothing and more
+pub stopped_wider : (told : Bool) (before : List Slot) (low high more : Part) (fault : Fault) (now : List Slot) → StoppedBetween told before low high fault now → Begins high more → StoppedBetween told before nothing more fault now
+stopped_wider told before low high more fault now stop wider = stopped_between told before nothing low high more fault now (nothing_begins_part low) stop wider

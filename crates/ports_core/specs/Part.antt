@@ -1,7 +1,8 @@
 -- What a tool has put out by a moment: bytes on standard output, and files in the order in which they were opened.
-use Rattle.std.specs.Prelude.{◌≡◌, ℕ, ◌<◌, Bool, List, [], ◌∷◌, ◌++◌, length, map}
+use Rattle.std.specs.Prelude.{◌≡◌, ℕ, ◌<◌, Bool, List, [], ◌∷◌, ◌++◌, ◌⊎◌, length, map}
 use Rattle.ports_core.specs.Slot.{Slot, with_written, with_broken, unopened, told_of}
 use Rattle.ports_core.specs.declared.slot.Mode.{Mode}
+use Rattle.ports_core.specs.declared.slot.State.{State}
 use Rattle.ports_core.specs.declared.fault.Fault.{Fault}
 use Rattle.ports_core.specs.declared.fault.Fault.TheVariants.{Memory, Write, Read, Open, Suffixes, NoMatch, Range, Usage, Failed, TooLong}
 
@@ -9,6 +10,8 @@ pub record File : Type 0 where
   pub name : List ℕ
   pub mode : Mode
   pub bytes : List ℕ
+  -- whether it is still open
+  pub state : State
 
 pub record Part : Type 0 where
   pub out : List ℕ
@@ -20,9 +23,9 @@ nothing = record { out = []; files = [] }
 abbrev pub only_out : List ℕ → Part
 only_out bytes = record { out = bytes; files = [] }
 
--- a slot without its state
+-- a slot, whether it broke or not
 abbrev pub file_of : Slot → File
-file_of slot = record { name = slot.name; mode = slot.mode; bytes = slot.written }
+file_of slot = record { name = slot.name; mode = slot.mode; bytes = slot.written; state = slot.state }
 
 abbrev pub told_file : Bool → File → File
 told_file told file = record file { bytes = told_of told file.bytes }
@@ -39,7 +42,7 @@ pub record OutputsAt (told : Bool) (before : List Slot) (part : Part) (now : Lis
 abbrev pub IsBeginning : List ℕ → List ℕ → Type 0
 IsBeginning bytes whole = (rest : List ℕ) × (whole ≡ bytes ++ rest)
 
--- each file begins the one at its place, and there may be more of these
+-- each file begins the one at its place, and there may be more of these; of those that are open one may be closed by then
 abbrev pub FilesBegin : List File → List File → Type 0
 FilesBegin [] wholes = Unit {0}
 FilesBegin (file ∷ files) [] = ⊥
@@ -49,18 +52,28 @@ pub record Begins (low high : Part) : Type 0 where
   pub out : IsBeginning low.out high.out
   pub files : FilesBegin low.files high.files
 
--- what a fault leaves in the slots by itself
-abbrev pub Marks : Fault → List Slot → List Slot → Type 0
-Marks (Write slot) before after = after ≡ with_broken slot before
-Marks (Open slot) before after = (slot ≡ length before) × ((kept : List ℕ) × (after ≡ before ++ unopened kept ∷ []))
-Marks Memory before after = after ≡ before
-Marks (Read slot) before after = after ≡ before
-Marks Suffixes before after = after ≡ before
-Marks (NoMatch operand repetition) before after = after ≡ before
-Marks (Range operand repetition) before after = after ≡ before
-Marks (Usage kind word) before after = after ≡ before
-Marks Failed before after = after ≡ before
-Marks TooLong before after = after ≡ before
+-- behind the files of one part, the next one of another has this name
+pub record IsNext (part whole : Part) (name : List ℕ) : Type 0 where
+  pub front : List File
+  pub file : File
+  pub rest : List File
+  pub files : whole.files ≡ front ++ file ∷ rest
+  pub place : length front ≡ length part.files
+  pub name_is : file.name ≡ name
+
+-- What a fault leaves in the slots by itself. A file that could not be opened has the name of the next one, or none where there
+-- was no memory to keep it.
+abbrev pub Marks : (List ℕ → Type 0) → Fault → List Slot → List Slot → Type 0
+Marks IsName (Write slot) before after = after ≡ with_broken slot before
+Marks IsName (Open slot) before after = (slot ≡ length before) × ((kept : List ℕ) × (IsName kept ⊎ (kept ≡ [])) × (after ≡ before ++ unopened kept ∷ []))
+Marks IsName Memory before after = after ≡ before
+Marks IsName (Read slot) before after = after ≡ before
+Marks IsName Suffixes before after = after ≡ before
+Marks IsName (NoMatch operand repetition) before after = after ≡ before
+Marks IsName (Range operand repetition) before after = after ≡ before
+Marks IsName (Usage kind word) before after = after ≡ before
+Marks IsName Failed before after = after ≡ before
+Marks IsName TooLong before after = after ≡ before
 
 -- A fault stopped the outputs at some part between two, and left its mark.
 pub record StoppedBetween (told : Bool) (before : List Slot) (low high : Part) (fault : Fault) (now : List Slot) : Type 0 where
@@ -69,4 +82,4 @@ pub record StoppedBetween (told : Bool) (before : List Slot) (low high : Part) (
   pub below : Begins part high
   pub reached : List Slot
   pub outputs : OutputsAt told before part reached
-  pub marks : Marks fault reached now
+  pub marks : Marks (IsNext part high) fault reached now

@@ -1,7 +1,7 @@
-ghost use Rattle.std.specs.Prelude.{◌≡◌, ◌+◌, ◌++◌, ◌^◌, ◌<◌, ℕ, List, Bool, true, false, length, IsTrue, IfErr, OnOk, OnErr, IsErrOf};
-ghost use Rattle.ports_core.specs.Slot.{is_writable};
+ghost use Rattle.std.specs.Prelude.{◌≡◌, ◌+◌, ◌++◌, ◌^◌, ◌<◌, ℕ, List, Bool, true, false, length, IfErr, OnOk, OnErr, IsErrOf};
+ghost use Rattle.ports_core.specs.Slot.{Slot};
 ghost use Rattle.ports_core.specs.Part.{Part, Begins};
-ghost use Rattle.ports_core.specs.Engine.{TakesIn, PutsOut, CutsOff, Finishes, EndsShort, IsCaused, IsComplete, SameWork};
+ghost use Rattle.ports_core.specs.Engine.{TakesIn, PutsOut, CutsOff, Finishes, EndsShort, IsCaused, IsComplete, Means, RunsOut, SameWork, at_end};
 
 use crate::{Fault, Outs};
 
@@ -26,26 +26,30 @@ pub trait Engine {
     /// A fault came, or the end.
     ghost is_over: { Self → Bool };
 
-    /// Whether it keeps bytes that wait, and so needs memory.
-    ghost keeps: { Self → Bool };
+    /// What it uses, and so which faults it can give.
+    ghost means: { Self → Means };
+
+    /// The outputs that it goes on with can be written.
+    ghost Ready: { Self → List Slot → Type 0 };
 
     /// Takes the next piece of the input, and puts out what is settled with it.
     ///
     /// # Errors
     ///
-    /// `Write` where an output broke, `Memory` where there is no room for bytes that wait, `TooLong` where the input has
-    /// more than 2^63-1 bytes, and nothing of this piece goes out. The outputs have a beginning of what is settled then.
-    /// After these, and after `close`, `Failed`: nothing is changed.
+    /// `Write` where an output broke, `Open` where a file can't be opened, `Memory` where there is no room for bytes that
+    /// wait or for a name, `TooLong` where the input has more than 2^63-1 bytes, and nothing of this piece goes out. The
+    /// outputs have a beginning of what is settled then. `Suffixes` where the input so far needs more files than there are
+    /// names: the files that have one are out. After these, and after `close`, `Failed`: nothing is changed.
     fn feed<O: Outs>(&mut self, piece: &[u8], outs: &mut O) -> Result<(), Fault>
-        requires { is_over self.old ≡ false → IsTrue (is_writable (O.slots outs.old) 0) }
-        ensures same { SameWork settled whole is_complete self.old self.new }
+        requires { is_over self.old ≡ false → Ready self.old (O.slots outs.old) }
+        ensures same { SameWork settled whole is_complete means self.old self.new }
         ensures holds { OnOk result (TakesIn Holds piece.now self.old self.new) }
         ensures outputs { OnOk result (PutsOut Holds settled self.old piece.now O.told (O.slots outs.old) (O.slots outs.new)) }
-        ensures writable { OnOk result (IsTrue (is_writable (O.slots outs.new) 0)) }
+        ensures ready { OnOk result (Ready self.new (O.slots outs.new)) }
         ensures fed { OnOk result (fed self.new ≡ fed self.old + length piece.now) }
         ensures bound { OnOk result (fed self.new < 2 ^ 63) }
         ensures cut { IfErr result (CutsOff Holds settled self.old piece.now O.told (O.slots outs.old) (O.slots outs.new)) }
-        ensures refused { IfErr result (IsCaused (keeps self.old) (is_over self.old) (fed self.old) (length piece.now) (O.slots outs.old) (O.slots outs.new)) }
+        ensures refused { IfErr result (IsCaused (means self.old) (RunsOut Holds settled is_complete self.old piece.now O.told (O.slots outs.old) (O.slots outs.new)) (is_over self.old) (fed self.old) (length piece.now) (O.slots outs.old) (O.slots outs.new)) }
         ensures failed { is_over self.old ≡ true → IsErrOf result Fault.Failed × (self.new ≡ self.old) × (O.slots outs.new ≡ O.slots outs.old) }
         ensures over { OnErr result (is_over self.new ≡ true) };
 
@@ -55,11 +59,10 @@ pub trait Engine {
     ///
     /// `Write` where an output broke. `Failed` after a fault or after `close`: nothing is changed.
     fn close<O: Outs>(&mut self, outs: &mut O) -> Result<(), Fault>
-        requires { is_over self.old ≡ false → IsTrue (is_writable (O.slots outs.old) 0) }
+        requires { is_over self.old ≡ false → Ready self.old (O.slots outs.old) }
         ensures outputs { OnOk result (Finishes Holds settled whole self.old O.told (O.slots outs.old) (O.slots outs.new)) }
-        ensures writable { OnOk result (IsTrue (is_writable (O.slots outs.new) 0)) }
         ensures cut { IfErr result (EndsShort Holds settled whole self.old O.told (O.slots outs.old) (O.slots outs.new)) }
-        ensures refused { IfErr result (IsCaused false (is_over self.old) (fed self.old) 0 (O.slots outs.old) (O.slots outs.new)) }
+        ensures refused { IfErr result (IsCaused (at_end (means self.old)) ⊥ (is_over self.old) (fed self.old) 0 (O.slots outs.old) (O.slots outs.new)) }
         ensures failed { is_over self.old ≡ true → IsErrOf result Fault.Failed × (self.new ≡ self.old) × (O.slots outs.new ≡ O.slots outs.old) }
         ensures over { is_over self.new ≡ true };
 

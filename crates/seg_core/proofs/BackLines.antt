@@ -1,6 +1,6 @@
 -- Newlines that are counted from the end of a text.
 use Rattle.std.proofs.Common.{◌≡◌, ℕ, ◌+◌, ◌-◌, ◌<◌, ◌≤◌, Bool, true, false, cond, eqb, List, [], ◌∷◌, ◌++◌, length, take, drop, get_or, refl, sym, ap, ◌∙◌, arith, drop-cons, add-one}
-use Rattle.std.proofs.lemmas.List.{take_more, take_rest, drop-drop}
+use Rattle.std.proofs.lemmas.List.{take_more, drop-drop}
 use mir.Val.{bool_byte}
 use Rattle.seg_core.specs.Line.{newlines, ends_with_newline, BeginsAt}
 use Rattle.seg_core.proofs.Newlines.{newlines-append, newlines-take-drop}
@@ -44,10 +44,12 @@ begins_behind x i n seen one here so_far is fewer full =
       counted = omega arith;
     }
 
--- a step's newlines, and those behind it
-pub step_back : (x : List ℕ) (at step n one : ℕ) → n ≡ newlines (drop (at + step) x) → one ≡ newlines (take step (take (length x - at) (drop at x))) → n + one ≡ newlines (drop at x)
-step_back x at step n one so_far is =
-    let here = is ∙ ap (λ rest. newlines (take step rest)) (take_rest x at) in
-    let behind = so_far ∙ ap newlines (sym (drop-drop step at x)) in
-    let both = newlines-take-drop step (drop at x) in
+-- the newlines of a stretch that ends at `end`, and those behind it
+pub stretch_back : (x : List ℕ) (end width n more : ℕ) → width ≤ end → n ≡ newlines (drop end x) → more ≡ newlines (take (end - (end - width)) (drop (end - width) x)) → n + more ≡ newlines (drop (end - width) x)
+stretch_back x end width n more fits so_far is =
+    let all : end - (end - width) ≡ width = omega arith in
+    let at : end - width + width ≡ end = omega arith in
+    let here = is ∙ ap (λ k. newlines (take k (drop (end - width) x))) all in
+    let behind = so_far ∙ ap (λ k. newlines (drop k x)) (sym at) ∙ ap newlines (sym (drop-drop width (end - width) x)) in
+    let both = newlines-take-drop width (drop (end - width) x) in
     omega arith

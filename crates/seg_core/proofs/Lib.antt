@@ -11,3 +11,5 @@ pub mod BlockLemmas
 pub mod Taken
 pub mod Carried
 pub mod EndLines
+pub mod EndOfLast
+pub mod Lanes

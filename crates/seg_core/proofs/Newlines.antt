@@ -1,9 +1,7 @@
 -- How many newlines a text has.
-use Rattle.std.proofs.Common.{◌≡◌, ◌≢◌, ℕ, ◌+◌, ◌<◌, ◌≤◌, Bool, true, false, cond, eqb, List, [], ◌∷◌, ◌++◌, length, take, drop, get_or, refl, sym, ap, ◌∙◌, arith}
-use Rattle.std.specs.List.{count_by}
-use Rattle.std.proofs.lemmas.List.{take_more, take-append-drop, take-take, drop-take, length-take}
+use Rattle.std.proofs.Common.{◌≡◌, ◌≢◌, ℕ, ◌+◌, ◌-◌, ◌<◌, ◌≤◌, Bool, true, false, cond, eqb, List, [], ◌∷◌, ◌++◌, length, take, drop, get_or, sym, ap, ◌∙◌, arith}
+use Rattle.std.proofs.lemmas.List.{take_more, take-append-drop, take-take, drop-take}
 use Rattle.std.proofs.lemmas.Bool.{eq-eqb, ne_eqb}
-use Rattle.std.proofs.lemmas.List.Recursion.{is_count_by}
 use Rattle.seg_core.specs.Line.{newlines}
 
 append_step : (is_newline : Bool) (m n k : ℕ) → k ≡ m + n → cond is_newline (k + 1) k ≡ cond is_newline (m + 1) m + n
@@ -13,14 +11,6 @@ append_step false m n k e = e
 pub newlines-append : (x y : List ℕ) → newlines (x ++ y) ≡ newlines x + newlines y
 newlines-append [] y = omega arith
 newlines-append (byte ∷ x) y = append_step (eqb byte 10) (newlines x) (newlines y) (newlines (x ++ y)) (newlines-append x y)
-
-count_step : (is_newline : Bool) (n : ℕ) → cond is_newline (n + 1) n ≡ cond is_newline (1 + n) n
-count_step true n = omega arith
-count_step false n = refl
-
--- std's word for it
-pub newlines-is_count_by : (x : List ℕ) → newlines x ≡ count_by (λ byte. eqb byte 10) x
-newlines-is_count_by = is_count_by newlines (λ byte. eqb byte 10) refl (λ byte x. count_step (eqb byte 10) (newlines x))
 
 length_step : (is_newline : Bool) (n m : ℕ) → n ≤ m → cond is_newline (n + 1) n ≤ m + 1
 length_step true n m h = omega arith
@@ -45,14 +35,19 @@ newlines-one_yes byte e = ap (λ (c : Bool). cond c (0 + 1) 0) e
 pub newlines-one_no : (byte : ℕ) → eqb byte 10 ≡ false → newlines (byte ∷ []) ≡ 0
 newlines-one_no byte e = ap (λ (c : Bool). cond c (0 + 1) 0) e
 
-pub newlines-take-le-count : (k : ℕ) (x : List ℕ) → newlines (take k x) ≤ k
-newlines-take-le-count k x = omega (arith, newlines-le-length (take k x), length-take k x)
-
 pub newlines-take-add : (i k : ℕ) (x : List ℕ) → newlines (take (i + k) x) ≡ newlines (take i x) + newlines (take k (drop i x))
 newlines-take-add i k x =
     newlines-take-drop i (take (i + k) x)
     ∙ ap (λ n. n + newlines (drop i (take (i + k) x))) (ap newlines (take-take i (i + k) x (omega arith)))
     ∙ ap (λ n. newlines (take i x) + n) (ap newlines (drop-take i k x))
+
+-- a count that goes on by a stretch
+pub count_stretch : (x : List ℕ) (at width n more : ℕ) → n ≡ newlines (take at x) → more ≡ newlines (take (at + width - at) (drop at x)) → n + more ≡ newlines (take (at + width) x)
+count_stretch x at width n more so_far is =
+    let all : at + width - at ≡ width = omega arith in
+    let here = is ∙ ap (λ k. newlines (take k (drop at x))) all in
+    let both = newlines-take-add at width x in
+    omega arith
 
 -- a count that goes on by one byte
 pub count_more : (x : List ℕ) (i n one : ℕ) → n ≡ newlines (take i x) → i < length x → one ≡ newlines (get_or x i 0 ∷ []) → n + one ≡ newlines (take (i + 1) x)

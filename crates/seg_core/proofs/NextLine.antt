@@ -20,7 +20,7 @@ HasNoNewline-take (suc k) [] h none = tt
 HasNoNewline-take (suc k) (byte ∷ x) h none =
     (λ e. none 0 (omega arith) (omega arith) (eq-eqb byte 10 e), HasNoNewline-take k x (omega arith) (λ i low high. none (suc i) (omega arith) (omega arith)))
 
-newlines-none : (x : List ℕ) → HasNoNewline x → newlines x ≡ 0
+pub newlines-none : (x : List ℕ) → HasNoNewline x → newlines x ≡ 0
 newlines-none [] none = refl
 newlines-none (byte ∷ x) (other, none) = ap (λ (c : Bool). cond c (newlines x + 1) (newlines x)) (ne_eqb byte 10 other) ∙ newlines-none x none
 

@@ -95,3 +95,12 @@ pub record BeginsAt (n : ℕ) (x : List ℕ) (at : ℕ) : Type 0 where
 abbrev pub ReachesBack : ℕ → List ℕ → ReachBack → Type 0
 ReachesBack n x (back.Begins at) = BeginsAt n x at
 ReachesBack n x (back.Short count) = FallsShort n x count
+
+-- the last newline of the text ends at `end`: its complete lines stand before that place, and an open last line or nothing behind it
+pub record LastEndsAt (x : List ℕ) (end : ℕ) : Type 0 where
+  pub some : 0 < end
+  pub within : end ≤ length x
+  pub newline : 0 < newlines x
+  pub complete : take end x ≡ first_lines (newlines x) x
+  pub behind : drop end x ≡ behind_lines (newlines x) x
+  pub none_behind : newlines (drop end x) ≡ 0

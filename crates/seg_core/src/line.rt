@@ -1,6 +1,7 @@
 //! The lines of a text: a line is a run of bytes that ends with a newline, and the last line of a
 //! text may lack it (POSIX.1-2017, XBD 3.206).
 ghost use Rattle.std.specs.Prelude.{◌≡◌, ℕ, ◌+◌, ◌<◌, ◌≤◌, false, List, [], ◌∷◌, ◌++◌, if◌then◌else◌, length, take};
+ghost use Rattle.std.specs.Simd.Lanes.{Each1, sum_l};
 ghost use Rattle.seg_core.specs.Line.{IsLines, Reaches, ends_with_newline, lines_of, newlines};
 
 use crate::line_iter::Lines;
@@ -8,8 +9,11 @@ use crate::line_reach::Reach;
 use memchr::memchr;
 use std::simd::prelude::*;
 
-// How many bytes are counted in one step.
+// How many bytes are looked at in one step, each in a lane of its own.
 pub(crate) const STEP: usize = 64;
+
+// How many bytes are counted at a time: 64 steps, and a lane can count 255.
+pub(crate) const RUN: usize = 4096;
 
 /// The lines of `bytes`, each a slice of it. It takes no memory.
 pub fn lines(bytes: &[u8]) -> Lines<'_>
@@ -41,20 +45,44 @@ pub fn count_newlines(bytes: &[u8]) -> usize
     let mut count = 0;
     let mut left = bytes;
     while STEP <= left.len() {
-        count += count_in_step(left) as usize;
-        left = &left[STEP..];
+        let (run, rest) = left.split_at(left.len().min(RUN));
+        count += count_in_run(run);
+        left = rest;
     }
     count + count_one_by_one(left)
 }
 
-// The newlines of the first bytes, as many as a step counts.
-#[inline(always)]
-pub(crate) fn count_in_step(bytes: &[u8]) -> u32
-    requires { STEP ≤ length bytes.now }
-    ensures { result ≡ newlines (take STEP bytes.now) }
+// Each lane counts the newlines that it meets, and at the end the lanes are summed.
+fn count_in_run(run: &[u8]) -> usize
+    requires { length run.now ≤ RUN }
+    ensures { result ≡ newlines run.now }
 {
-    let lanes = u8x64::from_slice(bytes);
-    lanes.simd_eq(u8x64::splat(b'\n')).to_bitmask().count_ones()
+    let mut lanes = u8x64::splat(0);
+    let mut left = run;
+    while STEP <= left.len() {
+        lanes = lanes.strict_add(newlines_in_step(left));
+        left = &left[STEP..];
+    }
+    sum_of(lanes) as usize + count_one_by_one(left)
+}
+
+// A lane of 1 for each newline among the first bytes, and of 0 for each other.
+#[inline(always)]
+fn newlines_in_step(bytes: &[u8]) -> u8x64
+    requires { STEP ≤ length bytes.now }
+    ensures long { length result ≡ STEP }
+    ensures each { Each1 (λ lane. lane ≤ 1) result }
+    ensures sum { sum_l result ≡ newlines (take STEP bytes.now) }
+{
+    let is_newline = u8x64::from_slice(bytes).simd_eq(u8x64::splat(b'\n'));
+    is_newline.select(u8x64::splat(1), u8x64::splat(0))
+}
+
+#[inline(always)]
+fn sum_of(lanes: u8x64) -> u32
+    ensures { result ≡ sum_l lanes }
+{
+    lanes.dot4(u8x64::splat(1)).strict_reduce_sum()
 }
 
 fn count_one_by_one(bytes: &[u8]) -> usize
@@ -77,27 +105,31 @@ pub fn reach(bytes: &[u8], lines: u64) -> Reach
     if lines == 0 {
         return Reach::Ends(0);
     }
-    let (at, count) = skip_steps(bytes, lines);
+    let (at, count) = skip(bytes, 0, 0, lines, RUN);
+    let (at, count) = skip(bytes, at, count, lines, STEP);
     reach_from(bytes, at, count, lines)
 }
 
-// Passes steps as long as the last of the lines ends behind them: how many bytes, and how many
-// newlines they have.
-fn skip_steps(bytes: &[u8], lines: u64) -> (usize, usize)
-    requires { 0 < lines }
+// Passes stretches of some width behind the first `from` bytes, which have `before` newlines, as long
+// as the last of the lines ends behind them: how many bytes in all, and how many newlines they have.
+fn skip(bytes: &[u8], from: usize, before: usize, lines: u64, width: usize) -> (usize, usize)
+    requires some { 0 < width }
+    requires within { from ≤ length bytes.now }
+    requires counted { before ≡ newlines (take from bytes.now) }
+    requires fewer { before < lines }
     ensures within { result.0 ≤ length bytes.now }
     ensures counted { result.1 ≡ newlines (take result.0 bytes.now) }
     ensures fewer { result.1 < lines }
 {
-    let mut count = 0;
-    let mut at = 0;
-    while STEP <= bytes.len() - at {
-        let more = count + count_in_step(&bytes[at..]) as usize;
+    let mut count = before;
+    let mut at = from;
+    while width <= bytes.len() - at {
+        let more = count + count_newlines(&bytes[at..at + width]);
         if lines <= more as u64 {
             return (at, count);
         }
         count = more;
-        at += STEP;
+        at += width;
     }
     (at, count)
 }
@@ -164,5 +196,18 @@ mod tests {
         assert_eq!(rt; reach(&long, 1), Reach::Ends(151));
         assert_eq!(rt; reach(&long, 50), Reach::Ends(200));
         assert_eq!(rt; reach(&long, 51), Reach::Short(50));
+    }
+
+    #[test]
+    fn counts_in_a_long_text(rt: HostRuntime) {
+        let mut text = [b'\n'; 10_000];
+        assert_eq!(rt; count_newlines(&text), 10_000);
+        assert_eq!(rt; reach(&text, 9_000), Reach::Ends(9_000));
+        assert_eq!(rt; reach(&text, 10_001), Reach::Short(10_000));
+        for byte in text[..9_999].iter_mut() {
+            *byte = b'x';
+        }
+        assert_eq!(rt; count_newlines(&text), 1);
+        assert_eq!(rt; reach(&text, 1), Reach::Ends(10_000));
     }
 }

@@ -1,9 +1,10 @@
 //! The lines of a text, looked at from its end.
-ghost use Rattle.std.specs.Prelude.{◌≡◌, ℕ, ◌+◌, ◌<◌, ◌≤◌, List, ◌++◌, length, take, drop};
-ghost use Rattle.seg_core.specs.Line.{ReachesBack, line_count, newlines};
+ghost use Rattle.std.specs.Prelude.{◌≡◌, ℕ, ◌+◌, ◌<◌, ◌≤◌, List, ◌++◌, length, take, drop, IfSome, IfNone};
+ghost use Rattle.seg_core.specs.Line.{LastEndsAt, ReachesBack, line_count, newlines};
 
-use crate::line::{STEP, count_in_step};
+use crate::line::{RUN, STEP, count_newlines};
 use crate::line_reach::ReachBack;
+use memchr::memrchr;
 
 /// The text without its last newline, if it ends with one: each newline that is left then ends a
 /// line that another one follows. It takes no memory.
@@ -20,33 +21,46 @@ pub fn last_newline_off(text: &[u8]) -> &[u8]
     }
 }
 
+/// Where the last newline of `bytes` ends, if there is one: its complete lines stand before that
+/// place, and an open last line or nothing behind it. It takes no memory.
+pub fn last_newline_end(bytes: &[u8]) -> Option<usize>
+    ensures some { IfSome result (λ end. LastEndsAt bytes.now end) }
+    ensures none { IfNone result (newlines bytes.now ≡ 0) }
+{
+    Some(memrchr(b'\n', bytes)? + 1)
+}
+
 /// Where the text begins that stands behind a number of newlines, counted from the end of `bytes`.
-/// It looks no further back than that, and takes no memory.
+/// It looks less than 4096 bytes further back than that, and takes no memory.
 pub fn reach_back(bytes: &[u8], newlines: u64) -> ReachBack
     requires { 0 < newlines }
     ensures { ReachesBack newlines bytes.now result }
 {
-    let (end, count) = skip_steps_back(bytes, newlines);
+    let (end, count) = skip_back(bytes, bytes.len(), 0, newlines, RUN);
+    let (end, count) = skip_back(bytes, end, count, newlines, STEP);
     reach_back_from(bytes, end, count, newlines)
 }
 
-// Passes steps from the end as long as the newlines begin before them: where it comes to, and how
-// many newlines stand behind that.
-fn skip_steps_back(bytes: &[u8], wanted: u64) -> (usize, usize)
-    requires { 0 < wanted }
+// Passes stretches of some width before `from`, behind which `behind` newlines stand, as long as the
+// newlines begin before them: where it comes to, and how many newlines stand behind that.
+fn skip_back(bytes: &[u8], from: usize, behind: usize, wanted: u64, width: usize) -> (usize, usize)
+    requires some { 0 < width }
+    requires within { from ≤ length bytes.now }
+    requires counted { behind ≡ newlines (drop from bytes.now) }
+    requires fewer { behind < wanted }
     ensures within { result.0 ≤ length bytes.now }
     ensures counted { result.1 ≡ newlines (drop result.0 bytes.now) }
     ensures fewer { result.1 < wanted }
 {
-    let mut count = 0;
-    let mut end = bytes.len();
-    while STEP <= end {
-        let more = count + count_in_step(&bytes[end - STEP..]) as usize;
+    let mut count = behind;
+    let mut end = from;
+    while width <= end {
+        let more = count + count_newlines(&bytes[end - width..end]);
         if wanted <= more as u64 {
             return (end, count);
         }
         count = more;
-        end -= STEP;
+        end -= width;
     }
     (end, count)
 }
@@ -69,4 +83,31 @@ fn reach_back_from(bytes: &[u8], end: usize, count: usize, wanted: u64) -> Reach
         at -= 1;
     }
     ReachBack::Short(seen)
+}
+
+#[cfg(test)]
+mod tests {
+    use super::*;
+
+    #[test]
+    fn finds_the_last_newline(rt: HostRuntime) {
+        assert_eq!(rt; last_newline_end(b"a\nbc\nd"), Some(5));
+        assert_eq!(rt; last_newline_end(b"a\n\n"), Some(3));
+        assert_eq!(rt; last_newline_end(b"\nabc"), Some(1));
+        assert_eq!(rt; last_newline_end(b"abc"), None);
+        assert_eq!(rt; last_newline_end(b""), None);
+    }
+
+    #[test]
+    fn reaches_back_in_a_long_text(rt: HostRuntime) {
+        let mut text = [b'\n'; 10_000];
+        assert_eq!(rt; reach_back(&text, 9_000), ReachBack::Begins(1_001));
+        assert_eq!(rt; reach_back(&text, 10_000), ReachBack::Begins(1));
+        assert_eq!(rt; reach_back(&text, 10_001), ReachBack::Short(10_000));
+        for byte in text[1..].iter_mut() {
+            *byte = b'x';
+        }
+        assert_eq!(rt; reach_back(&text, 1), ReachBack::Begins(1));
+        assert_eq!(rt; reach_back(&text, 2), ReachBack::Short(1));
+    }
 }

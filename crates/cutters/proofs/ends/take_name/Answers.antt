@@ -6,27 +6,27 @@ pub returns-then-is_dash-clause-took : goal.returns-then-is_dash-clause-took
 returns-then-is_dash-clause-took g c out error shape =
     let dash = sym c.is_dash.ensures ∙ c.if-is_dash.true in
     of_dash g.I.Inputs.told c.args.progress.was_read c.standard_source-source.result (g.I.Inputs.laid c.args.inputs.now) (g.I.Inputs.sources c.args.inputs.now) (length (g.I.Inputs.sources c.args.inputs.now)) c.args.name.now _ _ c.standard_source-source.ensures dash
-    (λ content took. took_dash _ _ _ _ c.args.progress c.args.name.now _ _ _ _ dash took)
-    (λ took. took_dash _ _ _ _ c.args.progress c.args.name.now _ _ _ _ dash took)
+    (λ content took. took_dash _ _ _ _ _ _ c.args.progress c.args.name.now _ _ _ _ dash took)
+    (λ took. took_dash _ _ _ _ _ _ c.args.progress c.args.name.now _ _ _ _ dash took)
     (c.take_input.ensures.took out error shape)
 
 pub returns-in-Ok-clause-took : goal.returns-in-Ok-clause-took
 returns-in-Ok-clause-took g c out error shape =
     let differs = sym c.is_dash.ensures ∙ c.if-is_dash.false in
     of_opened g.I.Inputs.told c.args.progress.was_read (g.I.Inputs.laid c.args.inputs.now) (g.I.Inputs.sources c.args.inputs.now) _ c.in-Ok.slot c.args.name.now _ _ differs c.in-Ok.ensures.ok
-    (λ content took. took_file _ _ _ _ c.args.progress c.args.name.now _ _ _ _ differs took)
+    (λ content took. took_file _ _ _ _ _ _ c.args.progress c.args.name.now _ _ _ _ differs took)
     (c.take_input-in-Ok.ensures.took out error shape)
 
 pub returns-in-Err-Open-clause-took : goal.returns-in-Err-Open-clause-took
 returns-in-Err-Open-clause-took g c out error shape =
     let differs = sym c.is_dash.ensures ∙ c.if-is_dash.false in
     of_missing g.I.Inputs.told c.args.progress.was_read (g.I.Inputs.laid c.args.inputs.now) (g.I.Inputs.sources c.args.inputs.now) _ c.in-Err-Open.field-0 c.in-Err-Open.slot c.args.name.now _ differs c.in-Err-Open.ensures.err c.in-Err-Open.field-0-is
-    (took_missing g.O.Outs.told c.args.job.now.tool (g.E.Ends.work c.args.job.now.settings.now) c.args.job.now.with_header c.args.progress c.args.name.now (length (g.I.Inputs.sources c.args.inputs.now)) c.in-Err-Open.slot out error _ _ differs shape c.say.ensures)
+    (took_missing g.O.Outs.told c.args.job.now.tool (g.E.Ends.work c.args.job.now.settings.now) _ c.args.job.now.with_header c.args.progress c.args.name.now (length (g.I.Inputs.sources c.args.inputs.now)) c.in-Err-Open.slot out error _ _ differs shape c.say.ensures)
 
 pub returns-in-Err-clause-took : goal.returns-in-Err-clause-took
 returns-in-Err-clause-took g c out error shape =
     of_any g.I.Inputs.told c.args.progress.was_read (g.I.Inputs.laid c.args.inputs.now) (g.I.Inputs.sources c.args.inputs.now) c.args.name.now _ (sym c.is_dash.ensures ∙ c.if-is_dash.false)
-    (λ content. took_no_memory _ _ _ _ c.args.progress _ out error _ shape)
+    (λ content. took_no_memory _ _ _ _ _ _ c.args.progress _ out error _ shape)
 
 pub returns-then-is_dash-clause-reads : goal.returns-then-is_dash-clause-reads
 returns-then-is_dash-clause-reads g c told = reads_dash _ _ _ _ _ _ c.standard_source-source.ensures c.take_input.ensures.others (c.take_input.ensures.reads told)

@@ -24,18 +24,18 @@ take_name-requires-clause-outputs g c = walk_streams _ _ _ _ _ _ _ _ _ _ _ _ c.l
 
 pub returns-in-Err-clause-took : goal.returns-in-Err-clause-took
 returns-in-Err-clause-took g c =
-    walk_stops_at _ _ _ _ _ _ _ _ c.loop-left.left.now c.loop-left.progress _ _ _ _ c.in-Err.fault c.in-len1-up.len_at_least c.loop-left.invariant.walked c.in-Err.ensures.took
+    walk_stops_at _ _ _ _ _ _ _ _ _ _ c.loop-left.left.now c.loop-left.progress _ _ _ _ c.in-Err.fault c.loop-left.invariant.room c.in-len1-up.len_at_least c.loop-left.invariant.walked c.in-Err.ensures.took
 
 pub loop-left-preserved : goal.loop-left-preserved
 loop-left-preserved g c = record {
-  walked = walk_goes_on_at _ _ _ _ _ _ _ _ c.loop-left.left.now c.loop-left.progress c.in-Ok.next _ _ _ _ _ _ c.in-len1-up.len_at_least c.loop-left.invariant.walked c.in-Ok.ensures.took c.in-Ok.ensures.opens c.in-Ok.ensures.laid;
+  walked = walk_goes_on_at _ _ _ _ _ _ _ _ _ c.loop-left.left.now c.loop-left.progress c.in-Ok.next _ _ _ _ _ _ c.in-len1-up.len_at_least c.loop-left.invariant.walked c.in-Ok.ensures.took c.in-Ok.ensures.opens c.in-Ok.ensures.laid;
   untouched = untouched_on _ _ c.loop-left.left.now _ _ _ c.in-len1-up.len_at_least c.loop-left.invariant.untouched c.in-Ok.ensures.untouched;
   room = c.take_name.auto.buffer ∙ c.loop-left.invariant.room;
   reads = λ told. reads_on_at (g.E.Ends.work c.args.job.now.settings.now).is_complete _ _ c.loop-left.progress.was_read (source_at (g.I.Inputs.sources c.args.inputs.now) 0).left _ _ c.loop-left.invariant.room c.loop-left.invariant.walked.standard (c.loop-left.invariant.reads told) (c.in-Ok.ensures.reads told);
 }
 
 pub returns-clause-took : goal.returns-clause-took
-returns-clause-took g c = walk_ends _ _ _ _ _ _ _ _ _ _ _ _ (none_left c.loop-left.left.now c.in_default.len_below) c.loop-left.invariant.walked
+returns-clause-took g c = walk_ends _ _ _ _ _ _ _ _ _ _ _ _ _ (none_left c.loop-left.left.now c.in_default.len_below) c.loop-left.invariant.walked
 
 pub returns-in-Err-clause-reads : goal.returns-in-Err-clause-reads
 returns-in-Err-clause-reads g c told = reads_on_at (g.E.Ends.work c.args.job.now.settings.now).is_complete _ _ c.loop-left.progress.was_read (source_at (g.I.Inputs.sources c.args.inputs.now) 0).left _ _ c.loop-left.invariant.room c.loop-left.invariant.walked.standard (c.loop-left.invariant.reads told) (c.in-Err.ensures.reads told)

@@ -9,10 +9,10 @@ use Rattle.cutters.proofs.RunLemmas.{no_memory_first, took_operands}
 use Rattle.cutters.proofs.ends.take_operands.Goals as goal
 
 pub returns-in-Err-clause-took : goal.returns-in-Err-clause-took
-returns-in-Err-clause-took g c = no_memory_first _ _ _ _ _ _ _ c.in-Err.fault c.in-Err.ensures.err c.requires.outputs
+returns-in-Err-clause-took g c = no_memory_first _ _ _ _ _ _ _ _ _ c.in-Err.fault c.in-Err.ensures.err c.requires.outputs
 
 pub returns-in-Err-vec-clause-took : goal.returns-in-Err-vec-clause-took
-returns-in-Err-vec-clause-took g c = no_memory_first _ _ _ _ _ _ _ _ refl c.requires.outputs
+returns-in-Err-vec-clause-took g c = no_memory_first _ _ _ _ _ _ _ _ _ _ refl c.requires.outputs
 
 pub returns-in-Err-clause-reads : goal.returns-in-Err-clause-reads
 returns-in-Err-clause-reads g c told = let there = (source_at (g.I.Inputs.sources c.args.inputs.now) 0).left in reads_none _ _ there there refl
@@ -26,7 +26,8 @@ returns-clause-reads g c told =
 
 pub returns-clause-took : goal.returns-clause-took
 returns-clause-took g c =
-    took_operands _ _ _ _ _ _ _ _ _ _ _
+    took_operands _ _ _ _ _ _ _ _ _ _ _ _
+    (c.deref_mut.ensures.len ∙ c.in-Ok-vec.ensures.len)
     (c.has_headers.ensures
     ∙ ap (λ (headers : Headers). has_headers headers (map (λ name. name.now) c.deref-2.result.now)) (ap (λ (asked : EndsAsked). asked.headers) c.settings.view_is)
     ∙ ap (λ (names : List (Bor (List ℕ))). has_headers c.args.settings.now.headers (map (λ name. name.now) names)) (c.deref-2.ensures.value ∙ sym c.deref-3.ensures.value))

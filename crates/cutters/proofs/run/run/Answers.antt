@@ -26,5 +26,5 @@ returns-in-Err g c = record {
   ends = refused_or_memory _ _ _ (map (λ word. word.now) c.args.words.now) c.in-Err.fault _ _ c.in-Err.ensures.err c.requires.outputs
       (subst (λ (name : List ℕ). SaysOn g.O.Outs.told (speaker (map (λ word. word.now) c.args.words.now)) (message_of (speaker (map (λ word. word.now) c.args.words.now)) c.in-Err.fault name) (g.O.Outs.slots c.args.outs.now) (g.O.Outs.slots c.say.new.outs)) c.word_of.ensures
       (subst (λ (tool : Tool). SaysOn g.O.Outs.told tool (message_of tool c.in-Err.fault c.word_of.result.now) (g.O.Outs.slots c.args.outs.now) (g.O.Outs.slots c.say.new.outs)) c.speaker.ensures c.say.ensures));
-  reads = λ told. unread (settings_of (map (λ word. word.now) c.args.words.now)) (source_at (g.I.Inputs.sources c.args.inputs.now) 0).left;
+  reads = λ told. unread (map (λ word. word.now) c.args.words.now) (settings_of (map (λ word. word.now) c.args.words.now)) (source_at (g.I.Inputs.sources c.args.inputs.now) 0).left;
 }

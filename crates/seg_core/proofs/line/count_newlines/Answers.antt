@@ -1,25 +1,29 @@
-use Rattle.std.proofs.Common.{length, ap, arith}
-use Rattle.std.proofs.lemmas.List.{take_rest, length-drop}
-use Rattle.seg_core.specs.declared.line.TheConstants.{STEP}
+use Rattle.std.proofs.Common.{◌∙◌, ap, arith}
 use Rattle.seg_core.specs.Line.{newlines}
-use Rattle.seg_core.proofs.Newlines.{newlines-take-drop, newlines-take-le-count, newlines-le-length}
+use Rattle.seg_core.proofs.Newlines.{newlines-append, newlines-le-length}
 use Rattle.seg_core.proofs.line.count_newlines.Goals as goal
 
 pub overflow_add-count : goal.overflow_add-count
-overflow_add-count c = omega (arith, c.count_in_step.ensures, newlines-take-le-count STEP c.loop-left.left.now)
+overflow_add-count c =
+    let cut = ap newlines c.split_at.ensures.by_index.0 ∙ newlines-append c.split_at.result.0.now c.split_at.result.1.now in
+    let so_far = c.loop-left.invariant in
+    let here = c.count_in_run-count.ensures in
+    let few = newlines-le-length c.args.bytes.now in
+    record { fits = omega arith }
 
 pub loop-left-preserved : goal.loop-left-preserved
 loop-left-preserved c =
-    let left = c.loop-left.left.now in
-    let few = newlines-take-le-count STEP left in
-    let split = newlines-take-drop STEP left in
-    let rest = ap newlines (take_rest left STEP) in
-    let shorter = ap length (take_rest left STEP) in
-    let long = length-drop STEP left in
-    record {
-      counted = omega arith;
-      few = omega arith;
-    }
+    let cut = ap newlines c.split_at.ensures.by_index.0 ∙ newlines-append c.split_at.result.0.now c.split_at.result.1.now in
+    let so_far = c.loop-left.invariant in
+    let here = c.count_in_run-count.ensures in
+    omega arith
 
 pub overflow_add-result : goal.overflow_add-result
-overflow_add-result c = omega (arith, newlines-le-length c.args.bytes.now)
+overflow_add-result c =
+    let so_far = c.loop-left.invariant in
+    let rest = c.count_one_by_one.ensures in
+    let few = newlines-le-length c.args.bytes.now in
+    record { fits = omega arith }
+
+pub returns : goal.returns
+returns c = omega (arith, c.loop-left.invariant, c.count_one_by_one.ensures)

@@ -16,5 +16,5 @@ pub returns-in-Err-clause-cut : goal.returns-in-Err-clause-cut
 returns-in-Err-clause-cut g c = cuts_off g.O.Outs.told _ c.self.inside.way c.self.inside.fed c.self.inside.is_over c.args.self.now c.args.piece.now _ _ c.in-Err.fault c.self.view_is c.in-Err.ensures.cut
 
 pub returns-in-Err-clause-refused : goal.returns-in-Err-clause-refused
-returns-in-Err-clause-refused g c = caused g.O.Outs.told c.self.inside.way c.self.inside.fed c.self.inside.is_over c.args.self.now (length c.args.piece.now) _ _ _ c.in-Err.fault c.self.view_is c.if-self.false
+returns-in-Err-clause-refused g c = caused _ g.O.Outs.told c.self.inside.way c.self.inside.fed c.self.inside.is_over c.args.self.now (length c.args.piece.now) _ _ _ c.in-Err.fault c.self.view_is c.if-self.false
     (c.requires (sym (ap (λ (tail : TailState). tail.is_over) c.self.view_is) ∙ c.if-self.false)) c.in-Err.ensures.cut

@@ -1,0 +1,145 @@
+-- Lemmas on outputs that a fault stopped, and on the message that tells it: standard error is the slot behind the first, and what
+-- was opened comes behind both.
+use Rattle.std.proofs.Common.{◌≡◌, ℕ, ◌<◌, zero, suc, Bool, true, false, List, [], ◌∷◌, ◌++◌, length, codes, arith, length-append, inl, refl, sym, ◌∙◌, ap, subst, lit<}
+use Rattle.std.proofs.lemmas.List.{append-nil}
+use Rattle.std.proofs.lemmas.Bool.{false≢true}
+use Rattle.ports_core.specs.Slot.{Slot, is_open, slot_at, adds, breaks, told_of, unopened, with_broken}
+use Rattle.ports_core.specs.Part.{Part, OutputsAt, IsNext, Marks, StoppedBetween}
+use Rattle.ports_core.specs.Text.{message_of}
+use Rattle.ports_core.specs.declared.tool.Tool.{Tool}
+use Rattle.ports_core.specs.declared.fault.Fault.{Fault}
+use Rattle.ports_core.specs.declared.fault.Fault.TheVariants.{Memory, Write, Read, Open, Suffixes, NoMatch, Range, Usage, Failed, TooLong}
+use Rattle.ports_core.proofs.WriteLemmas.{told_of-nil}
+use Rattle.cutters.specs.Message.{Prints, whole, cut, passed, Says, SaysOn}
+use Rattle.cutters.specs.RunEnds.{output_named}
+
+-- a line that tells a fault isn't empty: it ends with a newline
+
+end_some : (front rest : List ℕ) → 0 < length rest → 0 < length (front ++ rest)
+end_some front rest some = omega (arith, length-append front rest, some)
+
+pub message_some : (tool : Tool) (fault : Fault) (name : List ℕ) → 0 < length (message_of tool fault name)
+message_some tool fault name = end_some _ (codes "\n") (lit< tt)
+
+-- both streams are there, and standard error is open
+
+pub record HasError (slots : List Slot) : Type 0 where
+  pub output : Slot
+  pub error : Slot
+  pub since : List Slot
+  pub are : slots ≡ output ∷ error ∷ since
+  pub opened : is_open error.state ≡ true
+
+pub error_open : (slots : List Slot) → HasError slots → is_open (slot_at slots 1).state ≡ true
+error_open slots has = ap (λ those. is_open (slot_at those 1).state) has.are ∙ has.opened
+
+shape_of : (output error : Slot) (since slots : List Slot) → is_open error.state ≡ true → slots ≡ output ∷ error ∷ since → HasError slots
+shape_of output error since slots opened are = record { output = output; error = error; since = since; are = are; opened = opened }
+
+pub part_error : (told : Bool) (output error : Slot) (part : Part) (slots : List Slot) → is_open error.state ≡ true → OutputsAt told (output ∷ error ∷ []) part slots → HasError slots
+part_error told output error part slots opened at = shape_of (adds (told_of told part.out) output) error at.since slots opened at.slots
+
+marked_error : (IsName : List ℕ → Type 0) (fault : Fault) (output error : Slot) (since now : List Slot) → is_open error.state ≡ true → Marks IsName fault (output ∷ error ∷ since) now → HasError now
+marked_error IsName (Write zero) output error since now opened marks = shape_of (breaks output) error since now opened marks
+marked_error IsName (Write (suc zero)) output error since now opened marks = shape_of output (breaks error) since now opened marks
+marked_error IsName (Write (suc (suc place))) output error since now opened marks = shape_of output error (with_broken place since) now opened marks
+marked_error IsName (Open slot) output error since now opened marks = shape_of output error (since ++ unopened marks.1.0 ∷ []) now opened marks.1.2
+marked_error IsName Memory output error since now opened marks = shape_of output error since now opened marks
+marked_error IsName (Read slot) output error since now opened marks = shape_of output error since now opened marks
+marked_error IsName Suffixes output error since now opened marks = shape_of output error since now opened marks
+marked_error IsName (NoMatch operand repetition) output error since now opened marks = shape_of output error since now opened marks
+marked_error IsName (Range operand repetition) output error since now opened marks = shape_of output error since now opened marks
+marked_error IsName (Usage kind word) output error since now opened marks = shape_of output error since now opened marks
+marked_error IsName Failed output error since now opened marks = shape_of output error since now opened marks
+marked_error IsName TooLong output error since now opened marks = shape_of output error since now opened marks
+
+pub stop_error : (told : Bool) (output error : Slot) (low high : Part) (fault : Fault) (now : List Slot) → is_open error.state ≡ true → StoppedBetween told (output ∷ error ∷ []) low high fault now → HasError now
+stop_error told output error low high fault now opened stop =
+    marked_error (IsNext stop.part high) fault (adds (told_of told stop.part.out) output) error stop.outputs.since now opened
+    (subst (λ slots. Marks (IsNext stop.part high) fault slots now) stop.outputs.slots stop.marks)
+
+-- a message changes standard error, and no other output
+
+pub said_at : (told : Bool) (tool : Tool) (text : List ℕ) (output error : Slot) (part : Part) (old new : List Slot) → OutputsAt told (output ∷ error ∷ []) part old → SaysOn told tool text old new
+    → (after : Slot) × Says told tool text error after × OutputsAt told (output ∷ after ∷ []) part new
+said_at told tool text output error part old new at says =
+    let said = says (adds (told_of told part.out) output) error at.since at.slots in
+    (said.0, said.1, record { standard = lit< tt; since = at.since; slots = said.2; files = at.files })
+
+printed_named : (told : Bool) (text : List ℕ) (old new : Slot) → Prints told text old new → new.name ≡ old.name
+printed_named told text old new (whole sound is) = ap (λ slot. slot.name) is
+printed_named told text old new (cut sound n within is) = ap (λ slot. slot.name) is
+printed_named told text old new (passed broken is) = ap (λ slot. slot.name) is
+
+-- an output that broke before the text says nothing of it
+printed_broken : (told : Bool) (text : List ℕ) (error new : Slot) → Prints told text (breaks error) new → new ≡ breaks error
+printed_broken told text error new (whole sound is) = absurd (false≢true (sym sound))
+printed_broken told text error new (cut sound n within is) = absurd (false≢true (sym sound))
+printed_broken told text error new (passed broken is) = is
+
+-- it may as well have broken at the text's first byte
+prints_nothing : (told : Bool) (text : List ℕ) (error : Slot) (broken : Bool) → error.is_broken ≡ broken → 0 < length text → Prints told text error (breaks error)
+prints_nothing told text error true is some = passed is (ap (λ (b : Bool). record error { is_broken = b }) (sym is))
+prints_nothing told text error false is some =
+    cut is 0 some (ap (λ bytes. record error { written = bytes; is_broken = true }) (sym (ap (λ bytes. error.written ++ bytes) (told_of-nil told) ∙ append-nil error.written)))
+
+module _ (told : Bool) (tool : Tool) (text : List ℕ) (some : 0 < length text) where
+  -- what a fault left, with its message behind it
+  abbrev pub ToldMark : (List ℕ → Type 0) → Fault → Slot → Slot → List Slot → List Slot → List Slot → Type 0
+  ToldMark IsName fault output error since mid new =
+      (after : Slot) × Says told tool text error after × Marks IsName fault (output ∷ after ∷ since) new × (output_named new fault ≡ output_named mid fault)
+
+  told_marked : (IsName : List ℕ → Type 0) (fault : Fault) (output error : Slot) (since mid new : List Slot) → Marks IsName fault (output ∷ error ∷ since) mid → SaysOn told tool text mid new → ToldMark IsName fault output error since mid new
+  told_marked IsName (Write zero) output error since mid new marks says =
+      let said = says (breaks output) error since marks in
+      (said.0, said.1, said.2, ap (λ slots. (slot_at slots 0).name) said.2 ∙ sym (ap (λ slots. (slot_at slots 0).name) marks))
+  told_marked IsName (Write (suc zero)) output error since mid new marks says =
+      let said = says output (breaks error) since marks in
+      let same : said.0 ≡ breaks error = printed_broken told said.1.said error said.0 said.1.printed in
+      let now : new ≡ output ∷ breaks error ∷ since = said.2 ∙ ap (λ slot. output ∷ slot ∷ since) same in
+      (breaks error, record { said = text; is = inl refl; printed = prints_nothing told text error error.is_broken refl some }, now, ap (λ slots. (slot_at slots 1).name) now ∙ sym (ap (λ slots. (slot_at slots 1).name) marks))
+  told_marked IsName (Write (suc (suc place))) output error since mid new marks says =
+      let said = says output error (with_broken place since) marks in
+      (said.0, said.1, said.2, ap (λ slots. (slot_at slots (suc (suc place))).name) said.2 ∙ sym (ap (λ slots. (slot_at slots (suc (suc place))).name) marks))
+  told_marked IsName (Open slot) output error since mid new marks says =
+      let said = says output error (since ++ unopened marks.1.0 ∷ []) marks.1.2 in (
+        said.0,
+        said.1,
+        (marks.0, (marks.1.0, marks.1.1, said.2)),
+        ap (λ slots. (slot_at slots slot).name) said.2 ∙ ap (λ n. (slot_at (output ∷ said.0 ∷ (since ++ unopened marks.1.0 ∷ [])) n).name) marks.0
+            ∙ sym (ap (λ slots. (slot_at slots slot).name) marks.1.2 ∙ ap (λ n. (slot_at (output ∷ error ∷ (since ++ unopened marks.1.0 ∷ [])) n).name) marks.0),
+      )
+  told_marked IsName Memory output error since mid new marks says =
+      let said = says output error since marks in (said.0, said.1, said.2, refl)
+  told_marked IsName (Read slot) output error since mid new marks says =
+      let said = says output error since marks in (said.0, said.1, said.2, refl)
+  told_marked IsName Suffixes output error since mid new marks says =
+      let said = says output error since marks in (said.0, said.1, said.2, refl)
+  told_marked IsName (NoMatch operand repetition) output error since mid new marks says =
+      let said = says output error since marks in (said.0, said.1, said.2, refl)
+  told_marked IsName (Range operand repetition) output error since mid new marks says =
+      let said = says output error since marks in (said.0, said.1, said.2, refl)
+  told_marked IsName (Usage kind word) output error since mid new marks says =
+      let said = says output error since marks in (said.0, said.1, said.2, refl)
+  told_marked IsName Failed output error since mid new marks says =
+      let said = says output error since marks in (said.0, said.1, said.2, refl)
+  told_marked IsName TooLong output error since mid new marks says =
+      let said = says output error since marks in (said.0, said.1, said.2, refl)
+
+  pub stop_told : (output error : Slot) (low high : Part) (fault : Fault) (mid new : List Slot) → StoppedBetween told (output ∷ error ∷ []) low high fault mid → SaysOn told tool text mid new
+      → (after : Slot) × Says told tool text error after × StoppedBetween told (output ∷ after ∷ []) low high fault new × (output_named new fault ≡ output_named mid fault)
+  stop_told output error low high fault mid new stop says =
+      let first = adds (told_of told stop.part.out) output in
+      let marked = told_marked (IsNext stop.part high) fault first error stop.outputs.since mid new (subst (λ slots. Marks (IsNext stop.part high) fault slots mid) stop.outputs.slots stop.marks) says in (
+        marked.0,
+        marked.1,
+        record {
+          part = stop.part;
+          above = stop.above;
+          below = stop.below;
+          reached = first ∷ marked.0 ∷ stop.outputs.since;
+          outputs = record { standard = lit< tt; since = stop.outputs.since; slots = refl; files = stop.outputs.files };
+          marks = marked.2;
+        },
+        marked.3,
+      )

@@ -1,0 +1,15 @@
+-- What words ask of `split`.
+use Rattle.std.specs.Prelude.{ℕ, Bool, Option}
+use Rattle.split_core.specs.declared.cut.Cut.{Cut}
+use Rattle.ports_core.specs.declared.alphabet.Alphabet.{Alphabet}
+
+pub record SplitAsked : Type 0 where
+  pub cut : Cut
+  pub alphabet : Alphabet
+  -- how many characters a suffix has; the first ones, with `auto`: they widen then
+  pub width : ℕ
+  pub auto : Bool
+  pub elide : Bool
+  -- the places of the operands among the words
+  pub input : Option ℕ
+  pub prefix : Option ℕ

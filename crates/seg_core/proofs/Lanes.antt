@@ -1,0 +1,69 @@
+-- Newlines that are counted in the lanes of a vector.
+use Rattle.std.proofs.Common.{◌≡◌, ℕ, zero, suc, ◌+◌, ◌-◌, ◌*◌, ◌≤◌, Bool, true, false, cond, eqb, List, [], ◌∷◌, length, map, replicate, refl, sym, ap, ◌∙◌, arith, w8, w32, Fits}
+use Rattle.std.specs.Simd.Lanes.{Each1, Each2, zip2, sum_l, sel_l, top, products, dots, Steps, fold_l}
+use Rattle.std.proofs.lemmas.Simd.{tops_compared, zip2_splat, Each2-of, Each1-zip2, sum_bound, bytes_below, sum_fits, sum_dots, sum_by-ones, fold-sum}
+use Rattle.seg_core.specs.declared.line.TheConstants.{STEP, RUN}
+use Rattle.seg_core.specs.Line.{newlines}
+
+-- 1 for each newline, and 0 for each other byte
+abbrev pub flags_of : List ℕ → List ℕ
+flags_of x = map (λ byte. cond (eqb byte 10) 1 0) x
+
+chosen : (p : ℕ → Bool) (x : List ℕ) (n one none : ℕ) → length x ≡ n → sel_l (map p x) (replicate n one) (replicate n none) ≡ map (λ byte. cond (p byte) one none) x
+chosen p [] n one none long = refl
+chosen p (byte ∷ x) zero one none long = absurd (omega arith)
+chosen p (byte ∷ x) (suc n) one none long = ap (λ z. cond (p byte) one none ∷ z) (chosen p x n one none (omega arith))
+
+-- what is chosen by the comparison with a newline
+pub chosen_flags : (x : List ℕ) (n : ℕ) → length x ≡ n → sel_l {A = ℕ} (map (top 7) (zip2 (λ a b. cond (eqb a b) 255 0) x (replicate n 10))) (replicate n 1) (replicate n 0) ≡ flags_of x
+chosen_flags x n long =
+    ap (λ m. sel_l {A = ℕ} m (replicate n 1) (replicate n 0)) (tops_compared w8 eqb x (replicate n 10) ∙ zip2_splat eqb x n 10 long)
+    ∙ chosen (λ byte. eqb byte 10) x n 1 0 long
+
+sum_step : (is_newline : Bool) (n : ℕ) → cond is_newline 1 0 + n ≡ cond is_newline (n + 1) n
+sum_step true n = omega arith
+sum_step false n = omega arith
+
+pub sum-flags : (x : List ℕ) → sum_l (flags_of x) ≡ newlines x
+sum-flags [] = refl
+sum-flags (byte ∷ x) = ap (λ n. cond (eqb byte 10) 1 0 + n) (sum-flags x) ∙ sum_step (eqb byte 10) (newlines x)
+
+flag_small : (is_newline : Bool) → cond is_newline 1 0 ≤ 1
+flag_small true = omega arith
+flag_small false = omega arith
+
+pub flags_small : (x : List ℕ) → Each1 (λ lane. lane ≤ 1) (flags_of x)
+flags_small [] = tt
+flags_small (byte ∷ x) = (flag_small (eqb byte 10), flags_small x)
+
+-- after some steps of a run, of which `left` bytes are left
+abbrev pub IsFew : ℕ → ℕ → Type 0
+IsFew left lane = STEP * lane + left ≤ RUN
+
+pub more_fit : (lanes step : List ℕ) (left : ℕ) → STEP ≤ left → Each1 (IsFew left) lanes → Each1 (λ lane. lane ≤ 1) step → Each2 (λ a b. Fits w8 (a + b)) lanes step
+more_fit lanes step left some few small =
+    Each2-of (IsFew left) (λ lane. lane ≤ 1) (λ a b. Fits w8 (a + b)) (λ a b p q. record { fits = omega arith }) lanes step few small
+
+pub more_few : (lanes step : List ℕ) (left : ℕ) → STEP ≤ left → Each1 (IsFew left) lanes → Each1 (λ lane. lane ≤ 1) step → Each1 (IsFew (left - STEP)) (zip2 (λ a b. a + b) lanes step)
+more_few lanes step left some few small =
+    Each1-zip2 (λ a b. a + b) (IsFew (left - STEP)) lanes step
+    (Each2-of (IsFew left) (λ lane. lane ≤ 1) (λ a b. IsFew (left - STEP) (a + b)) (λ a b p q. omega arith) lanes step few small)
+
+-- the lanes in fours, and these summed
+pub sum-fours : (lanes : List ℕ) → length lanes ≡ STEP → sum_l (dots lanes (replicate STEP 1)) ≡ sum_l lanes
+sum-fours lanes long =
+    (sum_dots 16 lanes (replicate STEP 1) long refl).0
+    ∙ ap (λ n. sum_l (products lanes (replicate n 1))) (sym long)
+    ∙ sum_by-ones lanes
+
+pub sum_small : (lanes : List ℕ) → length lanes ≡ STEP → Each1 (Fits w8) lanes → sum_l lanes ≤ 255 * STEP
+sum_small lanes long fit = omega (arith, sum_bound 255 lanes (bytes_below lanes fit))
+
+pub fours_fit : (lanes : List ℕ) → length lanes ≡ STEP → Each1 (Fits w8) lanes → Steps (λ s x. Fits w32 (s + x)) (λ s x. s + x) 0 (dots lanes (replicate STEP 1))
+fours_fit lanes long fit =
+    let small = sum_small lanes long fit in
+    let same = sum-fours lanes long in
+    sum_fits w32 0 (dots lanes (replicate STEP 1)) (omega arith)
+
+pub fold-fours : (lanes : List ℕ) → length lanes ≡ STEP → fold_l (λ s x. s + x) 0 (dots lanes (replicate STEP 1)) ≡ sum_l lanes
+fold-fours lanes long = omega (arith, fold-sum 0 (dots lanes (replicate STEP 1)), sum-fours lanes long)

@@ -1,0 +1,180 @@
+-- Lemmas on gathering the lines of a piece.
+use Rattle.std.proofs.Common.{◌≡◌, ◌≢◌, ℕ, ◌+◌, ◌%◌, ◌<◌, ◌≤◌, zero, suc, min, max, Bool, true, false, cond, eqb, List, [], ◌∷◌, ◌++◌, length, get_or, set, map, Ok, Err, Result, OnOk, inl, inr, refl, sym, ◌∙◌, ap, subst, arith, append_assoc}
+use Rattle.std.proofs.Math.Nat.{mod-add-mod, mod-eq_of_lt, mod-mod, mod_self, mod-le}
+use Rattle.std.specs.List.{range_with_len}
+use Rattle.std.proofs.lemmas.Bool.{cases_eq, eq-eqb, ne_eqb, eqb-true, eqb-false, false≢true}
+use Rattle.std.proofs.lemmas.List.{append-nil, ext_get_or}
+use Rattle.std.proofs.lemmas.List.FromFn.{length-map-range_with_len, get_or-map-range_with_len}
+use Rattle.seg_core.specs.Line.{lines_of, newlines, line_count, HasNoNewline}
+use Rattle.seg_core.proofs.LinesOf.{lines_of-open}
+use Rattle.ports_core.specs.Slot.{changed_at}
+use Rattle.ports_core.proofs.SlotLemmas.{length-changed_at, set-changed}
+use Rattle.split_core.specs.Parts.{dealt}
+use Rattle.split_core.specs.Dealt.{dealt_piece, reached_by}
+use Rattle.split_core.specs.FirstLine.{IsFirstLine}
+use Rattle.split_core.specs.DealLaws.{dealt_same}
+
+-- of a piece what is left is still to be gathered
+pub record Dealing (n start : ℕ) (piece : List ℕ) (gathered : List (List ℕ)) (next reached : ℕ) (left : List ℕ) : Type 0 where
+  pub count : length gathered ≡ n
+  pub within : next < n
+  pub shares : (file : ℕ) → file < n → get_or gathered file [] ++ dealt n file next (lines_of left) ≡ dealt n file start (lines_of piece)
+  pub ends : (next + newlines left) % n ≡ (start + newlines piece) % n
+  pub reaches : max reached (min n (next + line_count left)) ≡ min n (start + line_count piece)
+  pub few : reached ≤ n
+  pub over : next ≤ reached
+
+none_first : (is_newline : Bool) (count : ℕ) → cond is_newline (count + 1) count ≡ 0 → (is_newline ≡ false) × (count ≡ 0)
+none_first true count none = absurd (omega (arith, none))
+none_first false count none = (refl, none)
+
+pub has_none : (x : List ℕ) → newlines x ≡ 0 → HasNoNewline x
+has_none [] none = tt
+has_none (byte ∷ x) none =
+    let first = none_first (eqb byte 10) (newlines x) none in
+    ((λ is. false≢true (sym first.0 ∙ eq-eqb byte 10 is)), has_none x first.1)
+
+pub starts : (n start : ℕ) (piece : List ℕ) (gathered : List (List ℕ)) → length gathered ≡ n → start < n → ((file : ℕ) → get_or gathered file [] ≡ []) → Dealing n start piece gathered start start piece
+starts n start piece gathered count within none = record {
+  count = count;
+  within = within;
+  shares = λ file inside. ap (λ had. had ++ dealt n file start (lines_of piece)) (none file);
+  ends = refl;
+  reaches = omega arith;
+  few = omega arith;
+  over = omega arith;
+}
+
+get_or-changed : (place : ℕ) (line : List ℕ) (xs : List (List ℕ)) (file : ℕ) → file < length xs → get_or (changed_at place (λ had. had ++ line) xs) file [] ≡ cond (eqb place file) (get_or xs file [] ++ line) (get_or xs file [])
+get_or-changed place line [] file inside = absurd (omega arith)
+get_or-changed zero line (x ∷ xs) zero inside = refl
+get_or-changed zero line (x ∷ xs) (suc file) inside = let other : eqb 0 (suc file) ≡ false = ne_eqb 0 (suc file) (λ is. omega (arith, is)) in
+    sym (ap (λ is. cond is (get_or xs file [] ++ line) (get_or xs file [])) other)
+get_or-changed (suc place) line (x ∷ xs) zero inside = let other : eqb (suc place) 0 ≡ false = ne_eqb (suc place) 0 (λ is. omega (arith, is)) in
+    sym (ap (λ is. cond is (x ++ line) x) other)
+get_or-changed (suc place) line (x ∷ xs) (suc file) inside = get_or-changed place line xs file (omega arith) ∙ ap (λ is. cond is (get_or xs file [] ++ line) (get_or xs file [])) (same place file) where
+  same : (one other : ℕ) → eqb one other ≡ eqb (suc one) (suc other)
+  same one other = elim (cases_eq one other) [
+    | inl is ↦ eq-eqb one other is ∙ sym (eq-eqb (suc one) (suc other) (ap suc is))
+    | inr differs ↦ ne_eqb one other differs ∙ sym (ne_eqb (suc one) (suc other) (λ is. differs (omega (arith, is))))
+  ]
+
+-- the line came to what its file had
+came : (gets : Bool) (had line rest : List ℕ) → cond gets (had ++ line) had ++ rest ≡ had ++ cond gets (line ++ rest) rest
+came true had line rest = append_assoc had line rest
+came false had line rest = refl
+
+-- a line was gathered, and the place is that of what follows
+shares_next : (n next place : ℕ) (gathered : List (List ℕ)) (line : List ℕ) (lines : List (List ℕ)) (file : ℕ) → length gathered ≡ n → next < n → file < n → dealt n file place lines ≡ dealt n file (next + 1) lines
+    → get_or (changed_at next (λ had. had ++ line) gathered) file [] ++ dealt n file place lines ≡ get_or gathered file [] ++ dealt n file next (line ∷ lines)
+shares_next n next place gathered line lines file count within inside same =
+    ap (λ had. had ++ dealt n file place lines) (get_or-changed next line gathered file (omega arith))
+    ∙ came (eqb next file) (get_or gathered file []) line (dealt n file place lines)
+    ∙ ap (λ rest. get_or gathered file [] ++ cond (eqb next file) (line ++ rest) rest) same
+    ∙ ap (λ at. get_or gathered file [] ++ cond (eqb at file) (line ++ dealt n file (next + 1) lines) (dealt n file (next + 1) lines)) (sym (mod-eq_of_lt within))
+
+counted : (left line rest : List ℕ) → lines_of left ≡ line ∷ lines_of rest → line_count left ≡ suc (line_count rest)
+counted left line rest cut = ap length cut
+
+-- one line more
+complete_line : (n start : ℕ) (piece : List ℕ) (gathered now : List (List ℕ)) (next reached reached_now : ℕ) (left line rest : List ℕ) → Dealing n start piece gathered next reached left
+    → lines_of left ≡ line ∷ lines_of rest → newlines left ≡ newlines rest + 1 → now ≡ changed_at next (λ had. had ++ line) gathered → reached_now ≡ max reached (next + 1)
+    → Dealing n start piece now ((next + 1) % n) reached_now rest
+complete_line n start piece gathered now next reached reached_now left line rest so_far cut more is reached_is = record {
+  count = ap length is ∙ length-changed_at next _ gathered ∙ so_far.count;
+  within = let inside : next < n = so_far.within in omega arith;
+  shares = λ file inside. ap (λ those. get_or those file [] ++ dealt n file ((next + 1) % n) (lines_of rest)) is
+      ∙ shares_next n next ((next + 1) % n) gathered line (lines_of rest) file so_far.count so_far.within inside (dealt_same n file ((next + 1) % n) (next + 1) (lines_of rest) (mod-mod (next + 1) n))
+      ∙ ap (λ lines. get_or gathered file [] ++ dealt n file next lines) (sym cut) ∙ so_far.shares file inside;
+  ends = mod-add-mod (next + 1) n (newlines rest) ∙ ap (λ place. place % n) sum ∙ so_far.ends;
+  reaches = reaches;
+  few = let inside : next < n = so_far.within in let few : reached ≤ n = so_far.few in omega arith;
+  over = let small = mod-le (next + 1) n in omega arith;
+} where
+  sum : next + 1 + newlines rest ≡ next + newlines left
+  sum = omega arith
+
+  reaches : max reached_now (min n ((next + 1) % n + line_count rest)) ≡ min n (start + line_count piece)
+  reaches = elim (cases_eq (next + 1) n) [
+    | inl last ↦ (let none : (next + 1) % n ≡ 0 = ap (λ place. place % n) last ∙ mod_self n in let all = so_far.reaches in let one = counted left line rest cut in let few : reached ≤ n = so_far.few in omega arith)
+    | inr other ↦ (let inside : next < n = so_far.within in let same : (next + 1) % n ≡ next + 1 = mod-eq_of_lt (omega (arith, other)) in let all = so_far.reaches in let one = counted left line rest cut in let few : reached ≤ n = so_far.few in omega arith)
+  ]
+
+-- the same, where the place is known by its number
+pub line_more : (n start : ℕ) (piece : List ℕ) (gathered now : List (List ℕ)) (next reached reached_now size place : ℕ) (left line rest : List ℕ) → Dealing n start piece gathered next reached left
+    → IsFirstLine left line rest → now ≡ changed_at next (λ had. had ++ line) gathered → reached_now ≡ max reached (next + 1) → size ≡ n → place ≡ (next + 1) % size
+    → Dealing n start piece now place reached_now rest
+line_more n start piece gathered now next reached reached_now size place left line rest so_far cut is reached_is same goes =
+    rw (goes, same) (complete_line n start piece gathered now next reached reached_now left line rest so_far cut.first cut.counted is reached_is)
+
+-- no complete line is left: behind the open one nothing is
+open_line : (n start : ℕ) (piece : List ℕ) (gathered now : List (List ℕ)) (next reached reached_now : ℕ) (line : List ℕ) → Dealing n start piece gathered next reached line
+    → newlines line ≡ 0 → 0 < length line → now ≡ changed_at next (λ had. had ++ line) gathered → reached_now ≡ max reached (next + 1) → Dealing n start piece now next reached_now []
+open_line n start piece gathered now next reached reached_now line so_far none some is reached_is = record {
+  count = ap length is ∙ length-changed_at next _ gathered ∙ so_far.count;
+  within = so_far.within;
+  shares = λ file inside. ap (λ those. get_or those file [] ++ []) is
+      ∙ shares_next n next next gathered line [] file so_far.count so_far.within inside refl
+      ∙ ap (λ lines. get_or gathered file [] ++ dealt n file next lines) (sym one_line) ∙ so_far.shares file inside;
+  ends = ap (λ count. (next + count) % n) (sym none) ∙ so_far.ends;
+  reaches = let all = so_far.reaches in let one : line_count line ≡ 1 = ap length one_line in let few : reached ≤ n = so_far.few in let inside : next < n = so_far.within in omega arith;
+  few = let inside : next < n = so_far.within in let few : reached ≤ n = so_far.few in omega arith;
+  over = omega arith;
+} where
+  one_line : lines_of line ≡ line ∷ []
+  one_line = lines_of-open line some (has_none line none)
+
+-- all is gathered
+
+gathered_all : (n start : ℕ) (piece : List ℕ) (gathered : List (List ℕ)) (next reached : ℕ) (left : List ℕ) → Dealing n start piece gathered next reached left → left ≡ [] → gathered ≡ dealt_piece n start piece
+gathered_all n start piece gathered next reached left so_far none =
+    ext_get_or [] gathered (dealt_piece n start piece) (so_far.count ∙ sym (length-map-range_with_len (λ file. dealt n file start (lines_of piece)) 0 n))
+    (λ file inside. each file (let count : length gathered ≡ n = so_far.count in omega arith)) where
+  each : (file : ℕ) → file < n → get_or gathered file [] ≡ get_or (dealt_piece n start piece) file []
+  each file inside =
+      sym (append-nil (get_or gathered file [])) ∙ sym (ap (λ those. get_or gathered file [] ++ dealt n file next (lines_of those)) none) ∙ so_far.shares file inside
+      ∙ sym (get_or-map-range_with_len (λ at. dealt n at start (lines_of piece)) 0 n file file [] inside (omega arith))
+
+ends_at : (n start : ℕ) (piece : List ℕ) (gathered : List (List ℕ)) (next reached : ℕ) (left : List ℕ) → Dealing n start piece gathered next reached left → left ≡ [] → next ≡ (start + newlines piece) % n
+ends_at n start piece gathered next reached left so_far none =
+    let here : next + newlines left ≡ next = (let zero : newlines left ≡ 0 = ap newlines none in omega arith) in
+    sym (ap (λ place. place % n) here ∙ mod-eq_of_lt so_far.within) ∙ so_far.ends
+
+reached_all : (n start : ℕ) (piece : List ℕ) (gathered : List (List ℕ)) (next reached : ℕ) (left : List ℕ) → Dealing n start piece gathered next reached left → left ≡ [] → reached ≡ reached_by n start piece
+reached_all n start piece gathered next reached left so_far none =
+    let over : next ≤ reached = so_far.over in let no_more : line_count left ≡ 0 = ap line_count none in let all = so_far.reaches in let few : reached ≤ n = so_far.few in let inside : next < n = so_far.within in omega arith
+
+-- one member was put in its place
+pub appended : (gathered : List (List ℕ)) (place : ℕ) (had now line : List ℕ) {E : Type 0} (result : Result (Unit {0}) E) → place < length gathered → had ≡ get_or gathered place had → OnOk result (now ≡ had ++ line)
+    → OnOk result (set gathered place now ≡ changed_at place (λ those. those ++ line) gathered)
+appended gathered place had now line (Ok u) within at is = ap (set gathered place) is ∙ set-changed gathered place (λ those. those ++ line) had within at
+appended gathered place had now line (Err fault) within at is = tt
+
+-- what the gathering answers, where nothing is left
+pub record Gathers (n start : ℕ) (piece : List ℕ) (gathered : List (List ℕ)) (next reached : ℕ) : Type 0 where
+  pub gathered_is : gathered ≡ dealt_piece n start piece
+  pub next_is : next ≡ (start + newlines piece) % n
+  pub reached_is : reached ≡ reached_by n start piece
+
+ended : (n start : ℕ) (piece : List ℕ) (gathered : List (List ℕ)) (next reached : ℕ) → Dealing n start piece gathered next reached [] → Gathers n start piece gathered next reached
+ended n start piece gathered next reached so_far = record {
+  gathered_is = gathered_all n start piece gathered next reached [] so_far refl;
+  next_is = ends_at n start piece gathered next reached [] so_far refl;
+  reached_is = reached_all n start piece gathered next reached [] so_far refl;
+}
+
+none_left : (x : List ℕ) → length x ≡ 0 → x ≡ []
+none_left [] none = refl
+none_left (byte ∷ x) none = absurd (omega (arith, none))
+
+pub ends_here : (n start : ℕ) (piece : List ℕ) (gathered : List (List ℕ)) (next reached : ℕ) (left line : List ℕ) → Dealing n start piece gathered next reached left → line ≡ left → eqb (length line) 0 ≡ true
+    → Gathers n start piece gathered next reached
+ends_here n start piece gathered next reached left line so_far same none =
+    ended n start piece gathered next reached (subst (λ those. Dealing n start piece gathered next reached those) (none_left left (ap length (sym same) ∙ eqb-true (length line) 0 none)) so_far)
+
+pub ends_open : (n start : ℕ) (piece : List ℕ) (gathered now : List (List ℕ)) (next reached reached_now : ℕ) (left line : List ℕ) → Dealing n start piece gathered next reached left → line ≡ left → newlines left ≡ 0
+    → eqb (length line) 0 ≡ false → now ≡ changed_at next (λ had. had ++ line) gathered → reached_now ≡ max reached (next + 1) → Gathers n start piece now next reached_now
+ends_open n start piece gathered now next reached reached_now left line so_far same none some is reached_is =
+    let more : length line ≢ 0 = eqb-false (length line) 0 some in
+    ended n start piece now next reached_now
+    (open_line n start piece gathered now next reached reached_now line (subst (λ those. Dealing n start piece gathered next reached those) (sym same) so_far) (ap newlines same ∙ none) (omega (arith, more)) is reached_is)

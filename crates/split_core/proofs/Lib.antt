@@ -1,0 +1,14 @@
+pub mod StepLemmas
+pub mod HeldLemmas
+pub mod MoveLemmas
+pub mod PartsLemmas
+pub mod TurnLemmas
+pub mod TakenLemmas
+pub mod PassLemmas
+pub mod PartSplitterLemmas
+pub mod AheadLemmas
+pub mod DealLemmas
+pub mod FileSteps
+pub mod FilesLemmas
+pub mod RoundLemmas
+pub mod SplitterLemmas

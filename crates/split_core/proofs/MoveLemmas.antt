@@ -1,0 +1,289 @@
+-- How the files of `split` change, as they are opened, written and closed.
+use Rattle.std.proofs.Common.{◌≡◌, ℕ, ◌+◌, ◌-◌, ◌<◌, ◌≤◌, zero, suc, List, [], ◌∷◌, ◌++◌, length, map, take, drop, Bool, true, false, cond, not, ◌&&◌, IsTrue, Option, Some, None, Result, Ok, Err, ◌⊎◌, inl, inr, refl, sym, ◌∙◌, ap, subst, arith, append_assoc, length-append}
+use Rattle.std.proofs.lemmas.List.{append-nil, length-map}
+use Rattle.std.proofs.lemmas.Bool.{false≢true}
+use Rattle.ports_core.specs.Name.{Naming, next_name, has_next, with_one_drawn}
+use Rattle.ports_core.specs.Slot.{Slot, Rose, slot_at, changed_at, opened, unopened, adds, closes, breaks, with_written, with_broken, told_of, is_writable, is_closable}
+use Rattle.ports_core.specs.declared.slot.Mode.TheVariants.{Fresh}
+use Rattle.ports_core.specs.declared.slot.State.TheVariants as state
+use Rattle.ports_core.specs.Write.{BrokeAfter}
+use Rattle.ports_core.specs.Part.{File, Part, OutputsAt, Begins, IsNext, Marks, StoppedBetween}
+use Rattle.ports_core.specs.declared.fault.Fault.{Fault}
+use Rattle.ports_core.specs.declared.fault.Fault.TheVariants.{Memory, Write, Read, Open, Suffixes, NoMatch, Range, Usage, Failed, TooLong}
+use Rattle.ports_core.proofs.PartLemmas.{begins_itself, begins_more, take_begins_behind, part_trans, stopped_here, stopped_between, sound_at, broken_at, part_begins_itself}
+use Rattle.ports_core.proofs.FileLemmas.{file_more, last_changes, gets, ended, write_makes, close_makes}
+use Rattle.ports_core.proofs.WriteLemmas.{writable-written}
+use Rattle.ports_core.proofs.SlotLemmas.{length-changed_at}
+use Rattle.split_core.specs.Split.{Share, share, is_named, are_named, file_at, named, name_of}
+use Rattle.split_core.specs.ShareLaws.{SharesBegin, shares_themselves, shares_more, shares_behind, last_grows, part_begins, no_more}
+use Rattle.split_core.specs.Moves.{part_of, Moves, Halts, KeepsBroken, Breaks, OpensNone, WritesShort, broke}
+
+-- names
+
+named_before : (names : Naming) (place more : ℕ) → is_named names more ≡ true → place ≤ more → is_named names place ≡ true
+named_before names place more is less = by (is_named names place) refl where
+  by : (b : Bool) → is_named names place ≡ b → is_named names place ≡ true
+  by true e = e
+  by false e = absurd (false≢true (sym (no_more names place more e less) ∙ is))
+
+-- the files of shares that all have names, and of those behind them
+pub named_on : (names : Naming) (place : ℕ) (front rest : List Share) → is_named names (place + length front) ≡ true → named names place (front ++ rest) ≡ named names place front ++ named names (place + length front) rest
+named_on names place [] rest is = ap (λ n. named names n rest) (same place) where
+  same : (n : ℕ) → n ≡ n + 0
+  same n = omega arith
+named_on names place (one ∷ front) rest is =
+    ap (λ has. cond has (file_at names place one ∷ named names (place + 1) (front ++ rest)) []) here
+    ∙ ap (λ files. file_at names place one ∷ files) (named_on names (place + 1) front rest (subst (λ n. is_named names n ≡ true) (moved place (length front)) is))
+    ∙ ap (λ n. file_at names place one ∷ (named names (place + 1) front ++ named names n rest)) (sym (moved place (length front)))
+    ∙ ap (λ has. cond has (file_at names place one ∷ named names (place + 1) front) [] ++ named names (place + suc (length front)) rest) (sym here) where
+  moved : (n m : ℕ) → n + suc m ≡ n + 1 + m
+  moved n m = omega arith
+
+  here : is_named names place ≡ true
+  here = named_before names place (place + suc (length front)) is (omega arith)
+
+pub named_last : (names : Naming) (front : List Share) (one : Share) → is_named names (length front) ≡ true → named names 0 (front ++ one ∷ []) ≡ named names 0 front ++ file_at names (length front) one ∷ []
+named_last names front one is =
+    named_on names 0 front (one ∷ []) (subst (λ n. is_named names n ≡ true) (sym (none (length front))) is)
+    ∙ ap (λ n. named names 0 front ++ named names n (one ∷ [])) (none (length front))
+    ∙ ap (λ has. named names 0 front ++ cond has (file_at names (length front) one ∷ []) []) is where
+  none : (n : ℕ) → 0 + n ≡ n
+  none n = omega arith
+
+-- how many were drawn doesn't matter
+pub named_drawn : (names : Naming) (drawn place : ℕ) (shares : List Share) → named (record names { drawn = drawn }) place shares ≡ named names place shares
+named_drawn names drawn place [] = refl
+named_drawn names drawn place (one ∷ shares) = ap (λ files. cond (is_named names place) (file_at names place one ∷ files) []) (named_drawn names drawn (place + 1) shares)
+
+pub part_drawn : (names next : Naming) (shares : List Share) → next ≡ record names { drawn = next.drawn } → part_of next shares ≡ part_of names shares
+part_drawn names next shares is = ap (λ (those : Naming). part_of those shares) is ∙ ap (λ files. record { out = []; files = files }) (named_drawn names next.drawn 0 shares)
+
+-- from one state of the outputs to another
+
+pub moves_same : (told : Bool) (names : Naming) (shares : List Share) (old new : List Slot) → new ≡ old → Moves told names shares shares old new
+moves_same told names shares old new is before at = subst (OutputsAt told before (part_of names shares)) (sym is) at
+
+pub moves_same_by : (told : Bool) (names : Naming) (low high : List Share) (old new : List Slot) → low ≡ high → new ≡ old → Moves told names low high old new
+moves_same_by told names low high old new same is = subst (λ shares. Moves told names low shares old new) same (moves_same told names low old new is)
+
+pub moves_again : (told : Bool) (names : Naming) (low middle high : List Share) (old mid new : List Slot) → Moves told names low middle old mid → Moves told names middle high mid new → Moves told names low high old new
+moves_again told names low middle high old mid new first second before at = second before (first before at)
+
+pub moves_by : (told : Bool) (names next : Naming) (low high : List Share) (old new : List Slot) → next ≡ record names { drawn = next.drawn } → Moves told next low high old new → Moves told names low high old new
+moves_by told names next low high old new is moves before at =
+    subst (λ part. OutputsAt told before part new) (part_drawn names next high is) (moves before (subst (λ part. OutputsAt told before part old) (sym (part_drawn names next low is)) at))
+
+pub halts_by : (told : Bool) (names next : Naming) (low high : List Share) (old new : List Slot) (fault : Fault) → next ≡ record names { drawn = next.drawn } → Halts told next low high old new fault → Halts told names low high old new fault
+halts_by told names next low high old new fault is halts before at =
+    subst (λ part. StoppedBetween told before part (part_of names high) fault new) (part_drawn names next low is)
+    (subst (λ part. StoppedBetween told before (part_of next low) part fault new) (part_drawn names next high is)
+    (halts before (subst (λ part. OutputsAt told before part old) (sym (part_drawn names next low is)) at)))
+
+pub halts_after : (told : Bool) (names : Naming) (low middle high : List Share) (old mid new : List Slot) (fault : Fault) → SharesBegin low middle → Moves told names low middle old mid → Halts told names middle high mid new fault → Halts told names low high old new fault
+halts_after told names low middle high old mid new fault begins moves halts before at =
+    stopped_between told before (part_of names low) (part_of names middle) (part_of names high) (part_of names high) fault new (part_begins names low middle begins) (halts before (moves before at)) (part_begins_itself _)
+
+pub halts_wider : (told : Bool) (names : Naming) (low middle high : List Share) (old new : List Slot) (fault : Fault) → Halts told names low middle old new fault → SharesBegin middle high → Halts told names low high old new fault
+halts_wider told names low middle high old new fault halts begins before at =
+    stopped_between told before (part_of names low) (part_of names low) (part_of names middle) (part_of names high) fault new (part_begins_itself _) (halts before at) (part_begins names middle high begins)
+
+-- a fault that marks nothing
+pub halts_here : (told : Bool) (names : Naming) (low high : List Share) (old new : List Slot) (fault : Fault) → SharesBegin low high → Marks (IsNext (part_of names low) (part_of names high)) fault old new → Halts told names low high old new fault
+halts_here told names low high old new fault begins marks before at = stopped_here told before (part_of names low) (part_of names high) fault old new at (part_begins names low high begins) marks
+
+-- the file of the part that was begun is the last output
+
+pub last_moves : (told : Bool) (change : Slot → Slot) (makes : File → File) → ((slot : Slot) (file : File) → Rattle.ports_core.specs.Part.file_of slot ≡ Rattle.ports_core.specs.Part.told_file told file → Rattle.ports_core.specs.Part.file_of (change slot) ≡ Rattle.ports_core.specs.Part.told_file told (makes file))
+    → (names : Naming) (shares : List Share) (one other : Share) (old new : List Slot) (slot : ℕ) → makes (file_at names (length shares) one) ≡ file_at names (length shares) other → is_named names (length shares) ≡ true → suc slot ≡ length old → new ≡ changed_at slot change old
+    → Moves told names (shares ++ one ∷ []) (shares ++ other ∷ []) old new
+last_moves told change makes fits names shares one other old new slot makes_it is last change_is before at =
+    subst (λ files. OutputsAt told before (record { out = []; files = files }) new) (ap (λ file. named names 0 shares ++ file ∷ []) makes_it ∙ sym (named_last names shares other is))
+    (last_changes told change makes fits before (part_of names (shares ++ one ∷ [])) (named names 0 shares) (file_at names (length shares) one) old new slot (named_last names shares one is) last at change_is)
+
+pub write_moves : (told : Bool) (names : Naming) (shares : List Share) (begun bytes : List ℕ) (old new : List Slot) (slot : ℕ) → is_named names (length shares) ≡ true → suc slot ≡ length old → new ≡ with_written slot (told_of told bytes) old
+    → Moves told names (shares ++ share state.Open begun ∷ []) (shares ++ share state.Open (begun ++ bytes) ∷ []) old new
+write_moves told names shares begun bytes old new slot is last wrote =
+    last_moves told (adds (told_of told bytes)) (gets bytes) (write_makes told bytes) names shares (share state.Open begun) (share state.Open (begun ++ bytes)) old new slot refl is last wrote
+
+pub close_moves : (told : Bool) (names : Naming) (shares : List Share) (begun : List ℕ) (old new : List Slot) (slot : ℕ) → is_named names (length shares) ≡ true → suc slot ≡ length old → new ≡ changed_at slot closes old
+    → Moves told names (shares ++ share state.Open begun ∷ []) (shares ++ share state.Closed begun ∷ []) old new
+close_moves told names shares begun old new slot is last closed =
+    last_moves told closes ended (close_makes told) names shares (share state.Open begun) (share state.Closed begun) old new slot refl is last closed
+
+pub write_halts : (told : Bool) (names : Naming) (shares : List Share) (begun bytes : List ℕ) (old new : List Slot) (slot : ℕ) (fault : Fault) → is_named names (length shares) ≡ true → suc slot ≡ length old → WritesShort told slot bytes old new fault
+    → Halts told names (shares ++ share state.Open begun ∷ []) (shares ++ share state.Open (begun ++ bytes) ∷ []) old new fault
+write_halts told names shares begun bytes old new slot _ is last (broke n cut) =
+    halts_after told names _ (shares ++ share state.Open (begun ++ take n bytes) ∷ []) _ old (with_written slot (told_of told (take n bytes)) old) new (Write slot)
+    (last_grows shares [] (share state.Open begun) (share state.Open (begun ++ take n bytes)) (begins_more begun (take n bytes)))
+    (write_moves told names shares begun (take n bytes) old _ slot is last refl)
+    (halts_here told names _ _ _ new (Write slot) (last_grows shares [] (share state.Open (begun ++ take n bytes)) (share state.Open (begun ++ bytes)) (take_begins_behind n begun bytes)) cut.slots)
+
+pub close_halts : (told : Bool) (names : Naming) (shares more : List Share) (begun : List ℕ) (old new : List Slot) (slot : ℕ) → is_named names (length shares) ≡ true → suc slot ≡ length old → new ≡ with_broken slot (changed_at slot closes old)
+    → Halts told names (shares ++ share state.Open begun ∷ []) (shares ++ share state.Closed begun ∷ more) old new (Write slot)
+close_halts told names shares more begun old new slot is last closed =
+    halts_after told names _ (shares ++ share state.Closed begun ∷ []) _ old (changed_at slot closes old) new (Write slot)
+    (last_grows shares [] (share state.Open begun) (share state.Closed begun) (begins_itself begun))
+    (close_moves told names shares begun old _ slot is last refl)
+    (halts_here told names _ _ _ new (Write slot) (last_grows shares more (share state.Closed begun) (share state.Closed begun) (begins_itself begun)) closed)
+
+pub open_moves : (told : Bool) (names : Naming) (shares : List Share) (old new : List Slot) → is_named names (length shares) ≡ true → names.drawn ≡ length shares → new ≡ old ++ opened (next_name names) Fresh ∷ []
+    → Moves told names shares (shares ++ share state.Open [] ∷ []) old new
+open_moves told names shares old new is drawn made before at =
+    subst (λ files. OutputsAt told before (record { out = []; files = files }) new)
+    (ap (λ n. named names 0 shares ++ file_at names n (share state.Open []) ∷ []) drawn ∙ sym (named_last names shares (share state.Open []) is))
+    (file_more told before (part_of names shares) old new (next_name names) Fresh at made)
+
+-- the next file in order has the next name
+next_file : (names : Naming) (shares more : List Share) (one : Share) → is_named names (length shares) ≡ true → names.drawn ≡ length shares → (kept : List ℕ) → kept ≡ next_name names → IsNext (part_of names shares) (part_of names (shares ++ one ∷ more)) kept
+next_file names shares more one is drawn kept named_so = record {
+  front = named names 0 shares;
+  file = file_at names (length shares) one;
+  rest = named names (length shares + 1) more;
+  files = named_on names 0 shares (one ∷ more) (subst (λ n. is_named names n ≡ true) (sym (none (length shares))) is)
+      ∙ ap (λ n. named names 0 shares ++ named names n (one ∷ more)) (none (length shares))
+      ∙ ap (λ has. named names 0 shares ++ cond has (file_at names (length shares) one ∷ named names (length shares + 1) more) []) is;
+  place = refl;
+  name_is = ap (λ n. name_of names n) (sym drawn) ∙ sym named_so;
+} where
+  none : (n : ℕ) → 0 + n ≡ n
+  none n = omega arith
+
+pub open_halts : (told : Bool) (names : Naming) (shares more : List Share) (one : Share) (old new : List Slot) (fault : Fault) → names.drawn ≡ length shares → OpensNone names old new fault → Halts told names shares (shares ++ one ∷ more) old new fault
+open_halts told names shares more one old new Memory drawn none = halts_here told names shares (shares ++ one ∷ more) old new Memory (shares_more shares (one ∷ more)) none
+open_halts told names shares more one old new (Open slot) drawn none =
+    halts_here told names shares (shares ++ one ∷ more) old new (Open slot) (shares_more shares (one ∷ more)) (none.0, (none.2.0, kept_name none.2.0 none.2.1, none.2.2)) where
+  kept_name : (kept : List ℕ) → (kept ≡ next_name names) ⊎ (kept ≡ []) → IsNext (part_of names shares) (part_of names (shares ++ one ∷ more)) kept ⊎ (kept ≡ [])
+  kept_name kept (inl same) = inl (next_file names shares more one (subst (λ n. is_named names n ≡ true) drawn none.1) drawn kept same)
+  kept_name kept (inr lost) = inr lost
+open_halts told names shares more one old new Suffixes drawn none = halts_here told names shares (shares ++ one ∷ more) old new Suffixes (shares_more shares (one ∷ more)) none.1
+open_halts told names shares more one old new (Write slot) drawn none = absurd none
+open_halts told names shares more one old new (Read slot) drawn none = absurd none
+open_halts told names shares more one old new (NoMatch operand repetition) drawn none = absurd none
+open_halts told names shares more one old new (Range operand repetition) drawn none = absurd none
+open_halts told names shares more one old new (Usage kind word) drawn none = absurd none
+open_halts told names shares more one old new Failed drawn none = absurd none
+open_halts told names shares more one old new TooLong drawn none = absurd none
+
+-- what was broken stays so
+
+flag_stays : (change : Slot → Slot) → ((slot : Slot) → (change slot).is_broken ≡ slot.is_broken) → (place other : ℕ) (slots : List Slot) → (slot_at (changed_at place change slots) other).is_broken ≡ (slot_at slots other).is_broken
+flag_stays change same place other [] = refl
+flag_stays change same zero zero (slot ∷ slots) = same slot
+flag_stays change same zero (suc other) (slot ∷ slots) = refl
+flag_stays change same (suc place) zero (slot ∷ slots) = refl
+flag_stays change same (suc place) (suc other) (slot ∷ slots) = flag_stays change same place other slots
+
+pub keeps_same : (old new : List Slot) → new ≡ old → KeepsBroken old new
+keeps_same old new is place sound = subst (λ those. (slot_at those place).is_broken ≡ false) is sound
+
+pub keeps_again : (old mid new : List Slot) → KeepsBroken old mid → KeepsBroken mid new → KeepsBroken old new
+keeps_again old mid new first second place sound = first place (second place sound)
+
+keeps_change : (change : Slot → Slot) → ((slot : Slot) → (change slot).is_broken ≡ slot.is_broken) → (slot : ℕ) (old new : List Slot) → new ≡ changed_at slot change old → KeepsBroken old new
+keeps_change change same slot old new is place sound = sym (flag_stays change same slot place old) ∙ ap (λ those. (slot_at those place).is_broken) (sym is) ∙ sound
+
+pub keeps_write : (slot : ℕ) (bytes : List ℕ) (old new : List Slot) → new ≡ with_written slot bytes old → KeepsBroken old new
+keeps_write slot bytes old new is = keeps_change (adds bytes) (λ one. refl) slot old new is
+
+pub keeps_close : (slot : ℕ) (old new : List Slot) → new ≡ changed_at slot closes old → KeepsBroken old new
+keeps_close slot old new is = keeps_change closes (λ one. refl) slot old new is
+
+sound_before : (slots : List Slot) (one : Slot) (place : ℕ) → (slot_at (slots ++ one ∷ []) place).is_broken ≡ false → (slot_at slots place).is_broken ≡ false
+sound_before [] one place sound = refl
+sound_before (slot ∷ slots) one zero sound = sound
+sound_before (slot ∷ slots) one (suc place) sound = sound_before slots one place sound
+
+pub keeps_open : (one : Slot) (old new : List Slot) → new ≡ old ++ one ∷ [] → KeepsBroken old new
+keeps_open one old new is place sound = sound_before old one place (ap (λ those. (slot_at those place).is_broken) (sym is) ∙ sound)
+
+-- and what breaks was sound
+
+broken_there : (place : ℕ) (slots : List Slot) → place < length slots → (slot_at (with_broken place slots) place).is_broken ≡ true
+broken_there place [] within = absurd (omega (arith, within))
+broken_there zero (slot ∷ slots) within = refl
+broken_there (suc place) (slot ∷ slots) within = broken_there place slots (omega arith)
+
+pub rose_later : (slot : ℕ) (old mid new : List Slot) → KeepsBroken old mid → Rose slot mid new → Rose slot old new
+rose_later slot old mid new keeps rose = (keeps slot rose.0, rose.1)
+
+pub breaks_later : (old mid new : List Slot) (fault : Fault) → KeepsBroken old mid → Breaks mid new fault → Breaks old new fault
+breaks_later old mid new Memory keeps breaks = tt
+breaks_later old mid new (Write slot) keeps breaks = rose_later slot old mid new keeps breaks
+breaks_later old mid new (Open slot) keeps breaks = rose_later slot old mid new keeps breaks
+breaks_later old mid new Suffixes keeps breaks = tt
+breaks_later old mid new (Read slot) keeps breaks = absurd breaks
+breaks_later old mid new (NoMatch operand repetition) keeps breaks = absurd breaks
+breaks_later old mid new (Range operand repetition) keeps breaks = absurd breaks
+breaks_later old mid new (Usage kind word) keeps breaks = absurd breaks
+breaks_later old mid new Failed keeps breaks = absurd breaks
+breaks_later old mid new TooLong keeps breaks = absurd breaks
+
+pub write_breaks : (told : Bool) (slot : ℕ) (bytes : List ℕ) (old new : List Slot) (fault : Fault) → IsTrue (is_writable old slot) → WritesShort told slot bytes old new fault → Breaks old new fault
+write_breaks told slot bytes old new _ can (broke n cut) = (
+  sound_at slot old can,
+  ap (λ those. (slot_at those slot).is_broken) cut.slots ∙ broken_at slot (with_written slot (told_of told (take n bytes)) old) (writable-written old slot slot (told_of told (take n bytes)) ∙ can),
+)
+
+pub close_breaks : (slot : ℕ) (old new : List Slot) → IsTrue (is_writable old slot) → slot < length old → new ≡ with_broken slot (changed_at slot closes old) → Rose slot old new
+close_breaks slot old new can within is = (
+  sound_at slot old can,
+  ap (λ those. (slot_at those slot).is_broken) is ∙ broken_there slot (changed_at slot closes old) (let same : length (changed_at slot closes old) ≡ length old = length-changed_at slot closes old in omega arith),
+)
+
+at_end : (slots : List Slot) (one : Slot) → slot_at (slots ++ one ∷ []) (length slots) ≡ one
+at_end [] one = refl
+at_end (slot ∷ slots) one = at_end slots one
+
+past_end : (slots : List Slot) → (slot_at slots (length slots)).is_broken ≡ false
+past_end [] = refl
+past_end (slot ∷ slots) = past_end slots
+
+pub open_breaks : (names : Naming) (old new : List Slot) (fault : Fault) → OpensNone names old new fault → Breaks old new fault
+open_breaks names old new Memory none = tt
+open_breaks names old new (Open slot) none = (
+  ap (λ n. (slot_at old n).is_broken) none.0 ∙ past_end old,
+  ap (λ those. (slot_at those slot).is_broken) none.2.2 ∙ ap (λ n. (slot_at (old ++ unopened none.2.0 ∷ []) n).is_broken) none.0 ∙ ap (λ (one : Slot). one.is_broken) (at_end old (unopened none.2.0)),
+)
+open_breaks names old new Suffixes none = tt
+open_breaks names old new (Write slot) none = absurd none
+open_breaks names old new (Read slot) none = absurd none
+open_breaks names old new (NoMatch operand repetition) none = absurd none
+open_breaks names old new (Range operand repetition) none = absurd none
+open_breaks names old new (Usage kind word) none = absurd none
+open_breaks names old new Failed none = absurd none
+open_breaks names old new TooLong none = absurd none
+
+-- which output is the last, and can be written
+
+pub opened_last : (old new : List Slot) (slot : ℕ) (name : List ℕ) → slot ≡ length old → new ≡ old ++ opened name Fresh ∷ [] → suc slot ≡ length new
+opened_last old new slot name at is =
+    let size : length new ≡ length old + 1 = ap length is ∙ length-append old (opened name Fresh ∷ []) in omega (arith, at)
+
+pub opened_writable : (old new : List Slot) (slot : ℕ) (name : List ℕ) → slot ≡ length old → new ≡ old ++ opened name Fresh ∷ [] → IsTrue (is_writable new slot)
+opened_writable old new slot name at is =
+    ap (λ those. is_writable those slot) is ∙ ap (λ n. is_writable (old ++ opened name Fresh ∷ []) n) at
+    ∙ ap (λ (one : Slot). Rattle.ports_core.specs.Slot.can_write one) (at_end old (opened name Fresh))
+
+pub written_last : (old new : List Slot) (slot : ℕ) (bytes : List ℕ) → suc slot ≡ length old → new ≡ with_written slot bytes old → suc slot ≡ length new
+written_last old new slot bytes last is = last ∙ sym (ap length is ∙ length-changed_at slot (adds bytes) old)
+
+pub written_writable : (old new : List Slot) (slot : ℕ) (bytes : List ℕ) → IsTrue (is_writable old slot) → new ≡ with_written slot bytes old → IsTrue (is_writable new slot)
+written_writable old new slot bytes can is = ap (λ those. is_writable those slot) is ∙ writable-written old slot slot bytes ∙ can
+
+-- a write doesn't fail for want of names
+pub no_suffixes : (told : Bool) (slot : ℕ) (bytes : List ℕ) (old new : List Slot) (f : Fault) → WritesShort told slot bytes old new f → f ≡ Suffixes → ⊥
+no_suffixes told slot bytes old new _ (broke n cut) is = not_write is where
+  is_write : Fault → Bool
+  is_write (Write slot) = true
+  is_write Memory = false
+  is_write (Read slot) = false
+  is_write (Open slot) = false
+  is_write Suffixes = false
+  is_write (NoMatch operand repetition) = false
+  is_write (Range operand repetition) = false
+  is_write (Usage kind word) = false
+  is_write Failed = false
+  is_write TooLong = false
+
+  not_write : Write slot ≡ Suffixes → ⊥
+  not_write e = false≢true (sym (ap is_write e))

@@ -1,0 +1,177 @@
+-- What each call on parts leaves: their files, and the part that was begun.
+use Rattle.std.proofs.Common.{◌≡◌, ℕ, ◌+◌, ◌-◌, ◌<◌, ◌≤◌, zero, suc, List, [], ◌∷◌, ◌++◌, length, map, take, drop, Bool, true, false, IsTrue, Option, Some, None, Result, Ok, Err, OnOk, IfErr, ◌⊎◌, inl, inr, refl, sym, ◌∙◌, ap, subst, arith, append_assoc, length-append}
+use Rattle.std.proofs.lemmas.List.{append-nil, length-map}
+use Rattle.std.proofs.lemmas.Bool.{false≢true}
+use Rattle.ports_core.specs.Name.{Naming, next_name, has_next, with_one_drawn}
+use Rattle.ports_core.specs.Slot.{Slot, changed_at, opened, closes, with_written, with_broken, told_of, is_writable, is_closable}
+use Rattle.ports_core.specs.declared.slot.Mode.TheVariants.{Fresh}
+use Rattle.ports_core.specs.declared.slot.State.TheVariants as state
+use Rattle.ports_core.specs.declared.fault.Fault.{Fault}
+use Rattle.ports_core.specs.declared.fault.Fault.TheVariants as fault
+use Rattle.split_core.specs.Parts.{most, unless_empty}
+use Rattle.split_core.specs.Split.{Share, share, is_some, is_named, are_named}
+use Rattle.split_core.specs.ShareLaws.{SharesBegin, shares_themselves, shares_trans, shares_more, shares_behind, last_grows}
+use Rattle.split_core.specs.PartsState.{PartsState, IsReady, is_given}
+use Rattle.split_core.specs.Moves.{Moves, Halts, KeepsBroken, Breaks, OpensNone, WritesShort, Begun, begun_share, HasFile, there, made, HasNone, FindsFile, IsLast, Extended, Interrupted, EndsFile, none_there, closed, failed}
+use Rattle.split_core.proofs.HeldLemmas.{written_both}
+use Rattle.split_core.proofs.MoveLemmas as move
+
+-- closing the file of the part that was begun
+
+pub ends_file : (parts next : PartsState) (slot : ℕ) (old new : List Slot) (result : Result (Unit {0}) Fault) → parts.current ≡ Some slot → next ≡ record parts { current = None } → OnOk result (new ≡ changed_at slot closes old)
+    → IfErr result (λ f. (f ≡ fault.Write slot) × (new ≡ with_broken slot (changed_at slot closes old))) → EndsFile parts old new next result
+ends_file parts next slot old new (Ok tt) is same ok err = closed slot is same ok
+ends_file parts next slot old new (Err f) is same ok err = subst (λ those. EndsFile parts old new next (Err those)) (sym err.0) (failed slot is same err.1)
+
+-- the file of the part that was begun, once it is there
+
+pub record FileFacts (told : Bool) (parts : PartsState) (old mid : List Slot) (next : PartsState) (slot : ℕ) : Type 0 where
+  pub same : next ≡ record parts { names = next.names; current = Some slot }
+  pub names_same : next.names ≡ record parts.names { drawn = next.names.drawn }
+  pub last_part : (shares : List Share) (begun : List ℕ) → Begun parts shares begun → IsLast next shares
+  pub named : (shares : List Share) (begun : List ℕ) → Begun parts shares begun → is_named parts.names (length shares) ≡ true
+  pub grows : (shares : List Share) (begun : List ℕ) → Begun parts shares begun → SharesBegin (shares ++ begun_share begun) (shares ++ share state.Open begun ∷ [])
+  pub moves : (shares : List Share) (begun : List ℕ) → Begun parts shares begun → Moves told parts.names (shares ++ begun_share begun) (shares ++ share state.Open begun ∷ []) old mid
+  pub keeps : KeepsBroken old mid
+  pub last : suc slot ≡ length mid
+  pub behind : 2 ≤ slot
+  pub writable : IsTrue (is_writable mid slot)
+
+pub some_share : (begun : List ℕ) → is_some begun ≡ true → begun_share begun ≡ share state.Open begun ∷ []
+some_share [] is = absurd (false≢true is)
+some_share (byte ∷ begun) is = refl
+
+none_begun : (begun : List ℕ) → is_some begun ≡ false → begun ≡ []
+none_begun [] is = refl
+none_begun (byte ∷ begun) is = absurd (false≢true (sym is))
+
+pub count_one : (shares : List Share) (one : Share) → length (shares ++ one ∷ []) ≡ suc (length shares)
+count_one [] one = refl
+count_one (share ∷ shares) one = ap suc (count_one shares one)
+
+there_facts : (told : Bool) (parts : PartsState) (old : List Slot) (slot : ℕ) → parts.current ≡ Some slot → IsReady parts.current old → FileFacts told parts old old parts slot
+there_facts told parts old slot is ready =
+    let open_file : (suc slot ≡ length old) × is_closable old slot = subst (λ current. IsReady current old) is ready in
+    record {
+      same = ap (λ current. record parts { current = current }) is;
+      names_same = refl;
+      last_part = λ shares begun has. record { drawn = has.drawn ∙ counted shares begun has; named = ap (are_named parts.names) (sym (counted shares begun has)) ∙ has.enough };
+      named = λ shares begun has. ap (are_named parts.names) (sym (counted shares begun has)) ∙ has.enough;
+      grows = λ shares begun has. subst (λ more. SharesBegin (shares ++ more) (shares ++ share state.Open begun ∷ [])) (sym (one_share begun has.given)) (shares_themselves _);
+      moves = λ shares begun has. subst (λ more. Moves told parts.names (shares ++ more) (shares ++ share state.Open begun ∷ []) old old) (sym (one_share begun has.given)) (move.moves_same told parts.names _ old old refl);
+      keeps = move.keeps_same old old refl;
+      last = open_file.0;
+      behind = open_file.1.0;
+      writable = open_file.1.1;
+    } where
+  one_share : (begun : List ℕ) → is_given parts.current ≡ is_some begun → begun_share begun ≡ share state.Open begun ∷ []
+  one_share begun given = some_share begun (sym given ∙ ap is_given is)
+
+  counted : (shares : List Share) (begun : List ℕ) → Begun parts shares begun → length (shares ++ begun_share begun) ≡ suc (length shares)
+  counted shares begun has = ap (λ more. length (shares ++ more)) (one_share begun has.given) ∙ count_one shares (share state.Open begun)
+
+made_facts : (told : Bool) (parts : PartsState) (old new : List Slot) (next : PartsState) (slot : ℕ) → parts.current ≡ None → IsReady parts.current old → slot ≡ length old → IsTrue (has_next parts.names)
+    → next ≡ record parts { names = with_one_drawn parts.names; current = Some slot } → new ≡ old ++ opened (next_name parts.names) Fresh ∷ [] → FileFacts told parts old new next slot
+made_facts told parts old new next slot none ready at has next_is made_it =
+    let streams : 2 ≤ length old = subst (λ current. IsReady current old) none ready in
+    record {
+      same = next_is ∙ ap (λ (those : Naming). record parts { names = those; current = Some slot }) (sym (ap (λ (those : PartsState). those.names) next_is));
+      names_same = ap (λ (those : PartsState). those.names) next_is ∙ ap (λ n. record parts.names { drawn = n }) (sym (ap (λ (those : PartsState). those.names.drawn) next_is));
+      last_part = λ shares begun had. record {
+        drawn = ap (λ (those : PartsState). those.names.drawn) next_is ∙ ap (λ n. n + 1) (drawn shares begun had) ∙ one_more (length shares);
+        named = ap (λ (those : PartsState). is_named those.names (length shares)) next_is ∙ named_here shares begun had;
+      };
+      named = named_here;
+      grows = λ shares begun had. subst (λ those. SharesBegin (shares ++ begun_share those) (shares ++ share state.Open those ∷ [])) (sym (no_bytes begun had))
+          (subst (λ low. SharesBegin low (shares ++ share state.Open [] ∷ [])) (sym (append-nil shares)) (shares_more shares (share state.Open [] ∷ [])));
+      moves = λ shares begun had. subst (λ those. Moves told parts.names (shares ++ begun_share those) (shares ++ share state.Open those ∷ []) old new) (sym (no_bytes begun had))
+          (subst (λ low. Moves told parts.names low (shares ++ share state.Open [] ∷ []) old new) (sym (append-nil shares))
+          (move.open_moves told parts.names shares old new (named_here shares begun had) (drawn shares begun had) made_it));
+      keeps = move.keeps_open (opened (next_name parts.names) Fresh) old new made_it;
+      last = move.opened_last old new slot (next_name parts.names) at made_it;
+      behind = omega (arith, at, streams);
+      writable = move.opened_writable old new slot (next_name parts.names) at made_it;
+    } where
+  one_more : (n : ℕ) → n + 1 ≡ suc n
+  one_more n = omega arith
+
+  no_bytes : (begun : List ℕ) {shares : List Share} → Begun parts shares begun → begun ≡ []
+  no_bytes begun had = none_begun begun (sym had.given ∙ ap is_given none)
+
+  drawn : (shares : List Share) (begun : List ℕ) → Begun parts shares begun → parts.names.drawn ≡ length shares
+  drawn shares begun had = had.drawn ∙ ap (λ those. length (shares ++ begun_share those)) (no_bytes begun had) ∙ ap length (append-nil shares)
+
+  named_here : (shares : List Share) (begun : List ℕ) → Begun parts shares begun → is_named parts.names (length shares) ≡ true
+  named_here shares begun had = ap (is_named parts.names) (sym (drawn shares begun had)) ∙ has
+
+pub file_facts : (told : Bool) (parts : PartsState) (old new : List Slot) (next : PartsState) (slot : ℕ) → IsReady parts.current old → HasFile parts old new next slot → FileFacts told parts old new next slot
+file_facts told parts old new next slot ready (there is next_is same) =
+    subst (λ those. FileFacts told parts old new those slot) (sym next_is) (subst (λ those. FileFacts told parts old those parts slot) (sym same) (there_facts told parts old slot is ready))
+file_facts told parts old new next slot ready (made none at has next_is made_it) = made_facts told parts old new next slot none ready at has next_is made_it
+
+-- writing to the part that was begun
+
+all_behind : (begun waiting bytes : List ℕ) → (begun ++ waiting) ++ bytes ≡ begun ++ (waiting ++ bytes)
+all_behind begun waiting bytes = append_assoc begun waiting bytes
+
+pub extended : (told : Bool) (parts : PartsState) (bytes : List ℕ) (old mid wet new : List Slot) (found next : PartsState) (slot : ℕ) → FileFacts told parts old mid found slot → wet ≡ with_written slot (told_of told parts.waiting) mid → new ≡ with_written slot (told_of told bytes) wet
+    → next ≡ record found { waiting = [] } → Extended told parts bytes old new next slot
+extended told parts bytes old mid wet new found next slot facts one other is = record {
+  same = is ∙ ap (λ (those : PartsState). record those { waiting = [] }) facts.same ∙ ap (λ (names : Naming). record parts { names = names; waiting = []; current = Some slot }) (sym (ap (λ (those : PartsState). those.names) is));
+  names_same = ap (λ (those : PartsState). those.names) is ∙ facts.names_same ∙ ap (λ n. record parts.names { drawn = n }) (sym (ap (λ (those : PartsState). those.names.drawn) is));
+  drawn = λ shares begun has. subst (λ (names : Naming). IsLast (record next { names = names }) shares) (sym (ap (λ (those : PartsState). those.names) is))
+      (let there : IsLast found shares = facts.last_part shares begun has in record { drawn = there.drawn; named = there.named });
+  moves = λ shares begun has. move.moves_again told parts.names _ (shares ++ share state.Open begun ∷ []) _ old mid new (facts.moves shares begun has)
+      (move.write_moves told parts.names shares begun (parts.waiting ++ bytes) mid new slot (facts.named shares begun has) facts.last both);
+  keeps = move.keeps_again old mid new facts.keeps (move.keeps_write slot _ mid new both);
+  ready = (move.written_last mid new slot _ facts.last both, (facts.behind, move.written_writable mid new slot _ facts.writable both));
+} where
+  both : new ≡ with_written slot (told_of told (parts.waiting ++ bytes)) mid
+  both = written_both told slot parts.waiting bytes mid wet new one other
+
+-- a fault of the write of what waits
+
+pub held_short : (told : Bool) (parts : PartsState) (bytes : List ℕ) (old mid new : List Slot) (found next : PartsState) (slot : ℕ) (f : Fault) → FileFacts told parts old mid found slot → WritesShort told slot parts.waiting mid new f
+    → (held : List ℕ) → next ≡ record found { waiting = held } → Interrupted told parts bytes old new next f
+held_short told parts bytes old mid new found next slot f facts short held is = record {
+  limit_same = ap (λ (those : PartsState). those.limit) is ∙ ap (λ (those : PartsState). those.limit) facts.same;
+  names_same = ap (λ (those : PartsState). those.names) is ∙ facts.names_same ∙ ap (λ n. record parts.names { drawn = n }) (sym (ap (λ (those : PartsState). those.names.drawn) is));
+  halts = λ shares begun has. move.halts_after told parts.names _ (shares ++ share state.Open begun ∷ []) _ old mid new f (facts.grows shares begun has) (facts.moves shares begun has)
+      (move.halts_wider told parts.names _ (shares ++ share state.Open (begun ++ parts.waiting) ∷ []) _ mid new f
+      (move.write_halts told parts.names shares begun parts.waiting mid new slot f (facts.named shares begun has) facts.last short)
+      (last_grows shares [] (share state.Open (begun ++ parts.waiting)) (share state.Open (begun ++ (parts.waiting ++ bytes))) (bytes, sym (all_behind begun parts.waiting bytes))));
+  breaks = move.breaks_later old mid new f facts.keeps (move.write_breaks told slot parts.waiting mid new f facts.writable short);
+  short = λ is_short. absurd (move.no_suffixes told slot parts.waiting mid new f short is_short);
+}
+
+-- and of the write of the bytes
+
+pub bytes_short : (told : Bool) (parts : PartsState) (bytes : List ℕ) (old mid wet new : List Slot) (found next : PartsState) (slot : ℕ) (f : Fault) → FileFacts told parts old mid found slot → wet ≡ with_written slot (told_of told parts.waiting) mid → WritesShort told slot bytes wet new f
+    → (held : List ℕ) → next ≡ record found { waiting = held } → Interrupted told parts bytes old new next f
+bytes_short told parts bytes old mid wet new found next slot f facts one short held is = record {
+  limit_same = ap (λ (those : PartsState). those.limit) is ∙ ap (λ (those : PartsState). those.limit) facts.same;
+  names_same = ap (λ (those : PartsState). those.names) is ∙ facts.names_same ∙ ap (λ n. record parts.names { drawn = n }) (sym (ap (λ (those : PartsState). those.names.drawn) is));
+  halts = λ shares begun has. move.halts_after told parts.names _ (shares ++ share state.Open begun ∷ []) _ old mid new f (facts.grows shares begun has) (facts.moves shares begun has)
+      (move.halts_after told parts.names _ (shares ++ share state.Open (begun ++ parts.waiting) ∷ []) _ mid wet new f
+      (last_grows shares [] (share state.Open begun) (share state.Open (begun ++ parts.waiting)) (parts.waiting, refl))
+      (move.write_moves told parts.names shares begun parts.waiting mid wet slot (facts.named shares begun has) facts.last one)
+      (subst (λ those. Halts told parts.names (shares ++ share state.Open (begun ++ parts.waiting) ∷ []) (shares ++ share state.Open those ∷ []) wet new f) (all_behind begun parts.waiting bytes)
+      (move.write_halts told parts.names shares (begun ++ parts.waiting) bytes wet new slot f (facts.named shares begun has) (move.written_last mid wet slot _ facts.last one) short)));
+  breaks = move.breaks_later old wet new f (move.keeps_again old mid wet facts.keeps (move.keeps_write slot _ mid wet one))
+      (move.write_breaks told slot bytes wet new f (move.written_writable mid wet slot _ facts.writable one) short);
+  short = λ is_short. absurd (move.no_suffixes told slot bytes wet new f short is_short);
+}
+
+-- no file could be opened
+
+pub no_file : (told : Bool) (parts : PartsState) (bytes : List ℕ) (old new : List Slot) (next : PartsState) (f : Fault) → HasNone parts old new next f → Interrupted told parts bytes old new next f
+no_file told parts bytes old new next f none = record {
+  limit_same = ap (λ (those : PartsState). those.limit) none.same;
+  names_same = none.names_same;
+  halts = λ shares begun has. let no_bytes : begun ≡ [] = none_begun begun (sym has.given ∙ ap is_given none.none) in
+      subst (λ those. Halts told parts.names those (shares ++ share state.Open (begun ++ (parts.waiting ++ bytes)) ∷ []) old new f) (sym (ap (λ those. shares ++ begun_share those) no_bytes ∙ append-nil shares))
+      (move.open_halts told parts.names shares [] (share state.Open (begun ++ (parts.waiting ++ bytes))) old new f
+      (has.drawn ∙ ap (λ those. length (shares ++ begun_share those)) no_bytes ∙ ap length (append-nil shares)) none.opens);
+  breaks = move.open_breaks parts.names old new f none.opens;
+  short = λ is. let why : (has_next parts.names ≡ false) × (new ≡ old) = subst (OpensNone parts.names old new) is none.opens in (none.none, why.0, why.1);
+}

@@ -1,0 +1,203 @@
+-- A piece that is taken in step by step, and the end of the input.
+use Rattle.std.proofs.Common.{◌≡◌, ℕ, ◌-◌, ◌<◌, ◌≤◌, suc, List, [], ◌∷◌, ◌++◌, length, map, take, drop, Bool, true, false, IsTrue, Option, Some, None, Result, Ok, Err, OnOk, IfErr, refl, sym, ◌∙◌, ap, subst, arith, append_assoc, length-append, length-drop}
+use Rattle.std.proofs.lemmas.List.{append-nil, map-append, take_all, take-append-drop}
+use Rattle.std.proofs.lemmas.Bool.{false≢true}
+use Rattle.ports_core.specs.Name.{Naming}
+use Rattle.ports_core.specs.Slot.{Slot, changed_at, closes, with_written, with_broken, told_of, is_writable, is_closable, Rose}
+use Rattle.ports_core.specs.declared.slot.State.TheVariants as file_state
+use Rattle.ports_core.specs.declared.fault.Fault.{Fault}
+use Rattle.ports_core.specs.declared.fault.Fault.TheVariants as fault
+use Rattle.ports_core.proofs.PartLemmas.{begins_itself}
+use Rattle.split_core.specs.declared.cut.Limit.{Limit}
+use Rattle.split_core.specs.Parts.{cut_up, parts, unless_empty, settled_rest, waiting_rest}
+use Rattle.split_core.specs.CutLaws.{settled_then_waiting, settled_some}
+use Rattle.split_core.specs.Split.{Share, share, is_some, is_named, are_named, settled_parts}
+use Rattle.split_core.specs.ShareLaws.{SharesBegin, last_grows, settled_grow, whole_parts}
+use Rattle.split_core.specs.PartsState.{PartsState, Stands, IsReady, is_given}
+use Rattle.split_core.specs.Moves.{Moves, Halts, Breaks, WritesShort, begun_share, Took, Stopped, RunsShort, Finishes}
+use Rattle.split_core.proofs.MoveLemmas as move
+use Rattle.split_core.proofs.PartsLemmas.{count_one, some_share}
+use Rattle.split_core.proofs.TakenLemmas.{are_named_drawn}
+
+pub took_none : (told : Bool) (parts : PartsState) (slots : List Slot) → IsReady parts.current slots → Took told parts [] slots slots parts
+took_none told parts slots ready = record {
+  limit_same = refl;
+  names_same = refl;
+  stands = λ x stands. subst (Stands parts) (sym (append-nil x)) stands;
+  moves = λ x stands. subst (λ all. Moves told parts.names (settled_parts parts.limit x) (settled_parts parts.limit all) slots slots) (sym (append-nil x)) (move.moves_same told parts.names _ slots slots refl);
+  keeps = move.keeps_same slots slots refl;
+  ready = ready;
+}
+
+names_again : (names mid next : Naming) → mid ≡ record names { drawn = mid.drawn } → next ≡ record mid { drawn = next.drawn } → next ≡ record names { drawn = next.drawn }
+names_again names mid next first second = second ∙ ap (λ (those : Naming). record those { drawn = next.drawn }) first
+
+-- what a later step does, by what was asked at first
+
+moves_from : (told : Bool) (state mid : PartsState) (x first more : List ℕ) (old new : List Slot) → mid.limit ≡ state.limit → mid.names ≡ record state.names { drawn = mid.names.drawn }
+    → Moves told mid.names (settled_parts mid.limit (x ++ first)) (settled_parts mid.limit ((x ++ first) ++ more)) old new → Moves told state.names (settled_parts state.limit (x ++ first)) (settled_parts state.limit (x ++ (first ++ more))) old new
+moves_from told state mid x first more old new limit names moves =
+    subst (λ all. Moves told state.names (settled_parts state.limit (x ++ first)) (settled_parts state.limit all) old new) (append_assoc x first more)
+    (move.moves_by told state.names mid.names _ _ old new names
+    (subst (λ (those : Limit). Moves told mid.names (settled_parts those (x ++ first)) (settled_parts those ((x ++ first) ++ more)) old new) limit moves))
+
+halts_from : (told : Bool) (state mid : PartsState) (x first more : List ℕ) (old new : List Slot) (f : Fault) → mid.limit ≡ state.limit → mid.names ≡ record state.names { drawn = mid.names.drawn }
+    → Halts told mid.names (settled_parts mid.limit (x ++ first)) (settled_parts mid.limit ((x ++ first) ++ more)) old new f → Halts told state.names (settled_parts state.limit (x ++ first)) (settled_parts state.limit (x ++ (first ++ more))) old new f
+halts_from told state mid x first more old new f limit names halts =
+    subst (λ all. Halts told state.names (settled_parts state.limit (x ++ first)) (settled_parts state.limit all) old new f) (append_assoc x first more)
+    (move.halts_by told state.names mid.names _ _ old new f names
+    (subst (λ (those : Limit). Halts told mid.names (settled_parts those (x ++ first)) (settled_parts those ((x ++ first) ++ more)) old new f) limit halts))
+
+pub took_again : (told : Bool) (state mid next : PartsState) (first more : List ℕ) (old wet new : List Slot) → Took told state first old wet mid → Took told mid more wet new next → Took told state (first ++ more) old new next
+took_again told state mid next first more old wet new one other = record {
+  limit_same = other.limit_same ∙ one.limit_same;
+  names_same = names_again state.names mid.names next.names one.names_same other.names_same;
+  stands = λ x stands. subst (Stands next) (append_assoc x first more) (other.stands (x ++ first) (one.stands x stands));
+  moves = λ x stands. move.moves_again told state.names _ (settled_parts state.limit (x ++ first)) _ old wet new (one.moves x stands)
+      (moves_from told state mid x first more wet new one.limit_same one.names_same (other.moves (x ++ first) (one.stands x stands)));
+  keeps = move.keeps_again old wet new one.keeps other.keeps;
+  ready = other.ready;
+}
+
+pub stopped_again : (told : Bool) (state mid next : PartsState) (first more : List ℕ) (old wet new : List Slot) (f : Fault) → Took told state first old wet mid → Stopped told mid more wet new next f → Stopped told state (first ++ more) old new next f
+stopped_again told state mid next first more old wet new f one other = record {
+  limit_same = other.limit_same ∙ one.limit_same;
+  names_same = names_again state.names mid.names next.names one.names_same other.names_same;
+  halts = λ x stands. move.halts_after told state.names _ (settled_parts state.limit (x ++ first)) _ old wet new f (settled_grow state.limit x first) (one.moves x stands)
+      (halts_from told state mid x first more wet new f one.limit_same one.names_same (other.halts (x ++ first) (one.stands x stands)));
+  breaks = move.breaks_later old wet new f one.keeps other.breaks;
+  short = λ is_short x stands.
+      let ran = other.short is_short (x ++ first) (one.stands x stands) in
+      (subst (λ all. are_named state.names (length (parts state.limit all)) ≡ false) (append_assoc x first more)
+      (sym (are_named_drawn state.names mid.names _ one.names_same) ∙ ap (λ (those : Limit). are_named mid.names (length (parts those ((x ++ first) ++ more)))) (sym one.limit_same) ∙ ran.0),
+      move.moves_again told state.names _ (settled_parts state.limit (x ++ first)) _ old wet new (one.moves x stands)
+      (moves_from told state mid x first more wet new one.limit_same one.names_same ran.1));
+}
+
+-- the piece is what was taken and what is left
+
+abbrev pub Passed : Bool → PartsState → List ℕ → List ℕ → List Slot → List Slot → PartsState → Type 0
+Passed told state piece left old now next = (done : List ℕ) × (piece ≡ done ++ left) × Took told state done old now next
+
+pub passed_more : (told : Bool) (state mid next : PartsState) (piece left rest : List ℕ) (n : ℕ) (old wet new : List Slot) → Passed told state piece left old wet mid → (0 < n) × (n ≤ length left) × Took told mid (take n left) wet new next → rest ≡ drop n left → Passed told state piece rest old new next
+passed_more told state mid next piece left rest n old wet new (done, split, took) (some, within, step) is = (
+  done ++ take n left,
+  split ∙ ap (λ those. done ++ those) (sym (take-append-drop n left)) ∙ sym (append_assoc done (take n left) (drop n left)) ∙ ap (λ those. (done ++ take n left) ++ those) (sym is),
+  took_again told state mid next done (take n left) old wet new took step,
+)
+
+pub behind_taken : (n : ℕ) (left : List ℕ) → take (length left - n) (drop n left) ≡ drop n left
+behind_taken n left = take_all (length left - n) (drop n left) (omega (arith, length-drop n left))
+
+pub passed_all : (told : Bool) (state next : PartsState) (piece left : List ℕ) (old new : List Slot) → Passed told state piece left old new next → left ≡ [] → Took told state piece old new next
+passed_all told state next piece left old new (done, split, took) none = subst (λ those. Took told state those old new next) (sym (split ∙ ap (λ those. done ++ those) none ∙ append-nil done)) took
+
+pub passed_stopped : (told : Bool) (state mid next : PartsState) (piece left : List ℕ) (old wet new : List Slot) (f : Fault) → Passed told state piece left old wet mid → Stopped told mid left wet new next f → Stopped told state piece old new next f
+passed_stopped told state mid next piece left old wet new f (done, split, took) stop = subst (λ those. Stopped told state those old new next f) (sym split) (stopped_again told state mid next done left old wet new f took stop)
+
+-- the end of the input
+
+module _ (told : Bool) (state : PartsState) (old : List Slot) (ready : IsReady state.current old) where
+  abbrev full_shares : List ℕ → List Share
+  full_shares x = map (share file_state.Closed) (cut_up state.limit x).full
+
+  abbrev rest_bytes : List ℕ → List ℕ
+  rest_bytes x = (cut_up state.limit x).rest
+
+  abbrev begun_bytes : List ℕ → List ℕ
+  begun_bytes x = settled_rest state.limit (rest_bytes x)
+
+  whole_is : (x : List ℕ) → whole_parts state.limit x ≡ full_shares x ++ map (share file_state.Closed) (unless_empty (rest_bytes x))
+  whole_is x = map-append (share file_state.Closed) (cut_up state.limit x).full (unless_empty (rest_bytes x))
+
+  no_rest : (x : List ℕ) → Stands state x → state.current ≡ None → rest_bytes x ≡ []
+  no_rest x stands none = by (rest_bytes x) (settled_some state.limit (rest_bytes x)) where
+    empty : is_some (begun_bytes x) ≡ false
+    empty = sym stands.opened ∙ ap is_given none
+
+    some_long : (bytes : List ℕ) → is_some bytes ≡ false → 0 < length bytes → ⊥
+    some_long [] is some = omega (arith, some)
+    some_long (byte ∷ bytes) is some = false≢true (sym is)
+
+    by : (rest : List ℕ) → (0 < length rest → 0 < length (begun_bytes x)) → rest ≡ []
+    by [] some = refl
+    by (byte ∷ rest) some = absurd (some_long (begun_bytes x) empty (some (omega arith)))
+
+  pub finishes_none : state.current ≡ None → Finishes told state old old (Ok tt)
+  finishes_none none x stands =
+      let rest = no_rest x stands none in
+      move.moves_same_by told state.names _ _ old old
+      (ap (λ those. full_shares x ++ begun_share those) (no_begun x rest) ∙ ap (λ those. full_shares x ++ map (share file_state.Closed) (unless_empty those)) (sym rest) ∙ sym (whole_is x)) refl where
+    no_begun : (x : List ℕ) → rest_bytes x ≡ [] → begun_bytes x ≡ []
+    no_begun x is = by (begun_bytes x) (ap length (settled_then_waiting state.limit (rest_bytes x)) ∙ ap length is) where
+      by : (those : List ℕ) → length (those ++ waiting_rest state.limit (rest_bytes x)) ≡ 0 → those ≡ []
+      by [] e = refl
+      by (byte ∷ those) e = absurd (omega (arith, e))
+
+  begun_some : (x : List ℕ) (slot : ℕ) → Stands state x → state.current ≡ Some slot → is_some (begun_bytes x) ≡ true
+  begun_some x slot stands is = sym stands.opened ∙ ap is_given is
+
+  low_is : (x : List ℕ) (slot : ℕ) → Stands state x → state.current ≡ Some slot → settled_parts state.limit x ≡ full_shares x ++ share file_state.Open (begun_bytes x) ∷ []
+  low_is x slot stands is = ap (λ more. full_shares x ++ more) (some_share (begun_bytes x) (begun_some x slot stands is))
+
+  named_here : (x : List ℕ) (slot : ℕ) → Stands state x → state.current ≡ Some slot → is_named state.names (length (full_shares x)) ≡ true
+  named_here x slot stands is = sym (ap (are_named state.names) (ap length (low_is x slot stands is) ∙ count_one (full_shares x) (share file_state.Open (begun_bytes x)))) ∙ stands.enough
+
+  rest_is : (x : List ℕ) → Stands state x → begun_bytes x ++ state.waiting ≡ rest_bytes x
+  rest_is x stands = ap (λ waits. begun_bytes x ++ waits) stands.waits ∙ settled_then_waiting state.limit (rest_bytes x)
+
+  high_is : (x : List ℕ) (slot : ℕ) → Stands state x → state.current ≡ Some slot → whole_parts state.limit x ≡ full_shares x ++ share file_state.Closed (rest_bytes x) ∷ []
+  high_is x slot stands is = whole_is x ∙ ap (λ more. full_shares x ++ more) (one_part (rest_bytes x) (some_rest (begun_bytes x) state.waiting (rest_bytes x) (begun_some x slot stands is) (rest_is x stands))) where
+    one_part : (bytes : List ℕ) → is_some bytes ≡ true → map (share file_state.Closed) (unless_empty bytes) ≡ share file_state.Closed bytes ∷ []
+    one_part [] some = absurd (false≢true some)
+    one_part (byte ∷ bytes) some = refl
+
+    some_rest : (begun waits rest : List ℕ) → is_some begun ≡ true → begun ++ waits ≡ rest → is_some rest ≡ true
+    some_rest [] waits rest some same = absurd (false≢true some)
+    some_rest (byte ∷ begun) waits rest some same = sym (ap is_some same)
+
+  open_slot : (slot : ℕ) → state.current ≡ Some slot → (suc slot ≡ length old) × is_closable old slot
+  open_slot slot is = subst (λ current. IsReady current old) is ready
+
+  moved : (x : List ℕ) (slot : ℕ) (wet : List Slot) → Stands state x → state.current ≡ Some slot → wet ≡ with_written slot (told_of told state.waiting) old → Moves told state.names (settled_parts state.limit x) (full_shares x ++ share file_state.Open (rest_bytes x) ∷ []) old wet
+  moved x slot wet stands is wrote =
+      subst (λ low. Moves told state.names low (full_shares x ++ share file_state.Open (rest_bytes x) ∷ []) old wet) (sym (low_is x slot stands is))
+      (subst (λ rest. Moves told state.names (full_shares x ++ share file_state.Open (begun_bytes x) ∷ []) (full_shares x ++ share file_state.Open rest ∷ []) old wet) (rest_is x stands)
+      (move.write_moves told state.names (full_shares x) (begun_bytes x) state.waiting old wet slot (named_here x slot stands is) (open_slot slot is).0 wrote))
+
+  low_begins : (x : List ℕ) (slot : ℕ) → Stands state x → state.current ≡ Some slot → SharesBegin (settled_parts state.limit x) (full_shares x ++ share file_state.Open (rest_bytes x) ∷ [])
+  low_begins x slot stands is = subst (λ low. SharesBegin low (full_shares x ++ share file_state.Open (rest_bytes x) ∷ [])) (sym (low_is x slot stands is))
+      (last_grows (full_shares x) [] (share file_state.Open (begun_bytes x)) (share file_state.Open (rest_bytes x)) (state.waiting, sym (rest_is x stands)))
+
+  pub close_can : (slot : ℕ) (bytes : List ℕ) (wet : List Slot) → state.current ≡ Some slot → wet ≡ with_written slot bytes old → (2 ≤ slot) × IsTrue (is_writable wet slot)
+  close_can slot bytes wet is wrote = ((open_slot slot is).1.0, move.written_writable old wet slot bytes (open_slot slot is).1.1 wrote)
+
+  pub held_breaks : (slot : ℕ) (new : List Slot) (f : Fault) → state.current ≡ Some slot → WritesShort told slot state.waiting old new f → Finishes told state old new (Err f)
+  held_breaks slot new f is short = (
+    slot_of slot new f short (move.write_breaks told slot state.waiting old new f (open_slot slot is).1.1 short),
+    λ x stands. move.halts_wider told state.names _ (full_shares x ++ share file_state.Open (rest_bytes x) ∷ []) _ old new f
+        (subst (λ low. Halts told state.names low (full_shares x ++ share file_state.Open (rest_bytes x) ∷ []) old new f) (sym (low_is x slot stands is))
+        (subst (λ rest. Halts told state.names (full_shares x ++ share file_state.Open (begun_bytes x) ∷ []) (full_shares x ++ share file_state.Open rest ∷ []) old new f) (rest_is x stands)
+        (move.write_halts told state.names (full_shares x) (begun_bytes x) state.waiting old new slot f (named_here x slot stands is) (open_slot slot is).0 short)))
+        (subst (SharesBegin (full_shares x ++ share file_state.Open (rest_bytes x) ∷ [])) (sym (high_is x slot stands is))
+        (last_grows (full_shares x) [] (share file_state.Open (rest_bytes x)) (share file_state.Closed (rest_bytes x)) (begins_itself (rest_bytes x)))),
+  ) where
+    slot_of : (slot : ℕ) (new : List Slot) (f : Fault) → WritesShort told slot state.waiting old new f → Breaks old new f → (at : ℕ) × (f ≡ fault.Write at) × Rose at old new
+    slot_of slot new _ (Rattle.split_core.specs.Moves.broke n cut) breaks = (slot, refl, breaks)
+
+  pub close_ends : (slot : ℕ) (wet new : List Slot) (result : Result (Unit {0}) Fault) → state.current ≡ Some slot → wet ≡ with_written slot (told_of told state.waiting) old → OnOk result (new ≡ changed_at slot closes wet)
+      → IfErr result (λ f. (f ≡ fault.Write slot) × (new ≡ with_broken slot (changed_at slot closes wet))) → Finishes told state old new result
+  close_ends slot wet new (Ok done) is wrote ok err = λ x stands.
+      move.moves_again told state.names _ (full_shares x ++ share file_state.Open (rest_bytes x) ∷ []) _ old wet new (moved x slot wet stands is wrote)
+      (subst (λ high. Moves told state.names (full_shares x ++ share file_state.Open (rest_bytes x) ∷ []) high wet new) (sym (high_is x slot stands is))
+      (move.close_moves told state.names (full_shares x) (rest_bytes x) wet new slot (named_here x slot stands is) (move.written_last old wet slot _ (open_slot slot is).0 wrote) ok))
+  close_ends slot wet new (Err f) is wrote ok err = (
+    (slot, err.0, move.rose_later slot old wet new (move.keeps_write slot _ old wet wrote)
+    (move.close_breaks slot wet new (move.written_writable old wet slot _ (open_slot slot is).1.1 wrote) (last_within (move.written_last old wet slot _ (open_slot slot is).0 wrote)) err.1)),
+    λ x stands. subst (λ those. Halts told state.names (settled_parts state.limit x) (whole_parts state.limit x) old new those) (sym err.0)
+        (move.halts_after told state.names _ (full_shares x ++ share file_state.Open (rest_bytes x) ∷ []) _ old wet new (fault.Write slot) (low_begins x slot stands is) (moved x slot wet stands is wrote)
+        (subst (λ high. Halts told state.names (full_shares x ++ share file_state.Open (rest_bytes x) ∷ []) high wet new (fault.Write slot)) (sym (high_is x slot stands is))
+        (move.close_halts told state.names (full_shares x) [] (rest_bytes x) wet new slot (named_here x slot stands is) (move.written_last old wet slot _ (open_slot slot is).0 wrote) err.1))),
+  ) where
+    last_within : suc slot ≡ length wet → slot < length wet
+    last_within last = omega (arith, last)

@@ -1,0 +1,8 @@
+use Rattle.std.proofs.Common.{◌≡◌, eqb, length, take, arith, w8}
+use Rattle.std.proofs.lemmas.List.{length-take-le}
+use Rattle.std.proofs.lemmas.Simd.{bitmask_splat}
+use Rattle.split_core.specs.declared.complete_lines.TheConstants.{STEP}
+use Rattle.split_core.proofs.complete_lines.mask_of_step.Goals as goal
+
+pub returns : goal.returns
+returns c = bitmask_splat w8 eqb (take STEP c.args.bytes.now) STEP 10 (length-take-le STEP c.args.bytes.now c.requires) (omega arith)

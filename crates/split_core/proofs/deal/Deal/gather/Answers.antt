@@ -1,0 +1,32 @@
+use Rattle.std.proofs.Common.{length, sym, ap, ◌∙◌, ◌<◌, ◌≡◌, arith}
+use Rattle.split_core.specs.DealState.{DealState}
+use Rattle.split_core.proofs.DealLemmas.{line_more, ends_here, ends_open, Gathers}
+use Rattle.split_core.proofs.deal.Deal.gather.Goals as goal
+
+pub lines-preserved : goal.lines-preserved
+lines-preserved c = line_more _ _ _ _ _ _ _ _ c.len-count.result c.after-self-inside.result _ _ _ c.lines.invariant c.in-Some.ensures.some c.in_ok-append_to.ensures.ok c.max-reached.ensures
+    (let ok = c.clear.new.gathered.ok in let view : length c.self.inside.gathered.items ≡ length c.args.self.now.gathered = ap (λ (deal : DealState). length deal.gathered) c.self.view_is in omega (arith, c.len-count.ensures, c.clear.ensures.count)) c.after-self-inside.ensures
+
+at_end : (c : goal.Then-is_empty) → Gathers (length c.args.self.now.gathered) c.args.self.now.next c.args.piece.now c.lines.self-inside.gathered.items c.lines.self-inside.next c.lines.reached
+at_end c = ends_here _ _ _ _ _ _ _ _ c.lines.invariant (c.rest-open.ensures ∙ c.in_default.ensures.stays) (sym c.if-is_empty.ensures)
+
+at_open : (c : goal.After-max) → Gathers (length c.args.self.now.gathered) c.args.self.now.next c.args.piece.now c.append_to-2.new.gathered.items c.lines.self-inside.next c.max.result
+at_open c = ends_open _ _ _ _ _ _ _ _ _ _ c.lines.invariant (c.rest-open.ensures ∙ c.in_default.ensures.stays) c.in_default.ensures.none (sym c.if-is_empty.ensures) c.in_ok-append_to-2.ensures.ok c.max.ensures
+
+pub returns-then-is_empty-clause-gathered : goal.returns-then-is_empty-clause-gathered
+returns-then-is_empty-clause-gathered c = (at_end c).gathered_is
+
+pub returns-then-is_empty-clause-next : goal.returns-then-is_empty-clause-next
+returns-then-is_empty-clause-next c = (at_end c).next_is
+
+pub returns-then-is_empty-clause-reached : goal.returns-then-is_empty-clause-reached
+returns-then-is_empty-clause-reached c = (at_end c).reached_is
+
+pub returns-clause-gathered : goal.returns-clause-gathered
+returns-clause-gathered c = (at_open c).gathered_is
+
+pub returns-clause-next : goal.returns-clause-next
+returns-clause-next c = (at_open c).next_is
+
+pub returns-clause-reached : goal.returns-clause-reached
+returns-clause-reached c = (at_open c).reached_is

@@ -1,0 +1,17 @@
+-- The lines of a piece, dealt to files.
+use Rattle.std.specs.Prelude.{ℕ, ◌+◌, List, map, min}
+use Rattle.std.specs.List.{range_with_len}
+use Rattle.seg_core.specs.Line.{lines_of, line_count}
+use Rattle.split_core.specs.Parts.{dealt}
+
+-- what each of n files gets of a piece, whose first byte goes to the file at this place
+abbrev pub dealt_piece : ℕ → ℕ → List ℕ → List (List ℕ)
+dealt_piece n place piece = map (λ file. dealt n file place (lines_of piece)) (range_with_len 0 n)
+
+-- it goes to files at the places below this one
+abbrev pub reached_by : ℕ → ℕ → List ℕ → ℕ
+reached_by n place piece = min n (place + line_count piece)
+
+-- what the files at those places get
+abbrev pub dealt_first : ℕ → ℕ → List ℕ → List (List ℕ)
+dealt_first n place piece = map (λ file. dealt n file place (lines_of piece)) (range_with_len 0 (reached_by n place piece))

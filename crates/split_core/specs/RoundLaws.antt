@@ -1,0 +1,65 @@
+-- The laws of dealing lines in turn, as an engine.
+use Rattle.std.proofs.Common.{◌≡◌, ℕ, ◌+◌, ◌<◌, ◌≤◌, zero, suc, List, [], ◌∷◌, ◌++◌, length, map, Bool, true, false, cond, refl, sym, ◌∙◌, ap, subst, arith}
+use Rattle.std.specs.List.{range_with_len}
+use Rattle.std.proofs.lemmas.Bool.{false≢true}
+use Rattle.seg_core.specs.Line.{newlines, lines_of}
+use Rattle.ports_core.specs.Name.{Naming}
+use Rattle.ports_core.specs.Part.{File, Part, IsBeginning, FilesBegin, Begins}
+use Rattle.ports_core.specs.Engine.{IsComplete}
+use Rattle.ports_core.specs.declared.slot.State.{State}
+use Rattle.ports_core.specs.declared.slot.State.TheVariants.{Open, Closed}
+use Rattle.ports_core.proofs.PartLemmas.{begins_itself, nothing_begins}
+use Rattle.split_core.specs.Split.{share, named, is_named, file_at, dealt_files}
+use Rattle.split_core.specs.RoundState.{RoundState}
+use Rattle.split_core.specs.Round.{settled, whole, is_complete, from_start, opened_by, Holds}
+use Rattle.split_core.specs.Sharing.{AllBegin}
+use Rattle.split_core.specs.DealLaws.{share_of, dealt_append, dealt_files_are, opened_by-grows}
+
+pub live : (round : RoundState) (x : List ℕ) → Holds round x → round.is_over ≡ false
+live round x holds = holds.live
+
+pub counts : (round : RoundState) (x : List ℕ) → Holds round x → round.fed ≡ length x
+counts round x holds = holds.fed
+
+begin_step : (is : Bool) (file high : File) (files wholes : List File) → file.name ≡ high.name → file.mode ≡ high.mode → IsBeginning file.bytes high.bytes → FilesBegin files wholes
+    → FilesBegin (cond is (file ∷ files) []) (cond is (high ∷ wholes) [])
+begin_step true file high files wholes name mode bytes rest = (name, mode, bytes, rest)
+begin_step false file high files wholes name mode bytes rest = tt
+
+-- where the bytes begin others, so do the files
+pub named_begin : (names : Naming) (place : ℕ) (low high : State) (these those : List (List ℕ)) → AllBegin these those → FilesBegin (named names place (map (share low) these)) (named names place (map (share high) those))
+named_begin names place low high [] those begin = tt
+named_begin names place low high (bytes ∷ these) [] begin = absurd begin
+named_begin names place low high (bytes ∷ these) (whole ∷ those) begin =
+    begin_step (is_named names place) (file_at names place (share low bytes)) (file_at names place (share high whole)) _ _ refl refl begin.0 (named_begin names (place + 1) low high these those begin.1)
+
+maps_begin : (f g : ℕ → List ℕ) (start m n : ℕ) → m ≤ n → ((file : ℕ) → IsBeginning (f file) (g file)) → AllBegin (map f (range_with_len start m)) (map g (range_with_len start n))
+maps_begin f g start zero n few begin = tt
+maps_begin f g start (suc m) zero few begin = absurd (omega arith)
+maps_begin f g start (suc m) (suc n) few begin = (begin start, maps_begin f g (start + 1) m n (omega arith) begin)
+
+pub all_begin_themselves : (these : List (List ℕ)) → AllBegin these these
+all_begin_themselves [] = tt
+all_begin_themselves (bytes ∷ these) = (begins_itself bytes, all_begin_themselves these)
+
+-- each file only grows, and none is taken back
+pub dealt_begin : (elide : Bool) (n : ℕ) (x y : List ℕ) → AllBegin (dealt_files elide n x) (dealt_files elide n (x ++ y))
+dealt_begin elide n x y =
+    subst (λ those. AllBegin (dealt_files elide n x) those) (sym (dealt_files_are elide n (x ++ y)))
+    (subst (λ these. AllBegin these (map (share_of n (x ++ y)) (range_with_len 0 (opened_by elide n (x ++ y))))) (sym (dealt_files_are elide n x))
+    (maps_begin (share_of n x) (share_of n (x ++ y)) 0 (opened_by elide n x) (opened_by elide n (x ++ y)) (opened_by-grows elide n x y) (λ file. (_, dealt_append n file 0 x y))))
+
+pub grows : (round : RoundState) (x y : List ℕ) → Begins (settled round x) (settled round (x ++ y))
+grows round x y = record {
+  out = nothing_begins [];
+  files = named_begin (from_start round.files.names) 0 Open Open _ _ (dealt_begin round.elide round.count x y);
+}
+
+pub ends : (round : RoundState) (x : List ℕ) → Begins (settled round x) (whole round x)
+ends round x = record {
+  out = nothing_begins [];
+  files = named_begin (from_start round.files.names) 0 Open Closed _ _ (all_begin_themselves (dealt_files round.elide round.count x));
+}
+
+pub stays : (round : RoundState) (x y : List ℕ) → is_complete round x ≡ true → IsComplete settled whole is_complete round x y
+stays round x y never = absurd (false≢true never)

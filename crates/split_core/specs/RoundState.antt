@@ -1,0 +1,17 @@
+-- What contracts see of an engine that deals lines in turn.
+use Rattle.std.specs.Prelude.{ℕ, Bool}
+use Rattle.split_core.specs.FilesState.{FilesState}
+
+pub record RoundState : Type 0 where
+  -- how many files there are to be
+  pub count : ℕ
+  -- files are opened at their first byte, and not all at the start
+  pub elide : Bool
+  -- those that are open
+  pub files : FilesState
+  -- the place of the file that the next byte goes to
+  pub next : ℕ
+  -- how many bytes came in
+  pub fed : ℕ
+  -- a fault came, or the end
+  pub is_over : Bool

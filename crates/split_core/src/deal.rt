@@ -1,0 +1,101 @@
+ghost use Rattle.std.specs.Prelude.{◌≡◌, ◌+◌, ◌%◌, ◌<◌, ◌≤◌, [], ◌++◌, length, take, slice_index_or, ℕ, IfOk, OnOk};
+ghost use Rattle.seg_core.specs.Line.{newlines};
+ghost use Rattle.ports_core.specs.Slot.{changed_at};
+ghost use Rattle.split_core.specs.Dealt.{dealt_piece, reached_by};
+
+use crate::complete_lines::CompleteLines;
+use crate::gathered::Gathered;
+use std::alloc::{AllocError, Global};
+use std::marker::Model;
+
+/// Deals lines in turn: what each file gets of a piece is gathered, so that it can be written at once.
+#[derive(Drop)]
+pub(crate) struct Deal {
+    gathered: Vec<Gathered>,
+    /// The place of the file that the next byte goes to.
+    next: usize,
+}
+
+impl Model for Deal {
+    ghost use Rattle.std.specs.Prelude.{◌<◌, length};
+    ghost use Rattle.split_core.specs.DealState.{DealState};
+
+    ghost Value = { DealState };
+
+    ghost view = { λ d. record { gathered = d.gathered.items; next = d.next } };
+
+    ghost invariant = { λ d. d.next < length d.gathered.items };
+}
+
+impl Deal {
+    /// For so many files, the first of which gets the first line.
+    pub(crate) fn new(alloc: Global, count: u64) -> Result<Deal, AllocError>
+        requires { 0 < count }
+        ensures count { IfOk result (λ deal. length deal.gathered ≡ count) }
+        ensures next { IfOk result (λ deal. deal.next ≡ 0) }
+    {
+        let mut gathered: Vec<Gathered> = Vec::new(alloc);
+        for _ in 0..count {
+            gathered.push(Gathered::new(alloc))?;
+        }
+        Ok(Deal { gathered, next: 0 })
+    }
+
+    /// What was gathered for the files at the places below this one.
+    pub(crate) fn first(&self, count: usize) -> &[Gathered]
+        requires { count ≤ length self.now.gathered }
+        ensures { result.now ≡ take count self.now.gathered }
+    {
+        &self.gathered[..count]
+    }
+
+    /// Gathers the lines of a piece, each for its file, in place of what was gathered before. A line that was open goes on
+    /// in its file. It answers below which place all files are that any byte went to.
+    pub(crate) fn gather(&mut self, piece: &[u8]) -> Result<usize, AllocError>
+        ensures count { length self.new.gathered ≡ length self.old.gathered }
+        ensures gathered { OnOk result (self.new.gathered ≡ dealt_piece (length self.old.gathered) self.old.next piece.now) }
+        ensures next { OnOk result (self.new.next ≡ (self.old.next + newlines piece.now) % length self.old.gathered) }
+        ensures reached { IfOk result (λ reached. reached ≡ reached_by (length self.old.gathered) self.old.next piece.now) }
+    {
+        clear(&mut self.gathered);
+        let count = self.gathered.len();
+        let mut reached = self.next;
+        let mut lines = CompleteLines::new(piece);
+        'lines: while let Some(line) = lines.next() {
+            append_to(&mut self.gathered, self.next, line)?;
+            reached = reached.max(self.next + 1);
+            self.next = after(self.next, count);
+        }
+        let open = lines.rest();
+        if open.is_empty() {
+            return Ok(reached);
+        }
+        append_to(&mut self.gathered, self.next, open)?;
+        Ok(reached.max(self.next + 1))
+    }
+}
+
+fn clear(gathered: &mut Vec<Gathered>)
+    ensures count { length gathered.new.items ≡ length gathered.old.items }
+    ensures none { (file : ℕ) → slice_index_or gathered.new.items file [] ≡ [] }
+{
+    for one in gathered.iter_mut() {
+        one.clear();
+    }
+}
+
+fn append_to(gathered: &mut Vec<Gathered>, place: usize, line: &[u8]) -> Result<(), AllocError>
+    requires { place < length gathered.old.items }
+    ensures count { length gathered.new.items ≡ length gathered.old.items }
+    ensures ok { OnOk result (gathered.new.items ≡ changed_at place (λ had. had ++ line.now) gathered.old.items) }
+{
+    gathered[place].append(line)
+}
+
+/// The place behind one, of so many places in turn.
+fn after(place: usize, count: usize) -> usize
+    requires { place < count }
+    ensures { result ≡ (place + 1) % count }
+{
+    if place + 1 == count { 0 } else { place + 1 }
+}

@@ -1,0 +1,242 @@
+//! Parts of an input that follow one another, each in a file of its own.
+ghost use Rattle.std.specs.Prelude.{◌≡◌, ◌+◌, ◌-◌, ◌++◌, ◌<◌, ◌≤◌, [], Some, None, false, length, IfOk, IfErr, OnOk};
+ghost use Rattle.split_core.specs.Moves.{EndsFile, Extends, FindsFile, Finishes, Passes, Steps, Turns};
+ghost use Rattle.split_core.specs.Parts.{most};
+ghost use Rattle.split_core.specs.PartsState.{IsReady};
+
+use crate::Limit;
+use crate::files::{open_next, write_bytes, write_held};
+use crate::step::{Step, next_step};
+use ports_core::{Fault, Names, Outs};
+use seg_core::byte_window::ByteWindow;
+use std::alloc::Global;
+use std::marker::Model;
+
+/// The part that was begun, and the names of the files to come. A file is opened with the first byte of its part, and closed
+/// before the next.
+#[derive(Drop)]
+pub(crate) struct Parts {
+    names: Names,
+    limit: Limit,
+    /// How many lines or bytes the part still takes.
+    left: u64,
+    /// Under a limit of bytes for whole lines: it has a complete line.
+    has_line: bool,
+    /// The bytes that wait: they go to this part or to the next.
+    waiting: ByteWindow,
+    /// Its file.
+    current: Option<usize>,
+}
+
+impl Model for Parts {
+    ghost use Rattle.split_core.specs.PartsState.{PartsState, Fits};
+
+    ghost Value = { PartsState };
+
+    ghost view = { λ p. record { limit = p.limit; names = p.names; left = p.left; has_line = p.has_line; waiting = p.waiting.held; current = p.current } };
+
+    ghost invariant = { λ p. Fits p.limit p.left p.has_line p.waiting };
+}
+
+impl Parts {
+    /// No byte came in yet. The number of the limit is at least 1.
+    ///
+    /// # Errors
+    ///
+    /// `Memory` where there is no room for what waits.
+    pub(crate) fn open(alloc: Global, limit: Limit, names: Names) -> Result<Parts, Fault>
+        requires { 0 < most limit }
+        ensures ok { IfOk result (λ parts. parts ≡ record { limit = limit; names = names; left = most limit; has_line = false; waiting = []; current = None }) }
+        ensures err { IfErr result (λ fault. fault ≡ Fault.Memory) }
+    {
+        match ByteWindow::new(alloc, limit.most() - 1) {
+            Ok(waiting) => Ok(Parts {
+                names,
+                limit,
+                left: limit.most(),
+                has_line: false,
+                waiting,
+                current: None,
+            }),
+            Err(_) => Err(Fault::Memory),
+        }
+    }
+
+    /// How many bytes wait.
+    pub(crate) fn held(&self) -> u64
+        ensures { result ≡ length self.now.waiting }
+    {
+        self.waiting.len()
+    }
+
+    /// The file of the part that was begun, which is opened if it has none.
+    fn find_file<O: Outs>(&mut self, outs: &mut O) -> Result<usize, Fault>
+        ensures { FindsFile self.old (O.slots outs.old) (O.slots outs.new) self.new result }
+    {
+        match self.current {
+            Some(slot) => Ok(slot),
+            None => match open_next(&mut self.names, outs) {
+                Ok(slot) => {
+                    self.current = Some(slot);
+                    Ok(slot)
+                }
+                Err(fault) => Err(fault),
+            },
+        }
+    }
+
+    /// Writes what waits, and these bytes behind it, to the part that was begun, and gives its file.
+    fn extend<O: Outs>(&mut self, bytes: &[u8], outs: &mut O) -> Result<usize, Fault>
+        requires { IsReady self.old.current (O.slots outs.old) }
+        ensures { Extends O.told self.old bytes.now (O.slots outs.old) (O.slots outs.new) self.new result }
+    {
+        let slot = match self.find_file(outs) {
+            Ok(slot) => slot,
+            Err(fault) => return Err(fault),
+        };
+        match write_held(&mut self.waiting, slot, outs) {
+            Ok(()) => {}
+            Err(fault) => return Err(fault),
+        }
+        match write_bytes(slot, bytes, outs) {
+            Ok(()) => {}
+            Err(fault) => return Err(fault),
+        }
+        Ok(slot)
+    }
+
+    /// Closes the file of the part that was begun, if it has one.
+    pub(crate) fn end_file<O: Outs>(&mut self, outs: &mut O) -> Result<(), Fault>
+        requires { IsReady self.old.current (O.slots outs.old) }
+        ensures { EndsFile self.old (O.slots outs.old) (O.slots outs.new) self.new result }
+    {
+        match self.current {
+            None => Ok(()),
+            Some(slot) => {
+                self.current = None;
+                outs.close(slot)
+            }
+        }
+    }
+
+    /// Ends the part that was begun. What waits, and these bytes behind it, begin the next, if there are any.
+    fn turn<O: Outs>(&mut self, bytes: &[u8], outs: &mut O) -> Result<(), Fault>
+        requires ready { IsReady self.old.current (O.slots outs.old) }
+        requires room { length self.old.waiting + length bytes.now < most self.old.limit }
+        requires all { length bytes.now ≡ 0 → self.old.waiting ≡ [] }
+        ensures { Turns O.told self.old bytes.now (O.slots outs.old) (O.slots outs.new) self.new result }
+    {
+        let size = self.waiting.len() + bytes.len() as u64;
+        match self.end_file(outs) {
+            Ok(()) => {}
+            Err(fault) => return Err(fault),
+        }
+        self.left = self.limit.most() - size;
+        self.has_line = false;
+        if bytes.is_empty() {
+            return Ok(());
+        }
+        match self.extend(bytes, outs) {
+            Ok(_) => {}
+            Err(fault) => return Err(fault),
+        }
+        Ok(())
+    }
+
+    /// Puts a piece behind what waits.
+    fn wait(&mut self, piece: &[u8]) -> Result<usize, Fault>
+        requires { length piece.now < self.old.left }
+        ensures count { IfOk result (λ n. n ≡ length piece.now) }
+        ensures waits { OnOk result (self.new ≡ record self.old { left = self.old.left - length piece.now; waiting = self.old.waiting ++ piece.now }) }
+        ensures err { IfErr result (λ fault. (fault ≡ Fault.Memory) × (self.new ≡ self.old)) }
+    {
+        match self.waiting.put(piece) {
+            Ok(()) => {}
+            Err(_) => return Err(Fault::Memory),
+        }
+        self.left -= piece.len() as u64;
+        Ok(piece.len())
+    }
+
+    /// Takes in a beginning of a piece that isn't empty, and says how many bytes that is.
+    fn step<O: Outs>(&mut self, piece: &[u8], outs: &mut O) -> Result<usize, Fault>
+        requires some { 0 < length piece.now }
+        requires ready { IsReady self.old.current (O.slots outs.old) }
+        ensures { Steps O.told self.old piece.now (O.slots outs.old) (O.slots outs.new) self.new result }
+    {
+        match next_step(self.limit, self.left, self.has_line, piece) {
+            Step::Goes {
+                bytes,
+                left,
+                has_line,
+            } => {
+                match self.extend(&piece[..bytes], outs) {
+                    Ok(_) => {}
+                    Err(fault) => return Err(fault),
+                }
+                self.left = left;
+                self.has_line = has_line;
+                Ok(bytes)
+            }
+            Step::Ends { end, bytes } => {
+                match self.extend(&piece[..end], outs) {
+                    Ok(_) => {}
+                    Err(fault) => return Err(fault),
+                }
+                match self.turn(&piece[end..bytes], outs) {
+                    Ok(()) => {}
+                    Err(fault) => return Err(fault),
+                }
+                Ok(bytes)
+            }
+            Step::Begins { bytes } => {
+                match self.turn(&piece[..bytes], outs) {
+                    Ok(()) => {}
+                    Err(fault) => return Err(fault),
+                }
+                Ok(bytes)
+            }
+            Step::Waits => self.wait(piece),
+        }
+    }
+
+    /// Takes in a piece: what is settled with it goes out, and what isn't waits.
+    ///
+    /// # Errors
+    ///
+    /// `Write` where a file broke, `Open` where the next can't be opened, `Memory` where there is no room for what waits or for a
+    /// name, `Suffixes` where no name is left for the next file.
+    pub(crate) fn pass<O: Outs>(&mut self, piece: &[u8], outs: &mut O) -> Result<(), Fault>
+        requires { IsReady self.old.current (O.slots outs.old) }
+        ensures { Passes O.told self.old piece.now (O.slots outs.old) (O.slots outs.new) self.new result }
+    {
+        let mut left = piece;
+        'stretches: while !left.is_empty() {
+            match self.step(left, outs) {
+                Ok(n) => left = &left[n..],
+                Err(fault) => return Err(fault),
+            }
+        }
+        Ok(())
+    }
+
+    /// Ends the input: what waits goes to the part that was begun, and its file is closed.
+    ///
+    /// # Errors
+    ///
+    /// `Write` where its file broke.
+    pub(crate) fn finish<O: Outs>(&mut self, outs: &mut O) -> Result<(), Fault>
+        requires { IsReady self.old.current (O.slots outs.old) }
+        ensures { Finishes O.told self.old (O.slots outs.old) (O.slots outs.new) result }
+    {
+        let Some(slot) = self.current else {
+            return Ok(());
+        };
+        match write_held(&mut self.waiting, slot, outs) {
+            Ok(()) => {}
+            Err(fault) => return Err(fault),
+        }
+        self.current = None;
+        outs.close(slot)
+    }
+}
