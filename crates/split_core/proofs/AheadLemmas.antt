@@ -1,12 +1,11 @@
 -- Lemmas on newlines that were seen ahead.
-use Rattle.std.proofs.Common.{◌≡◌, ◌≢◌, ℕ, ◌+◌, ◌-◌, ◌*◌, ◌/◌, ◌^◌, ◌<◌, ◌≤◌, zero, suc, min, Bool, true, false, not, cond, eqb, List, [], ◌∷◌, ◌++◌, length, map, take, drop, get_or, refl, sym, ◌∙◌, ap, subst, arith, length-append, append_assoc, replicate}
+use Rattle.std.proofs.Common.{◌≡◌, ◌≢◌, ℕ, ◌+◌, ◌-◌, ◌*◌, ◌/◌, ◌^◌, ◌<◌, ◌≤◌, zero, suc, min, Bool, true, false, not, cond, eqb, List, [], ◌∷◌, ◌++◌, length, take, drop, get_or, refl, sym, ◌∙◌, ap, subst, arith, length-append, replicate}
 use Rattle.std.specs.List.{prefix_len}
-use Rattle.std.specs.Simd.Lanes.{mask_l}
 use Rattle.std.specs.Int.Count.{count_trailing_zeros}
 use Rattle.std.proofs.lemmas.Simd.{trailing_mask_l}
 use Rattle.std.proofs.Math.Nat.{div-div-eq-div-mul, div-one, zero-div}
 use Rattle.std.proofs.Math.Seq.{take-add}
-use Rattle.std.proofs.lemmas.Bool.{eqb-true, eqb-false, false≢true}
+use Rattle.std.proofs.lemmas.Bool.{eqb-true, eqb-false}
 use Rattle.std.proofs.lemmas.List.{take_more, take-append-drop, take_all, take-take, drop-take, drop-drop, length-take-le, length-drop, length-replicate}
 use Rattle.seg_core.specs.Line.{HasNoNewline, lines_of, newlines}
 use Rattle.seg_core.proofs.Newlines.{newlines-append}
@@ -71,8 +70,8 @@ mask_behind zero (byte ∷ x) = ap (λ n. n / 2) (div-one _) ∙ half (eqb byte 
 mask_behind (suc at) (byte ∷ x) =
     ap (λ n. n / 2) (ap (λ power. (cond (eqb byte 10) 1 0 + 2 * newline_mask x) / power) power ∙ sym (div-div-eq-div-mul (cond (eqb byte 10) 1 0 + 2 * newline_mask x) 2 (2 ^ at)) ∙ ap (λ n. n / 2 ^ at) (half (eqb byte 10) (newline_mask x)))
     ∙ mask_behind at x where
-  power : 2 ^ suc at ≡ 2 * 2 ^ at
-  power = omega arith
+      power : 2 ^ suc at ≡ 2 * 2 ^ at
+      power = omega arith
 
 -- the first line, where the first newline is known
 first_line : (x : List ℕ) (at : ℕ) → IsFirstAt x at → IsFirstLine x (take (at + 1) x) (drop (at + 1) x)

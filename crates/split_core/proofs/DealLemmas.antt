@@ -1,9 +1,9 @@
 -- Lemmas on gathering the lines of a piece.
-use Rattle.std.proofs.Common.{◌≡◌, ◌≢◌, ℕ, ◌+◌, ◌%◌, ◌<◌, ◌≤◌, zero, suc, min, max, Bool, true, false, cond, eqb, List, [], ◌∷◌, ◌++◌, length, get_or, set, map, Ok, Err, Result, OnOk, inl, inr, refl, sym, ◌∙◌, ap, subst, arith, append_assoc}
+use Rattle.std.proofs.Common.{◌≡◌, ◌≢◌, ℕ, ◌+◌, ◌%◌, ◌<◌, ◌≤◌, zero, suc, min, max, Bool, true, false, cond, eqb, List, [], ◌∷◌, ◌++◌, length, get_or, set, take, drop, length-append, Ok, Err, Result, OnOk, inl, inr, refl, sym, ◌∙◌, ap, subst, arith, append_assoc}
 use Rattle.std.proofs.Math.Nat.{mod-add-mod, mod-eq_of_lt, mod-mod, mod_self, mod-le}
-use Rattle.std.specs.List.{range_with_len}
 use Rattle.std.proofs.lemmas.Bool.{cases_eq, eq-eqb, ne_eqb, eqb-true, eqb-false, false≢true}
-use Rattle.std.proofs.lemmas.List.{append-nil, ext_get_or}
+use Rattle.std.proofs.lemmas.List.{append-nil, ext_get_or, take_at, take-append-le, take-take, length-take-le}
+use Rattle.std.proofs.Math.Seq.{take-append-add}
 use Rattle.std.proofs.lemmas.List.FromFn.{length-map-range_with_len, get_or-map-range_with_len}
 use Rattle.seg_core.specs.Line.{lines_of, newlines, line_count, HasNoNewline}
 use Rattle.seg_core.proofs.LinesOf.{lines_of-open}
@@ -130,10 +130,10 @@ gathered_all : (n start : ℕ) (piece : List ℕ) (gathered : List (List ℕ)) (
 gathered_all n start piece gathered next reached left so_far none =
     ext_get_or [] gathered (dealt_piece n start piece) (so_far.count ∙ sym (length-map-range_with_len (λ file. dealt n file start (lines_of piece)) 0 n))
     (λ file inside. each file (let count : length gathered ≡ n = so_far.count in omega arith)) where
-  each : (file : ℕ) → file < n → get_or gathered file [] ≡ get_or (dealt_piece n start piece) file []
-  each file inside =
-      sym (append-nil (get_or gathered file [])) ∙ sym (ap (λ those. get_or gathered file [] ++ dealt n file next (lines_of those)) none) ∙ so_far.shares file inside
-      ∙ sym (get_or-map-range_with_len (λ at. dealt n at start (lines_of piece)) 0 n file file [] inside (omega arith))
+      each : (file : ℕ) → file < n → get_or gathered file [] ≡ get_or (dealt_piece n start piece) file []
+      each file inside =
+          sym (append-nil (get_or gathered file [])) ∙ sym (ap (λ those. get_or gathered file [] ++ dealt n file next (lines_of those)) none) ∙ so_far.shares file inside
+          ∙ sym (get_or-map-range_with_len (λ at. dealt n at start (lines_of piece)) 0 n file file [] inside (omega arith))
 
 ends_at : (n start : ℕ) (piece : List ℕ) (gathered : List (List ℕ)) (next reached : ℕ) (left : List ℕ) → Dealing n start piece gathered next reached left → left ≡ [] → next ≡ (start + newlines piece) % n
 ends_at n start piece gathered next reached left so_far none =
@@ -178,3 +178,18 @@ ends_open n start piece gathered now next reached reached_now left line so_far s
     let more : length line ≢ 0 = eqb-false (length line) 0 some in
     ended n start piece now next reached_now
     (open_line n start piece gathered now next reached reached_now line (subst (λ those. Dealing n start piece gathered next reached those) (sym same) so_far) (ap newlines same ∙ none) (omega (arith, more)) is reached_is)
+
+-- a line that is the first of what was left
+pub first_taken : (left x line rest : List ℕ) → IsFirstLine x line rest → left ≡ x → take (length line) left ≡ line
+first_taken left x line rest cut same = ap (take (length line)) (same ∙ cut.whole) ∙ take_at line rest (length line) refl
+
+pub line_within : (left x line rest : List ℕ) → IsFirstLine x line rest → left ≡ x → length line ≤ length left
+line_within left x line rest cut same = let long = ap length (same ∙ cut.whole) ∙ length-append line rest in omega arith
+
+-- of a chunk that was copied the first bytes count
+pub chunk_taken : (room new text : List ℕ) (at n chunk : ℕ) → new ≡ take at room ++ (take chunk text ++ drop (at + chunk) room) → at ≤ length room → n ≤ chunk → chunk ≤ length text → take (at + n) new ≡ take at room ++ take n text
+chunk_taken room new text at n chunk is within few enough =
+    let long : length (take at room) ≡ at = length-take-le at room within in
+    ap (take (at + n)) is ∙ ap (λ k. take (k + n) (take at room ++ (take chunk text ++ drop (at + chunk) room))) (sym long)
+    ∙ take-append-add (take at room) (take chunk text ++ drop (at + chunk) room) n
+    ∙ ap (λ rest. take at room ++ rest) (take-append-le n (take chunk text) (drop (at + chunk) room) (let all = length-take-le chunk text enough in omega arith) ∙ take-take n chunk text few)

@@ -1,26 +1,25 @@
 -- One file is opened, written or closed.
-use Rattle.std.proofs.Common.{◌≡◌, ◌≢◌, ℕ, ◌+◌, ◌-◌, ◌<◌, ◌≤◌, ◌==◌, zero, suc, max, Bool, true, false, not, ◌&&◌, cond, eqb, List, [], ◌∷◌, ◌++◌, length, map, take, drop, get_or, ◌⊎◌, inl, inr, IsTrue, refl, sym, ◌∙◌, ap, subst, arith, length-append, append_assoc, Ok, Err, Result, OnOk, IfErr}
-use Rattle.std.proofs.lemmas.Bool.{cases_lt, cases_eq, eq-eqb, ne_eqb, false≢true}
-use Rattle.std.proofs.lemmas.List.{append-nil, map-append, length-map, get_or-append_right, get_or_append_left, get_or_past}
-use Rattle.ports_core.specs.Name.{Naming, next_name, with_one_drawn}
-use Rattle.ports_core.specs.Slot.{Slot, is_open, no_slot, slot_at, changed_at, opened, unopened, adds, closes, breaks, is_writable, is_closable, with_written, with_broken, told_of, FailsToOpen, broke, numberless, Rose}
+use Rattle.std.proofs.Common.{◌≡◌, ◌≢◌, ℕ, ◌+◌, ◌-◌, ◌<◌, ◌≤◌, zero, suc, max, Bool, true, false, not, ◌&&◌, cond, eqb, List, [], ◌∷◌, ◌++◌, length, map, take, get_or, ◌⊎◌, inl, inr, IsTrue, refl, sym, ◌∙◌, ap, subst, arith, length-append, Ok, Err, Result, OnOk, IfErr}
+use Rattle.std.proofs.lemmas.Bool.{cases_lt, ne_eqb}
+use Rattle.std.proofs.lemmas.List.{map-append, length-map, get_or-append_right, get_or_append_left, get_or_past}
+use Rattle.ports_core.specs.Name.{Naming, next_name}
+use Rattle.ports_core.specs.Slot.{Slot, is_open, no_slot, slot_at, changed_at, opened, unopened, adds, closes, is_writable, is_closable, with_written, with_broken, told_of, broke, numberless, Rose}
 use Rattle.ports_core.specs.Write.{BrokeAfter}
-use Rattle.ports_core.specs.Part.{File, Part, OutputsAt, IsBeginning, FilesBegin, Begins, IsNext, Marks, StoppedBetween}
+use Rattle.ports_core.specs.Part.{OutputsAt, Begins, IsNext, Marks, StoppedBetween}
 use Rattle.ports_core.specs.declared.slot.Mode.TheVariants.{Fresh}
-use Rattle.ports_core.specs.declared.slot.State.{State}
-use Rattle.ports_core.specs.declared.slot.State.TheVariants.{Open, Closed}
+use Rattle.ports_core.specs.declared.slot.State.TheVariants.{Open}
 use Rattle.ports_core.specs.declared.fault.Fault.{Fault}
 use Rattle.ports_core.specs.declared.fault.Fault.TheVariants as fault
-use Rattle.ports_core.proofs.PartLemmas.{part_begins_itself, stopped_here, broken_at, sound_at}
+use Rattle.ports_core.proofs.PartLemmas.{stopped_here, broken_at, sound_at}
 use Rattle.ports_core.proofs.SlotLemmas.{length-changed_at}
 use Rattle.ports_core.proofs.WriteLemmas.{writable-written}
 use Rattle.ports_core.proofs.FileLemmas.{file_more, file_changes, write_makes, close_makes, slots_counted, gets, ended}
-use Rattle.split_core.specs.Split.{Share, share, name_of, file_at, only_files}
+use Rattle.split_core.specs.Split.{share, name_of, file_at, only_files}
 use Rattle.split_core.specs.FilesState.{FilesState}
 use Rattle.split_core.specs.Round.{AreReady, from_start}
 use Rattle.split_core.specs.RoundLaws.{all_begin_themselves}
-use Rattle.split_core.specs.Sharing.{AllBegin, added, filled, filed, open_part, closed_first, closing_part, StayBroken, Makes, Became, StopsShort, HaveClosed, ClosesShort, with_opened, FailsToFollow, CannotOpen, CannotClose, could_not, unnamed, IsOfFiles}
-use Rattle.split_core.proofs.FilesLemmas.{filled_begin, filled_next, filled_same, length-filled, filed_more, open_length, open_begins, filed_gets, filed_ends, changed_begin, cut_begin, parts_begin, bytes_in, bytes_closed, renamed, stay_broken, stay_later, stay_changed, stay_opened, became_then, stops_then, caused_later, added_next, added_begin, added_fewer, filled_again, filled_further}
+use Rattle.split_core.specs.Sharing.{AllBegin, added, filled, filed, open_part, closing_part, StayBroken, Became, StopsShort, HaveClosed, ClosesShort, with_opened, FailsToFollow, CannotOpen, CannotClose, could_not, unnamed, IsOfFiles}
+use Rattle.split_core.proofs.FilesLemmas.{filled_begin, filled_next, filled_same, length-filled, filed_more, open_length, open_begins, filed_gets, filed_ends, changed_begin, cut_begin, parts_begin, bytes_closed, stay_broken, stay_later, stay_changed, stay_opened, became_then, stops_then, caused_later, added_next, added_begin, added_fewer, filled_again, filled_further}
 
 -- Opening
 
@@ -70,18 +69,18 @@ opens : (told : Bool) (files : FilesState) (before : List Slot) (these : List (L
 opens told files before these old new drawn count is at =
     subst (λ those. OutputsAt told before (only_files those) new) (sym files_are)
     (file_more told before (open_part files.names these) old new (name_of names files.opened) Fresh at (is ∙ ap (λ place. old ++ opened (name_of names place) Fresh ∷ []) drawn)) where
-  names : Naming
-  names = from_start files.names
+      names : Naming
+      names = from_start files.names
 
-  place_is : 0 + length (map (share Open) these) ≡ files.opened
-  place_is = let long : length (map (share Open) these) ≡ length these = length-map these (share Open) in omega arith
+      place_is : 0 + length (map (share Open) these) ≡ files.opened
+      place_is = let long : length (map (share Open) these) ≡ length these = length-map these (share Open) in omega arith
 
-  files_are : filed (from_start files.names) 0 (map (share Open) (filled (suc files.opened) these)) ≡ filed (from_start files.names) 0 (map (share Open) these) ++ file_at (from_start files.names) files.opened (share Open []) ∷ []
-  files_are =
-      ap (λ those. filed (from_start files.names) 0 (map (share Open) those)) (filled_next files.opened these count)
-      ∙ ap (λ shares. filed (from_start files.names) 0 shares) (map-append (share Open) these ([] ∷ []))
-      ∙ filed_more (from_start files.names) 0 (map (share Open) these) (share Open [])
-      ∙ ap (λ place. filed (from_start files.names) 0 (map (share Open) these) ++ file_at (from_start files.names) place (share Open []) ∷ []) place_is
+      files_are : filed (from_start files.names) 0 (map (share Open) (filled (suc files.opened) these)) ≡ filed (from_start files.names) 0 (map (share Open) these) ++ file_at (from_start files.names) files.opened (share Open []) ∷ []
+      files_are =
+          ap (λ those. filed (from_start files.names) 0 (map (share Open) those)) (filled_next files.opened these count)
+          ∙ ap (λ shares. filed (from_start files.names) 0 shares) (map-append (share Open) these ([] ∷ []))
+          ∙ filed_more (from_start files.names) 0 (map (share Open) these) (share Open [])
+          ∙ ap (λ place. filed (from_start files.names) 0 (map (share Open) these) ++ file_at (from_start files.names) place (share Open []) ∷ []) place_is
 
 pub became_opened : (told : Bool) (files next : FilesState) (old new : List Slot) (place : ℕ) → AreReady files old → next ≡ with_opened (length old) files → new ≡ old ++ opened (next_name files.names) Fresh ∷ [] → place ≡ files.opened
     → Became told files (filled (place + 1)) (place + 1) old next new
@@ -134,11 +133,15 @@ marks_failed IsName old new name _ named (could_not _ (numberless full same)) = 
 marks_failed IsName old new name _ named (unnamed same) = same
 
 pub fails_caused : (old new : List Slot) (name : List ℕ) (why : Fault) → FailsToFollow old name new why → CannotOpen old new why
-fails_caused old new name _ (could_not _ (broke slot kept is kept_is made)) = inr (slot, refl, (
-  ap (λ those. those.is_broken) (get_or_past old slot no_slot (omega arith)),
-  ap (λ slots. (slot_at slots slot).is_broken) made
-  ∙ ap (λ those. those.is_broken) (get_or-append_right old (unopened kept ∷ []) (length old) slot no_slot refl (omega arith) ∙ ap (λ at. slot_at (unopened kept ∷ []) at) none),
-)) where
+fails_caused old new name _ (could_not _ (broke slot kept is kept_is made)) = inr (
+  slot,
+  refl,
+  (
+    ap (λ those. those.is_broken) (get_or_past old slot no_slot (omega arith)),
+    ap (λ slots. (slot_at slots slot).is_broken) made
+        ∙ ap (λ those. those.is_broken) (get_or-append_right old (unopened kept ∷ []) (length old) slot no_slot refl (omega arith) ∙ ap (λ at. slot_at (unopened kept ∷ []) at) none),
+  ),
+) where
   none : slot - length old ≡ 0
   none = omega arith
 fails_caused old new name _ (could_not _ (numberless full same)) = inl refl
@@ -159,8 +162,8 @@ stops_unopened told files old new place why drawn here fails before these long a
     (stopped_here told before (open_part files.names these) (open_part files.names (filled (suc files.opened) these)) why old new at (open_begins files.names these _ (filled_begin (suc files.opened) these))
     (marks_failed (IsNext (open_part files.names these) (open_part files.names (filled (suc files.opened) these))) old new (next_name files.names) why
     (is_next files.names files.opened these (next_name files.names) long (ap (name_of (from_start files.names)) drawn)) fails)) where
-  further : suc files.opened ≡ place + 1
-  further = omega arith
+      further : suc files.opened ≡ place + 1
+      further = omega arith
 
 -- Writing
 
@@ -216,7 +219,7 @@ pub rose_written : (told : Bool) (files : FilesState) (old new : List Slot) (pla
 rose_written told files old new place bytes n ready within cut = (
   sound_at (files.first + place) old (ready.writable place within),
   ap (λ slots. (slot_at slots (files.first + place)).is_broken) cut.slots
-  ∙ broken_at (files.first + place) _ (writable-written old (files.first + place) (files.first + place) _ ∙ ready.writable place within),
+      ∙ broken_at (files.first + place) _ (writable-written old (files.first + place) (files.first + place) _ ∙ ready.writable place within),
 )
 
 -- Closing
@@ -287,7 +290,7 @@ pub rose_closing : (told : Bool) (files : FilesState) (place : ℕ) (old now new
 rose_closing told files place old now new ready within so_far is = (
   so_far.sound (files.first + place) (sound_at (files.first + place) now (so_far.left place (omega arith) within)),
   ap (λ slots. (slot_at slots (files.first + place)).is_broken) is
-  ∙ broken_now (files.first + place) _ (let all : files.first + files.opened ≡ length old = ready.last (omega arith) in let same : length now ≡ length old = so_far.size in let kept = length-changed_at (files.first + place) closes now in omega arith),
+      ∙ broken_now (files.first + place) _ (let all : files.first + files.opened ≡ length old = ready.last (omega arith) in let same : length now ≡ length old = so_far.size in let kept = length-changed_at (files.first + place) closes now in omega arith),
 )
 
 -- what reaching a file owes, by the result of opening it
@@ -313,8 +316,8 @@ pub sent : (told : Bool) (files between : FilesState) (old mid new : List Slot) 
 sent told files between old mid new place slot bytes before slot_is is =
     became_then told files (filled (place + 1)) (changed_at place (λ had. had ++ bytes)) _ (place + 1) (place + 1) (place + 1) old mid new between between before
     (became_written told between mid new place bytes before.ready within (is ∙ ap (λ at. with_written at (told_of told bytes) mid) slot_is)) (λ these. refl) (omega arith) where
-  within : place < between.opened
-  within = let count : between.opened ≡ max files.opened (place + 1) = before.opened in omega arith
+      within : place < between.opened
+      within = let count : between.opened ≡ max files.opened (place + 1) = before.opened in omega arith
 
 pub sent_short : (told : Bool) (files between : FilesState) (old mid new : List Slot) (place slot : ℕ) (bytes : List ℕ) (n : ℕ) → Became told files (filled (place + 1)) (place + 1) old between mid → slot ≡ between.first + place
     → BrokeAfter told mid new slot bytes n → StopsShort told files (λ these. changed_at place (λ had. had ++ bytes) (filled (place + 1) these)) old new (fault.Write slot)
@@ -322,16 +325,16 @@ sent_short told files between old mid new place slot bytes n before slot_is cut 
     subst (λ at. StopsShort told files (λ these. changed_at place (λ had. had ++ bytes) (filled (place + 1) these)) old new (fault.Write at)) (sym slot_is)
     (stops_then told files (filled (place + 1)) (changed_at place (λ had. had ++ bytes)) _ (place + 1) old mid new between (fault.Write (between.first + place)) before
     (stops_written told between mid new place bytes n before.ready within (subst (λ at. BrokeAfter told mid new at bytes n) slot_is cut)) (λ these. filled_begin (place + 1) these) (λ these. all_begin_themselves _)) where
-  within : place < between.opened
-  within = let count : between.opened ≡ max files.opened (place + 1) = before.opened in omega arith
+      within : place < between.opened
+      within = let count : between.opened ≡ max files.opened (place + 1) = before.opened in omega arith
 
 pub sent_caused : (told : Bool) (files between : FilesState) (old mid new : List Slot) (place slot : ℕ) (bytes : List ℕ) (n : ℕ) → Became told files (filled (place + 1)) (place + 1) old between mid → slot ≡ between.first + place
     → BrokeAfter told mid new slot bytes n → IsOfFiles old new (fault.Write slot)
 sent_caused told files between old mid new place slot bytes n before slot_is cut =
     caused_later old mid new (fault.Write slot) before.sound
     (subst (λ at. IsOfFiles mid new (fault.Write at)) (sym slot_is) (rose_written told between mid new place bytes n before.ready within (subst (λ at. BrokeAfter told mid new at bytes n) slot_is cut))) where
-  within : place < between.opened
-  within = let count : between.opened ≡ max files.opened (place + 1) = before.opened in omega arith
+      within : place < between.opened
+      within = let count : between.opened ≡ max files.opened (place + 1) = before.opened in omega arith
 
 -- the loop over all files
 

@@ -1,25 +1,21 @@
 -- Lemmas on files that are opened, written and closed in order.
-use Rattle.std.proofs.Common.{◌≡◌, ◌≢◌, ℕ, ◌+◌, ◌-◌, ◌<◌, ◌≤◌, ◌==◌, zero, suc, max, Bool, true, false, not, ◌&&◌, cond, eqb, List, [], ◌∷◌, ◌++◌, length, map, take, drop, get_or, ◌⊎◌, inl, inr, IsTrue, refl, sym, ◌∙◌, ap, subst, arith, length-append, append_assoc, Ok, Err, Result, OnOk, IfErr}
-use Rattle.std.proofs.lemmas.Bool.{cases_lt, cases_eq, eq-eqb, ne_eqb, false≢true}
-use Rattle.std.proofs.lemmas.List.{append-nil, map-append, length-map, get_or-append_right, get_or_append_left, get_or_past}
-use Rattle.ports_core.specs.Name.{Naming, next_name, with_one_drawn}
-use Rattle.ports_core.specs.Slot.{Slot, is_open, no_slot, slot_at, changed_at, opened, unopened, adds, closes, breaks, is_writable, with_written, with_broken, told_of, FailsToOpen, broke, numberless, Rose}
-use Rattle.ports_core.specs.Write.{BrokeAfter}
-use Rattle.ports_core.specs.Part.{File, Part, OutputsAt, IsBeginning, FilesBegin, Begins, IsNext, Marks, StoppedBetween}
-use Rattle.ports_core.specs.declared.slot.Mode.TheVariants.{Fresh}
+use Rattle.std.proofs.Common.{◌≡◌, ℕ, ◌+◌, ◌<◌, ◌≤◌, zero, suc, max, Bool, List, [], ◌∷◌, ◌++◌, length, map, take, get_or, inl, inr, refl, sym, ◌∙◌, ap, subst, arith}
+use Rattle.std.proofs.lemmas.Bool.{cases_lt}
+use Rattle.std.proofs.lemmas.List.{length-map, get_or_append_left, get_or_past}
+use Rattle.ports_core.specs.Name.{Naming}
+use Rattle.ports_core.specs.Slot.{Slot, no_slot, slot_at, changed_at}
+use Rattle.ports_core.specs.Part.{OutputsAt, FilesBegin, Begins, StoppedBetween}
 use Rattle.ports_core.specs.declared.slot.State.{State}
 use Rattle.ports_core.specs.declared.slot.State.TheVariants.{Open, Closed}
 use Rattle.ports_core.specs.declared.fault.Fault.{Fault}
 use Rattle.ports_core.specs.declared.fault.Fault.TheVariants as fault
-use Rattle.ports_core.proofs.PartLemmas.{begins_itself, begins_more, begins_trans, nothing_begins, take_begins_behind, part_begins_itself, stopped_here, stopped_between, broken_at, sound_at}
-use Rattle.ports_core.proofs.SlotLemmas.{length-changed_at}
-use Rattle.ports_core.proofs.WriteLemmas.{writable-written}
-use Rattle.ports_core.proofs.FileLemmas.{file_more, file_changes, write_makes, close_makes, slots_counted, gets, ended}
-use Rattle.split_core.specs.Split.{Share, share, name_of, file_at, only_files}
+use Rattle.ports_core.proofs.PartLemmas.{begins_itself, begins_more, begins_trans, nothing_begins, take_begins_behind, part_begins_itself, stopped_between}
+use Rattle.ports_core.proofs.FileLemmas.{gets, ended}
+use Rattle.split_core.specs.Split.{Share, share, file_at, only_files}
 use Rattle.split_core.specs.FilesState.{FilesState}
 use Rattle.split_core.specs.Round.{AreReady, from_start}
 use Rattle.split_core.specs.RoundLaws.{all_begin_themselves}
-use Rattle.split_core.specs.Sharing.{AllBegin, added, filled, filed, open_part, closed_first, closing_part, StayBroken, Makes, Became, StopsShort, HaveClosed, ClosesShort, with_opened, FailsToFollow, could_not, unnamed, IsOfFiles}
+use Rattle.split_core.specs.Sharing.{AllBegin, added, filled, filed, open_part, closed_first, StayBroken, Became, StopsShort, IsOfFiles}
 
 -- Beginnings
 

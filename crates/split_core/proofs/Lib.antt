@@ -12,3 +12,5 @@ pub mod FileSteps
 pub mod FilesLemmas
 pub mod RoundLemmas
 pub mod SplitterLemmas
+pub mod SectionLemmas
+pub mod PlaceLemmas

@@ -36,19 +36,19 @@ named_on names place (one ∷ front) rest is =
     ∙ ap (λ files. file_at names place one ∷ files) (named_on names (place + 1) front rest (subst (λ n. is_named names n ≡ true) (moved place (length front)) is))
     ∙ ap (λ n. file_at names place one ∷ (named names (place + 1) front ++ named names n rest)) (sym (moved place (length front)))
     ∙ ap (λ has. cond has (file_at names place one ∷ named names (place + 1) front) [] ++ named names (place + suc (length front)) rest) (sym here) where
-  moved : (n m : ℕ) → n + suc m ≡ n + 1 + m
-  moved n m = omega arith
+      moved : (n m : ℕ) → n + suc m ≡ n + 1 + m
+      moved n m = omega arith
 
-  here : is_named names place ≡ true
-  here = named_before names place (place + suc (length front)) is (omega arith)
+      here : is_named names place ≡ true
+      here = named_before names place (place + suc (length front)) is (omega arith)
 
 pub named_last : (names : Naming) (front : List Share) (one : Share) → is_named names (length front) ≡ true → named names 0 (front ++ one ∷ []) ≡ named names 0 front ++ file_at names (length front) one ∷ []
 named_last names front one is =
     named_on names 0 front (one ∷ []) (subst (λ n. is_named names n ≡ true) (sym (none (length front))) is)
     ∙ ap (λ n. named names 0 front ++ named names n (one ∷ [])) (none (length front))
     ∙ ap (λ has. named names 0 front ++ cond has (file_at names (length front) one ∷ []) []) is where
-  none : (n : ℕ) → 0 + n ≡ n
-  none n = omega arith
+      none : (n : ℕ) → 0 + n ≡ n
+      none n = omega arith
 
 -- how many were drawn doesn't matter
 pub named_drawn : (names : Naming) (drawn place : ℕ) (shares : List Share) → named (record names { drawn = drawn }) place shares ≡ named names place shares
@@ -152,9 +152,9 @@ pub open_halts : (told : Bool) (names : Naming) (shares more : List Share) (one 
 open_halts told names shares more one old new Memory drawn none = halts_here told names shares (shares ++ one ∷ more) old new Memory (shares_more shares (one ∷ more)) none
 open_halts told names shares more one old new (Open slot) drawn none =
     halts_here told names shares (shares ++ one ∷ more) old new (Open slot) (shares_more shares (one ∷ more)) (none.0, (none.2.0, kept_name none.2.0 none.2.1, none.2.2)) where
-  kept_name : (kept : List ℕ) → (kept ≡ next_name names) ⊎ (kept ≡ []) → IsNext (part_of names shares) (part_of names (shares ++ one ∷ more)) kept ⊎ (kept ≡ [])
-  kept_name kept (inl same) = inl (next_file names shares more one (subst (λ n. is_named names n ≡ true) drawn none.1) drawn kept same)
-  kept_name kept (inr lost) = inr lost
+      kept_name : (kept : List ℕ) → (kept ≡ next_name names) ⊎ (kept ≡ []) → IsNext (part_of names shares) (part_of names (shares ++ one ∷ more)) kept ⊎ (kept ≡ [])
+      kept_name kept (inl same) = inl (next_file names shares more one (subst (λ n. is_named names n ≡ true) drawn none.1) drawn kept same)
+      kept_name kept (inr lost) = inr lost
 open_halts told names shares more one old new Suffixes drawn none = halts_here told names shares (shares ++ one ∷ more) old new Suffixes (shares_more shares (one ∷ more)) none.1
 open_halts told names shares more one old new (Write slot) drawn none = absurd none
 open_halts told names shares more one old new (Read slot) drawn none = absurd none

@@ -64,11 +64,11 @@ there_facts told parts old slot is ready =
       behind = open_file.1.0;
       writable = open_file.1.1;
     } where
-  one_share : (begun : List ℕ) → is_given parts.current ≡ is_some begun → begun_share begun ≡ share state.Open begun ∷ []
-  one_share begun given = some_share begun (sym given ∙ ap is_given is)
+      one_share : (begun : List ℕ) → is_given parts.current ≡ is_some begun → begun_share begun ≡ share state.Open begun ∷ []
+      one_share begun given = some_share begun (sym given ∙ ap is_given is)
 
-  counted : (shares : List Share) (begun : List ℕ) → Begun parts shares begun → length (shares ++ begun_share begun) ≡ suc (length shares)
-  counted shares begun has = ap (λ more. length (shares ++ more)) (one_share begun has.given) ∙ count_one shares (share state.Open begun)
+      counted : (shares : List Share) (begun : List ℕ) → Begun parts shares begun → length (shares ++ begun_share begun) ≡ suc (length shares)
+      counted shares begun has = ap (λ more. length (shares ++ more)) (one_share begun has.given) ∙ count_one shares (share state.Open begun)
 
 made_facts : (told : Bool) (parts : PartsState) (old new : List Slot) (next : PartsState) (slot : ℕ) → parts.current ≡ None → IsReady parts.current old → slot ≡ length old → IsTrue (has_next parts.names)
     → next ≡ record parts { names = with_one_drawn parts.names; current = Some slot } → new ≡ old ++ opened (next_name parts.names) Fresh ∷ [] → FileFacts told parts old new next slot
@@ -92,17 +92,17 @@ made_facts told parts old new next slot none ready at has next_is made_it =
       behind = omega (arith, at, streams);
       writable = move.opened_writable old new slot (next_name parts.names) at made_it;
     } where
-  one_more : (n : ℕ) → n + 1 ≡ suc n
-  one_more n = omega arith
+      one_more : (n : ℕ) → n + 1 ≡ suc n
+      one_more n = omega arith
 
-  no_bytes : (begun : List ℕ) {shares : List Share} → Begun parts shares begun → begun ≡ []
-  no_bytes begun had = none_begun begun (sym had.given ∙ ap is_given none)
+      no_bytes : (begun : List ℕ) {shares : List Share} → Begun parts shares begun → begun ≡ []
+      no_bytes begun had = none_begun begun (sym had.given ∙ ap is_given none)
 
-  drawn : (shares : List Share) (begun : List ℕ) → Begun parts shares begun → parts.names.drawn ≡ length shares
-  drawn shares begun had = had.drawn ∙ ap (λ those. length (shares ++ begun_share those)) (no_bytes begun had) ∙ ap length (append-nil shares)
+      drawn : (shares : List Share) (begun : List ℕ) → Begun parts shares begun → parts.names.drawn ≡ length shares
+      drawn shares begun had = had.drawn ∙ ap (λ those. length (shares ++ begun_share those)) (no_bytes begun had) ∙ ap length (append-nil shares)
 
-  named_here : (shares : List Share) (begun : List ℕ) → Begun parts shares begun → is_named parts.names (length shares) ≡ true
-  named_here shares begun had = ap (is_named parts.names) (sym (drawn shares begun had)) ∙ has
+      named_here : (shares : List Share) (begun : List ℕ) → Begun parts shares begun → is_named parts.names (length shares) ≡ true
+      named_here shares begun had = ap (is_named parts.names) (sym (drawn shares begun had)) ∙ has
 
 pub file_facts : (told : Bool) (parts : PartsState) (old new : List Slot) (next : PartsState) (slot : ℕ) → IsReady parts.current old → HasFile parts old new next slot → FileFacts told parts old new next slot
 file_facts told parts old new next slot ready (there is next_is same) =

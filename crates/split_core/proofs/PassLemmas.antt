@@ -67,11 +67,12 @@ stopped_again told state mid next first more old wet new f one other = record {
       (halts_from told state mid x first more wet new f one.limit_same one.names_same (other.halts (x ++ first) (one.stands x stands)));
   breaks = move.breaks_later old wet new f one.keeps other.breaks;
   short = λ is_short x stands.
-      let ran = other.short is_short (x ++ first) (one.stands x stands) in
-      (subst (λ all. are_named state.names (length (parts state.limit all)) ≡ false) (append_assoc x first more)
-      (sym (are_named_drawn state.names mid.names _ one.names_same) ∙ ap (λ (those : Limit). are_named mid.names (length (parts those ((x ++ first) ++ more)))) (sym one.limit_same) ∙ ran.0),
-      move.moves_again told state.names _ (settled_parts state.limit (x ++ first)) _ old wet new (one.moves x stands)
-      (moves_from told state mid x first more wet new one.limit_same one.names_same ran.1));
+      let ran = other.short is_short (x ++ first) (one.stands x stands) in (
+        subst (λ all. are_named state.names (length (parts state.limit all)) ≡ false) (append_assoc x first more)
+            (sym (are_named_drawn state.names mid.names _ one.names_same) ∙ ap (λ (those : Limit). are_named mid.names (length (parts those ((x ++ first) ++ more)))) (sym one.limit_same) ∙ ran.0),
+        move.moves_again told state.names _ (settled_parts state.limit (x ++ first)) _ old wet new (one.moves x stands)
+            (moves_from told state mid x first more wet new one.limit_same one.names_same ran.1),
+      );
 }
 
 -- the piece is what was taken and what is left
@@ -128,11 +129,11 @@ module _ (told : Bool) (state : PartsState) (old : List Slot) (ready : IsReady s
       let rest = no_rest x stands none in
       move.moves_same_by told state.names _ _ old old
       (ap (λ those. full_shares x ++ begun_share those) (no_begun x rest) ∙ ap (λ those. full_shares x ++ map (share file_state.Closed) (unless_empty those)) (sym rest) ∙ sym (whole_is x)) refl where
-    no_begun : (x : List ℕ) → rest_bytes x ≡ [] → begun_bytes x ≡ []
-    no_begun x is = by (begun_bytes x) (ap length (settled_then_waiting state.limit (rest_bytes x)) ∙ ap length is) where
-      by : (those : List ℕ) → length (those ++ waiting_rest state.limit (rest_bytes x)) ≡ 0 → those ≡ []
-      by [] e = refl
-      by (byte ∷ those) e = absurd (omega (arith, e))
+        no_begun : (x : List ℕ) → rest_bytes x ≡ [] → begun_bytes x ≡ []
+        no_begun x is = by (begun_bytes x) (ap length (settled_then_waiting state.limit (rest_bytes x)) ∙ ap length is) where
+          by : (those : List ℕ) → length (those ++ waiting_rest state.limit (rest_bytes x)) ≡ 0 → those ≡ []
+          by [] e = refl
+          by (byte ∷ those) e = absurd (omega (arith, e))
 
   begun_some : (x : List ℕ) (slot : ℕ) → Stands state x → state.current ≡ Some slot → is_some (begun_bytes x) ≡ true
   begun_some x slot stands is = sym stands.opened ∙ ap is_given is
@@ -192,8 +193,12 @@ module _ (told : Bool) (state : PartsState) (old : List Slot) (ready : IsReady s
       (subst (λ high. Moves told state.names (full_shares x ++ share file_state.Open (rest_bytes x) ∷ []) high wet new) (sym (high_is x slot stands is))
       (move.close_moves told state.names (full_shares x) (rest_bytes x) wet new slot (named_here x slot stands is) (move.written_last old wet slot _ (open_slot slot is).0 wrote) ok))
   close_ends slot wet new (Err f) is wrote ok err = (
-    (slot, err.0, move.rose_later slot old wet new (move.keeps_write slot _ old wet wrote)
-    (move.close_breaks slot wet new (move.written_writable old wet slot _ (open_slot slot is).1.1 wrote) (last_within (move.written_last old wet slot _ (open_slot slot is).0 wrote)) err.1)),
+    (
+      slot,
+      err.0,
+      move.rose_later slot old wet new (move.keeps_write slot _ old wet wrote)
+          (move.close_breaks slot wet new (move.written_writable old wet slot _ (open_slot slot is).1.1 wrote) (last_within (move.written_last old wet slot _ (open_slot slot is).0 wrote)) err.1),
+    ),
     λ x stands. subst (λ those. Halts told state.names (settled_parts state.limit x) (whole_parts state.limit x) old new those) (sym err.0)
         (move.halts_after told state.names _ (full_shares x ++ share file_state.Open (rest_bytes x) ∷ []) _ old wet new (fault.Write slot) (low_begins x slot stands is) (moved x slot wet stands is wrote)
         (subst (λ high. Halts told state.names (full_shares x ++ share file_state.Open (rest_bytes x) ∷ []) high wet new (fault.Write slot)) (sym (high_is x slot stands is))

@@ -1,5 +1,5 @@
 -- Lemmas on dealing lines in turn, as an engine.
-use Rattle.std.proofs.Common.{◌≡◌, ◌≢◌, ℕ, ◌+◌, ◌-◌, ◌%◌, ◌^◌, ◌<◌, ◌≤◌, zero, suc, min, max, Bool, true, false, not, ◌||◌, nat_lt, cond, List, [], ◌∷◌, ◌++◌, length, map, take, ◌⊎◌, inl, inr, refl, sym, ◌∙◌, ap, subst, arith, length-append, Ok, Err, Result, OnOk, IfOk, IfErr}
+use Rattle.std.proofs.Common.{◌≡◌, ℕ, ◌+◌, ◌%◌, ◌<◌, ◌≤◌, zero, suc, min, max, Bool, true, false, not, ◌||◌, nat_lt, cond, List, [], ◌∷◌, ◌++◌, length, map, take, inl, inr, refl, sym, ◌∙◌, ap, subst, arith, length-append, Ok, Err, Result, OnOk, IfErr}
 use Rattle.std.proofs.Math.Nat.{mod-add-mod, mod-eq_of_lt, mod-mod, mod-le}
 use Rattle.std.specs.List.{range_with_len}
 use Rattle.std.proofs.lemmas.Bool.{cases_lt, false≢true}
@@ -10,22 +10,22 @@ use Rattle.seg_core.specs.Line.{lines_of, newlines, line_count}
 use Rattle.seg_core.proofs.Newlines.{newlines-append}
 use Rattle.seg_core.proofs.LineCounts.{line_count-some}
 use Rattle.seg_core.proofs.EndLines.{line_count_near}
-use Rattle.ports_core.specs.Name.{Naming, has_name, name_count}
+use Rattle.ports_core.specs.Name.{Naming, name_count}
 use Rattle.ports_core.specs.Slot.{Slot}
-use Rattle.ports_core.specs.Part.{File, Part, OutputsAt, Begins, StoppedBetween, nothing}
+use Rattle.ports_core.specs.Part.{OutputsAt, StoppedBetween, nothing}
 use Rattle.ports_core.specs.Engine.{TakesIn, PutsOut, CutsOff, Finishes, EndsShort, IsCaused, SameWork, at_end}
 use Rattle.ports_core.specs.declared.fault.Fault.{Fault}
 use Rattle.ports_core.specs.declared.fault.Fault.TheVariants as fault
 use Rattle.ports_core.specs.declared.slot.State.{State}
 use Rattle.ports_core.specs.declared.slot.State.TheVariants.{Open, Closed}
-use Rattle.ports_core.proofs.PartLemmas.{stopped_here, nothing_begins_part}
+use Rattle.ports_core.proofs.PartLemmas.{stopped_here}
 use Rattle.split_core.specs.Parts.{dealt}
-use Rattle.split_core.specs.Split.{Plan, Share, share, named, is_named, are_named, file_at, only_files, dealt_files, settled_by, whole_by, is_short}
+use Rattle.split_core.specs.Split.{Share, share, named, is_named, are_named, file_at, only_files, dealt_files, settled_by, whole_by, is_short}
 use Rattle.split_core.specs.Dealt.{dealt_piece, dealt_first, reached_by}
 use Rattle.split_core.specs.FilesState.{FilesState}
 use Rattle.split_core.specs.RoundState.{RoundState}
-use Rattle.split_core.specs.Round.{round_plan, from_start, plan_of, settled, whole, is_complete, means, opened_by, Holds, AreReady, Ready}
-use Rattle.split_core.specs.Sharing.{AllBegin, added, filled, filed, open_part, closed_first, closing_part, Makes, Became, StopsShort, HaveClosed, ClosesShort, CannotClose, IsOfFiles}
+use Rattle.split_core.specs.Round.{round_plan, from_start, plan_of, settled, whole, is_complete, means, opened_by, Holds}
+use Rattle.split_core.specs.Sharing.{added, filled, filed, open_part, closing_part, Makes, Became, StopsShort, HaveClosed, ClosesShort, CannotClose, IsOfFiles}
 use Rattle.split_core.specs.DealLaws.{share_of, dealt_append, dealt_same, dealt_none, dealt_files_are, share_none, line_count-append, opened_by-most}
 use Rattle.split_core.specs.RoundLaws.{grows}
 use Rattle.split_core.proofs.FilesLemmas.{closed_all, added_begin, open_begins}
@@ -110,9 +110,9 @@ added_maps f more whole start (suc m) zero none no_more both =
     let rest = sym (added_nothing (map f (range_with_len (start + 1) m))) ∙ added_maps f more whole (start + 1) m zero (λ file past within. absurd (omega arith)) (λ file past within. no_more file (omega arith) (omega arith)) both in
     ap (λ bytes. bytes ∷ map f (range_with_len (start + 1) m)) (sym (append-nil (f start)) ∙ ap (λ those. f start ++ those) (sym (no_more start (omega arith) (omega arith))) ∙ both start)
     ∙ ap (λ those. whole start ∷ those) rest ∙ ap (λ n. map whole (range_with_len start n)) count where
-  added_nothing : (these : List (List ℕ)) → added these [] ≡ these
-  added_nothing [] = refl
-  added_nothing (bytes ∷ these) = refl
+      added_nothing : (these : List (List ℕ)) → added these [] ≡ these
+      added_nothing [] = refl
+      added_nothing (bytes ∷ these) = refl
 added_maps f more whole start (suc m) (suc b) none no_more both =
     let count : suc (max m b) ≡ max (suc m) (suc b) = omega arith in
     let rest = added_maps f more whole (start + 1) m b (λ file past within. none file (omega arith) (omega arith)) (λ file past within. no_more file (omega arith) (omega arith)) both in
@@ -152,8 +152,8 @@ files_after elide n x y some =
     (λ file past within. dealt_none n file (newlines x % n) (lines_of y) (let most = opened_by-most elide n x in omega arith) (let most = opened_by-most elide n x in omega arith))
     (λ file. ap (λ more. share_of n x file ++ more) (dealt_same n file (newlines x % n) (newlines x) (lines_of y) (mod-mod (newlines x) n) ∙ ap (λ place. dealt n file place (lines_of y)) from_zero) ∙ sym (dealt_append n file 0 x y))
     ∙ ap (λ count. map (share_of n (x ++ y)) (range_with_len 0 count)) (opened_after elide n x y some) where
-  from_zero : newlines x ≡ 0 + newlines x
-  from_zero = omega arith
+      from_zero : newlines x ≡ 0 + newlines x
+      from_zero = omega arith
 
 -- The gathered piece
 

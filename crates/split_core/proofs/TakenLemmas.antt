@@ -154,14 +154,14 @@ goes_on told parts found next piece bytes left slot has_line old new some within
       keeps = extends.keeps;
       ready = extends.ready;
     }) where
-  taken : List ℕ
-  taken = take bytes piece
+      taken : List ℕ
+      taken = take bytes piece
 
-  those : PartsState
-  those = record parts { names = found.names; left = left; has_line = has_line; waiting = []; current = Some slot }
+      those : PartsState
+      those = record parts { names = found.names; left = left; has_line = has_line; waiting = []; current = Some slot }
 
-  whole : next ≡ those
-  whole = is ∙ ap (λ (one : PartsState). record one { left = left; has_line = has_line }) extends.same
+      whole : next ≡ those
+      whole = is ∙ ap (λ (one : PartsState). record one { left = left; has_line = has_line }) extends.same
 
 -- the part that was begun ended, and the next has begun
 
@@ -174,8 +174,8 @@ turned_stands parts mid next x taken first behind limit stands leads is drawn en
     (stands_at (record { limit = parts.limit; names = next.names; left = most parts.limit - length behind; has_line = false; waiting = []; current = next.current }) (x ++ taken) _ behind
     (cut_by parts x taken (first ∷ []) behind (cut_two parts.limit (rest_of parts x ++ taken) first behind leads.full leads.first_is leads.both leads.begun.short))
     (drawn ∙ sym (ap length shares)) (ap (λ those. are_named next.names (length those)) shares ∙ enough) leads.begun.lacks (sym leads.begun.waits) (given ∙ sym (ap is_some leads.begun.settled))) where
-  shares : settled_parts parts.limit (x ++ taken) ≡ full_of parts x ++ share file_state.Closed first ∷ begun_share behind
-  shares = shares_turn parts x taken first behind leads
+      shares : settled_parts parts.limit (x ++ taken) ≡ full_of parts x ++ share file_state.Closed first ∷ begun_share behind
+      shares = shares_turn parts x taken first behind leads
 
 pub names_drawn : (names mid next : Naming) → mid ≡ record names { drawn = mid.drawn } → next ≡ record mid { drawn = next.drawn } → next ≡ record names { drawn = next.drawn }
 names_drawn names mid next first second = second ∙ ap (λ (those : Naming). record those { drawn = next.drawn }) first
@@ -278,9 +278,9 @@ waits_on told parts next piece old new n leads ready count is same =
       keeps = move.keeps_same old new same;
       ready = subst (IsReady parts.current) (sym same) ready;
     })) where
-  take_whole : (xs : List ℕ) → take (length xs) xs ≡ xs
-  take_whole [] = refl
-  take_whole (y ∷ xs) = ap (λ rest. y ∷ rest) (take_whole xs)
+      take_whole : (xs : List ℕ) → take (length xs) xs ≡ xs
+      take_whole [] = refl
+      take_whole (y ∷ xs) = ap (λ rest. y ∷ rest) (take_whole xs)
 
 -- a fault
 
@@ -293,19 +293,19 @@ no_room told parts next piece old new f is same slots =
       breaks = tt;
       short = λ is_short. absurd (not_short is_short);
     }) where
-  not_short : fault.Memory ≡ fault.Suffixes → ⊥
-  not_short e = false≢true (sym (ap is_memory e)) where
-    is_memory : Fault → Bool
-    is_memory fault.Memory = true
-    is_memory (fault.Write slot) = false
-    is_memory (fault.Read slot) = false
-    is_memory (fault.Open slot) = false
-    is_memory fault.Suffixes = false
-    is_memory (fault.NoMatch operand repetition) = false
-    is_memory (fault.Range operand repetition) = false
-    is_memory (fault.Usage kind word) = false
-    is_memory fault.Failed = false
-    is_memory fault.TooLong = false
+      not_short : fault.Memory ≡ fault.Suffixes → ⊥
+      not_short e = false≢true (sym (ap is_memory e)) where
+        is_memory : Fault → Bool
+        is_memory fault.Memory = true
+        is_memory (fault.Write slot) = false
+        is_memory (fault.Read slot) = false
+        is_memory (fault.Open slot) = false
+        is_memory fault.Suffixes = false
+        is_memory (fault.NoMatch operand repetition) = false
+        is_memory (fault.Range operand repetition) = false
+        is_memory (fault.Usage kind word) = false
+        is_memory fault.Failed = false
+        is_memory fault.TooLong = false
 
 -- no file for the part that was begun: nothing of it is out
 short_begun : (told : Bool) (parts : PartsState) (x piece : List ℕ) (old new : List Slot) → 0 < length piece → Stands parts x → (parts.current ≡ None) × (has_next parts.names ≡ false) × (new ≡ old)
@@ -314,14 +314,14 @@ short_begun told state x piece old new some stands why =
     short_by told state x piece [] piece (cut_up state.limit x).full (rest_of state x) old new refl (ap (cut_up state.limit) (append-nil x))
     (let size : length (rest_of state x ++ piece) ≡ length (rest_of state x) + length piece = length-append (rest_of state x) piece in omega arith)
     (ap (is_named state.names) (sym count) ∙ why.1) (move.moves_same_by told state.names _ _ old new low why.2) where
-  low : settled_parts state.limit x ≡ map (share file_state.Closed) (cut_up state.limit x).full
-  low = ap (λ begun. full_of state x ++ begun_share begun) (none_of (begun_of state x) (sym stands.opened ∙ ap is_given why.0)) ∙ append-nil (full_of state x) where
-    none_of : (begun : List ℕ) → is_some begun ≡ false → begun ≡ []
-    none_of [] is = refl
-    none_of (byte ∷ begun) is = absurd (false≢true (sym is))
+      low : settled_parts state.limit x ≡ map (share file_state.Closed) (cut_up state.limit x).full
+      low = ap (λ begun. full_of state x ++ begun_share begun) (none_of (begun_of state x) (sym stands.opened ∙ ap is_given why.0)) ∙ append-nil (full_of state x) where
+        none_of : (begun : List ℕ) → is_some begun ≡ false → begun ≡ []
+        none_of [] is = refl
+        none_of (byte ∷ begun) is = absurd (false≢true (sym is))
 
-  count : state.names.drawn ≡ length (cut_up state.limit x).full
-  count = stands.drawn ∙ ap length low ∙ length-map (cut_up state.limit x).full (share file_state.Closed)
+      count : state.names.drawn ≡ length (cut_up state.limit x).full
+      count = stands.drawn ∙ ap length low ∙ length-map (cut_up state.limit x).full (share file_state.Closed)
 
 pub extend_stopped : (told : Bool) (parts next : PartsState) (piece taken : List ℕ) (old new : List Slot) (f : Fault) → 0 < length piece
     → ((x : List ℕ) → Stands parts x → SharesBegin (full_of parts x ++ share file_state.Open (rest_of parts x ++ taken) ∷ []) (settled_parts parts.limit (x ++ piece)))
@@ -361,14 +361,14 @@ short_next told state x piece first behind bytes old new led some none moves =
     (some_more behind (drop bytes piece) some)
     (ap (is_named state.names) count ∙ none)
     (subst (λ high. Moves told state.names (settled_parts state.limit x) high old new) (sym (map-append (share file_state.Closed) (cut_up state.limit x).full (first ∷ []))) moves) where
-  some_more : (xs ys : List ℕ) → is_some xs ≡ true → 0 < length (xs ++ ys)
-  some_more [] ys is = absurd (false≢true is)
-  some_more (y ∷ xs) ys is = omega arith
+      some_more : (xs ys : List ℕ) → is_some xs ≡ true → 0 < length (xs ++ ys)
+      some_more [] ys is = absurd (false≢true is)
+      some_more (y ∷ xs) ys is = omega arith
 
-  count : length ((cut_up state.limit x).full ++ first ∷ []) ≡ suc (length (full_of state x))
-  count = length-append (cut_up state.limit x).full (first ∷ []) ∙ one_more (length (cut_up state.limit x).full) ∙ ap suc (sym (length-map (cut_up state.limit x).full (share file_state.Closed))) where
-    one_more : (n : ℕ) → n + 1 ≡ suc n
-    one_more n = omega arith
+      count : length ((cut_up state.limit x).full ++ first ∷ []) ≡ suc (length (full_of state x))
+      count = length-append (cut_up state.limit x).full (first ∷ []) ∙ one_more (length (cut_up state.limit x).full) ∙ ap suc (sym (length-map (cut_up state.limit x).full (share file_state.Closed))) where
+        one_more : (n : ℕ) → n + 1 ≡ suc n
+        one_more n = omega arith
 
 pub begins_stopped : (told : Bool) (parts next : PartsState) (piece : List ℕ) (bytes : ℕ) (old new : List Slot) (f : Fault) → LeadsOn parts piece (Begins bytes) → TurnsNot told parts (take bytes piece) old new next f → Stopped told parts piece old new next f
 begins_stopped told parts next piece bytes old new f leads cut = record {

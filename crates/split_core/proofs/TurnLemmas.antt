@@ -173,10 +173,14 @@ module _ (told : Bool) (parts : PartsState) (bytes : List ℕ) (old wet : List S
         (subst (λ (those : Naming). Halts told those ((shares ++ share state.Closed begun ∷ []) ++ begun_share []) ((shares ++ share state.Closed begun ∷ []) ++ share state.Open ([] ++ (mid.waiting ++ bytes)) ∷ []) wet new f) names
         (cut.halts (shares ++ share state.Closed begun ∷ []) [] (begun_next shares begun last)))));
     breaks = move.breaks_later old wet new f facts.keeps cut.breaks;
-    short = λ is_short. (some_bytes parts.waiting bytes some, λ shares begun last given.
-        let why = cut.short is_short in
-        (ap (is_named parts.names) (sym last.drawn) ∙ sym (ap (λ (those : Naming). is_named those those.drawn) names) ∙ why.1,
-        move.moves_again told parts.names _ (shares ++ share state.Closed begun ∷ []) _ old wet new (facts.moves shares begun last given) (move.moves_same told parts.names _ wet new why.2)));
+    short = λ is_short. (
+      some_bytes parts.waiting bytes some,
+      λ shares begun last given.
+          let why = cut.short is_short in (
+            ap (is_named parts.names) (sym last.drawn) ∙ sym (ap (λ (those : Naming). is_named those those.drawn) names) ∙ why.1,
+            move.moves_again told parts.names _ (shares ++ share state.Closed begun ∷ []) _ old wet new (facts.moves shares begun last given) (move.moves_same told parts.names _ wet new why.2),
+          ),
+    );
   }
 
 -- the numbers of the next part

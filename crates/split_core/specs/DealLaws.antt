@@ -1,13 +1,13 @@
 -- How the lines of a text that goes on are dealt, and which files have a line.
-use Rattle.std.proofs.Common.{◌≡◌, ◌≢◌, ℕ, ◌+◌, ◌-◌, ◌%◌, ◌<◌, ◌≤◌, zero, suc, min, max, Bool, true, false, cond, eqb, List, [], ◌∷◌, ◌++◌, length, map, inl, inr, refl, sym, ◌∙◌, ap, arith, length-append}
-use Rattle.std.proofs.Math.Nat.{mod-add-mod, mod-eq_of_lt, mod-mod}
+use Rattle.std.proofs.Common.{◌≡◌, ℕ, ◌+◌, ◌-◌, ◌%◌, ◌<◌, ◌≤◌, zero, suc, min, Bool, true, false, cond, eqb, List, [], ◌∷◌, ◌++◌, length, map, inl, inr, refl, sym, ◌∙◌, ap, arith, length-append}
+use Rattle.std.proofs.Math.Nat.{mod-add-mod, mod-eq_of_lt}
 use Rattle.std.specs.List.{filter, range_with_len, onto_first}
 use Rattle.std.proofs.lemmas.Bool.{cases_eq, cases_lt, eq-eqb, ne_eqb}
 use Rattle.std.proofs.lemmas.List.{append-nil}
 use Rattle.seg_core.specs.Line.{lines_of, newlines, line_count}
 use Rattle.seg_core.proofs.LineCounts.{line_count-some}
 use Rattle.seg_core.proofs.EndLines.{line_count_near}
-use Rattle.split_core.specs.Parts.{dealt, round_robin}
+use Rattle.split_core.specs.Parts.{dealt}
 use Rattle.split_core.specs.Split.{is_some, dealt_files}
 use Rattle.split_core.specs.Round.{opened_by}
 
@@ -106,8 +106,6 @@ is_some_of (byte ∷ bytes) some = refl
 -- what a file has of a text
 abbrev pub share_of : ℕ → List ℕ → ℕ → List ℕ
 share_of n x file = dealt n file 0 (lines_of x)
-
-
 
 pub share_none : (n : ℕ) (x : List ℕ) (file : ℕ) → line_count x ≤ file → file < n → share_of n x file ≡ []
 share_none n x file short within = dealt_none n file 0 (lines_of x) (omega arith) within

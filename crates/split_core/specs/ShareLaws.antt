@@ -75,12 +75,12 @@ pub named_short : (names : Naming) (place : ℕ) (front rest : List Share) → i
 named_short names place [] [] none = refl
 named_short names place [] (share ∷ rest) none =
     ap (λ has. cond has (file_at names place share ∷ named names (place + 1) rest) []) (subst (λ n. is_named names n ≡ false) (same place) none) where
-  same : (n : ℕ) → n + 0 ≡ n
-  same n = omega arith
+      same : (n : ℕ) → n + 0 ≡ n
+      same n = omega arith
 named_short names place (share ∷ front) rest none =
     ap (λ files. cond (is_named names place) (file_at names place share ∷ files) []) (named_short names (place + 1) front rest (subst (λ n. is_named names n ≡ false) (moved place (length front)) none)) where
-  moved : (n m : ℕ) → n + suc m ≡ n + 1 + m
-  moved n m = omega arith
+      moved : (n m : ℕ) → n + suc m ≡ n + 1 + m
+      moved n m = omega arith
 
 -- the parts of whole texts
 
@@ -94,7 +94,7 @@ first_lines_begin : (k n : ℕ) (x : List ℕ) → k ≤ n → IsBeginning (firs
 first_lines_begin k n x less = (
   joined (drop k (lines_of (first_lines n x))),
   sym (first_lines_then_rest k (first_lines n x))
-  ∙ ap (λ (lines : List (List ℕ)). joined lines ++ joined (drop k (lines_of (first_lines n x)))) (ap (take k) (lines_of-first_lines n x) ∙ take_less k n (lines_of x) less),
+      ∙ ap (λ (lines : List (List ℕ)). joined lines ++ joined (drop k (lines_of (first_lines n x)))) (ap (take k) (lines_of-first_lines n x) ∙ take_less k n (lines_of x) less),
 )
 
 whole_begins_by : (x y : List ℕ) (k m : ℕ) → newlines x ≡ k → newlines (x ++ y) ≡ m → IsBeginning (whole_lines x) (whole_lines (x ++ y))
@@ -152,18 +152,18 @@ rest_begins_by : (limit : Limit) (rest y : List ℕ) (full : Bool) → is_full l
 rest_begins_by limit rest y true full short =
     subst (λ cut. SharesBegin (map (share Open) (unless_empty (settled_rest limit rest))) (map (share Closed) cut.full ++ map (share Open) (unless_empty (settled_rest limit cut.rest)))) (sym (cut_first limit (rest ++ y) full))
     (in_first (settled_rest limit rest) _ (settled_in_full limit rest y (short_some limit rest short (full_some limit (rest ++ y) full).0))) where
-  in_first : (low : List ℕ) (more : List Share) → IsBeginning low (first_part limit (rest ++ y)) → SharesBegin (map (share Open) (unless_empty low)) (share Closed (first_part limit (rest ++ y)) ∷ more)
-  in_first [] more begins = tt
-  in_first (byte ∷ low) more begins = (begins, tt)
+      in_first : (low : List ℕ) (more : List Share) → IsBeginning low (first_part limit (rest ++ y)) → SharesBegin (map (share Open) (unless_empty low)) (share Closed (first_part limit (rest ++ y)) ∷ more)
+      in_first [] more begins = tt
+      in_first (byte ∷ low) more begins = (begins, tt)
 rest_begins_by limit rest y false full short =
     subst (λ cut. SharesBegin (map (share Open) (unless_empty (settled_rest limit rest))) (map (share Closed) cut.full ++ map (share Open) (unless_empty (settled_rest limit cut.rest)))) (sym (cut_none limit (rest ++ y) full))
     (in_next (settled_rest limit rest) (settled_rest limit (rest ++ y)) (settled_in_rest limit rest y)) where
-  in_next : (low high : List ℕ) → IsBeginning low high → SharesBegin (map (share Open) (unless_empty low)) (map (share Open) (unless_empty high))
-  in_next [] high begins = tt
-  in_next (byte ∷ low) [] (rest, is) = absurd (none_of (ap length is)) where
-    none_of : {n : ℕ} → 0 ≡ suc n → ⊥
-    none_of e = omega (arith, e)
-  in_next (byte ∷ low) (first ∷ high) begins = (begins, tt)
+      in_next : (low high : List ℕ) → IsBeginning low high → SharesBegin (map (share Open) (unless_empty low)) (map (share Open) (unless_empty high))
+      in_next [] high begins = tt
+      in_next (byte ∷ low) [] (rest, is) = absurd (none_of (ap length is)) where
+        none_of : {n : ℕ} → 0 ≡ suc n → ⊥
+        none_of e = omega (arith, e)
+      in_next (byte ∷ low) (first ∷ high) begins = (begins, tt)
 
 pub rest_begins : (limit : Limit) (rest y : List ℕ) → is_full limit rest ≡ false → SharesBegin (map (share Open) (unless_empty (settled_rest limit rest))) (settled_parts limit (rest ++ y))
 rest_begins limit rest y short = rest_begins_by limit rest y (is_full limit (rest ++ y)) refl short
@@ -182,12 +182,12 @@ pub settled_end : (limit : Limit) (x : List ℕ) → SharesBegin (settled_parts 
 settled_end limit x =
     subst (SharesBegin (settled_parts limit x)) (sym (map-append (share Closed) (cut_up limit x).full (unless_empty (cut_up limit x).rest)))
     (shares_behind (map (share Closed) (cut_up limit x).full) _ _ (closes (settled_rest limit (cut_up limit x).rest) (cut_up limit x).rest (settled_in_whole limit (cut_up limit x).rest))) where
-  closes : (low high : List ℕ) → IsBeginning low high → SharesBegin (map (share Open) (unless_empty low)) (map (share Closed) (unless_empty high))
-  closes [] high begins = tt
-  closes (byte ∷ low) [] (rest, is) = absurd (none_of (ap length is)) where
-    none_of : {n : ℕ} → 0 ≡ suc n → ⊥
-    none_of e = omega (arith, e)
-  closes (byte ∷ low) (first ∷ high) begins = (begins, tt)
+      closes : (low high : List ℕ) → IsBeginning low high → SharesBegin (map (share Open) (unless_empty low)) (map (share Closed) (unless_empty high))
+      closes [] high begins = tt
+      closes (byte ∷ low) [] (rest, is) = absurd (none_of (ap length is)) where
+        none_of : {n : ℕ} → 0 ≡ suc n → ⊥
+        none_of e = omega (arith, e)
+      closes (byte ∷ low) (first ∷ high) begins = (begins, tt)
 
 -- as many files are written as the text has parts
 
@@ -207,9 +207,9 @@ settled_count limit x =
     ∙ ap (λ n. n + length (map (share Open) (unless_empty (settled_rest limit (cut_up limit x).rest)))) (length-map (cut_up limit x).full (share Closed))
     ∙ ap (λ n. length (cut_up limit x).full + n) (length-map (unless_empty (settled_rest limit (cut_up limit x).rest)) (share Open) ∙ unless_count _ _ (settled_some limit (cut_up limit x).rest) few)
     ∙ sym (length-append (cut_up limit x).full (unless_empty (cut_up limit x).rest)) where
-  few : 0 < length (settled_rest limit (cut_up limit x).rest) → 0 < length (cut_up limit x).rest
-  few some = let begins = settled_in_whole limit (cut_up limit x).rest in
-      let size : length (cut_up limit x).rest ≡ length (settled_rest limit (cut_up limit x).rest) + length begins.0 = ap length begins.1 ∙ length-append (settled_rest limit (cut_up limit x).rest) begins.0 in omega (arith, some)
+      few : 0 < length (settled_rest limit (cut_up limit x).rest) → 0 < length (cut_up limit x).rest
+      few some = let begins = settled_in_whole limit (cut_up limit x).rest in
+          let size : length (cut_up limit x).rest ≡ length (settled_rest limit (cut_up limit x).rest) + length begins.0 = ap length begins.1 ∙ length-append (settled_rest limit (cut_up limit x).rest) begins.0 in omega (arith, some)
 
 -- Once names ran out, nothing more is written.
 

@@ -1,11 +1,10 @@
 -- How files in order get more bytes, and how more of them are opened.
-use Rattle.std.specs.Prelude.{◌≡◌, ℕ, ◌+◌, ◌<◌, ◌≤◌, zero, suc, max, Bool, false, List, [], ◌∷◌, ◌++◌, ◌⊎◌, length, map, ◌==◌, if◌then◌else◌}
+use Rattle.std.specs.Prelude.{◌≡◌, ℕ, ◌+◌, zero, suc, max, Bool, false, List, [], ◌∷◌, ◌++◌, ◌⊎◌, length, map, ◌==◌, if◌then◌else◌}
 use Rattle.ports_core.specs.Name.{Naming, with_one_drawn}
 use Rattle.ports_core.specs.Slot.{Slot, slot_at, Rose, FailsToOpen}
 use Rattle.ports_core.specs.Part.{File, Part, OutputsAt, IsBeginning, StoppedBetween}
 use Rattle.ports_core.specs.declared.fault.Fault.{Fault}
 use Rattle.ports_core.specs.declared.fault.Fault.TheVariants.{Memory, Write, Read, Open, Suffixes, NoMatch, Range, Usage, Failed, TooLong}
-use Rattle.ports_core.specs.declared.slot.State.{State}
 use Rattle.ports_core.specs.declared.slot.State.TheVariants as state
 use Rattle.split_core.specs.Split.{Share, share, file_at, only_files}
 use Rattle.split_core.specs.FilesState.{FilesState}

@@ -61,8 +61,10 @@ impl Deal {
         let count = self.gathered.len();
         let mut reached = self.next;
         let mut lines = CompleteLines::new(piece);
+        let mut left = piece;
         'lines: while let Some(line) = lines.next() {
-            append_to(&mut self.gathered, self.next, line)?;
+            append_to(&mut self.gathered, self.next, left, line.len())?;
+            left = lines.rest();
             reached = reached.max(self.next + 1);
             self.next = after(self.next, count);
         }
@@ -70,7 +72,7 @@ impl Deal {
         if open.is_empty() {
             return Ok(reached);
         }
-        append_to(&mut self.gathered, self.next, open)?;
+        append_to(&mut self.gathered, self.next, open, open.len())?;
         Ok(reached.max(self.next + 1))
     }
 }
@@ -84,12 +86,20 @@ fn clear(gathered: &mut Vec<Gathered>)
     }
 }
 
-fn append_to(gathered: &mut Vec<Gathered>, place: usize, line: &[u8]) -> Result<(), AllocError>
-    requires { place < length gathered.old.items }
+/// Gathers the first bytes of a text for one file.
+#[inline(always)]
+fn append_to(
+    gathered: &mut Vec<Gathered>,
+    place: usize,
+    text: &[u8],
+    count: usize,
+) -> Result<(), AllocError>
+    requires within { place < length gathered.old.items }
+    requires enough { count ≤ length text.now }
     ensures count { length gathered.new.items ≡ length gathered.old.items }
-    ensures ok { OnOk result (gathered.new.items ≡ changed_at place (λ had. had ++ line.now) gathered.old.items) }
+    ensures ok { OnOk result (gathered.new.items ≡ changed_at place (λ had. had ++ take count text.now) gathered.old.items) }
 {
-    gathered[place].append(line)
+    gathered[place].append(text, count)
 }
 
 /// The place behind one, of so many places in turn.

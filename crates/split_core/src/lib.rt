@@ -6,12 +6,18 @@ mod cut;
 mod deal;
 mod files;
 mod gathered;
+mod laws;
 mod part_splitter;
 mod parts;
 mod round_files;
+#[cfg(test)]
+mod round_plain;
 mod round_splitter;
+#[cfg(test)]
+mod round_tests;
 mod splitter;
 mod step;
 
 pub use cut::{Cut, Limit};
+pub use laws::{line_byte_parts, lines_are_dealt, parts_are_runs, parts_go_on};
 pub use splitter::Splitter;

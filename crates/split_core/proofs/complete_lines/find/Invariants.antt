@@ -1,4 +1,4 @@
-use Rattle.std.proofs.Common.{ℕ, ◌+◌, ◌-◌, length}
+use Rattle.std.proofs.Common.{◌+◌, ◌-◌, length}
 use Rattle.split_core.specs.Ahead.{Sees}
 use Rattle.split_core.proofs.complete_lines.find.Given as goal
 

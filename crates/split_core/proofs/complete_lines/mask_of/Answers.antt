@@ -1,4 +1,4 @@
-use Rattle.std.proofs.Common.{◌<◌, ◌∙◌, length, arith}
+use Rattle.std.proofs.Common.{◌∙◌, arith}
 use Rattle.split_core.proofs.AheadLemmas.{mask_of_padded}
 use Rattle.split_core.proofs.complete_lines.mask_of.Goals as goal
 

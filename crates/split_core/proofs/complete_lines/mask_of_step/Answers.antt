@@ -1,4 +1,4 @@
-use Rattle.std.proofs.Common.{◌≡◌, eqb, length, take, arith, w8}
+use Rattle.std.proofs.Common.{eqb, take, arith, w8}
 use Rattle.std.proofs.lemmas.List.{length-take-le}
 use Rattle.std.proofs.lemmas.Simd.{bitmask_splat}
 use Rattle.split_core.specs.declared.complete_lines.TheConstants.{STEP}

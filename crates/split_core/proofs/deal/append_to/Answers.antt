@@ -1,6 +1,6 @@
-use Rattle.std.proofs.Common.{get_or}
+use Rattle.std.proofs.Common.{take}
 use Rattle.split_core.proofs.DealLemmas.{appended}
 use Rattle.split_core.proofs.deal.append_to.Goals as goal
 
 pub returns-clause-ok : goal.returns-clause-ok
-returns-clause-ok c = appended c.args.gathered.now.items c.args.place c.index_mut.result.now c.append.new.self c.args.line.now c.append.result c.requires c.index_mut.ensures.value c.append.ensures.ok
+returns-clause-ok c = appended c.args.gathered.now.items c.args.place c.index_mut.result.now c.append.new.self (take c.args.count c.args.text.now) c.append.result c.requires.within c.index_mut.ensures.value c.append.ensures

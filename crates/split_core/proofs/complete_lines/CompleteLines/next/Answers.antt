@@ -1,4 +1,4 @@
-use Rattle.std.proofs.Common.{◌≡◌, ◌+◌, ◌<◌, ◌≤◌, ap, sym, ◌∙◌, arith}
+use Rattle.std.proofs.Common.{ap, sym, ◌∙◌, arith}
 use Rattle.seg_core.specs.Line.{newlines}
 use Rattle.split_core.proofs.AheadLemmas.{none_seen, seen_at, split_line, split_rest}
 use Rattle.split_core.proofs.complete_lines.CompleteLines.next.Goals as goal

@@ -1,9 +1,9 @@
-use Rattle.std.proofs.Common.{length}
+use Rattle.std.proofs.Common.{◌≡◌, length}
 use Rattle.split_core.proofs.DealLemmas.{Dealing}
 use Rattle.split_core.proofs.deal.Deal.gather.Given as goal
 
 abbrev pub invariant-lines : goal.invariant-lines
-invariant-lines l = Dealing (length l.fn.self.gathered) l.fn.self.next l.fn.piece l.self-inside.gathered.items l.self-inside.next l.reached l.lines
+invariant-lines l = Dealing (length l.fn.self.gathered) l.fn.self.next l.fn.piece l.self-inside.gathered.items l.self-inside.next l.reached l.lines × (l.left ≡ l.lines)
 
 abbrev pub decreases-lines : goal.decreases-lines
 decreases-lines l = length l.lines

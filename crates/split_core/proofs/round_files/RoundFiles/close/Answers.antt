@@ -1,4 +1,4 @@
-use Rattle.std.proofs.Common.{◌≡◌, ◌+◌, ◌<◌, ◌∙◌, ap, arith}
+use Rattle.std.proofs.Common.{◌≡◌, ◌+◌, ◌∙◌, ap, arith}
 use Rattle.ports_core.specs.Slot.{changed_at, closes}
 use Rattle.split_core.specs.FilesState.{FilesState}
 use Rattle.split_core.proofs.FileSteps.{closes_short, closes_caused, one_closed}

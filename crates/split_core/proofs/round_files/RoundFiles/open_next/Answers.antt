@@ -1,8 +1,6 @@
-use Rattle.std.proofs.Common.{refl, subst, sym, ap, ◌∙◌, List, ℕ}
+use Rattle.std.proofs.Common.{refl, subst, sym, ap, ◌∙◌}
 use Rattle.ports_core.specs.Slot.{FailsToOpen}
 use Rattle.ports_core.specs.Name.{next_name}
-use Rattle.ports_core.specs.declared.fault.Fault.{Fault}
-use Rattle.ports_core.specs.declared.fault.Fault.TheVariants as fault
 use Rattle.split_core.specs.FilesState.{FilesState}
 use Rattle.split_core.specs.Sharing.{FailsToFollow, could_not, unnamed}
 use Rattle.split_core.proofs.round_files.RoundFiles.open_next.Goals as goal

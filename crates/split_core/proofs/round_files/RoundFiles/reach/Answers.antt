@@ -1,4 +1,4 @@
-use Rattle.std.proofs.Common.{◌≡◌, ◌≤◌, ap, sym, subst, arith}
+use Rattle.std.proofs.Common.{◌≡◌, ap, arith}
 use Rattle.split_core.specs.FilesState.{FilesState}
 use Rattle.split_core.proofs.FileSteps.{became_same, reached, reached_short, reached_caused}
 use Rattle.split_core.proofs.round_files.RoundFiles.reach.Goals as goal

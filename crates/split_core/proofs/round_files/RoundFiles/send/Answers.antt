@@ -1,4 +1,4 @@
-use Rattle.std.proofs.Common.{◌≡◌, ◌+◌, ◌++◌, ap}
+use Rattle.std.proofs.Common.{◌+◌, ◌++◌, ap}
 use Rattle.ports_core.specs.Slot.{changed_at}
 use Rattle.split_core.specs.FilesState.{FilesState}
 use Rattle.split_core.specs.Sharing.{filled}

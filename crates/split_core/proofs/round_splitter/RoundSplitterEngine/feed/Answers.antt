@@ -1,4 +1,4 @@
-use Rattle.std.proofs.Common.{◌≡◌, ◌+◌, ◌%◌, max, length, ◌∙◌, sym, ap, subst}
+use Rattle.std.proofs.Common.{◌+◌, ◌%◌, max, length, ◌∙◌, sym, ap, subst}
 use Rattle.seg_core.specs.Line.{newlines}
 use Rattle.split_core.specs.Dealt.{dealt_first, reached_by}
 use Rattle.split_core.specs.Round.{from_start}

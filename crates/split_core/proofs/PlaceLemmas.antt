@@ -1,0 +1,156 @@
+-- Where each line of a text goes that is dealt: the lines of a file by their places in the text.
+use Rattle.std.proofs.Common.{◌≡◌, ℕ, ◌+◌, ◌-◌, ◌*◌, ◌%◌, ◌<◌, ◌≤◌, zero, suc, min, List, [], ◌∷◌, ◌++◌, length, take, map, get_or, Bool, true, false, cond, eqb, if◌then◌else◌, ◌==◌, inl, inr, refl, sym, ◌∙◌, ap, arith, length-append}
+use Rattle.std.proofs.Math.Nat.{suc-mul, zero-mul, mod-lt, mod-add-mod, mod-eq_of_lt, add-mod_right}
+use Rattle.std.specs.List.{range_with_len}
+use Rattle.std.proofs.lemmas.Bool.{cases_eq, cases_lt, eq-eqb, ne_eqb, eqb-true, eqb-false}
+use Rattle.std.proofs.lemmas.List.{take_all}
+use Rattle.std.proofs.lemmas.List.FromFn.{length-map-range_with_len, get_or-map-range_with_len, take-map-range_with_len}
+use Rattle.seg_core.specs.Line.{joined, lines_of, line_count, AreLines}
+use Rattle.seg_core.proofs.LinesOf.{joined-lines_of, lines_of-joined, AreLines-lines_of}
+use Rattle.split_core.specs.Parts.{dealt, round_robin}
+use Rattle.split_core.specs.Split.{dealt_files}
+use Rattle.split_core.specs.DealLaws.{share_of, dealt_files_are}
+
+-- the lines that one of n files gets; the first of them stands at this place
+abbrev pub lines_dealt : ℕ → ℕ → ℕ → List (List ℕ) → List (List ℕ)
+lines_dealt n file place [] = []
+lines_dealt n file place (line ∷ lines) = if place % n == file then line ∷ lines_dealt n file (place + 1) lines else lines_dealt n file (place + 1) lines
+
+joined_step : (gets : Bool) (line rest : List ℕ) (lines : List (List ℕ)) → rest ≡ joined lines → cond gets (line ++ rest) rest ≡ joined (cond gets (line ∷ lines) lines)
+joined_step true line rest lines is = ap (λ those. line ++ those) is
+joined_step false line rest lines is = is
+
+dealt_are : (n file place : ℕ) (lines : List (List ℕ)) → dealt n file place lines ≡ joined (lines_dealt n file place lines)
+dealt_are n file place [] = refl
+dealt_are n file place (line ∷ lines) = joined_step (eqb (place % n) file) line _ _ (dealt_are n file (place + 1) lines)
+
+-- they are still lines
+
+others : (line : List ℕ) (lines : List (List ℕ)) → AreLines (line ∷ lines) → AreLines lines
+others line [] each = tt
+others line (next ∷ lines) each = each.1
+
+before_some : (line : List ℕ) (lines chosen : List (List ℕ)) → AreLines (line ∷ lines) → length chosen ≤ length lines → AreLines chosen → AreLines (line ∷ chosen)
+before_some line [] [] each few those = each
+before_some line (next ∷ lines) [] each few those = inl each.0
+before_some line [] (first ∷ chosen) each few those = absurd (omega arith)
+before_some line (next ∷ lines) (first ∷ chosen) each few those = (each.0, those)
+
+few_step : (gets : Bool) (line : List ℕ) (chosen lines : List (List ℕ)) → length chosen ≤ length lines → length (cond gets (line ∷ chosen) chosen) ≤ suc (length lines)
+few_step true line chosen lines few = omega arith
+few_step false line chosen lines few = omega arith
+
+few_dealt : (n file place : ℕ) (lines : List (List ℕ)) → length (lines_dealt n file place lines) ≤ length lines
+few_dealt n file place [] = omega arith
+few_dealt n file place (line ∷ lines) = few_step (eqb (place % n) file) line _ lines (few_dealt n file (place + 1) lines)
+
+lines_step : (gets : Bool) (line : List ℕ) (lines chosen : List (List ℕ)) → AreLines (line ∷ lines) → length chosen ≤ length lines → AreLines chosen → AreLines (cond gets (line ∷ chosen) chosen)
+lines_step true line lines chosen each few those = before_some line lines chosen each few those
+lines_step false line lines chosen each few those = those
+
+are_dealt : (n file place : ℕ) (lines : List (List ℕ)) → AreLines lines → AreLines (lines_dealt n file place lines)
+are_dealt n file place [] each = tt
+are_dealt n file place (line ∷ lines) each =
+    lines_step (eqb (place % n) file) line lines _ each (few_dealt n file (place + 1) lines) (are_dealt n file (place + 1) lines (others line lines each))
+
+lines_of-dealt : (n file place : ℕ) (lines : List (List ℕ)) → AreLines lines → lines_of (dealt n file place lines) ≡ lines_dealt n file place lines
+lines_of-dealt n file place lines each = ap lines_of (dealt_are n file place lines) ∙ lines_of-joined _ (are_dealt n file place lines each)
+
+-- the places of a file's lines are n apart
+
+within_one : (n rest left : ℕ) → rest < n → left < n → (rest + left) % n ≡ rest → left ≡ 0
+within_one n rest left low few same = elim (cases_lt (rest + left) n) [
+  | inl before ↦ let here : (rest + left) % n ≡ rest + left = mod-eq_of_lt before in omega (arith, same, here)
+  | inr past ↦
+      let back : (rest + left) % n ≡ (rest + left - n) % n = (let split : rest + left ≡ rest + left - n + n = omega (arith, past) in ap (λ place. place % n) split ∙ add-mod_right (rest + left - n) n) in
+      let here : (rest + left - n) % n ≡ rest + left - n = mod-eq_of_lt (omega arith) in omega (arith, same, back, here, past)
+]
+
+nothing_between : (n place left : ℕ) → left < n → (place + left) % n ≡ place % n → left ≡ 0
+nothing_between n place left few same = within_one n (place % n) left (mod-lt place (omega arith)) few (mod-add-mod place n left ∙ same)
+
+nth_step : (n file place left k : ℕ) (line : List ℕ) (lines : List (List ℕ)) (gets : Bool) → left < n → (place + left) % n ≡ file → eqb (place % n) file ≡ gets
+    → ((left k : ℕ) → left < n → (place + 1 + left) % n ≡ file → get_or (lines_dealt n file (place + 1) lines) k [] ≡ get_or lines (left + k * n) [])
+    → get_or (cond gets (line ∷ lines_dealt n file (place + 1) lines) (lines_dealt n file (place + 1) lines)) k [] ≡ get_or (line ∷ lines) (left + k * n) []
+nth_step n file place left zero line lines true few at is next =
+    let none : left ≡ 0 = nothing_between n place left few (at ∙ sym (eqb-true (place % n) file is)) in
+    let here : left + 0 * n ≡ 0 = omega (arith, none, zero-mul n) in
+    ap (λ place. get_or (line ∷ lines) place []) (sym here)
+nth_step n file place left (suc k) line lines true few at is next =
+    let none : left ≡ 0 = nothing_between n place left few (at ∙ sym (eqb-true (place % n) file is)) in
+    let there : left + suc k * n ≡ suc (n - 1 + k * n) = omega (arith, none, suc-mul k n, few) in
+    let around : place + 1 + (n - 1) ≡ place + n = omega arith in
+    next (n - 1) k (omega arith) (ap (λ at. at % n) around ∙ add-mod_right place n ∙ eqb-true (place % n) file is)
+    ∙ ap (λ place. get_or (line ∷ lines) place []) (sym there)
+nth_step n file place zero k line lines false few at is next = absurd (eqb-false (place % n) file is (ap (λ at. at % n) same ∙ at)) where
+  same : place ≡ place + 0
+  same = omega arith
+nth_step n file place (suc left) k line lines false few at is next =
+    let on : place + 1 + left ≡ place + suc left = omega arith in
+    let there : suc left + k * n ≡ suc (left + k * n) = omega arith in
+    next left k (omega arith) (ap (λ at. at % n) on ∙ at) ∙ ap (λ place. get_or (line ∷ lines) place []) (sym there)
+
+nth_dealt : (n file place : ℕ) (lines : List (List ℕ)) (left k : ℕ) → left < n → (place + left) % n ≡ file → get_or (lines_dealt n file place lines) k [] ≡ get_or lines (left + k * n) []
+nth_dealt n file place [] left k few at = refl
+nth_dealt n file place (line ∷ lines) left k few at = nth_step n file place left k line lines (eqb (place % n) file) few at refl (λ left k few at. nth_dealt n file (place + 1) lines left k few at)
+
+-- line k of a file is the line at its place and k times n
+pub line_at : (n file k : ℕ) (x : List ℕ) → file < n → get_or (lines_of (get_or (round_robin n x) file [])) k [] ≡ get_or (lines_of x) (file + k * n) []
+line_at n file k x within =
+    let here : 0 + file ≡ file = omega arith in
+    ap (λ text. get_or (lines_of text) k []) (get_or-map-range_with_len (share_of n x) 0 n file file [] within here)
+    ∙ ap (λ lines. get_or lines k []) (lines_of-dealt n file 0 (lines_of x) (AreLines-lines_of x))
+    ∙ nth_dealt n file 0 (lines_of x) file k within (ap (λ place. place % n) here ∙ mod-eq_of_lt within)
+
+-- each line goes to one file
+
+none_gets : (had : ℕ → List ℕ) (line : List ℕ) (place start count : ℕ) → place < start
+    → joined (map (λ file. cond (eqb place file) (line ++ had file) (had file)) (range_with_len start count)) ≡ joined (map had (range_with_len start count))
+none_gets had line place start zero before = refl
+none_gets had line place start (suc count) before =
+    ap (λ gets. cond gets (line ++ had start) (had start) ++ joined (map (λ file. cond (eqb place file) (line ++ had file) (had file)) (range_with_len (start + 1) count))) (ne_eqb place start (λ is. omega (arith, is)))
+    ∙ ap (λ rest. had start ++ rest) (none_gets had line place (start + 1) count (omega arith))
+
+gets_step : (had : ℕ → List ℕ) (line rest more : List ℕ) (start : ℕ) → length rest ≡ length line + length more → length (had start ++ rest) ≡ length line + length (had start ++ more)
+gets_step had line rest more start is = omega (arith, is, length-append (had start) rest, length-append (had start) more)
+
+one_gets : (had : ℕ → List ℕ) (line : List ℕ) (place start count : ℕ) → start ≤ place → place < start + count
+    → length (joined (map (λ file. cond (eqb place file) (line ++ had file) (had file)) (range_with_len start count))) ≡ length line + length (joined (map had (range_with_len start count)))
+one_gets had line place start zero from before = absurd (omega arith)
+one_gets had line place start (suc count) from before = elim (cases_eq place start) [
+  | inl here ↦
+      ap (λ gets. length (cond gets (line ++ had start) (had start) ++ joined (map (λ file. cond (eqb place file) (line ++ had file) (had file)) (range_with_len (start + 1) count)))) (eq-eqb place start here)
+      ∙ ap (λ rest. length ((line ++ had start) ++ rest)) (none_gets had line place (start + 1) count (omega (arith, here)))
+      ∙ three line (had start) (joined (map had (range_with_len (start + 1) count)))
+  | inr other ↦
+      ap (λ gets. length (cond gets (line ++ had start) (had start) ++ joined (map (λ file. cond (eqb place file) (line ++ had file) (had file)) (range_with_len (start + 1) count)))) (ne_eqb place start other)
+      ∙ gets_step had line _ _ start (one_gets had line place (start + 1) count (omega (arith, other)) (omega arith))
+] where
+  three : (line first rest : List ℕ) → length ((line ++ first) ++ rest) ≡ length line + length (first ++ rest)
+  three line first rest = omega (arith, length-append (line ++ first) rest, length-append line first, length-append first rest)
+
+none_of_none : (start count : ℕ) → length (joined (map (λ (file : ℕ). []) (range_with_len start count))) ≡ 0
+none_of_none start zero = refl
+none_of_none start (suc count) = none_of_none (start + 1) count
+
+all_from : (n place : ℕ) (lines : List (List ℕ)) → 0 < n → length (joined (map (λ file. dealt n file place lines) (range_with_len 0 n))) ≡ length (joined lines)
+all_from n place [] some = none_of_none 0 n
+all_from n place (line ∷ lines) some =
+    one_gets (λ file. dealt n file (place + 1) lines) line (place % n) 0 n (omega arith) (let below : place % n < n = mod-lt place some in omega arith)
+    ∙ ap (λ rest. length line + rest) (all_from n (place + 1) lines some) ∙ sym (length-append line (joined lines))
+
+-- all bytes are dealt
+pub all_dealt : (n : ℕ) (x : List ℕ) → 0 < n → length (joined (round_robin n x)) ≡ length x
+all_dealt n x some = all_from n 0 (lines_of x) some ∙ ap length (joined-lines_of x)
+
+-- the files that have a line are the first ones
+pub first_files : (n : ℕ) (x : List ℕ) → dealt_files true n x ≡ take (line_count x) (round_robin n x)
+first_files n x = dealt_files_are true n x ∙ elim (cases_lt (line_count x) n) [
+  | inl fewer ↦
+      let here : min n (line_count x) ≡ line_count x = omega (arith, fewer) in
+      ap (λ count. map (share_of n x) (range_with_len 0 count)) here ∙ sym (take-map-range_with_len (share_of n x) 0 n (line_count x) (omega (arith, fewer)))
+  | inr many ↦
+      let here : min n (line_count x) ≡ n = omega (arith, many) in
+      ap (λ count. map (share_of n x) (range_with_len 0 count)) here
+      ∙ sym (take_all (line_count x) (round_robin n x) (let count : length (round_robin n x) ≡ n = length-map-range_with_len (share_of n x) 0 n in omega (arith, many)))
+]

@@ -1,0 +1,234 @@
+-- The parts of a text in other words: runs of lines or bytes, and whole lines within so many bytes.
+use Rattle.std.proofs.Common.{◌≡◌, ℕ, ◌+◌, ◌-◌, ◌*◌, ◌<◌, ◌≤◌, zero, suc, List, [], ◌∷◌, ◌++◌, length, take, drop, map, get_or, false, refl, sym, ◌∙◌, ap, subst, arith, append_assoc, length-append, length-drop}
+use Rattle.std.proofs.Math.ListN.{get_or-map}
+use Rattle.std.proofs.Math.Nat.{suc-mul, zero-mul}
+use Rattle.std.proofs.Math.Seq.{take-nil, drop-nil}
+use Rattle.std.specs.List.{All}
+use Rattle.std.proofs.lemmas.List.Elements.{All-nil, All-cons}
+use Rattle.std.proofs.lemmas.List.{append-nil, take_all, drop-drop, length-map, length-take-le, map-append}
+use Rattle.seg_core.specs.Line.{joined, lines_of, newlines, first_lines, behind_lines, line_count}
+use Rattle.seg_core.proofs.Carried.{lines_of-behind_lines}
+use Rattle.seg_core.proofs.EndLines.{line_count_near}
+use Rattle.seg_core.proofs.FirstLines.{joined-append, lines_of-first_lines, lines_of-behind}
+use Rattle.seg_core.proofs.LineCounts.{line_count-some}
+use Rattle.seg_core.proofs.LinesOf.{joined-lines_of}
+use Rattle.ports_core.specs.declared.slot.State.{State}
+use Rattle.ports_core.specs.declared.slot.State.TheVariants.{Open, Closed}
+use Rattle.split_core.specs.declared.cut.Limit.{Limit}
+use Rattle.split_core.specs.declared.cut.Limit.TheVariants.{Lines, Bytes, LineBytes}
+use Rattle.split_core.specs.Parts.{whole_lines, open_line, most, is_full, behind_first, cut_up, unless_empty, parts, settled_rest, waiting_rest}
+use Rattle.split_core.specs.Sections.{runs_within, runs_of, line_parts, byte_parts, AreLineByteParts, none, one, more}
+use Rattle.split_core.specs.Split.{Share, share, settled_parts}
+use Rattle.split_core.specs.CutLaws.{short_some, full_some, whole_some, whole_then_open, settled_then_waiting, cut_all, rest_short, Cuts, stops, goes, cuts_up}
+
+-- Runs of any list
+
+-- more room for runs changes nothing
+runs_bound : {X : Type 0} (low high n : ℕ) (xs : List X) → 0 < n → length xs ≤ low → length xs ≤ high → runs_within low n xs ≡ runs_within high n xs
+runs_bound zero zero n xs some few little = refl
+runs_bound zero (suc high) n [] some few little = refl
+runs_bound zero (suc high) n (x ∷ xs) some few little = absurd (omega arith)
+runs_bound (suc low) zero n [] some few little = refl
+runs_bound (suc low) zero n (x ∷ xs) some few little = absurd (omega arith)
+runs_bound (suc low) (suc high) n [] some few little = refl
+runs_bound (suc low) (suc high) n (x ∷ xs) some few little =
+    let left : length (drop n (x ∷ xs)) ≡ suc (length xs) - n = length-drop n (x ∷ xs) in
+    ap (λ runs. take n (x ∷ xs) ∷ runs) (runs_bound low high n (drop n (x ∷ xs)) some (omega arith) (omega arith))
+
+-- a run, and those of what stands behind it
+pub runs_next : {X : Type 0} (n : ℕ) (xs : List X) → 0 < n → 0 < length xs → runs_of n xs ≡ take n xs ∷ runs_of n (drop n xs)
+runs_next n [] some has = absurd (omega arith)
+runs_next n (x ∷ xs) some has =
+    let left : length (drop n (x ∷ xs)) ≡ suc (length xs) - n = length-drop n (x ∷ xs) in
+    ap (λ runs. take n (x ∷ xs) ∷ runs) (runs_bound (length xs) (length (drop n (x ∷ xs))) n (drop n (x ∷ xs)) some (omega arith) (omega arith))
+
+-- no more than n are one run
+pub runs_last : {X : Type 0} (n : ℕ) (xs : List X) → 0 < length xs → length xs ≤ n → runs_of n xs ≡ xs ∷ []
+runs_last n [] has few = absurd (omega arith)
+runs_last n (x ∷ xs) has few =
+    let left : length (drop n (x ∷ xs)) ≡ suc (length xs) - n = length-drop n (x ∷ xs) in
+    ap (λ run. run ∷ runs_within (length xs) n (drop n (x ∷ xs))) (take_all n (x ∷ xs) few)
+    ∙ ap (λ runs. (x ∷ xs) ∷ runs) (no_runs (length xs) n (drop n (x ∷ xs)) (omega arith)) where
+      no_runs : {X : Type 0} (bound n : ℕ) (xs : List X) → length xs ≡ 0 → runs_within bound n xs ≡ []
+      no_runs zero n xs empty = refl
+      no_runs (suc bound) n [] empty = refl
+      no_runs (suc bound) n (x ∷ xs) empty = absurd (omega arith)
+
+run_within : {X : Type 0} (bound n i : ℕ) (xs : List X) → 0 < n → length xs ≤ bound → get_or (runs_within bound n xs) i [] ≡ take n (drop (i * n) xs)
+run_within zero n i [] some few = sym (ap (take n) (drop-nil (i * n)) ∙ take-nil n)
+run_within zero n i (x ∷ xs) some few = absurd (omega arith)
+run_within (suc bound) n i [] some few = sym (ap (take n) (drop-nil (i * n)) ∙ take-nil n)
+run_within (suc bound) n zero (x ∷ xs) some few = ap (λ place. take n (drop place (x ∷ xs))) (sym (zero-mul n))
+run_within (suc bound) n (suc i) (x ∷ xs) some few =
+    let left : length (drop n (x ∷ xs)) ≡ suc (length xs) - n = length-drop n (x ∷ xs) in
+    run_within bound n i (drop n (x ∷ xs)) some (omega arith) ∙ ap (take n) (drop-drop (i * n) n (x ∷ xs))
+    ∙ ap (λ place. take n (drop place (x ∷ xs))) (sym (next_place i n)) where
+      next_place : (i n : ℕ) → suc i * n ≡ n + i * n
+      next_place i n = omega (arith, suc-mul i n)
+
+-- the run at a place has the members from i * n to less than (i + 1) * n
+pub run_at : {X : Type 0} (n i : ℕ) (xs : List X) → 0 < n → get_or (runs_of n xs) i [] ≡ take n (drop (i * n) xs)
+run_at n i xs some = run_within (length xs) n i xs some (omega arith)
+
+-- so many runs of n hold all of so many members, and one less doesn't
+abbrev AreFewest : ℕ → ℕ → ℕ → Type 0
+AreFewest runs n all = (all ≤ runs * n) × (runs * n < all + n)
+
+no_run : (n : ℕ) → 0 < n → AreFewest 0 n 0
+no_run n some = let none : 0 * n ≡ 0 = zero-mul n in (omega arith, omega arith)
+
+one_more : (runs n left all : ℕ) → left ≡ all - n → 0 < all → AreFewest runs n left → AreFewest (suc runs) n all
+one_more zero n left all is some (low, high) =
+    let none : 0 * n ≡ 0 = zero-mul n in let first : 1 * n ≡ 0 * n + n = suc-mul 0 n in (omega arith, omega arith)
+one_more (suc runs) n left all is some (low, high) =
+    let here : suc runs * n ≡ runs * n + n = suc-mul runs n in
+    let next : suc (suc runs) * n ≡ suc runs * n + n = suc-mul (suc runs) n in (omega arith, omega arith)
+
+count_within : {X : Type 0} (bound n : ℕ) (xs : List X) → 0 < n → length xs ≤ bound → AreFewest (length (runs_within bound n xs)) n (length xs)
+count_within zero n [] some few = no_run n some
+count_within zero n (x ∷ xs) some few = absurd (omega arith)
+count_within (suc bound) n [] some few = no_run n some
+count_within (suc bound) n (x ∷ xs) some few =
+    let left : length (drop n (x ∷ xs)) ≡ suc (length xs) - n = length-drop n (x ∷ xs) in
+    one_more (length (runs_within bound n (drop n (x ∷ xs)))) n (length (drop n (x ∷ xs))) (suc (length xs)) left (omega arith)
+    (count_within bound n (drop n (x ∷ xs)) some (omega arith))
+
+-- they are as few as can hold all
+pub runs_count : {X : Type 0} (n : ℕ) (xs : List X) → 0 < n → AreFewest (length (runs_of n xs)) n (length xs)
+runs_count n xs some = count_within (length xs) n xs some (omega arith)
+
+-- Parts of n lines, and of n bytes
+
+last_lines : (n : ℕ) (x : List ℕ) → newlines x < n → unless_empty x ≡ line_parts n x
+last_lines n [] short = refl
+last_lines n (byte ∷ x) short =
+    let few : line_count (byte ∷ x) ≤ newlines (byte ∷ x) + 1 = (line_count_near (byte ∷ x)).1 in
+    sym (ap (map joined) (runs_last n (lines_of (byte ∷ x)) (line_count-some (byte ∷ x) (omega arith)) (omega arith))
+    ∙ ap (λ text. text ∷ []) (joined-lines_of (byte ∷ x)))
+
+lines_cut : (n : ℕ) (x : List ℕ) (full : List (List ℕ)) (rest : List ℕ) → 0 < n → Cuts (Lines n) x full rest → full ++ unless_empty rest ≡ line_parts n x
+lines_cut n x _ _ some (stops _ short) = last_lines n x (short_some (Lines n) x short some)
+lines_cut n x _ rest some (goes _ full _ is behind) =
+    let enough : n ≤ newlines x = (full_some (Lines n) x is).1 in
+    let lines : newlines x ≤ line_count x = (line_count_near x).0 in
+    ap (λ those. first_lines n x ∷ those) (lines_cut n (behind_first (Lines n) x) full rest some behind)
+    ∙ ap (λ those. first_lines n x ∷ map joined (runs_of n those)) (lines_of-behind n x enough)
+    ∙ sym (ap (map joined) (runs_next n (lines_of x) some (omega arith)))
+
+pub lines_are_runs : (n : ℕ) (x : List ℕ) → 0 < n → parts (Lines n) x ≡ line_parts n x
+lines_are_runs n x some = lines_cut n x _ _ some (cuts_up (Lines n) x)
+
+last_bytes : (n : ℕ) (x : List ℕ) → length x < n → unless_empty x ≡ byte_parts n x
+last_bytes n [] short = refl
+last_bytes n (byte ∷ x) short = sym (runs_last n (byte ∷ x) (omega arith) (omega arith))
+
+bytes_cut : (n : ℕ) (x : List ℕ) (full : List (List ℕ)) (rest : List ℕ) → 0 < n → Cuts (Bytes n) x full rest → full ++ unless_empty rest ≡ byte_parts n x
+bytes_cut n x _ _ some (stops _ short) = last_bytes n x (short_some (Bytes n) x short some)
+bytes_cut n x _ rest some (goes _ full _ is behind) =
+    let enough : n ≤ length x = (full_some (Bytes n) x is).1 in
+    ap (λ those. take n x ∷ those) (bytes_cut n (behind_first (Bytes n) x) full rest some behind)
+    ∙ ap (λ k. take n x ∷ runs_of n (drop k x)) (length-take-le n x enough)
+    ∙ sym (runs_next n x some (omega arith))
+
+pub bytes_are_runs : (n : ℕ) (x : List ℕ) → 0 < n → parts (Bytes n) x ≡ byte_parts n x
+bytes_are_runs n x some = bytes_cut n x _ _ some (cuts_up (Bytes n) x)
+
+-- the lines of the part at a place
+pub part_lines : (n i : ℕ) (x : List ℕ) → 0 < n → lines_of (get_or (parts (Lines n) x) i []) ≡ take n (drop (i * n) (lines_of x))
+part_lines n i x some =
+    ap (λ those. lines_of (get_or those i [])) (lines_are_runs n x some)
+    ∙ ap lines_of (get_or-map joined (runs_of n (lines_of x)) i [] ∙ ap joined (run_at n i (lines_of x) some ∙ ap (take n) (sym (lines_of-behind_lines (i * n) x))))
+    ∙ lines_of-first_lines n (behind_lines (i * n) x) ∙ ap (take n) (lines_of-behind_lines (i * n) x)
+
+pub part_bytes : (n i : ℕ) (x : List ℕ) → 0 < n → get_or (parts (Bytes n) x) i [] ≡ take n (drop (i * n) x)
+part_bytes n i x some = ap (λ those. get_or those i []) (bytes_are_runs n x some) ∙ run_at n i x some
+
+pub lines_count : (n : ℕ) (x : List ℕ) → 0 < n → AreFewest (length (parts (Lines n) x)) n (line_count x)
+lines_count n x some =
+    subst (λ count. AreFewest count n (line_count x)) (sym (ap length (lines_are_runs n x some) ∙ length-map (runs_of n (lines_of x)) joined)) (runs_count n (lines_of x) some)
+
+pub bytes_count : (n : ℕ) (x : List ℕ) → 0 < n → AreFewest (length (parts (Bytes n) x)) n (length x)
+bytes_count n x some = subst (λ count. AreFewest count n (length x)) (sym (ap length (bytes_are_runs n x some))) (runs_count n x some)
+
+-- Parts of whole lines within n bytes
+
+last_line_bytes : (n : ℕ) (x : List ℕ) → length x < n → AreLineByteParts n x (unless_empty x)
+last_line_bytes n [] short = none
+last_line_bytes n (byte ∷ x) short = one (byte ∷ x) (omega arith) short
+
+line_bytes_cut : (n : ℕ) (x : List ℕ) (full : List (List ℕ)) (rest : List ℕ) → 0 < n → Cuts (LineBytes n) x full rest → AreLineByteParts n x (full ++ unless_empty rest)
+line_bytes_cut n x _ _ some (stops _ short) = last_line_bytes n x (short_some (LineBytes n) x short some)
+line_bytes_cut n x _ rest some (goes _ full _ is behind) =
+    more x (full ++ unless_empty rest) (full_some (LineBytes n) x is).1 (line_bytes_cut n (behind_first (LineBytes n) x) full rest some behind)
+
+pub line_bytes_are_parts : (n : ℕ) (x : List ℕ) → 0 < n → AreLineByteParts n x (parts (LineBytes n) x)
+line_bytes_are_parts n x some = line_bytes_cut n x _ _ some (cuts_up (LineBytes n) x)
+
+too_few : (n all : ℕ) → 0 < n → all ≡ 0 → n ≤ all → ⊥
+too_few n all some is enough = omega arith
+
+not_both : (n all : ℕ) → all < n → n ≤ all → ⊥
+not_both n all short enough = omega arith
+
+-- no other parts are those
+pub line_bytes_once : (n : ℕ) (x : List ℕ) (these those : List (List ℕ)) → 0 < n → AreLineByteParts n x these → AreLineByteParts n x those → these ≡ those
+line_bytes_once n _ _ _ some none none = refl
+line_bytes_once n _ _ _ some none (one _ has short) = absurd (omega (arith, has))
+line_bytes_once n _ _ _ some none (more _ _ enough behind) = absurd (too_few n 0 some refl enough)
+line_bytes_once n _ _ _ some (one _ has short) none = absurd (omega (arith, has))
+line_bytes_once n _ _ _ some (one x has short) (one _ _ _) = refl
+line_bytes_once n _ _ _ some (one x has short) (more _ _ enough behind) = absurd (not_both n (length x) short enough)
+line_bytes_once n _ _ _ some (more _ _ enough behind) none = absurd (too_few n 0 some refl enough)
+line_bytes_once n _ _ _ some (more x _ enough behind) (one _ has short) = absurd (not_both n (length x) short enough)
+line_bytes_once n _ _ _ some (more x these enough behind) (more _ those _ other) =
+    ap (λ rest. whole_lines (take n x) ∷ rest) (line_bytes_once n (drop (length (whole_lines (take n x))) x) these those some behind other)
+
+line_bytes_first : (n : ℕ) (x : List ℕ) → 0 < n → n ≤ length x → (0 < length (whole_lines (take n x))) × (length (whole_lines (take n x)) ≤ n)
+line_bytes_first n x some enough =
+    let all : length (take n x) ≡ n = length-take-le n x enough in
+    let both : length (whole_lines (take n x)) + length (open_line (take n x)) ≡ length (take n x) = sym (length-append (whole_lines (take n x)) (open_line (take n x))) ∙ ap length (whole_then_open (take n x)) in
+    (whole_some (take n x) (omega arith), omega arith)
+
+-- none is empty, and none has more than n bytes
+pub line_bytes_within : (n : ℕ) (x : List ℕ) (those : List (List ℕ)) → 0 < n → AreLineByteParts n x those → All (λ part. (0 < length part) × (length part ≤ n)) those
+line_bytes_within n _ _ some none = All-nil (λ part. (0 < length part) × (length part ≤ n))
+line_bytes_within n _ _ some (one x has short) = All-cons (λ part. (0 < length part) × (length part ≤ n)) x [] (has, omega (arith, short)) (All-nil (λ part. (0 < length part) × (length part ≤ n)))
+line_bytes_within n _ _ some (more x those enough behind) =
+    All-cons (λ part. (0 < length part) × (length part ≤ n)) (whole_lines (take n x)) those (line_bytes_first n x some enough)
+    (line_bytes_within n (drop (length (whole_lines (take n x))) x) those some behind)
+
+-- Texts that go on
+
+joined_one : (rest : List ℕ) → joined (unless_empty rest) ≡ rest
+joined_one [] = refl
+joined_one (byte ∷ rest) = append-nil (byte ∷ rest)
+
+pub joined_parts : (limit : Limit) (x : List ℕ) → joined (parts limit x) ≡ x
+joined_parts limit x =
+    joined-append (cut_up limit x).full (unless_empty (cut_up limit x).rest) ∙ ap (λ rest. joined (cut_up limit x).full ++ rest) (joined_one (cut_up limit x).rest) ∙ cut_all limit x
+
+waits_few : (limit : Limit) (rest : List ℕ) → 0 < most limit → is_full limit rest ≡ false → length (waiting_rest limit rest) < most limit
+waits_few (Lines n) rest some short = some
+waits_few (Bytes n) rest some short = some
+waits_few (LineBytes n) rest some short =
+    let few : length rest < n = short_some (LineBytes n) rest short some in
+    let both : length (whole_lines rest) + length (open_line rest) ≡ length rest = sym (length-append (whole_lines rest) (open_line rest)) ∙ ap length (whole_then_open rest) in omega arith
+
+-- what waits is shorter than a part
+pub waiting_few : (limit : Limit) (x : List ℕ) → 0 < most limit → length (waiting_rest limit (cut_up limit x).rest) < most limit
+waiting_few limit x some = waits_few limit (cut_up limit x).rest some (rest_short limit x)
+
+bytes_of_shares : (state : State) (those : List (List ℕ)) → map (λ (file : Share). file.bytes) (map (share state) those) ≡ those
+bytes_of_shares state [] = refl
+bytes_of_shares state (part ∷ those) = ap (λ rest. part ∷ rest) (bytes_of_shares state those)
+
+-- what is written and what waits are together what came in
+pub settled_all : (limit : Limit) (x : List ℕ) → joined (map (λ (file : Share). file.bytes) (settled_parts limit x)) ++ waiting_rest limit (cut_up limit x).rest ≡ x
+settled_all limit x =
+    let full = (cut_up limit x).full in let rest = (cut_up limit x).rest in
+    ap (λ those. joined those ++ waiting_rest limit rest)
+    (map-append (λ (file : Share). file.bytes) (map (share Closed) full) (map (share Open) (unless_empty (settled_rest limit rest)))
+    ∙ ap (λ those. those ++ map (λ (file : Share). file.bytes) (map (share Open) (unless_empty (settled_rest limit rest)))) (bytes_of_shares Closed full)
+    ∙ ap (λ those. full ++ those) (bytes_of_shares Open (unless_empty (settled_rest limit rest))))
+    ∙ ap (λ bytes. bytes ++ waiting_rest limit rest) (joined-append full (unless_empty (settled_rest limit rest)) ∙ ap (λ bytes. joined full ++ bytes) (joined_one (settled_rest limit rest)))
+    ∙ append_assoc (joined full) (settled_rest limit rest) (waiting_rest limit rest) ∙ ap (λ bytes. joined full ++ bytes) (settled_then_waiting limit rest) ∙ cut_all limit x

@@ -1,0 +1,13 @@
+use Rattle.split_core.specs.declared.cut.Limit.TheVariants.{LineBytes}
+use Rattle.split_core.specs.Parts.{parts}
+use Rattle.split_core.proofs.SectionLemmas.{line_bytes_are_parts, line_bytes_once, line_bytes_within}
+use Rattle.split_core.proofs.laws.line_byte_parts.Goals as goal
+
+pub returns-clause-are : goal.returns-clause-are
+returns-clause-are c n x some = line_bytes_are_parts n x some
+
+pub returns-clause-once : goal.returns-clause-once
+returns-clause-once c n x those some are = line_bytes_once n x those (parts (LineBytes n) x) some are (line_bytes_are_parts n x some)
+
+pub returns-clause-within : goal.returns-clause-within
+returns-clause-within c n x some = line_bytes_within n x (parts (LineBytes n) x) some (line_bytes_are_parts n x some)

@@ -1,0 +1,57 @@
+//! Laws of the definitions, with no code: each stands on the contract of a function whose body is empty.
+ghost use Rattle.std.specs.Prelude.{◌≡◌, ◌<◌, ◌≤◌, ◌+◌, ◌*◌, ◌++◌, ℕ, List, [], true, get_or, length, map, take, drop, All};
+ghost use Rattle.ports_core.specs.declared.slot.State.TheVariants.{Closed};
+ghost use Rattle.seg_core.specs.Line.{joined, line_count, lines_of, newlines};
+ghost use Rattle.split_core.specs.declared.cut.Limit.TheVariants.{Bytes, LineBytes, Lines};
+ghost use Rattle.split_core.specs.Parts.{cut_up, dealt, most, parts, round_robin, settled_rest, waiting_rest};
+ghost use Rattle.split_core.specs.Sections.{AreLineByteParts, byte_parts, line_parts};
+ghost use Rattle.split_core.specs.Split.{Share, dealt_files, settled_parts, share};
+
+use crate::Limit;
+
+/// Parts of n lines, or of n bytes, are runs: part i has the lines, or the bytes, at the places from i * n to less than
+/// (i + 1) * n. There are as many parts as hold all of them, and no more (POSIX.1-2017, XCU split, `-l` and `-b`).
+pub fn parts_are_runs()
+    ensures lines { (n : ℕ) (x : List ℕ) → 0 < n → parts (Lines n) x ≡ line_parts n x }
+    ensures bytes { (n : ℕ) (x : List ℕ) → 0 < n → parts (Bytes n) x ≡ byte_parts n x }
+    ensures lines_at { (n i : ℕ) (x : List ℕ) → 0 < n → lines_of (get_or (parts (Lines n) x) i []) ≡ take n (drop (i * n) (lines_of x)) }
+    ensures bytes_at { (n i : ℕ) (x : List ℕ) → 0 < n → get_or (parts (Bytes n) x) i [] ≡ take n (drop (i * n) x) }
+    ensures all_lines { (n : ℕ) (x : List ℕ) → 0 < n → line_count x ≤ length (parts (Lines n) x) * n }
+    ensures few_by_lines { (n : ℕ) (x : List ℕ) → 0 < n → length (parts (Lines n) x) * n < line_count x + n }
+    ensures all_bytes { (n : ℕ) (x : List ℕ) → 0 < n → length x ≤ length (parts (Bytes n) x) * n }
+    ensures few_by_bytes { (n : ℕ) (x : List ℕ) → 0 < n → length (parts (Bytes n) x) * n < length x + n }
+{}
+
+/// Parts of whole lines within n bytes are those of the definition by what remains, and no other list is. None is empty, and
+/// none has more than n bytes (GNU coreutils manual, split, `-C`).
+pub fn line_byte_parts()
+    ensures are { (n : ℕ) (x : List ℕ) → 0 < n → AreLineByteParts n x (parts (LineBytes n) x) }
+    ensures once { (n : ℕ) (x : List ℕ) (those : List (List ℕ)) → 0 < n → AreLineByteParts n x those → those ≡ parts (LineBytes n) x }
+    ensures within { (n : ℕ) (x : List ℕ) → 0 < n → All (λ part. (0 < length part) × (length part ≤ n)) (parts (LineBytes n) x) }
+{}
+
+/// What a text and what follows it are cut into: the parts that the text has in full, and then those of what is left of it and
+/// what follows. So a part that is full never changes. Nothing is lost: the parts are together the text, and what is settled and
+/// what waits are together what came in. What waits is shorter than a part.
+pub fn parts_go_on(limit: Limit)
+    ensures parts { (x y : List ℕ) → parts limit (x ++ y) ≡ (cut_up limit x).full ++ parts limit ((cut_up limit x).rest ++ y) }
+    ensures settled { (x y : List ℕ) → settled_parts limit (x ++ y) ≡ map (share Closed) (cut_up limit x).full ++ settled_parts limit ((cut_up limit x).rest ++ y) }
+    ensures all { (x : List ℕ) → joined (parts limit x) ≡ x }
+    ensures left { (rest : List ℕ) → settled_rest limit rest ++ waiting_rest limit rest ≡ rest }
+    ensures came_in { (x : List ℕ) → joined (map (λ (file : Share). file.bytes) (settled_parts limit x)) ++ waiting_rest limit (cut_up limit x).rest ≡ x }
+    ensures few_wait { (x : List ℕ) → 0 < most limit → length (waiting_rest limit (cut_up limit x).rest) < most limit }
+{
+    let _ = limit;
+}
+
+/// Lines that are dealt in turn to n files: line k of a file is the line of the text at the file's place and k times n, and
+/// no byte is lost. What a file has of a text that goes on is what it has of the text, and then of what follows, dealt from
+/// behind the text's last newline. Where files that get no line are left out, the first ones are left: as many as there are
+/// lines (GNU coreutils manual, split, `-n r/N` and `-e`).
+pub fn lines_are_dealt()
+    ensures at { (n file k : ℕ) (x : List ℕ) → file < n → get_or (lines_of (get_or (round_robin n x) file [])) k [] ≡ get_or (lines_of x) (file + k * n) [] }
+    ensures all { (n : ℕ) (x : List ℕ) → 0 < n → length (joined (round_robin n x)) ≡ length x }
+    ensures files { (n : ℕ) (x : List ℕ) → length (round_robin n x) ≡ n }
+    ensures goes_on { (n file place : ℕ) (x y : List ℕ) → dealt n file place (lines_of (x ++ y)) ≡ dealt n file place (lines_of x) ++ dealt n file (place + newlines x) (lines_of y) }
+    ensures elided { (n : ℕ) (x : List ℕ) → dealt_files true n x ≡ take (line_count x) (round_robin n x) }
+{}

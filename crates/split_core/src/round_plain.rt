@@ -1,0 +1,26 @@
+//! Lines dealt in turn as a slow program that sees a whole text at once, to compare the engine with.
+use std::alloc::{AllocError, Global};
+
+/// What the file at a place gets, of so many: the lines whose number leaves that remainder.
+///
+/// # Errors
+///
+/// Where there is no room for it.
+pub(crate) fn plain(
+    alloc: Global,
+    count: u64,
+    file: u64,
+    text: &[u8],
+) -> Result<Vec<u8>, AllocError> {
+    let mut out = Vec::new(alloc);
+    let mut line = 0u64;
+    for byte in text {
+        if line.checked_rem(count) == Some(file) {
+            out.push(*byte)?;
+        }
+        if *byte == b'\n' {
+            line = line.saturating_add(1);
+        }
+    }
+    Ok(out)
+}

@@ -1,0 +1,268 @@
+//! Lines dealt in turn: rows of the table, and the engine beside the plain program on each short text, cut into pieces in
+//! each way.
+ghost use Rattle.std.specs.Prelude.{◌≡◌, ◌<◌, ◌≤◌, false, length, IfOk, OnOk};
+ghost use Rattle.split_core.specs.Round.{Ready};
+
+use crate::round_plain::plain;
+use crate::round_splitter::RoundSplitter;
+use ports_core::{Alphabet, Engine, Fault, MemOut, Names, Outs};
+use std::alloc::{AllocError, Global};
+use std::process::Abort;
+use std::test::Fail;
+
+/// The first names.
+const NAMES: [&str; 5] = ["xaa", "xab", "xac", "xad", "xae"];
+
+/// For each size of a text how many texts there are of two letters and a newline, and how many ways to cut one into pieces.
+const SIZES: [(usize, u32, u32); 7] = [
+    (0, 1, 1),
+    (1, 3, 1),
+    (2, 9, 2),
+    (3, 27, 4),
+    (4, 81, 8),
+    (5, 243, 16),
+    (6, 729, 32),
+];
+
+#[test]
+fn deals_in_turn(rt: HostRuntime) -> Result<(), Fail> {
+    let mut outs = MemOut::new(rt.alloc())?;
+    let mut engine = start(rt.alloc(), 3, false, &mut outs)?;
+    feed(&mut engine, &mut outs, b"a\nb\nc\nd")?;
+    assert_eq!(rt; outs.bytes(2), b"a\nd".as_slice());
+    assert!(rt; !engine.done());
+    feed(&mut engine, &mut outs, b"e\nf")?;
+    engine.close(&mut outs)?;
+    assert_eq!(rt; outs.name(2), "xaa");
+    assert_eq!(rt; outs.bytes(2), b"a\nde\n".as_slice());
+    assert_eq!(rt; outs.bytes(3), b"b\nf".as_slice());
+    assert_eq!(rt; outs.name(4), "xac");
+    assert_eq!(rt; outs.bytes(4), b"c\n".as_slice());
+    assert_eq!(rt; outs.name(5), "");
+    assert_eq!(rt; outs.bytes(0), b"".as_slice());
+    assert_eq!(rt; engine.close(&mut outs), Err(Fault::Failed));
+    assert_eq!(rt; engine.feed(b"g", &mut outs), Err(Fault::Failed));
+    Ok(())
+}
+
+#[test]
+fn makes_files_of_an_empty_input(rt: HostRuntime) -> Result<(), Fail> {
+    let mut outs = MemOut::new(rt.alloc())?;
+    let mut engine = start(rt.alloc(), 3, false, &mut outs)?;
+    engine.close(&mut outs)?;
+    assert_eq!(rt; outs.name(4), "xac");
+    assert_eq!(rt; outs.bytes(4), b"".as_slice());
+    assert_eq!(rt; outs.name(5), "");
+    let mut others = MemOut::new(rt.alloc())?;
+    let mut elides = start(rt.alloc(), 3, true, &mut others)?;
+    elides.close(&mut others)?;
+    assert_eq!(rt; others.name(2), "");
+    Ok(())
+}
+
+#[test]
+fn leaves_empty_files_out(rt: HostRuntime) -> Result<(), Fail> {
+    let mut outs = MemOut::new(rt.alloc())?;
+    let mut engine = start(rt.alloc(), 3, true, &mut outs)?;
+    feed(&mut engine, &mut outs, b"a")?;
+    assert_eq!(rt; outs.name(3), "");
+    feed(&mut engine, &mut outs, b"\nb")?;
+    engine.close(&mut outs)?;
+    assert_eq!(rt; outs.bytes(2), b"a\n".as_slice());
+    assert_eq!(rt; outs.name(3), "xab");
+    assert_eq!(rt; outs.bytes(3), b"b".as_slice());
+    assert_eq!(rt; outs.name(4), "");
+    Ok(())
+}
+
+#[test]
+fn stops_at_a_broken_output(rt: HostRuntime) -> Result<(), Fail> {
+    let mut outs = MemOut::new(rt.alloc())?;
+    outs.limit(3, 1)?;
+    let mut engine = start(rt.alloc(), 3, false, &mut outs)?;
+    assert_eq!(rt; engine.feed(b"a\nb\nc\n", &mut outs), Err(Fault::Write(3)));
+    assert_eq!(rt; outs.bytes(2), b"a\n".as_slice());
+    assert_eq!(rt; outs.bytes(3), b"b".as_slice());
+    assert_eq!(rt; outs.bytes(4), b"".as_slice());
+    assert_eq!(rt; engine.feed(b"d\n", &mut outs), Err(Fault::Failed));
+    assert_eq!(rt; outs.bytes(2), b"a\n".as_slice());
+    Ok(())
+}
+
+#[test]
+fn stops_where_a_file_is_not_opened(rt: HostRuntime) -> Result<(), Fail> {
+    let mut outs = MemOut::new(rt.alloc())?;
+    outs.fail_at(2);
+    assert!(rt; start(rt.alloc(), 3, false, &mut outs).is_err());
+    assert!(rt; outs.broken(3));
+    assert_eq!(rt; outs.name(4), "");
+    let mut others = MemOut::new(rt.alloc())?;
+    let mut engine = start(rt.alloc(), 3, true, &mut others)?;
+    others.fail_at(3);
+    assert_eq!(rt; engine.feed(b"a\nb\nc\n", &mut others), Err(Fault::Open(3)));
+    assert_eq!(rt; others.bytes(2), b"a\n".as_slice());
+    assert_eq!(rt; others.name(4), "");
+    Ok(())
+}
+
+#[test]
+fn deals_many_lines_of_a_piece(rt: HostRuntime) -> Result<(), Fail> {
+    let mut text = [b'x'; 600];
+    for place in 0..600 {
+        if place % 3 == 2 || place % 7 == 0 || place > 560 {
+            text[place] = b'\n';
+        }
+    }
+    for count in [1, 2, 5, 64, 65] {
+        assert!(rt; agree_on_pieces(rt.alloc(), count, &text)?, "for {count}");
+    }
+    Ok(())
+}
+
+#[test]
+fn does_as_the_plain_program(rt: HostRuntime) -> Result<(), Fail> {
+    for (size, texts, ways) in SIZES {
+        assert!(rt;
+            agree_on_size(rt.alloc(), size, texts, ways)?,
+            "of size {size}"
+        );
+    }
+    Ok(())
+}
+
+/// Whether the engine agrees with the plain program on each text of this size.
+fn agree_on_size(alloc: Global, size: usize, texts: u32, ways: u32) -> Result<bool, Fault> {
+    for number in 0..texts {
+        let text = text_of(number);
+        if let Some(text) = text.get(..size)
+            && !agree_on_text(alloc, text, ways)?
+        {
+            return Ok(false);
+        }
+    }
+    Ok(true)
+}
+
+/// A text with this number: its bytes are the digits.
+fn text_of(number: u32) -> [u8; 6] {
+    let mut text = [b'\n'; 6];
+    let mut left = number;
+    for byte in text.iter_mut() {
+        match left % 3 {
+            0 => *byte = b'a',
+            1 => *byte = b'b',
+            _ => {}
+        }
+        left /= 3;
+    }
+    text
+}
+
+fn agree_on_text(alloc: Global, text: &[u8], ways: u32) -> Result<bool, Fault> {
+    for cuts in 0..ways {
+        for count in 1..5 {
+            if !agrees(alloc, count, false, text, cuts)?
+                || !agrees(alloc, count, true, text, cuts)?
+            {
+                return Ok(false);
+            }
+        }
+    }
+    Ok(true)
+}
+
+/// Whether a long text gives what it should, in one piece and in two.
+fn agree_on_pieces(alloc: Global, count: u64, text: &[u8]) -> Result<bool, Fault> {
+    for cuts in [0, 1, 1 << 7, 1 << 30] {
+        if count > 0 && !agrees(alloc, count, false, text, cuts)? {
+            return Ok(false);
+        }
+    }
+    Ok(true)
+}
+
+/// Whether all files have what they should before the end, and at the end.
+fn agrees(alloc: Global, count: u64, elide: bool, text: &[u8], cuts: u32) -> Result<bool, Fault>
+    requires { 0 < count }
+{
+    let mut outs = MemOut::new(alloc)?;
+    let mut engine = start(alloc, count, elide, &mut outs)?;
+    feed_in_pieces(&mut engine, &mut outs, text, cuts)?;
+    let early = has_all(alloc, count, elide, text, &outs)?;
+    engine.close(&mut outs)?;
+    Ok(early && has_all(alloc, count, elide, text, &outs)?)
+}
+
+/// Whether the files are those that are wanted: with `elide` none that is empty.
+fn has_all(
+    alloc: Global,
+    count: u64,
+    elide: bool,
+    text: &[u8],
+    outs: &MemOut,
+) -> Result<bool, Fault> {
+    let mut slot = 2usize;
+    for file in 0..count {
+        let wanted = match plain(alloc, count, file, text) {
+            Ok(wanted) => wanted,
+            Err(AllocError) => return Err(Fault::Memory),
+        };
+        if elide && wanted.is_empty() {
+            continue;
+        }
+        if outs.bytes(slot) != wanted.as_slice() || !has_name(outs, slot) {
+            return Ok(false);
+        }
+        slot = slot.saturating_add(1);
+    }
+    Ok(outs.name(slot).is_empty())
+}
+
+/// Whether the output has the name of its place, of the first ones.
+fn has_name(outs: &MemOut, slot: usize) -> bool {
+    match NAMES.get(slot.saturating_sub(2)) {
+        Some(name) => outs.name(slot) == *name,
+        None => true,
+    }
+}
+
+fn start(alloc: Global, count: u64, elide: bool, outs: &mut MemOut) -> Result<RoundSplitter, Fault>
+    requires some { 0 < count }
+    requires streams { 2 ≤ length outs.old }
+    ensures ready { IfOk result (λ engine. Ready engine outs.new) }
+{
+    let names = Names::new(alloc, "x", Alphabet::Letters, 2, true)?;
+    RoundSplitter::open(alloc, count, names, elide, outs)
+}
+
+fn feed(engine: &mut RoundSplitter, outs: &mut MemOut, piece: &[u8]) -> Result<(), Fault>
+    requires { Ready engine.old outs.old }
+    ensures { OnOk result (Ready engine.new outs.new) }
+{
+    engine.feed(piece, outs)
+}
+
+/// Feeds a text in pieces: one ends behind each byte whose bit in `cuts` is set.
+fn feed_in_pieces(
+    engine: &mut RoundSplitter,
+    outs: &mut MemOut,
+    text: &[u8],
+    cuts: u32,
+) -> Result<(), Fault>
+    requires { Ready engine.old outs.old }
+    ensures { OnOk result (Ready engine.new outs.new) }
+{
+    let mut cuts = cuts;
+    let mut start = 0;
+    let mut end = 0;
+    while end < text.len() {
+        end += 1;
+        let is_cut = cuts % 2 == 1;
+        cuts /= 2;
+        if is_cut || end == text.len() {
+            engine.feed(&text[start..end], outs)?;
+            start = end;
+        }
+    }
+    Ok(())
+}
