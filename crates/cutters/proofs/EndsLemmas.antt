@@ -1,5 +1,5 @@
 -- Lemmas on a run of head or tail over several inputs.
-use Rattle.std.proofs.Common.{◌≡◌, ℕ, ◌<◌, Bool, true, false, not, ◌&&◌, ◌||◌, IsTrue, if◌then◌else◌, List, [], ◌∷◌, ◌++◌, length, take, map, Option, Some, None, Result, Ok, Err, append_assoc, refl, sym, ◌∙◌, ap, subst, lit<}
+use Rattle.std.proofs.Common.{arith, ◌≡◌, ℕ, ◌<◌, Bool, true, false, not, ◌&&◌, ◌||◌, IsTrue, if◌then◌else◌, List, [], ◌∷◌, ◌++◌, length, take, map, Option, Some, None, Result, Ok, Err, append_assoc, refl, sym, ◌∙◌, ap, subst, lit<}
 use Rattle.std.proofs.lemmas.List.{append-nil}
 use Rattle.std.proofs.lemmas.Bool.{false≢true}
 use Rattle.ports_core.specs.Slot.{Slot, is_open, slot_at, is_writable, told_of, with_written, with_broken}
@@ -95,17 +95,17 @@ pub data AtOutput : Fault → Type 0 where
   too_long : AtOutput TooLong
   broken : AtOutput (Write 0)
 
-pub stops_at_output : (work : Work) (most : ℕ) (content : Option Content) (fault : Fault) → IsPlain work → Stops work most content fault → AtOutput fault
-stops_at_output work most content Memory plain stops = memory
-stops_at_output work most content TooLong plain stops = too_long
-stops_at_output work most content (Write slot) plain stops = subst (λ place. AtOutput (Write place)) (sym (stops plain.no_files)) broken
-stops_at_output work most content (Open slot) plain stops = absurd (false≢true (sym plain.no_files ∙ stops))
-stops_at_output work most content (Read slot) plain stops = absurd stops
-stops_at_output work most content Suffixes plain stops = absurd stops
-stops_at_output work most content (NoMatch operand repetition) plain stops = absurd stops
-stops_at_output work most content (Range operand repetition) plain stops = absurd stops
-stops_at_output work most content (Usage kind word) plain stops = absurd stops
-stops_at_output work most content Failed plain stops = absurd stops
+pub stops_at_output : (work : Work) (most : ℕ) (content : Option Content) (now : List Slot) (fault : Fault) → IsPlain work → Stops work most content now fault → AtOutput fault
+stops_at_output work most content now Memory plain stops = memory
+stops_at_output work most content now TooLong plain stops = too_long
+stops_at_output work most content now (Write slot) plain stops = subst (λ place. AtOutput (Write place)) (sym (stops.0 plain.no_files)) broken
+stops_at_output work most content now (Open slot) plain stops = absurd (false≢true (sym plain.no_files ∙ stops))
+stops_at_output work most content now (Read slot) plain stops = absurd stops
+stops_at_output work most content now Suffixes plain stops = absurd stops
+stops_at_output work most content now (NoMatch operand repetition) plain stops = absurd stops
+stops_at_output work most content now (Range operand repetition) plain stops = absurd stops
+stops_at_output work most content now (Usage kind word) plain stops = absurd stops
+stops_at_output work most content now Failed plain stops = absurd stops
 
 marks_here : (IsName IsOther : List ℕ → Type 0) (fault : Fault) (old new : List Slot) → AtOutput fault → Marks IsName fault old new → Marks IsOther fault old new
 marks_here IsName IsOther fault old new memory marks = marks
@@ -155,17 +155,17 @@ long_same one other most bytes same long = record {
   long = long.long;
 }
 
-stops_same : (done work : Work) (most : ℕ) (content : Content) (fault : Fault) → Does done.settled done.whole done.is_complete done.means work → Stops done most (Some content) fault → Stops work most (Some content) fault
-stops_same done work most content Memory does stops = tt
-stops_same done work most content (Write slot) does stops = λ alone. stops (ap (λ using. using.files) does.means_as ∙ alone)
-stops_same done work most content (Open slot) does stops = sym (ap (λ using. using.files) does.means_as) ∙ stops
-stops_same done work most content TooLong does stops = long_same done.is_complete work.is_complete most content.bytes does.complete_as stops
-stops_same done work most content (Read slot) does stops = absurd stops
-stops_same done work most content Suffixes does stops = absurd stops
-stops_same done work most content (NoMatch operand repetition) does stops = absurd stops
-stops_same done work most content (Range operand repetition) does stops = absurd stops
-stops_same done work most content (Usage kind word) does stops = absurd stops
-stops_same done work most content Failed does stops = absurd stops
+stops_same : (done work : Work) (most : ℕ) (content : Content) (now : List Slot) (fault : Fault) → Does done.settled done.whole done.is_complete done.means work → Stops done most (Some content) now fault → Stops work most (Some content) now fault
+stops_same done work most content now Memory does stops = tt
+stops_same done work most content now (Write slot) does stops = (λ alone. stops.0 (ap (λ using. using.files) does.means_as ∙ alone), stops.1)
+stops_same done work most content now (Open slot) does stops = sym (ap (λ using. using.files) does.means_as) ∙ stops
+stops_same done work most content now TooLong does stops = long_same done.is_complete work.is_complete most content.bytes does.complete_as stops
+stops_same done work most content now (Read slot) does stops = absurd stops
+stops_same done work most content now Suffixes does stops = absurd stops
+stops_same done work most content now (NoMatch operand repetition) does stops = absurd stops
+stops_same done work most content now (Range operand repetition) does stops = absurd stops
+stops_same done work most content now (Usage kind word) does stops = absurd stops
+stops_same done work most content now Failed does stops = absurd stops
 
 pub fed_same : (told : Bool) (before : List Slot) (done work : Work) (most : ℕ) (content : Content) (new : List Slot) (result : Result Fed Fault) → Does done.settled done.whole done.is_complete done.means work → FedAs told before done most content new result → FedAs told before work most content new result
 fed_same told before done work most content new result does (whole ends going at) = whole ends (sym (does.complete_as content.bytes) ∙ going) (subst (λ part. OutputsAt told before part new) (does.whole_as content.bytes) at)
@@ -173,7 +173,7 @@ fed_same told before done work most content new result does (had_enough complete
 fed_same told before done work most content new result does (broke_off breaks going at) = broke_off breaks (sym (does.complete_as content.bytes) ∙ going) (subst (λ part. OutputsAt told before part new) (does.settled_as content.bytes) at)
 fed_same told before done work most content new result does (ran_out names complete at) =
     ran_out (sym (ap (λ using. using.names) does.means_as) ∙ names) (sym (does.complete_as content.bytes) ∙ complete) (subst (λ part. OutputsAt told before part new) (does.whole_as content.bytes) at)
-fed_same told before done work most content new result does (stopped fault stops stop) = stopped fault (stops_same done work most content fault does stops) (subst (λ part. StoppedBetween told before nothing part fault new) (made_same done work content does) stop)
+fed_same told before done work most content new result does (stopped fault stops stop) = stopped fault (stops_same done work most content new fault does stops) (subst (λ part. StoppedBetween told before nothing part fault new) (made_same done work content does) stop)
 
 if_files : (enough : Bool) (a b : Part) → a.files ≡ [] → b.files ≡ [] → (if enough then a else b).files ≡ []
 if_files true a b first second = first
@@ -249,10 +249,11 @@ stopped_in_header told tool work most with_header is_first name content progress
     cut_off Memory tt (stops_here told out error out _ Memory new (begins_itself out) (begins_more out _) (is ∙ shape))
 stopped_in_header told tool work most with_header is_first name content progress was_read out error old new fault shape (broke n after) =
     let text = header_text with_header is_first name in
-    cut_off (Write 0) (λ alone. refl)
+    let slots = after.slots ∙ ap (λ slots. with_broken 0 (with_written 0 (told_of told (take n text)) slots)) shape in
+    cut_off (Write 0) (λ alone. refl, ap (λ those. (slot_at those 0).is_broken) slots)
     (stops_here told (out ++ take n text) error out _ (Write 0) new (begins_more out (take n text))
     (begins_trans _ _ _ (behind out _ _ (take_begins n text)) (header_begins out text (made_of work content).out))
-    (after.slots ∙ ap (λ slots. with_broken 0 (with_written 0 (told_of told (take n text)) slots)) shape ∙ ap (with_broken 0) (written_more told out (take n text) error)))
+    (omega arith, slots ∙ ap (with_broken 0) (written_more told out (take n text) error)))
 
 module _ (told : Bool) (tool : Tool) (work : Work) (most : ℕ) (with_header is_first : Bool) (name : List ℕ) (progress : Progress) (out : List ℕ) (error : Slot) (mid : List Slot) (plain : IsPlain work) (shape : mid ≡ streams_at told (out ++ header_text with_header is_first name) error) where
   put_behind : (content : Content) (new : List Slot) → OutputsAt told mid (made_of work content) new → new ≡ streams_at told (out ++ (header_text with_header is_first name ++ (made_of work content).out)) error
@@ -309,7 +310,7 @@ module _ (told : Bool) (tool : Tool) (work : Work) (most : ℕ) (with_header is_
   took_stopped content new _ (ran_out names complete at) = absurd (false≢true (sym plain.no_names ∙ names))
   took_stopped content new fault (stopped _ stops stop) =
       cut_off fault stops
-      (stops_behind told (out ++ header_text with_header is_first name) error out (made_of work content) _ fault new (stops_at_output work most (Some content) fault plain stops) (made_files work content plain) (begins_more out (header_text with_header is_first name))
+      (stops_behind told (out ++ header_text with_header is_first name) error out (made_of work content) _ fault new (stops_at_output work most (Some content) new fault plain stops) (made_files work content plain) (begins_more out (header_text with_header is_first name))
       ([], ap (λ bytes. bytes) (sym (append_nil_behind out (header_text with_header is_first name) (made_of work content).out)))
       (subst (λ slots. StoppedBetween told slots nothing (made_of work content) fault new) shape stop)) where
         append_nil_behind : (a b c : List ℕ) → ((a ++ b) ++ c) ++ [] ≡ a ++ (b ++ c)

@@ -117,9 +117,9 @@ module _ {E : Type 0} (Holds : E → List ℕ → Type 0) (settled whole_of : E 
 
   -- why an engine that is live answers a fault: its names ran out, or something stops it
   causes : (start : E) (content : Content) (most : ℕ) (using : Means) (NeedsName : Type 0) (fault : Fault) (taken size : ℕ) (old new : List Slot) → using.files ≡ (means start).files → (2 ^ 63 ≤ taken + size → IsLong (complete start) most content.bytes) → IsCaused using NeedsName false taken size old new fault
-      → ((fault ≡ Suffixes) × (using.names ≡ true) × NeedsName) ⊎ Stops (work_of start) most (Some content) fault
+      → ((fault ≡ Suffixes) × (using.names ≡ true) × NeedsName) ⊎ Stops (work_of start) most (Some content) new fault
   causes start content most using NeedsName Memory taken size old new files long caused = inr tt
-  causes start content most using NeedsName (Write slot) taken size old new files long caused = inr (λ alone. caused.1 (files ∙ alone))
+  causes start content most using NeedsName (Write slot) taken size old new files long caused = inr (λ alone. caused.1 (files ∙ alone), caused.2.1)
   causes start content most using NeedsName (Open slot) taken size old new files long caused = inr (sym files ∙ caused.1)
   causes start content most using NeedsName TooLong taken size old new files long caused = inr (long caused.1)
   causes start content most using NeedsName Suffixes taken size old new files long caused = inl (refl, caused.1, caused.2)
@@ -210,7 +210,7 @@ module _ {E : Type 0} (Holds : E → List ℕ → Type 0) (settled whole_of : E 
         long = let taken : fed_of now ≡ length x = laws.counts now x so_far.holds in let size : length (x ++ piece) ≡ length x + length piece = length-append x piece in omega (arith, long);
       })
       (subst (λ over. IsCaused (means now) (RunsOut Holds settled complete now piece told mid new) over (fed_of now) (length piece) mid new fault) (laws.live now x so_far.holds) caused)) where
-        by_cause : ((fault ≡ Suffixes) × ((means now).names ≡ true) × RunsOut Holds settled complete now piece told mid new) ⊎ Stops (work_of start) most (Some content) fault → FedAs told before (work_of start) most content new (Err fault)
+        by_cause : ((fault ≡ Suffixes) × ((means now).names ≡ true) × RunsOut Holds settled complete now piece told mid new) ⊎ Stops (work_of start) most (Some content) new fault → FedAs told before (work_of start) most content new (Err fault)
         by_cause (inl ran) = subst (λ why. FedAs told before (work_of start) most content new (Err why)) (sym ran.0) (names_ran_out laws told most start now content x piece rest old mid new before so_far at is ran.1 ran.2)
         by_cause (inr stops) =
             stopped fault stops
@@ -264,7 +264,7 @@ module _ {E : Type 0} (Holds : E → List ℕ → Type 0) (settled whole_of : E 
       (short before x so_far.holds (at_now told start now x old mid before so_far at))
       (subst (λ part. Begins part (made_of (work_of start) content)) (sym (so_far.same.whole_same x ∙ all.made))
       (subst (Begins (whole_of start content.bytes)) (if_enough (is_enough (work_of start) content) (whole_of start content.bytes) (settled start content.bytes) (all_enough start content fed all.all)) (part_begins_itself _)))) where
-        no_name : ((fault ≡ Suffixes) × (false ≡ true) × ⊥) ⊎ Stops (work_of start) most (Some content) fault → Stops (work_of start) most (Some content) fault
+        no_name : ((fault ≡ Suffixes) × (false ≡ true) × ⊥) ⊎ Stops (work_of start) most (Some content) new fault → Stops (work_of start) most (Some content) new fault
         no_name (inl ran) = absurd ran.2
         no_name (inr stops) = stops
 

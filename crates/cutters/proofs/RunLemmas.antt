@@ -30,7 +30,7 @@ use Rattle.cutters.specs.RunEnds.{standard_output, standard_error, EndsAs, as_de
 use Rattle.cutters.proofs.EndsLemmas.{streams_part}
 use Rattle.cutters.proofs.MessageLemmas.{says_more, all_said_state}
 use Rattle.cutters.proofs.NamesLemmas.{are_from}
-use Rattle.cutters.proofs.StopLemmas.{error_open, stop_error, stop_told, message_some}
+use Rattle.cutters.proofs.StopLemmas.{error_open, stop_error, stop_told, stops_still, message_some}
 
 -- there was no memory before the first input was opened
 pub no_memory_first : (told_in told : Bool) (world : World) (names : List (List ℕ)) (tool : Tool) (work : Work) (most : ℕ) (made : List Input → Made) (old : List Slot) (fault : Fault) → fault ≡ Memory → old ≡ streams → RunsOver told_in world names (λ found. TookAll told tool work most made found old (Err fault))
@@ -64,7 +64,8 @@ pub ran_into : (told : Bool) (tool : Tool) (work : Work) (made : List Input → 
 ran_into told tool work made found mid new fault (stopped_at _ before input after error among stops said stop) says =
     let text = message_of tool fault (output_named mid fault) in
     let told_so = stop_told told tool text (message_some tool fault (output_named mid fault)) standard_output error _ _ fault mid new stop says in
-    stopped fault before input after told_so.0 among stops
+    let has = stop_error told standard_output error _ _ fault mid (ap is_open (all_said_state told tool (made before).messages standard_error error said)) stop in
+    stopped fault before input after told_so.0 among (stops_still told tool text work PIECE input.content mid new fault has says stops)
     (subst (λ name. SaysAll told tool ((made before).messages ++ message_of tool fault name ∷ []) standard_error told_so.0) (sym told_so.3)
     (says_more told tool (made before).messages text standard_error error told_so.0 said told_so.1))
     told_so.2 refl

@@ -6,7 +6,7 @@ use Rattle.seg_core.specs.Line.{lines_of}
 use Rattle.ports_core.specs.Name.{Naming}
 use Rattle.ports_core.specs.Slot.{Slot, is_open, slot_at, streams}
 use Rattle.ports_core.specs.Source.{Content, Source, source_at, is_readable, IsFresh}
-use Rattle.ports_core.specs.Part.{Part, OutputsAt, StoppedBetween, Begins, nothing}
+use Rattle.ports_core.specs.Part.{Part, OutputsAt, Begins, StoppedBetween, nothing}
 use Rattle.ports_core.specs.Text.{message_of}
 use Rattle.ports_core.specs.declared.slot.State.{State}
 use Rattle.ports_core.specs.declared.slot.State.TheVariants as state
@@ -40,13 +40,13 @@ use Rattle.cutters.specs.SplitSteps.{is_suffixes, SplitOne, put_out, cut_off, Sp
 use Rattle.cutters.proofs.EndsLemmas.{fed_same, or_true, or_false}
 use Rattle.cutters.proofs.FeedingLemmas.{reads_none}
 use Rattle.cutters.proofs.NamesLemmas.{are_from}
-use Rattle.cutters.proofs.StopLemmas.{error_open, part_error, stop_error, stop_told, said_at, message_some}
+use Rattle.cutters.proofs.StopLemmas.{error_open, part_error, stop_error, stop_told, stops_still, said_at, message_some}
 
 -- what is written before the first byte begins what is written of any input
 
-shares_from : (state other : State) (files : List ℕ) (old new : ℕ → List ℕ) → ((file : ℕ) → old file ≡ []) → SharesBegin (map (share state) (map old files)) (map (share other) (map new files))
-shares_from state other [] old new none = tt
-shares_from state other (file ∷ files) old new none = ((new file, ap (λ bytes. bytes ++ new file) (sym (none file))), shares_from state other files old new none)
+shares_from : (other : State) (files : List ℕ) (old new : ℕ → List ℕ) → ((file : ℕ) → old file ≡ []) → SharesBegin (map (share state.Open) (map old files)) (map (share other) (map new files))
+shares_from other [] old new none = tt
+shares_from other (file ∷ files) old new none = (inl refl, (new file, ap (λ bytes. bytes ++ new file) (sym (none file))), shares_from other files old new none)
 
 none_left : (files : List ℕ) (old : ℕ → List ℕ) → ((file : ℕ) → old file ≡ []) → filter is_some (map old files) ≡ []
 none_left [] old none = refl
@@ -56,7 +56,7 @@ settled_begins : (cut : Cut) (elide : Bool) (x : List ℕ) → SharesBegin (sett
 settled_begins (Lines n) elide x = tt
 settled_begins (Bytes n) elide x = tt
 settled_begins (LineBytes n) elide x = tt
-settled_begins (Round n) false x = shares_from state.Open state.Open (range_with_len 0 n) (λ file. dealt n file 0 []) (λ file. dealt n file 0 (lines_of x)) (λ file. refl)
+settled_begins (Round n) false x = shares_from state.Open (range_with_len 0 n) (λ file. dealt n file 0 []) (λ file. dealt n file 0 (lines_of x)) (λ file. refl)
 settled_begins (Round n) true x =
     subst (λ files. SharesBegin (map (share state.Open) files) (settled_shares (Round n) true x)) (sym (none_left (range_with_len 0 n) (λ file. dealt n file 0 []) (λ file. refl))) tt
 
@@ -64,7 +64,7 @@ whole_begins : (cut : Cut) (elide : Bool) (x : List ℕ) → SharesBegin (settle
 whole_begins (Lines n) elide x = tt
 whole_begins (Bytes n) elide x = tt
 whole_begins (LineBytes n) elide x = tt
-whole_begins (Round n) false x = shares_from state.Open state.Closed (range_with_len 0 n) (λ file. dealt n file 0 []) (λ file. dealt n file 0 (lines_of x)) (λ file. refl)
+whole_begins (Round n) false x = shares_from state.Closed (range_with_len 0 n) (λ file. dealt n file 0 []) (λ file. dealt n file 0 (lines_of x)) (λ file. refl)
 whole_begins (Round n) true x =
     subst (λ files. SharesBegin (map (share state.Open) files) (whole_shares (Round n) true x)) (sym (none_left (range_with_len 0 n) (λ file. dealt n file 0 []) (λ file. refl))) tt
 
@@ -103,9 +103,9 @@ writes_files (Bytes n) = refl
 writes_files (LineBytes n) = refl
 writes_files (Round n) = refl
 
-refused_stops : (plan : Plan) (content : Content) (old new : List Slot) (fault : Fault) → CannotOpen old new fault → Stops (split_work plan) PIECE (Some content) fault
-refused_stops plan content old new fault (inl is) = subst (Stops (split_work plan) PIECE (Some content)) (sym is) tt
-refused_stops plan content old new fault (inr (slot, is, rose)) = subst (Stops (split_work plan) PIECE (Some content)) (sym is) (writes_files plan.cut)
+refused_stops : (plan : Plan) (content : Content) (old new : List Slot) (fault : Fault) → CannotOpen old new fault → Stops (split_work plan) PIECE (Some content) new fault
+refused_stops plan content old new fault (inl is) = subst (Stops (split_work plan) PIECE (Some content) new) (sym is) tt
+refused_stops plan content old new fault (inr (slot, is, rose)) = subst (Stops (split_work plan) PIECE (Some content) new) (sym is) (writes_files plan.cut)
 
 pub not_opened : (told : Bool) (plan : Plan) (content : Content) (old new : List Slot) (fault : Fault) → old ≡ streams → ((before : List Slot) → OutputsAt told before nothing old → StoppedBetween told before nothing (settled_by plan []) fault new) → CannotOpen old new fault → FedAs told streams (split_work plan) PIECE content new (Err fault)
 not_opened told plan content old new fault are cuts refused =
@@ -191,21 +191,21 @@ module _ (told : Bool) (work : Work) (name : List ℕ) (content : Content) where
   at_broken old new slot fed is ends says = split_broken old new slot (subst (λ those. FedAs told streams work PIECE content old (Ok those)) is ends) says
 
   -- the engine's fault says that the names ran out
-  no_stop : (fault : Fault) → is_suffixes fault ≡ true → Stops work PIECE (Some content) fault → ⊥
-  no_stop Suffixes is stops = absurd stops
-  no_stop Memory is stops = absurd (false≢true is)
-  no_stop (Write slot) is stops = absurd (false≢true is)
-  no_stop (Read slot) is stops = absurd (false≢true is)
-  no_stop (Open slot) is stops = absurd (false≢true is)
-  no_stop (NoMatch operand repetition) is stops = absurd (false≢true is)
-  no_stop (Range operand repetition) is stops = absurd (false≢true is)
-  no_stop (Usage kind word) is stops = absurd (false≢true is)
-  no_stop Failed is stops = absurd (false≢true is)
-  no_stop TooLong is stops = absurd (false≢true is)
+  no_stop : (now : List Slot) (fault : Fault) → is_suffixes fault ≡ true → Stops work PIECE (Some content) now fault → ⊥
+  no_stop now Suffixes is stops = absurd stops
+  no_stop now Memory is stops = absurd (false≢true is)
+  no_stop now (Write slot) is stops = absurd (false≢true is)
+  no_stop now (Read slot) is stops = absurd (false≢true is)
+  no_stop now (Open slot) is stops = absurd (false≢true is)
+  no_stop now (NoMatch operand repetition) is stops = absurd (false≢true is)
+  no_stop now (Range operand repetition) is stops = absurd (false≢true is)
+  no_stop now (Usage kind word) is stops = absurd (false≢true is)
+  no_stop now Failed is stops = absurd (false≢true is)
+  no_stop now TooLong is stops = absurd (false≢true is)
 
   short_out : (fault : Fault) (new : List Slot) → is_suffixes fault ≡ true → FedAs told streams work PIECE content new (Err fault) → (work.is_complete content.bytes ≡ true) × OutputsAt told streams (work.whole content.bytes) new
   short_out _ new is (ran_out names complete at) = (complete, at)
-  short_out fault new is (stopped _ stops stop) = absurd (no_stop fault is stops)
+  short_out fault new is (stopped _ stops stop) = absurd (no_stop new fault is stops)
 
   pub at_short : (fault : Fault) (old new : List Slot) → is_suffixes fault ≡ true → FedAs told streams work PIECE content old (Err fault) → SaysOn told tool.Split (message_of tool.Split Suffixes []) old new → SplitOne told work name (Some content) new (Ok true)
   at_short fault old new is ends says =
@@ -292,7 +292,8 @@ split_stopped told work _ mid new fault (one input splits) says = stopped_so spl
   stopped_so (cut_off _ stops stop) =
       let text = message_of tool.Split fault (output_named mid fault) in
       let told_so = stop_told told tool.Split text (message_some tool.Split fault (output_named mid fault)) standard_output standard_error _ _ fault mid new stop says in
-      run.stopped fault [] input [] told_so.0 refl stops
+      let has = stop_error told standard_output standard_error _ _ fault mid refl stop in
+      run.stopped fault [] input [] told_so.0 refl (stops_still told tool.Split text work PIECE input.content mid new fault has says stops)
       (subst (λ name. SaysAll told tool.Split (message_of tool.Split fault name ∷ []) standard_error told_so.0) (sym told_so.3) (told_so.0, told_so.1, refl))
       told_so.2 refl
 split_stopped told work found mid new fault (not_begun _ is are) says = no_memory (subst (λ (why : Fault). SaysOn told tool.Split (message_of tool.Split why (output_named mid why)) mid new) (ap fault_in is) says) where

@@ -1,6 +1,6 @@
 -- Lemmas on outputs that a fault stopped, and on the message that tells it: standard error is the slot behind the first, and what
 -- was opened comes behind both.
-use Rattle.std.proofs.Common.{◌≡◌, ℕ, ◌<◌, zero, suc, Bool, true, false, List, [], ◌∷◌, ◌++◌, length, codes, arith, length-append, inl, refl, sym, ◌∙◌, ap, subst, lit<}
+use Rattle.std.proofs.Common.{Option, ◌≡◌, ℕ, ◌<◌, zero, suc, Bool, true, false, List, [], ◌∷◌, ◌++◌, length, codes, arith, length-append, inl, refl, sym, ◌∙◌, ap, subst, lit<}
 use Rattle.std.proofs.lemmas.List.{append-nil}
 use Rattle.std.proofs.lemmas.Bool.{false≢true}
 use Rattle.ports_core.specs.Slot.{Slot, is_open, slot_at, adds, breaks, told_of, unopened, with_broken}
@@ -10,6 +10,8 @@ use Rattle.ports_core.specs.declared.tool.Tool.{Tool}
 use Rattle.ports_core.specs.declared.fault.Fault.{Fault}
 use Rattle.ports_core.specs.declared.fault.Fault.TheVariants.{Memory, Write, Read, Open, Suffixes, NoMatch, Range, Usage, Failed, TooLong}
 use Rattle.ports_core.proofs.WriteLemmas.{told_of-nil}
+use Rattle.ports_core.specs.Source.{Content}
+use Rattle.cutters.specs.Feeding.{Work, Stops}
 use Rattle.cutters.specs.Message.{Prints, whole, cut, passed, Says, SaysOn}
 use Rattle.cutters.specs.RunEnds.{output_named}
 
@@ -40,9 +42,9 @@ pub part_error : (told : Bool) (output error : Slot) (part : Part) (slots : List
 part_error told output error part slots opened at = shape_of (adds (told_of told part.out) output) error at.since slots opened at.slots
 
 marked_error : (IsName : List ℕ → Type 0) (fault : Fault) (output error : Slot) (since now : List Slot) → is_open error.state ≡ true → Marks IsName fault (output ∷ error ∷ since) now → HasError now
-marked_error IsName (Write zero) output error since now opened marks = shape_of (breaks output) error since now opened marks
-marked_error IsName (Write (suc zero)) output error since now opened marks = shape_of output (breaks error) since now opened marks
-marked_error IsName (Write (suc (suc place))) output error since now opened marks = shape_of output error (with_broken place since) now opened marks
+marked_error IsName (Write zero) output error since now opened marks = shape_of (breaks output) error since now opened marks.1
+marked_error IsName (Write (suc zero)) output error since now opened marks = shape_of output (breaks error) since now opened marks.1
+marked_error IsName (Write (suc (suc place))) output error since now opened marks = shape_of output error (with_broken place since) now opened marks.1
 marked_error IsName (Open slot) output error since now opened marks = shape_of output error (since ++ unopened marks.1.0 ∷ []) now opened marks.1.2
 marked_error IsName Memory output error since now opened marks = shape_of output error since now opened marks
 marked_error IsName (Read slot) output error since now opened marks = shape_of output error since now opened marks
@@ -91,16 +93,16 @@ module _ (told : Bool) (tool : Tool) (text : List ℕ) (some : 0 < length text) 
 
   told_marked : (IsName : List ℕ → Type 0) (fault : Fault) (output error : Slot) (since mid new : List Slot) → Marks IsName fault (output ∷ error ∷ since) mid → SaysOn told tool text mid new → ToldMark IsName fault output error since mid new
   told_marked IsName (Write zero) output error since mid new marks says =
-      let said = says (breaks output) error since marks in
-      (said.0, said.1, said.2, ap (λ slots. (slot_at slots 0).name) said.2 ∙ sym (ap (λ slots. (slot_at slots 0).name) marks))
+      let said = says (breaks output) error since marks.1 in
+      (said.0, said.1, (marks.0, said.2), ap (λ slots. (slot_at slots 0).name) said.2 ∙ sym (ap (λ slots. (slot_at slots 0).name) marks.1))
   told_marked IsName (Write (suc zero)) output error since mid new marks says =
-      let said = says output (breaks error) since marks in
+      let said = says output (breaks error) since marks.1 in
       let same : said.0 ≡ breaks error = printed_broken told said.1.said error said.0 said.1.printed in
       let now : new ≡ output ∷ breaks error ∷ since = said.2 ∙ ap (λ slot. output ∷ slot ∷ since) same in
-      (breaks error, record { said = text; is = inl refl; printed = prints_nothing told text error error.is_broken refl some }, now, ap (λ slots. (slot_at slots 1).name) now ∙ sym (ap (λ slots. (slot_at slots 1).name) marks))
+      (breaks error, record { said = text; is = inl refl; printed = prints_nothing told text error error.is_broken refl some }, (marks.0, now), ap (λ slots. (slot_at slots 1).name) now ∙ sym (ap (λ slots. (slot_at slots 1).name) marks.1))
   told_marked IsName (Write (suc (suc place))) output error since mid new marks says =
-      let said = says output error (with_broken place since) marks in
-      (said.0, said.1, said.2, ap (λ slots. (slot_at slots (suc (suc place))).name) said.2 ∙ sym (ap (λ slots. (slot_at slots (suc (suc place))).name) marks))
+      let said = says output error (with_broken place since) marks.1 in
+      (said.0, said.1, (marks.0, said.2), ap (λ slots. (slot_at slots (suc (suc place))).name) said.2 ∙ sym (ap (λ slots. (slot_at slots (suc (suc place))).name) marks.1))
   told_marked IsName (Open slot) output error since mid new marks says =
       let said = says output error (since ++ unopened marks.1.0 ∷ []) marks.1.2 in (
         said.0,
@@ -143,3 +145,34 @@ module _ (told : Bool) (tool : Tool) (text : List ℕ) (some : 0 < length text) 
         },
         marked.3,
       )
+
+-- an output that is broken stays so, whatever is said
+
+printed_broken_still : (told : Bool) (text : List ℕ) (old new : Slot) → Prints told text old new → old.is_broken ≡ true → new.is_broken ≡ true
+printed_broken_still told text old new (whole sound is) broken = absurd (false≢true (sym sound ∙ broken))
+printed_broken_still told text old new (cut sound n within is) broken = absurd (false≢true (sym sound ∙ broken))
+printed_broken_still told text old new (passed was is) broken = ap (λ (slot : Slot). slot.is_broken) is ∙ broken
+
+still_broken : (told : Bool) (tool : Tool) (text : List ℕ) (mid new : List Slot) (slot : ℕ) → HasError mid → SaysOn told tool text mid new → (slot_at mid slot).is_broken ≡ true → (slot_at new slot).is_broken ≡ true
+still_broken told tool text mid new zero has says broken =
+    let said = says has.output has.error has.since has.are in
+    ap (λ slots. (slot_at slots 0).is_broken) said.2 ∙ sym (ap (λ slots. (slot_at slots 0).is_broken) has.are) ∙ broken
+still_broken told tool text mid new (suc zero) has says broken =
+    let said = says has.output has.error has.since has.are in
+    ap (λ slots. (slot_at slots 1).is_broken) said.2 ∙ printed_broken_still told said.1.said has.error said.0 said.1.printed (sym (ap (λ slots. (slot_at slots 1).is_broken) has.are) ∙ broken)
+still_broken told tool text mid new (suc (suc place)) has says broken =
+    let said = says has.output has.error has.since has.are in
+    ap (λ slots. (slot_at slots (suc (suc place))).is_broken) said.2 ∙ sym (ap (λ slots. (slot_at slots (suc (suc place))).is_broken) has.are) ∙ broken
+
+-- what stopped a run did so behind the message too
+pub stops_still : (told : Bool) (tool : Tool) (text : List ℕ) (work : Work) (most : ℕ) (content : Option Content) (mid new : List Slot) (fault : Fault) → HasError mid → SaysOn told tool text mid new → Stops work most content mid fault → Stops work most content new fault
+stops_still told tool text work most content mid new (Write slot) has says stops = (stops.0, still_broken told tool text mid new slot has says stops.1)
+stops_still told tool text work most content mid new Memory has says stops = stops
+stops_still told tool text work most content mid new (Open slot) has says stops = stops
+stops_still told tool text work most content mid new TooLong has says stops = stops
+stops_still told tool text work most content mid new (Read slot) has says stops = stops
+stops_still told tool text work most content mid new Suffixes has says stops = stops
+stops_still told tool text work most content mid new (NoMatch operand repetition) has says stops = stops
+stops_still told tool text work most content mid new (Range operand repetition) has says stops = stops
+stops_still told tool text work most content mid new (Usage kind word) has says stops = stops
+stops_still told tool text work most content mid new Failed has says stops = stops

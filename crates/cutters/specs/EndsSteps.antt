@@ -2,9 +2,8 @@
 use Rattle.std.specs.Prelude.{◌≡◌, ℕ, Bool, true, false, ◌&&◌, ◌||◌, List, [], ◌∷◌, ◌++◌, length, Option, Some, None, Result, Ok, Err, if◌then◌else◌}
 use Rattle.ports_core.specs.Slot.{Slot, is_open, told_of}
 use Rattle.ports_core.specs.Source.{Content, Source, source_at}
-use Rattle.ports_core.specs.Part.{Part, StoppedBetween, nothing, only_out}
+use Rattle.ports_core.specs.Part.{StoppedBetween, nothing, only_out}
 use Rattle.ports_core.specs.Write.{BrokeAfter}
-use Rattle.ports_core.specs.Engine.{Means}
 use Rattle.ports_core.specs.declared.fault.Fault.{Fault}
 use Rattle.ports_core.specs.declared.fault.Fault.TheVariants.{Memory, Write}
 use Rattle.ports_core.specs.declared.tool.Tool.{Tool}
@@ -43,7 +42,7 @@ pub data TookInput (told : Bool) (tool : Tool) (work : Work) (most : ℕ) (made 
   took : (next : Progress) (after : Slot) → next ≡ after_input progress was_read made.failed content
       → SaysAll told tool made.messages error after → new ≡ streams_at told (out ++ made.out) after
       → TookInput told tool work most made content progress was_read out error new (Ok next)
-  cut_off : (fault : Fault) → Stops work most content fault
+  cut_off : (fault : Fault) → Stops work most content new fault
       → StoppedBetween told (standard_output ∷ error ∷ []) (only_out out) (only_out (out ++ made.out)) fault new
       → TookInput told tool work most made content progress was_read out error new (Err fault)
 
@@ -57,7 +56,7 @@ pub data TookAll (told : Bool) (tool : Tool) (work : Work) (most : ℕ) (made : 
   all : (failed : Bool) (error : Slot) → failed ≡ (made inputs).failed → SaysAll told tool (made inputs).messages standard_error error
       → new ≡ streams_at told (made inputs).out error → TookAll told tool work most made inputs new (Ok failed)
   stopped_at : (fault : Fault) (before : List Input) (input : Input) (after : List Input) (error : Slot)
-      → inputs ≡ before ++ input ∷ after → Stops work most input.content fault → SaysAll told tool (made before).messages standard_error error
+      → inputs ≡ before ++ input ∷ after → Stops work most input.content new fault → SaysAll told tool (made before).messages standard_error error
       → StoppedBetween told (standard_output ∷ error ∷ []) (only_out (made before).out) (only_out (made (before ++ input ∷ [])).out) fault new
       → TookAll told tool work most made inputs new (Err fault)
   not_begun : new ≡ standard_output ∷ standard_error ∷ [] → TookAll told tool work most made inputs new (Err Memory)

@@ -1,6 +1,6 @@
 -- What becomes of an input that is fed to an engine piece by piece.
 use Rattle.std.specs.Prelude.{◌≡◌, ℕ, ◌≤◌, ◌^◌, Bool, true, false, not, ◌||◌, List, [], ◌++◌, length, ◌⊎◌, Option, Some, None, Result, Ok, Err, if◌then◌else◌}
-use Rattle.ports_core.specs.Slot.{Slot}
+use Rattle.ports_core.specs.Slot.{Slot, slot_at}
 use Rattle.ports_core.specs.Source.{Content, Source, source_at}
 use Rattle.ports_core.specs.Part.{Part, OutputsAt, StoppedBetween, nothing}
 use Rattle.ports_core.specs.Engine.{Means}
@@ -46,19 +46,19 @@ abbrev pub HasLong : (List ℕ → Bool) → ℕ → Option Content → Type 0
 HasLong is_complete most None = ⊥
 HasLong is_complete most (Some content) = IsLong is_complete most content.bytes
 
--- What stops a tool at an input before all that it makes of it is out: no memory, an output broke, a file could not be opened,
--- more input than any tool takes. One that writes no files writes to standard output alone.
-abbrev pub Stops : Work → ℕ → Option Content → Fault → Type 0
-Stops work most content Memory = Unit {0}
-Stops work most content (Write slot) = work.means.files ≡ false → slot ≡ 0
-Stops work most content (Open slot) = work.means.files ≡ true
-Stops work most content TooLong = HasLong work.is_complete most content
-Stops work most content (Read slot) = ⊥
-Stops work most content Suffixes = ⊥
-Stops work most content (NoMatch operand repetition) = ⊥
-Stops work most content (Range operand repetition) = ⊥
-Stops work most content (Usage kind word) = ⊥
-Stops work most content Failed = ⊥
+-- What stops a tool at an input before all that it makes of it is out, where the outputs are left so: no memory, an output broke,
+-- a file could not be opened, more input than any tool takes. One that writes no files writes to standard output alone.
+abbrev pub Stops : Work → ℕ → Option Content → List Slot → Fault → Type 0
+Stops work most content now Memory = Unit {0}
+Stops work most content now (Write slot) = (work.means.files ≡ false → slot ≡ 0) × ((slot_at now slot).is_broken ≡ true)
+Stops work most content now (Open slot) = work.means.files ≡ true
+Stops work most content now TooLong = HasLong work.is_complete most content
+Stops work most content now (Read slot) = ⊥
+Stops work most content now Suffixes = ⊥
+Stops work most content now (NoMatch operand repetition) = ⊥
+Stops work most content now (Range operand repetition) = ⊥
+Stops work most content now (Usage kind word) = ⊥
+Stops work most content now Failed = ⊥
 
 -- How feeding an input by pieces of at most so many bytes ends, from the outputs as they were before: it ended, or nothing more
 -- could follow, or it broke off before that; or the names ran out, which also means that nothing more could follow; or a fault
@@ -68,7 +68,7 @@ pub data FedAs (told : Bool) (before : List Slot) (work : Work) (most : ℕ) (co
   had_enough : work.is_complete content.bytes ≡ true → OutputsAt told before (work.whole content.bytes) new → FedAs told before work most content new (Ok Enough)
   broke_off : content.breaks_off ≡ true → work.is_complete content.bytes ≡ false → OutputsAt told before (work.settled content.bytes) new → FedAs told before work most content new (Ok Broken)
   ran_out : work.means.names ≡ true → work.is_complete content.bytes ≡ true → OutputsAt told before (work.whole content.bytes) new → FedAs told before work most content new (Err Suffixes)
-  stopped : (fault : Fault) → Stops work most (Some content) fault → StoppedBetween told before nothing (made_of work content) fault new → FedAs told before work most content new (Err fault)
+  stopped : (fault : Fault) → Stops work most (Some content) new fault → StoppedBetween told before nothing (made_of work content) fault new → FedAs told before work most content new (Err fault)
 
 -- an input that tells its bytes had this content; of others it is known no further than their reads gave it
 abbrev pub OfContent : Bool → Content → (Content → Type 0) → Type 0

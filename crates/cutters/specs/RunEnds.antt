@@ -35,7 +35,7 @@ pub data EndsAs (told : Bool) (tool : Tool) (work : Work) (made : List Input →
       → OutputsAt told (standard_output ∷ error ∷ []) (made inputs).part new → status ≡ (made inputs).status
       → EndsAs told tool work made inputs new status
   stopped : (fault : Fault) (before : List Input) (input : Input) (after : List Input) (error : Slot)
-      → inputs ≡ before ++ input ∷ after → Stops work PIECE input.content fault
+      → inputs ≡ before ++ input ∷ after → Stops work PIECE input.content new fault
       → SaysAll told tool ((made before).messages ++ message_of tool fault (output_named new fault) ∷ []) standard_error error
       → StoppedBetween told (standard_output ∷ error ∷ []) (made before).part (made (before ++ input ∷ [])).part fault new → status ≡ 1
       → EndsAs told tool work made inputs new status

@@ -1,10 +1,10 @@
 -- What each step of a run of `split` leaves, from the streams as it found them.
-use Rattle.std.specs.Prelude.{◌≡◌, ℕ, Bool, true, false, List, [], ◌∷◌, Option, Result, Ok, Err, ◌⊎◌, if◌then◌else◌}
-use Rattle.ports_core.specs.Slot.{Slot, Rose, streams}
+use Rattle.std.specs.Prelude.{◌≡◌, ℕ, Bool, true, false, List, [], ◌∷◌, Option, Result, Ok, Err, if◌then◌else◌}
+use Rattle.ports_core.specs.Slot.{Slot, streams}
 use Rattle.ports_core.specs.Source.{Content}
-use Rattle.ports_core.specs.Part.{Part, OutputsAt, StoppedBetween, nothing}
+use Rattle.ports_core.specs.Part.{OutputsAt, StoppedBetween, nothing}
 use Rattle.ports_core.specs.declared.fault.Fault.{Fault}
-use Rattle.ports_core.specs.declared.fault.Fault.TheVariants.{Memory, Open, Suffixes}
+use Rattle.ports_core.specs.declared.fault.Fault.TheVariants.{Memory, Suffixes}
 use Rattle.ports_core.specs.declared.tool.Tool.TheVariants as tool
 use Rattle.cutters.specs.declared.ends.TheConstants.{PIECE}
 use Rattle.cutters.specs.Feeding.{Work, Stops}
@@ -24,7 +24,7 @@ pub data SplitOne (told : Bool) (work : Work) (name : List ℕ) (content : Optio
       → SaysAll told tool.Split (split_of_content work name content).messages standard_error error
       → OutputsAt told (standard_output ∷ error ∷ []) (split_of_content work name content).part new
       → SplitOne told work name content new (Ok failed)
-  cut_off : (fault : Fault) → Stops work PIECE content fault
+  cut_off : (fault : Fault) → Stops work PIECE content new fault
       → StoppedBetween told streams nothing (split_of_content work name content).part fault new
       → SplitOne told work name content new (Err fault)
 

@@ -12,6 +12,8 @@ mod run;
 mod settings;
 mod spelling;
 mod split;
+#[cfg(test)]
+mod split_run_tests;
 mod split_settings;
 #[cfg(test)]
 mod split_tests;

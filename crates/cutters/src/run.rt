@@ -61,9 +61,7 @@ fn run_tool<I: Inputs, O: Outs>(
         Settings::Tail(settings) => {
             run_ends::<Tail, I, O>(alloc, Tool::Tail, words, settings, inputs, outs)
         }
-        Settings::Split(settings) => {
-            run_split(alloc, words, settings, inputs, outs)
-        }
+        Settings::Split(settings) => { run_split(alloc, words, settings, inputs, outs) }
     }
 }
 

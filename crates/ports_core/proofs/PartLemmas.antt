@@ -1,10 +1,12 @@
 -- Lemmas on what outputs have got.
-use Rattle.std.proofs.Common.{◌≡◌, ℕ, ◌<◌, zero, suc, List, [], ◌∷◌, ◌++◌, length, take, drop, Bool, true, false, not, ◌&&◌, IsTrue, ◌⊎◌, inl, inr, refl, sym, ◌∙◌, ap, subst, append_assoc}
+use Rattle.std.proofs.Common.{◌≡◌, ℕ, ◌+◌, ◌<◌, zero, suc, List, [], ◌∷◌, ◌++◌, length, take, drop, Bool, true, false, not, ◌&&◌, IsTrue, ◌⊎◌, inl, inr, refl, sym, ◌∙◌, ap, subst, arith, append_assoc, length-append}
 use Rattle.std.proofs.lemmas.List.{append-nil, take-append-drop}
 use Rattle.std.proofs.lemmas.Bool.{false≢true}
 use Rattle.ports_core.specs.Slot.{Slot, is_open, slot_at, is_writable, with_written, with_broken, told_of}
 use Rattle.ports_core.specs.Write.{BrokeAfter}
 use Rattle.ports_core.specs.Part.{File, Part, nothing, only_out, OutputsAt, IsBeginning, FilesBegin, Begins, IsNext, Marks, StoppedBetween, file_of, told_file}
+use Rattle.ports_core.specs.declared.slot.State.{State}
+use Rattle.ports_core.specs.declared.slot.State.TheVariants as state
 use Rattle.ports_core.specs.declared.fault.Fault.{Fault}
 use Rattle.ports_core.specs.declared.fault.Fault.TheVariants.{Memory, Write, Read, Open, Suffixes, NoMatch, Range, Usage, Failed, TooLong}
 use Rattle.ports_core.proofs.SlotLemmas.{changed_at-append, length-changed_at, with_written-nil}
@@ -30,16 +32,22 @@ take_begins n bytes = (drop n bytes, sym (take-append-drop n bytes))
 pub take_begins_behind : (n : ℕ) (before bytes : List ℕ) → IsBeginning (before ++ take n bytes) (before ++ bytes)
 take_begins_behind n before bytes = (drop n bytes, ap (λ rest. before ++ rest) (sym (take-append-drop n bytes)) ∙ sym (append_assoc before (take n bytes) (drop n bytes)))
 
+-- a file that is open may be closed by then
+pub state_trans : (low middle high : State) → (low ≡ state.Open) ⊎ (low ≡ middle) → (middle ≡ state.Open) ⊎ (middle ≡ high) → (low ≡ state.Open) ⊎ (low ≡ high)
+state_trans low middle high (inl is) second = inl is
+state_trans low middle high (inr same) (inl is) = inl (same ∙ is)
+state_trans low middle high (inr same) (inr also) = inr (same ∙ also)
+
 pub files_begin_themselves : (files : List File) → FilesBegin files files
 files_begin_themselves [] = tt
-files_begin_themselves (file ∷ files) = (refl, refl, begins_itself file.bytes, files_begin_themselves files)
+files_begin_themselves (file ∷ files) = (refl, refl, refl, inr refl, begins_itself file.bytes, files_begin_themselves files)
 
 pub files_trans : (low middle high : List File) → FilesBegin low middle → FilesBegin middle high → FilesBegin low high
 files_trans [] middle high first second = tt
 files_trans (file ∷ files) [] high first second = absurd first
 files_trans (file ∷ files) (mid ∷ middle) [] first second = absurd second
 files_trans (file ∷ files) (mid ∷ middle) (whole ∷ high) first second =
-    (first.0 ∙ second.0, first.1 ∙ second.1, begins_trans _ _ _ first.2 second.2, files_trans files middle high first.3 second.3)
+    (first.0 ∙ second.0, first.1 ∙ second.1, first.2 ∙ second.2, state_trans file.state mid.state whole.state first.3 second.3, begins_trans _ _ _ first.4 second.4, files_trans files middle high first.5 second.5)
 
 pub part_begins_itself : (part : Part) → Begins part part
 part_begins_itself part = record { out = begins_itself part.out; files = files_begin_themselves part.files }
@@ -80,8 +88,14 @@ out_cut told before part old new more n at broke = record {
   below = record { out = take_begins_behind n part.out more; files = files_begin_themselves part.files };
   reached = with_written 0 (told_of told (take n more)) old;
   outputs = out_more told before part old _ (take n more) at refl;
-  marks = broke.slots;
-}
+  marks = (there, broke.slots);
+} where
+  there : 0 < length (with_written 0 (told_of told (take n more)) old)
+  there =
+      let same : length (with_written 0 (told_of told (take n more)) old) ≡ length old = length-changed_at 0 _ old in
+      let some : 0 < length before = at.standard in
+      let all : length old ≡ length (with_written 0 (told_of told part.out) before) + length at.since = ap length at.slots ∙ length-append (with_written 0 (told_of told part.out) before) at.since in
+      let front : length (with_written 0 (told_of told part.out) before) ≡ length before = length-changed_at 0 _ before in omega arith
 
 -- a fault that came before anything went out
 pub stopped_here : (told : Bool) (before : List Slot) (low high : Part) (fault : Fault) (old new : List Slot) → OutputsAt told before low old → Begins low high → Marks (IsNext low high) fault old new → StoppedBetween told before low high fault new
@@ -134,7 +148,7 @@ next_in part name [] file rest [] begins count place named = absurd begins
 next_in part name [] file rest (one ∷ more) begins count place named = ([], one, more, refl, place, sym begins.0 ∙ named)
 next_in part name (first ∷ front) file rest [] begins count place named = absurd begins
 next_in part name (first ∷ front) file rest (one ∷ more) begins count place named =
-    let behind = next_in part name front file rest more begins.3 (length front) refl named in
+    let behind = next_in part name front file rest more begins.5 (length front) refl named in
     (one ∷ behind.0, behind.1, behind.2, ap (λ files. one ∷ files) behind.3, ap suc behind.4 ∙ place, behind.5)
 
 next_wider : (part high more : Part) → Begins high more → (name : List ℕ) → IsNext part high name → IsNext part more name

@@ -3,6 +3,7 @@ use Rattle.std.specs.Prelude.{◌≡◌, ℕ, ◌<◌, Bool, List, [], ◌∷◌
 use Rattle.ports_core.specs.Slot.{Slot, with_written, with_broken, unopened, told_of}
 use Rattle.ports_core.specs.declared.slot.Mode.{Mode}
 use Rattle.ports_core.specs.declared.slot.State.{State}
+use Rattle.ports_core.specs.declared.slot.State.TheVariants as state
 use Rattle.ports_core.specs.declared.fault.Fault.{Fault}
 use Rattle.ports_core.specs.declared.fault.Fault.TheVariants.{Memory, Write, Read, Open, Suffixes, NoMatch, Range, Usage, Failed, TooLong}
 
@@ -12,6 +13,7 @@ pub record File : Type 0 where
   pub bytes : List ℕ
   -- whether it is still open
   pub state : State
+  pub is_broken : Bool
 
 pub record Part : Type 0 where
   pub out : List ℕ
@@ -23,9 +25,8 @@ nothing = record { out = []; files = [] }
 abbrev pub only_out : List ℕ → Part
 only_out bytes = record { out = bytes; files = [] }
 
--- a slot, whether it broke or not
 abbrev pub file_of : Slot → File
-file_of slot = record { name = slot.name; mode = slot.mode; bytes = slot.written; state = slot.state }
+file_of slot = record { name = slot.name; mode = slot.mode; bytes = slot.written; state = slot.state; is_broken = slot.is_broken }
 
 abbrev pub told_file : Bool → File → File
 told_file told file = record file { bytes = told_of told file.bytes }
@@ -42,11 +43,12 @@ pub record OutputsAt (told : Bool) (before : List Slot) (part : Part) (now : Lis
 abbrev pub IsBeginning : List ℕ → List ℕ → Type 0
 IsBeginning bytes whole = (rest : List ℕ) × (whole ≡ bytes ++ rest)
 
--- each file begins the one at its place, and there may be more of these; of those that are open one may be closed by then
+-- Each file begins the one at its place, and there may be more of these. One that is open may be closed by then, and any other
+-- is as it was; none broke.
 abbrev pub FilesBegin : List File → List File → Type 0
 FilesBegin [] wholes = Unit {0}
 FilesBegin (file ∷ files) [] = ⊥
-FilesBegin (file ∷ files) (whole ∷ wholes) = (file.name ≡ whole.name) × (file.mode ≡ whole.mode) × IsBeginning file.bytes whole.bytes × FilesBegin files wholes
+FilesBegin (file ∷ files) (whole ∷ wholes) = (file.name ≡ whole.name) × (file.mode ≡ whole.mode) × (file.is_broken ≡ whole.is_broken) × ((file.state ≡ state.Open) ⊎ (file.state ≡ whole.state)) × IsBeginning file.bytes whole.bytes × FilesBegin files wholes
 
 pub record Begins (low high : Part) : Type 0 where
   pub out : IsBeginning low.out high.out
@@ -64,7 +66,7 @@ pub record IsNext (part whole : Part) (name : List ℕ) : Type 0 where
 -- What a fault leaves in the slots by itself. A file that could not be opened has the name of the next one, or none where there
 -- was no memory to keep it.
 abbrev pub Marks : (List ℕ → Type 0) → Fault → List Slot → List Slot → Type 0
-Marks IsName (Write slot) before after = after ≡ with_broken slot before
+Marks IsName (Write slot) before after = (slot < length before) × (after ≡ with_broken slot before)
 Marks IsName (Open slot) before after = (slot ≡ length before) × ((kept : List ℕ) × (IsName kept ⊎ (kept ≡ [])) × (after ≡ before ++ unopened kept ∷ []))
 Marks IsName Memory before after = after ≡ before
 Marks IsName (Read slot) before after = after ≡ before

@@ -19,7 +19,7 @@ use Rattle.split_core.specs.FilesState.{FilesState}
 use Rattle.split_core.specs.Round.{AreReady, from_start}
 use Rattle.split_core.specs.RoundLaws.{all_begin_themselves}
 use Rattle.split_core.specs.Sharing.{AllBegin, added, filled, filed, open_part, closing_part, StayBroken, Became, StopsShort, HaveClosed, ClosesShort, with_opened, FailsToFollow, CannotOpen, CannotClose, could_not, unnamed, IsOfFiles}
-use Rattle.split_core.proofs.FilesLemmas.{filled_begin, filled_next, filled_same, length-filled, filed_more, open_length, open_begins, filed_gets, filed_ends, changed_begin, cut_begin, parts_begin, bytes_closed, stay_broken, stay_later, stay_changed, stay_opened, became_then, stops_then, caused_later, added_next, added_begin, added_fewer, filled_again, filled_further}
+use Rattle.split_core.proofs.FilesLemmas.{filled_begin, filled_next, filled_same, length-filled, filed_more, open_length, open_begins, filed_gets, filed_ends, changed_begin, cut_begin, parts_begin, closed_shares, stay_broken, stay_later, stay_changed, stay_opened, became_then, stops_then, caused_later, added_next, added_begin, added_fewer, filled_again, filled_further}
 
 -- Opening
 
@@ -211,7 +211,7 @@ stops_written told files old new place bytes n ready within cut before these lon
   below = open_begins files.names _ _ (cut_begin place n bytes these);
   reached = with_written (files.first + place) (told_of told (take n bytes)) old;
   outputs = writes told files before these old _ place (take n bytes) ready long within refl at;
-  marks = cut.slots;
+  marks = (let same : length (with_written (files.first + place) (told_of told (take n bytes)) old) ≡ length old = length-changed_at (files.first + place) _ old in let last : files.first + files.opened ≡ length old = ready.last (omega arith) in omega arith, cut.slots);
 }
 
 pub rose_written : (told : Bool) (files : FilesState) (old new : List Slot) (place : ℕ) (bytes : List ℕ) (n : ℕ) → AreReady files old → place < files.opened → BrokeAfter told old new (files.first + place) bytes n
@@ -266,18 +266,18 @@ one_closed told files place old now new ready within so_far is = record {
   further : suc place ≡ place + 1
   further = omega arith
 
-closing_begins : (names : Naming) (these : List (List ℕ)) (n m : ℕ) → Begins (closing_part names n these) (closing_part names m these)
-closing_begins names these n m = parts_begin (from_start names) _ _ these these (bytes_closed n these) (bytes_closed m these) (all_begin_themselves these)
+closing_begins : (names : Naming) (these : List (List ℕ)) (n m : ℕ) → n ≤ m → Begins (closing_part names n these) (closing_part names m these)
+closing_begins names these n m few = parts_begin (from_start names) _ _ (closed_shares n m these few)
 
 pub stops_closing : (told : Bool) (files : FilesState) (place : ℕ) (old now new : List Slot) → AreReady files old → place < files.opened → Closing told files place old now
     → new ≡ with_broken (files.first + place) (changed_at (files.first + place) closes now) → ClosesShort told files files.opened old new (fault.Write (files.first + place))
 stops_closing told files place old now new ready within so_far is before these long at = record {
   part = closing_part files.names (suc place) these;
-  above = closing_begins files.names these 0 (suc place);
-  below = closing_begins files.names these (suc place) files.opened;
+  above = closing_begins files.names these 0 (suc place) (omega arith);
+  below = closing_begins files.names these (suc place) files.opened (omega (arith, within));
   reached = changed_at (files.first + place) closes now;
   outputs = closes_next told files before these old now _ place ready so_far long within refl at;
-  marks = is;
+  marks = (let same : length (changed_at (files.first + place) closes now) ≡ length now = length-changed_at (files.first + place) closes now in let all : length now ≡ length old = so_far.size in let last : files.first + files.opened ≡ length old = ready.last (omega arith) in omega arith, is);
 }
 
 broken_now : (place : ℕ) (slots : List Slot) → place < length slots → (slot_at (with_broken place slots) place).is_broken ≡ true

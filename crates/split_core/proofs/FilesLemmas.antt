@@ -15,6 +15,7 @@ use Rattle.split_core.specs.Split.{Share, share, file_at, only_files}
 use Rattle.split_core.specs.FilesState.{FilesState}
 use Rattle.split_core.specs.Round.{AreReady, from_start}
 use Rattle.split_core.specs.RoundLaws.{all_begin_themselves}
+use Rattle.split_core.specs.ShareLaws.{SharesBegin}
 use Rattle.split_core.specs.Sharing.{AllBegin, added, filled, filed, open_part, closed_first, StayBroken, Became, StopsShort, IsOfFiles}
 
 -- Beginnings
@@ -32,20 +33,29 @@ bytes_closed zero these = bytes_in Open these
 bytes_closed (suc n) [] = refl
 bytes_closed (suc n) (bytes ∷ these) = ap (λ rest. bytes ∷ rest) (bytes_closed n these)
 
-filed_begin : (names : Naming) (place : ℕ) (shares others : List Share) → AllBegin (bytes_of shares) (bytes_of others) → FilesBegin (filed names place shares) (filed names place others)
+filed_begin : (names : Naming) (place : ℕ) (shares others : List Share) → SharesBegin shares others → FilesBegin (filed names place shares) (filed names place others)
 filed_begin names place [] others begin = tt
 filed_begin names place (one ∷ shares) [] begin = absurd begin
-filed_begin names place (one ∷ shares) (other ∷ others) begin = (refl, refl, begin.0, filed_begin names (place + 1) shares others begin.1)
+filed_begin names place (one ∷ shares) (other ∷ others) begin = (refl, refl, refl, begin.0, begin.1, filed_begin names (place + 1) shares others begin.2)
 
-pub parts_begin : (names : Naming) (shares others : List Share) (these those : List (List ℕ)) → bytes_of shares ≡ these → bytes_of others ≡ those → AllBegin these those
-    → Begins (only_files (filed names 0 shares)) (only_files (filed names 0 others))
-parts_begin names shares others these those is are begin = record {
-  out = nothing_begins [];
-  files = filed_begin names 0 shares others (subst (λ low. AllBegin low (bytes_of others)) (sym is) (subst (λ high. AllBegin these high) (sym are) begin));
-}
+pub parts_begin : (names : Naming) (shares others : List Share) → SharesBegin shares others → Begins (only_files (filed names 0 shares)) (only_files (filed names 0 others))
+parts_begin names shares others begin = record { out = nothing_begins []; files = filed_begin names 0 shares others begin }
+
+-- files that are open may be closed by then
+pub open_shares : (these : List (List ℕ)) (others : List Share) → AllBegin these (bytes_of others) → SharesBegin (map (share Open) these) others
+open_shares [] others begin = tt
+open_shares (bytes ∷ these) [] begin = absurd begin
+open_shares (bytes ∷ these) (other ∷ others) begin = (inl refl, begin.0, open_shares these others begin.1)
 
 pub open_begins : (names : Naming) (these those : List (List ℕ)) → AllBegin these those → Begins (open_part names these) (open_part names those)
-open_begins names these those begin = parts_begin (from_start names) _ _ these those (bytes_in Open these) (bytes_in Open those) begin
+open_begins names these those begin = parts_begin (from_start names) _ _ (open_shares these (map (share Open) those) (subst (AllBegin these) (sym (bytes_in Open those)) begin))
+
+-- where more of them are closed
+pub closed_shares : (n m : ℕ) (these : List (List ℕ)) → n ≤ m → SharesBegin (closed_first n these) (closed_first m these)
+closed_shares zero m these few = open_shares these (closed_first m these) (subst (AllBegin these) (sym (bytes_closed m these)) (all_begin_themselves these))
+closed_shares (suc n) zero these few = absurd (omega (arith, few))
+closed_shares (suc n) (suc m) [] few = tt
+closed_shares (suc n) (suc m) (bytes ∷ these) few = (inr refl, begins_itself bytes, closed_shares n m these (omega arith))
 
 all_trans : (low middle high : List (List ℕ)) → AllBegin low middle → AllBegin middle high → AllBegin low high
 all_trans [] middle high first second = tt

@@ -110,21 +110,24 @@ pub close_moves : (told : Bool) (names : Naming) (shares : List Share) (begun : 
 close_moves told names shares begun old new slot is last closed =
     last_moves told closes ended (close_makes told) names shares (share state.Open begun) (share state.Closed begun) old new slot refl is last closed
 
+within_last : (slot : ℕ) (old now : List Slot) → suc slot ≡ length old → length now ≡ length old → slot < length now
+within_last slot old now last same = omega (arith, last, same)
+
 pub write_halts : (told : Bool) (names : Naming) (shares : List Share) (begun bytes : List ℕ) (old new : List Slot) (slot : ℕ) (fault : Fault) → is_named names (length shares) ≡ true → suc slot ≡ length old → WritesShort told slot bytes old new fault
     → Halts told names (shares ++ share state.Open begun ∷ []) (shares ++ share state.Open (begun ++ bytes) ∷ []) old new fault
 write_halts told names shares begun bytes old new slot _ is last (broke n cut) =
     halts_after told names _ (shares ++ share state.Open (begun ++ take n bytes) ∷ []) _ old (with_written slot (told_of told (take n bytes)) old) new (Write slot)
-    (last_grows shares [] (share state.Open begun) (share state.Open (begun ++ take n bytes)) (begins_more begun (take n bytes)))
+    (last_grows shares [] (share state.Open begun) (share state.Open (begun ++ take n bytes)) (inl refl) (begins_more begun (take n bytes)))
     (write_moves told names shares begun (take n bytes) old _ slot is last refl)
-    (halts_here told names _ _ _ new (Write slot) (last_grows shares [] (share state.Open (begun ++ take n bytes)) (share state.Open (begun ++ bytes)) (take_begins_behind n begun bytes)) cut.slots)
+    (halts_here told names _ _ _ new (Write slot) (last_grows shares [] (share state.Open (begun ++ take n bytes)) (share state.Open (begun ++ bytes)) (inl refl) (take_begins_behind n begun bytes)) (within_last slot old (with_written slot (told_of told (take n bytes)) old) last (length-changed_at slot _ old), cut.slots))
 
 pub close_halts : (told : Bool) (names : Naming) (shares more : List Share) (begun : List ℕ) (old new : List Slot) (slot : ℕ) → is_named names (length shares) ≡ true → suc slot ≡ length old → new ≡ with_broken slot (changed_at slot closes old)
     → Halts told names (shares ++ share state.Open begun ∷ []) (shares ++ share state.Closed begun ∷ more) old new (Write slot)
 close_halts told names shares more begun old new slot is last closed =
     halts_after told names _ (shares ++ share state.Closed begun ∷ []) _ old (changed_at slot closes old) new (Write slot)
-    (last_grows shares [] (share state.Open begun) (share state.Closed begun) (begins_itself begun))
+    (last_grows shares [] (share state.Open begun) (share state.Closed begun) (inl refl) (begins_itself begun))
     (close_moves told names shares begun old _ slot is last refl)
-    (halts_here told names _ _ _ new (Write slot) (last_grows shares more (share state.Closed begun) (share state.Closed begun) (begins_itself begun)) closed)
+    (halts_here told names _ _ _ new (Write slot) (last_grows shares more (share state.Closed begun) (share state.Closed begun) (inr refl) (begins_itself begun)) (within_last slot old (changed_at slot closes old) last (length-changed_at slot closes old), closed))
 
 pub open_moves : (told : Bool) (names : Naming) (shares : List Share) (old new : List Slot) → is_named names (length shares) ≡ true → names.drawn ≡ length shares → new ≡ old ++ opened (next_name names) Fresh ∷ []
     → Moves told names shares (shares ++ share state.Open [] ∷ []) old new
@@ -149,7 +152,7 @@ next_file names shares more one is drawn kept named_so = record {
   none n = omega arith
 
 pub open_halts : (told : Bool) (names : Naming) (shares more : List Share) (one : Share) (old new : List Slot) (fault : Fault) → names.drawn ≡ length shares → OpensNone names old new fault → Halts told names shares (shares ++ one ∷ more) old new fault
-open_halts told names shares more one old new Memory drawn none = halts_here told names shares (shares ++ one ∷ more) old new Memory (shares_more shares (one ∷ more)) none
+open_halts told names shares more one old new Memory drawn none = halts_here told names shares (shares ++ one ∷ more) old new Memory (shares_more shares (one ∷ more)) none.1
 open_halts told names shares more one old new (Open slot) drawn none =
     halts_here told names shares (shares ++ one ∷ more) old new (Open slot) (shares_more shares (one ∷ more)) (none.0, (none.2.0, kept_name none.2.0 none.2.1, none.2.2)) where
       kept_name : (kept : List ℕ) → (kept ≡ next_name names) ⊎ (kept ≡ []) → IsNext (part_of names shares) (part_of names (shares ++ one ∷ more)) kept ⊎ (kept ≡ [])

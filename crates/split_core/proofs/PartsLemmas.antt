@@ -139,7 +139,7 @@ held_short told parts bytes old mid new found next slot f facts short held is = 
   halts = λ shares begun has. move.halts_after told parts.names _ (shares ++ share state.Open begun ∷ []) _ old mid new f (facts.grows shares begun has) (facts.moves shares begun has)
       (move.halts_wider told parts.names _ (shares ++ share state.Open (begun ++ parts.waiting) ∷ []) _ mid new f
       (move.write_halts told parts.names shares begun parts.waiting mid new slot f (facts.named shares begun has) facts.last short)
-      (last_grows shares [] (share state.Open (begun ++ parts.waiting)) (share state.Open (begun ++ (parts.waiting ++ bytes))) (bytes, sym (all_behind begun parts.waiting bytes))));
+      (last_grows shares [] (share state.Open (begun ++ parts.waiting)) (share state.Open (begun ++ (parts.waiting ++ bytes))) (inl refl) (bytes, sym (all_behind begun parts.waiting bytes))));
   breaks = move.breaks_later old mid new f facts.keeps (move.write_breaks told slot parts.waiting mid new f facts.writable short);
   short = λ is_short. absurd (move.no_suffixes told slot parts.waiting mid new f short is_short);
 }
@@ -153,7 +153,7 @@ bytes_short told parts bytes old mid wet new found next slot f facts one short h
   names_same = ap (λ (those : PartsState). those.names) is ∙ facts.names_same ∙ ap (λ n. record parts.names { drawn = n }) (sym (ap (λ (those : PartsState). those.names.drawn) is));
   halts = λ shares begun has. move.halts_after told parts.names _ (shares ++ share state.Open begun ∷ []) _ old mid new f (facts.grows shares begun has) (facts.moves shares begun has)
       (move.halts_after told parts.names _ (shares ++ share state.Open (begun ++ parts.waiting) ∷ []) _ mid wet new f
-      (last_grows shares [] (share state.Open begun) (share state.Open (begun ++ parts.waiting)) (parts.waiting, refl))
+      (last_grows shares [] (share state.Open begun) (share state.Open (begun ++ parts.waiting)) (inl refl) (parts.waiting, refl))
       (move.write_moves told parts.names shares begun parts.waiting mid wet slot (facts.named shares begun has) facts.last one)
       (subst (λ those. Halts told parts.names (shares ++ share state.Open (begun ++ parts.waiting) ∷ []) (shares ++ share state.Open those ∷ []) wet new f) (all_behind begun parts.waiting bytes)
       (move.write_halts told parts.names shares (begun ++ parts.waiting) bytes wet new slot f (facts.named shares begun has) (move.written_last mid wet slot _ facts.last one) short)));

@@ -1,5 +1,5 @@
 -- A piece that is taken in step by step, and the end of the input.
-use Rattle.std.proofs.Common.{◌≡◌, ℕ, ◌-◌, ◌<◌, ◌≤◌, suc, List, [], ◌∷◌, ◌++◌, length, map, take, drop, Bool, true, false, IsTrue, Option, Some, None, Result, Ok, Err, OnOk, IfErr, refl, sym, ◌∙◌, ap, subst, arith, append_assoc, length-append, length-drop}
+use Rattle.std.proofs.Common.{◌≡◌, ℕ, ◌-◌, ◌<◌, ◌≤◌, suc, List, [], ◌∷◌, ◌++◌, length, map, take, drop, Bool, true, false, IsTrue, Option, Some, None, Result, Ok, Err, OnOk, IfErr, inl, inr, refl, sym, ◌∙◌, ap, subst, arith, append_assoc, length-append, length-drop}
 use Rattle.std.proofs.lemmas.List.{append-nil, map-append, take_all, take-append-drop}
 use Rattle.std.proofs.lemmas.Bool.{false≢true}
 use Rattle.ports_core.specs.Name.{Naming}
@@ -168,7 +168,7 @@ module _ (told : Bool) (state : PartsState) (old : List Slot) (ready : IsReady s
 
   low_begins : (x : List ℕ) (slot : ℕ) → Stands state x → state.current ≡ Some slot → SharesBegin (settled_parts state.limit x) (full_shares x ++ share file_state.Open (rest_bytes x) ∷ [])
   low_begins x slot stands is = subst (λ low. SharesBegin low (full_shares x ++ share file_state.Open (rest_bytes x) ∷ [])) (sym (low_is x slot stands is))
-      (last_grows (full_shares x) [] (share file_state.Open (begun_bytes x)) (share file_state.Open (rest_bytes x)) (state.waiting, sym (rest_is x stands)))
+      (last_grows (full_shares x) [] (share file_state.Open (begun_bytes x)) (share file_state.Open (rest_bytes x)) (inl refl) (state.waiting, sym (rest_is x stands)))
 
   pub close_can : (slot : ℕ) (bytes : List ℕ) (wet : List Slot) → state.current ≡ Some slot → wet ≡ with_written slot bytes old → (2 ≤ slot) × IsTrue (is_writable wet slot)
   close_can slot bytes wet is wrote = ((open_slot slot is).1.0, move.written_writable old wet slot bytes (open_slot slot is).1.1 wrote)
@@ -181,7 +181,7 @@ module _ (told : Bool) (state : PartsState) (old : List Slot) (ready : IsReady s
         (subst (λ rest. Halts told state.names (full_shares x ++ share file_state.Open (begun_bytes x) ∷ []) (full_shares x ++ share file_state.Open rest ∷ []) old new f) (rest_is x stands)
         (move.write_halts told state.names (full_shares x) (begun_bytes x) state.waiting old new slot f (named_here x slot stands is) (open_slot slot is).0 short)))
         (subst (SharesBegin (full_shares x ++ share file_state.Open (rest_bytes x) ∷ [])) (sym (high_is x slot stands is))
-        (last_grows (full_shares x) [] (share file_state.Open (rest_bytes x)) (share file_state.Closed (rest_bytes x)) (begins_itself (rest_bytes x)))),
+        (last_grows (full_shares x) [] (share file_state.Open (rest_bytes x)) (share file_state.Closed (rest_bytes x)) (inl refl) (begins_itself (rest_bytes x)))),
   ) where
     slot_of : (slot : ℕ) (new : List Slot) (f : Fault) → WritesShort told slot state.waiting old new f → Breaks old new f → (at : ℕ) × (f ≡ fault.Write at) × Rose at old new
     slot_of slot new _ (Rattle.split_core.specs.Moves.broke n cut) breaks = (slot, refl, breaks)

@@ -1,5 +1,6 @@
 -- The engine of `split` is one of its two engines.
-use Rattle.std.proofs.Common.{◌≡◌, ℕ, List, Bool, length, Result, OnOk, IfErr, sym, subst}
+use Rattle.std.proofs.Common.{◌≡◌, ℕ, List, Bool, false, length, Result, OnOk, IfErr, refl, sym, subst}
+use Rattle.split_core.proofs.PartSplitterLemmas.{never_done}
 use Rattle.ports_core.specs.Slot.{Slot}
 use Rattle.ports_core.specs.Engine.{PutsOut, CutsOff, RunsOut, IsCaused}
 use Rattle.ports_core.specs.declared.fault.Fault.{Fault}
@@ -21,3 +22,8 @@ pub parts_refused : (told : Bool) (engine : PartState) (self : Splitter) (piece 
     → IfErr result (IsCaused (part.means engine) (RunsOut part.Holds part.settled part.is_complete engine piece told old new) engine.is_over engine.fed (length piece) old new)
     → IfErr result (IsCaused (means self) (RunsOut Holds settled is_complete self piece told old new) (is_over self) (fed self) (length piece) old new)
 parts_refused told engine self piece old new result is caused = subst (λ those. IfErr result (IsCaused (means those) (RunsOut Holds settled is_complete those piece told old new) (is_over those) (fed those) (length piece) old new)) (sym is) caused
+
+-- as long as it goes on, all files have names
+pub never_short : (engine : Splitter) (x : List ℕ) → Holds engine x → is_complete engine x ≡ false
+never_short (Parts engine) x holds = sym (never_done engine x holds)
+never_short (Round engine) x holds = refl

@@ -1,5 +1,5 @@
 -- What a step of a piece leaves.
-use Rattle.std.proofs.Common.{◌≡◌, ℕ, ◌+◌, ◌-◌, ◌<◌, ◌≤◌, zero, suc, List, [], ◌∷◌, ◌++◌, length, map, take, drop, Bool, true, false, cond, IsTrue, Option, Some, None, Result, Ok, Err, OnOk, IfOk, IfErr, refl, sym, ◌∙◌, ap, subst, arith, append_assoc, length-append}
+use Rattle.std.proofs.Common.{◌≡◌, ℕ, ◌+◌, ◌-◌, ◌<◌, ◌≤◌, zero, suc, List, [], ◌∷◌, ◌++◌, length, map, take, drop, Bool, true, false, cond, IsTrue, Option, Some, None, Result, Ok, Err, OnOk, IfOk, IfErr, inl, inr, refl, sym, ◌∙◌, ap, subst, arith, append_assoc, length-append}
 use Rattle.std.proofs.lemmas.List.{append-nil, map-append, length-map, take-append-drop, length-take-le}
 use Rattle.std.proofs.lemmas.Bool.{false≢true}
 use Rattle.ports_core.specs.Name.{Naming, has_next}
@@ -348,7 +348,7 @@ turned_below parts piece first behind bytes x led = subst (λ low. SharesBegin l
 pub below_ends : (parts : PartsState) (piece : List ℕ) (end bytes : ℕ) → LeadsOn parts piece (Ends end bytes)
     → (x : List ℕ) → Stands parts x → SharesBegin (full_of parts x ++ share file_state.Open (rest_of parts x ++ take end piece) ∷ []) (settled_parts parts.limit (x ++ piece))
 below_ends parts piece end bytes leads x stands =
-    shares_trans _ _ _ (last_grows (full_of parts x) (begun_share (drop end (take bytes piece))) (share file_state.Open (rest_of parts x ++ take end piece)) (share file_state.Closed (rest_of parts x ++ take end piece)) ([], sym (append-nil _)))
+    shares_trans _ _ _ (last_grows (full_of parts x) (begun_share (drop end (take bytes piece))) (share file_state.Open (rest_of parts x ++ take end piece)) (share file_state.Closed (rest_of parts x ++ take end piece)) (inl refl) ([], sym (append-nil _)))
     (turned_below parts piece (rest_of parts x ++ take end piece) (drop end (take bytes piece)) bytes x (leads (rest_of parts x) stands.lacks))
 
 -- names ran out at the next part

@@ -1,5 +1,5 @@
 -- The end of a part, and the beginning of the next.
-use Rattle.std.proofs.Common.{◌≡◌, ℕ, ◌+◌, ◌-◌, ◌<◌, ◌≤◌, zero, suc, List, [], ◌∷◌, ◌++◌, length, Bool, true, false, eqb, IsTrue, Option, Some, None, Result, Ok, Err, refl, sym, ◌∙◌, ap, subst, arith, append_assoc, length-append}
+use Rattle.std.proofs.Common.{◌≡◌, ℕ, ◌+◌, ◌-◌, ◌<◌, ◌≤◌, zero, suc, List, [], ◌∷◌, ◌++◌, length, Bool, true, false, eqb, IsTrue, Option, Some, None, Result, Ok, Err, inl, inr, refl, sym, ◌∙◌, ap, subst, arith, append_assoc, length-append}
 use Rattle.std.proofs.lemmas.List.{append-nil}
 use Rattle.std.proofs.lemmas.Bool.{false≢true, eqb-true, eq-eqb}
 use Rattle.ports_core.specs.Name.{Naming}
@@ -167,7 +167,7 @@ module _ (told : Bool) (parts : PartsState) (bytes : List ℕ) (old wet : List S
     limit_same = cut.limit_same ∙ ap (λ (those : PartsState). those.limit) whole;
     names_same = drawn_so mid.names next.names names cut.names_same;
     halts = λ shares begun last given. move.halts_after told parts.names _ (shares ++ share state.Closed begun ∷ []) _ old wet new f
-        (last_grows shares [] (share state.Open begun) (share state.Closed begun) (begins_itself begun)) (facts.moves shares begun last given)
+        (last_grows shares [] (share state.Open begun) (share state.Closed begun) (inl refl) (begins_itself begun)) (facts.moves shares begun last given)
         (subst (λ low. Halts told parts.names low (shares ++ share state.Closed begun ∷ begun_share (parts.waiting ++ bytes)) wet new f) (low_is shares begun)
         (subst (λ high. Halts told parts.names ((shares ++ share state.Closed begun ∷ []) ++ begun_share []) high wet new f) (high_is shares begun)
         (subst (λ (those : Naming). Halts told those ((shares ++ share state.Closed begun ∷ []) ++ begun_share []) ((shares ++ share state.Closed begun ∷ []) ++ share state.Open ([] ++ (mid.waiting ++ bytes)) ∷ []) wet new f) names

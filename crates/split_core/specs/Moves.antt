@@ -44,7 +44,7 @@ Breaks old new TooLong = ⊥
 
 -- why the next file wasn't opened
 abbrev pub OpensNone : Naming → List Slot → List Slot → Fault → Type 0
-OpensNone names old new Memory = new ≡ old
+OpensNone names old new Memory = IsTrue (has_next names) × (new ≡ old)
 OpensNone names old new (Open slot) = (slot ≡ length old) × IsTrue (has_next names) × ((kept : List ℕ) × ((kept ≡ next_name names) ⊎ (kept ≡ [])) × (new ≡ old ++ unopened kept ∷ []))
 OpensNone names old new Suffixes = (has_next names ≡ false) × (new ≡ old)
 OpensNone names old new (Write slot) = ⊥

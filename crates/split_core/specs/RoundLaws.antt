@@ -1,5 +1,5 @@
 -- The laws of dealing lines in turn, as an engine.
-use Rattle.std.proofs.Common.{◌≡◌, ℕ, ◌+◌, ◌≤◌, zero, suc, List, [], ◌∷◌, ◌++◌, length, map, Bool, true, false, cond, refl, sym, subst, arith}
+use Rattle.std.proofs.Common.{◌≡◌, ℕ, ◌+◌, ◌≤◌, zero, suc, List, [], ◌∷◌, ◌++◌, length, map, Bool, true, false, cond, inl, refl, sym, subst, arith}
 use Rattle.std.specs.List.{range_with_len}
 use Rattle.std.proofs.lemmas.Bool.{false≢true}
 use Rattle.ports_core.specs.Name.{Naming}
@@ -20,17 +20,17 @@ live round x holds = holds.live
 pub counts : (round : RoundState) (x : List ℕ) → Holds round x → round.fed ≡ length x
 counts round x holds = holds.fed
 
-begin_step : (is : Bool) (file high : File) (files wholes : List File) → file.name ≡ high.name → file.mode ≡ high.mode → IsBeginning file.bytes high.bytes → FilesBegin files wholes
+begin_step : (is : Bool) (file high : File) (files wholes : List File) → file.name ≡ high.name → file.mode ≡ high.mode → file.is_broken ≡ high.is_broken → file.state ≡ Open → IsBeginning file.bytes high.bytes → FilesBegin files wholes
     → FilesBegin (cond is (file ∷ files) []) (cond is (high ∷ wholes) [])
-begin_step true file high files wholes name mode bytes rest = (name, mode, bytes, rest)
-begin_step false file high files wholes name mode bytes rest = tt
+begin_step true file high files wholes name mode sound open_yet bytes rest = (name, mode, sound, inl open_yet, bytes, rest)
+begin_step false file high files wholes name mode sound open_yet bytes rest = tt
 
 -- where the bytes begin others, so do the files
-pub named_begin : (names : Naming) (place : ℕ) (low high : State) (these those : List (List ℕ)) → AllBegin these those → FilesBegin (named names place (map (share low) these)) (named names place (map (share high) those))
-named_begin names place low high [] those begin = tt
-named_begin names place low high (bytes ∷ these) [] begin = absurd begin
-named_begin names place low high (bytes ∷ these) (whole ∷ those) begin =
-    begin_step (is_named names place) (file_at names place (share low bytes)) (file_at names place (share high whole)) _ _ refl refl begin.0 (named_begin names (place + 1) low high these those begin.1)
+pub named_begin : (names : Naming) (place : ℕ) (high : State) (these those : List (List ℕ)) → AllBegin these those → FilesBegin (named names place (map (share Open) these)) (named names place (map (share high) those))
+named_begin names place high [] those begin = tt
+named_begin names place high (bytes ∷ these) [] begin = absurd begin
+named_begin names place high (bytes ∷ these) (whole ∷ those) begin =
+    begin_step (is_named names place) (file_at names place (share Open bytes)) (file_at names place (share high whole)) _ _ refl refl refl refl begin.0 (named_begin names (place + 1) high these those begin.1)
 
 maps_begin : (f g : ℕ → List ℕ) (start m n : ℕ) → m ≤ n → ((file : ℕ) → IsBeginning (f file) (g file)) → AllBegin (map f (range_with_len start m)) (map g (range_with_len start n))
 maps_begin f g start zero n few begin = tt
@@ -51,13 +51,13 @@ dealt_begin elide n x y =
 pub grows : (round : RoundState) (x y : List ℕ) → Begins (settled round x) (settled round (x ++ y))
 grows round x y = record {
   out = nothing_begins [];
-  files = named_begin (from_start round.files.names) 0 Open Open _ _ (dealt_begin round.elide round.count x y);
+  files = named_begin (from_start round.files.names) 0 Open _ _ (dealt_begin round.elide round.count x y);
 }
 
 pub ends : (round : RoundState) (x : List ℕ) → Begins (settled round x) (whole round x)
 ends round x = record {
   out = nothing_begins [];
-  files = named_begin (from_start round.files.names) 0 Open Closed _ _ (all_begin_themselves (dealt_files round.elide round.count x));
+  files = named_begin (from_start round.files.names) 0 Closed _ _ (all_begin_themselves (dealt_files round.elide round.count x));
 }
 
 pub stays : (round : RoundState) (x y : List ℕ) → is_complete round x ≡ true → IsComplete settled whole is_complete round x y

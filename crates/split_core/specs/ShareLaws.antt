@@ -1,5 +1,5 @@
 -- Laws of what files get: what is written once more came in, and in the end.
-use Rattle.std.proofs.Common.{◌≡◌, ℕ, ◌+◌, ◌-◌, ◌<◌, ◌≤◌, zero, suc, List, [], ◌∷◌, ◌++◌, length, map, take, drop, Bool, true, false, cond, not, ◌||◌, nat_lt, refl, sym, ◌∙◌, ap, subst, arith, append_assoc, length-append}
+use Rattle.std.proofs.Common.{◌≡◌, ℕ, ◌+◌, ◌-◌, ◌<◌, ◌≤◌, zero, suc, List, [], ◌∷◌, ◌++◌, length, map, take, drop, Bool, true, false, cond, not, ◌||◌, nat_lt, ◌⊎◌, inl, inr, refl, sym, ◌∙◌, ap, subst, arith, append_assoc, length-append}
 use Rattle.std.proofs.lemmas.Bool.{false≢true}
 use Rattle.std.proofs.lemmas.Bool.Decides.{nat_tests}
 use Rattle.std.proofs.lemmas.List.{append-nil, map-append, length-map, take_all}
@@ -10,53 +10,53 @@ use Rattle.ports_core.specs.Name.{Naming}
 use Rattle.ports_core.specs.Part.{File, IsBeginning, FilesBegin, Begins}
 use Rattle.ports_core.specs.declared.slot.State.{State}
 use Rattle.ports_core.specs.declared.slot.State.TheVariants.{Open, Closed}
-use Rattle.ports_core.proofs.PartLemmas.{begins_itself, begins_more, begins_trans}
+use Rattle.ports_core.proofs.PartLemmas.{begins_itself, begins_more, begins_trans, state_trans}
 use Rattle.split_core.specs.declared.cut.Limit.{Limit}
 use Rattle.split_core.specs.declared.cut.Limit.TheVariants.{Lines, Bytes, LineBytes}
 use Rattle.split_core.specs.Parts.{whole_lines, most, measure, is_full, first_part, behind_first, cut_up, unless_empty, parts, settled_rest}
 use Rattle.split_core.specs.Split.{Share, share, is_named, file_at, named, are_named, only_files, settled_parts}
 use Rattle.split_core.specs.CutLaws.{short_some, full_some, whole_of_lines, whole_of_none, whole_then_open, settled_then_waiting, settled_some, cut_all, cut_on, cut_none, cut_once, cuts_up, goes, rest_short, cut_so}
 
--- each share begins the one at its place, and there may be more of these
+-- each share begins the one at its place, and there may be more of these; one whose file is open may be closed by then
 abbrev pub SharesBegin : List Share → List Share → Type 0
 SharesBegin [] wholes = Unit {0}
 SharesBegin (share ∷ shares) [] = ⊥
-SharesBegin (share ∷ shares) (whole ∷ wholes) = IsBeginning share.bytes whole.bytes × SharesBegin shares wholes
+SharesBegin (share ∷ shares) (whole ∷ wholes) = ((share.state ≡ Open) ⊎ (share.state ≡ whole.state)) × IsBeginning share.bytes whole.bytes × SharesBegin shares wholes
 
 pub shares_themselves : (shares : List Share) → SharesBegin shares shares
 shares_themselves [] = tt
-shares_themselves (share ∷ shares) = (begins_itself share.bytes, shares_themselves shares)
+shares_themselves (share ∷ shares) = (inr refl, begins_itself share.bytes, shares_themselves shares)
 
 pub shares_trans : (low middle high : List Share) → SharesBegin low middle → SharesBegin middle high → SharesBegin low high
 shares_trans [] middle high first second = tt
 shares_trans (share ∷ low) [] high first second = absurd first
 shares_trans (share ∷ low) (mid ∷ middle) [] first second = absurd second
-shares_trans (share ∷ low) (mid ∷ middle) (whole ∷ high) first second = (begins_trans _ _ _ first.0 second.0, shares_trans low middle high first.1 second.1)
+shares_trans (share ∷ low) (mid ∷ middle) (whole ∷ high) first second = (state_trans _ _ _ first.0 second.0, begins_trans _ _ _ first.1 second.1, shares_trans low middle high first.2 second.2)
 
 -- what begins behind the same
 pub shares_behind : (front low high : List Share) → SharesBegin low high → SharesBegin (front ++ low) (front ++ high)
 shares_behind [] low high begins = begins
-shares_behind (share ∷ front) low high begins = (begins_itself share.bytes, shares_behind front low high begins)
+shares_behind (share ∷ front) low high begins = (inr refl, begins_itself share.bytes, shares_behind front low high begins)
 
 pub shares_more : (shares more : List Share) → SharesBegin shares (shares ++ more)
 shares_more [] more = tt
-shares_more (share ∷ shares) more = (begins_itself share.bytes, shares_more shares more)
+shares_more (share ∷ shares) more = (inr refl, begins_itself share.bytes, shares_more shares more)
 
 -- the last one grew
-pub last_grows : (front more : List Share) (one other : Share) → IsBeginning one.bytes other.bytes → SharesBegin (front ++ one ∷ []) (front ++ other ∷ more)
-last_grows front more one other begins = shares_behind front (one ∷ []) (other ∷ more) (begins, tt)
+pub last_grows : (front more : List Share) (one other : Share) → (one.state ≡ Open) ⊎ (one.state ≡ other.state) → IsBeginning one.bytes other.bytes → SharesBegin (front ++ one ∷ []) (front ++ other ∷ more)
+last_grows front more one other kept begins = shares_behind front (one ∷ []) (other ∷ more) (kept, begins, tt)
 
 -- the files of shares that begin others begin the files of those
 
-files_by : (names : Naming) (has : Bool) (place : ℕ) (one other : Share) (low high : List File) → IsBeginning one.bytes other.bytes → FilesBegin low high → FilesBegin (cond has (file_at names place one ∷ low) []) (cond has (file_at names place other ∷ high) [])
-files_by names true place one other low high first rest = (refl, refl, first, rest)
-files_by names false place one other low high first rest = tt
+files_by : (names : Naming) (has : Bool) (place : ℕ) (one other : Share) (low high : List File) → (one.state ≡ Open) ⊎ (one.state ≡ other.state) → IsBeginning one.bytes other.bytes → FilesBegin low high → FilesBegin (cond has (file_at names place one ∷ low) []) (cond has (file_at names place other ∷ high) [])
+files_by names true place one other low high kept first rest = (refl, refl, refl, kept, first, rest)
+files_by names false place one other low high kept first rest = tt
 
 pub files_begin : (names : Naming) (place : ℕ) (low high : List Share) → SharesBegin low high → FilesBegin (named names place low) (named names place high)
 files_begin names place [] high begins = tt
 files_begin names place (share ∷ low) [] begins = absurd begins
 files_begin names place (share ∷ low) (whole ∷ high) begins =
-    files_by names (is_named names place) place share whole (named names (place + 1) low) (named names (place + 1) high) begins.0 (files_begin names (place + 1) low high begins.1)
+    files_by names (is_named names place) place share whole (named names (place + 1) low) (named names (place + 1) high) begins.0 begins.1 (files_begin names (place + 1) low high begins.2)
 
 pub part_begins : (names : Naming) (low high : List Share) → SharesBegin low high → Begins (only_files (named names 0 low)) (only_files (named names 0 high))
 part_begins names low high begins = record { out = begins_itself []; files = files_begin names 0 low high begins }
@@ -154,7 +154,7 @@ rest_begins_by limit rest y true full short =
     (in_first (settled_rest limit rest) _ (settled_in_full limit rest y (short_some limit rest short (full_some limit (rest ++ y) full).0))) where
       in_first : (low : List ℕ) (more : List Share) → IsBeginning low (first_part limit (rest ++ y)) → SharesBegin (map (share Open) (unless_empty low)) (share Closed (first_part limit (rest ++ y)) ∷ more)
       in_first [] more begins = tt
-      in_first (byte ∷ low) more begins = (begins, tt)
+      in_first (byte ∷ low) more begins = (inl refl, begins, tt)
 rest_begins_by limit rest y false full short =
     subst (λ cut. SharesBegin (map (share Open) (unless_empty (settled_rest limit rest))) (map (share Closed) cut.full ++ map (share Open) (unless_empty (settled_rest limit cut.rest)))) (sym (cut_none limit (rest ++ y) full))
     (in_next (settled_rest limit rest) (settled_rest limit (rest ++ y)) (settled_in_rest limit rest y)) where
@@ -163,7 +163,7 @@ rest_begins_by limit rest y false full short =
       in_next (byte ∷ low) [] (rest, is) = absurd (none_of (ap length is)) where
         none_of : {n : ℕ} → 0 ≡ suc n → ⊥
         none_of e = omega (arith, e)
-      in_next (byte ∷ low) (first ∷ high) begins = (begins, tt)
+      in_next (byte ∷ low) (first ∷ high) begins = (inl refl, begins, tt)
 
 pub rest_begins : (limit : Limit) (rest y : List ℕ) → is_full limit rest ≡ false → SharesBegin (map (share Open) (unless_empty (settled_rest limit rest))) (settled_parts limit (rest ++ y))
 rest_begins limit rest y short = rest_begins_by limit rest y (is_full limit (rest ++ y)) refl short
@@ -187,7 +187,7 @@ settled_end limit x =
       closes (byte ∷ low) [] (rest, is) = absurd (none_of (ap length is)) where
         none_of : {n : ℕ} → 0 ≡ suc n → ⊥
         none_of e = omega (arith, e)
-      closes (byte ∷ low) (first ∷ high) begins = (begins, tt)
+      closes (byte ∷ low) (first ∷ high) begins = (inl refl, begins, tt)
 
 -- as many files are written as the text has parts
 
@@ -249,7 +249,7 @@ parts_grow limit x y = subst (λ n. n ≤ length (parts limit (x ++ y))) (settle
   shares_fewer : (low high : List Share) → SharesBegin low high → length low ≤ length high
   shares_fewer [] high begins = omega arith
   shares_fewer (share ∷ low) [] begins = absurd begins
-  shares_fewer (share ∷ low) (whole ∷ high) begins = let few : length low ≤ length high = shares_fewer low high begins.1 in omega arith
+  shares_fewer (share ∷ low) (whole ∷ high) begins = let few : length low ≤ length high = shares_fewer low high begins.2 in omega arith
 
 -- a text that isn't empty has a part
 
@@ -266,4 +266,4 @@ parts_some limit x some = some_by (cut_up limit x).full (cut_up limit x).rest x 
 -- a part that was begun, or not yet, begins it with more bytes
 pub begun_grows : (front : List Share) (begun more : List ℕ) → IsBeginning begun more → SharesBegin (front ++ map (share Open) (unless_empty begun)) (front ++ share Open more ∷ [])
 begun_grows front [] more begins = shares_behind front [] (share Open more ∷ []) tt
-begun_grows front (byte ∷ begun) more begins = shares_behind front (share Open (byte ∷ begun) ∷ []) (share Open more ∷ []) (begins, tt)
+begun_grows front (byte ∷ begun) more begins = shares_behind front (share Open (byte ∷ begun) ∷ []) (share Open more ∷ []) (inl refl, begins, tt)

@@ -7,7 +7,11 @@ mod deal;
 mod files;
 mod gathered;
 mod laws;
+#[cfg(test)]
+mod part_plain;
 mod part_splitter;
+#[cfg(test)]
+mod part_tests;
 mod parts;
 mod round_files;
 #[cfg(test)]
@@ -19,5 +23,7 @@ mod splitter;
 mod step;
 
 pub use cut::{Cut, Limit};
-pub use laws::{line_byte_parts, lines_are_dealt, parts_are_runs, parts_go_on};
+pub use laws::{
+    all_files_have_names, line_byte_parts, lines_are_dealt, parts_are_runs, parts_go_on,
+};
 pub use splitter::Splitter;

@@ -1,0 +1,5 @@
+use Rattle.split_core.proofs.SplitterLemmas.{never_short}
+use Rattle.split_core.proofs.laws.all_files_have_names.Goals as goal
+
+pub returns : goal.returns
+returns c = never_short
