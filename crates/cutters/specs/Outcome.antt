@@ -13,7 +13,7 @@ use Rattle.cutters.specs.EndsAsked.{EndsAsked}
 use Rattle.cutters.specs.Ends.{Made, head_work, tail_work, has_headers, names_in, of_inputs}
 use Rattle.cutters.specs.Feeding.{Work}
 use Rattle.cutters.specs.RunOutcome.{Outcome}
-use Rattle.cutters.specs.Splitting.{input_name, plan_of, split_outcome, split_work}
+use Rattle.cutters.specs.Splitting.{input_name, split_for, split_outcome}
 use Rattle.cutters.specs.Input.{Input}
 use Rattle.cutters.specs.Words.{tool_named, settings_of}
 
@@ -32,7 +32,7 @@ tool_of (Split asked) = tool.Split
 abbrev pub work_of : List (List ℕ) → Settings → Work
 work_of words (Head asked) = head_work asked
 work_of words (Tail asked) = tail_work asked
-work_of words (Split asked) = split_work (plan_of words asked)
+work_of words (Split asked) = split_for words asked
 
 -- the names of the inputs that a tool reads, among these words
 abbrev pub names_of : List (List ℕ) → Settings → List (List ℕ)
@@ -43,7 +43,7 @@ names_of words (Split asked) = input_name words asked ∷ []
 abbrev pub tool_outcome : List (List ℕ) → List Input → Settings → Outcome
 tool_outcome words inputs (Head asked) = ends_outcome tool.Head (head_work asked) asked (names_in words asked.operands) inputs
 tool_outcome words inputs (Tail asked) = ends_outcome tool.Tail (tail_work asked) asked (names_in words asked.operands) inputs
-tool_outcome words inputs (Split asked) = split_outcome (split_work (plan_of words asked)) inputs
+tool_outcome words inputs (Split asked) = split_outcome (split_for words asked) inputs
 
 -- who refuses words: their tool, or the program where they name none
 abbrev pub or_cutters : Option Tool → Tool

@@ -39,6 +39,10 @@ plan_of words asked = record { cut = asked.cut; elide = asked.elide; names = nam
 abbrev pub split_work : Plan → Work
 split_work plan = record { settled = settled_by plan; whole = whole_by plan; is_complete = is_short plan; means = means_for plan.cut }
 
+-- what these words ask `split` to make of its input
+abbrev pub split_for : List (List ℕ) → SplitAsked → Work
+split_for words asked = split_work (plan_of words asked)
+
 -- what is told of an input: that there were too few names, or else that it broke off
 abbrev pub split_messages : Work → List ℕ → Content → List (List ℕ)
 split_messages work name content =

@@ -2,12 +2,11 @@
 ghost use Rattle.std.specs.Prelude.{◌≡◌, ◌∷◌, Some, [], true, false, map, length, IsTrue};
 ghost use Rattle.ports_core.specs.Slot.{streams};
 ghost use Rattle.ports_core.specs.Source.{source_at, is_readable, IsFresh};
-ghost use Rattle.split_core.specs.Split.{is_short};
 ghost use Rattle.cutters.specs.EndsSteps.{world_of};
 ghost use Rattle.cutters.specs.Feeding.{FedAs, KeepsOthers, OfContent, ReadsFor};
 ghost use Rattle.cutters.specs.Input.{has_dash};
 ghost use Rattle.cutters.specs.RunEnds.{EndsAs, RunsOver};
-ghost use Rattle.cutters.specs.Splitting.{input_name, plan_of, split_outcome, split_work, word_or};
+ghost use Rattle.cutters.specs.Splitting.{input_name, split_for, split_outcome, word_or};
 ghost use Rattle.cutters.specs.SplitWords.{CanSplit};
 ghost use Rattle.cutters.specs.SplitSteps.{SplitOne, SplitRun, is_suffixes};
 
@@ -42,9 +41,9 @@ pub fn run_split<I: Inputs, O: Outs>(
     requires outputs { O.slots outs.old ≡ streams }
     requires asked { CanSplit settings.now }
     ensures untouched { has_dash (input_name (map (λ word. word.now) words.now) settings.now ∷ []) ≡ false → source_at (I.sources inputs.new) 0 ≡ source_at (I.sources inputs.old) 0 }
-    ensures reads { I.told ≡ true → ReadsFor (is_short (plan_of (map (λ word. word.now) words.now) settings.now)) PIECE (source_at (I.sources inputs.old) 0).left (source_at (I.sources inputs.new) 0).left }
+    ensures reads { I.told ≡ true → ReadsFor (split_for (map (λ word. word.now) words.now) settings.now).is_complete PIECE (source_at (I.sources inputs.old) 0).left (source_at (I.sources inputs.new) 0).left }
     ensures ends { RunsOver I.told (world_of (I.laid inputs.old) (I.sources inputs.old)) (input_name (map (λ word. word.now) words.now) settings.now ∷ [])
-        (λ found. EndsAs O.told Tool.Split (split_work (plan_of (map (λ word. word.now) words.now) settings.now)) (split_outcome (split_work (plan_of (map (λ word. word.now) words.now) settings.now))) found (O.slots outs.new) result) }
+        (λ found. EndsAs O.told Tool.Split (split_for (map (λ word. word.now) words.now) settings.now) (split_outcome (split_for (map (λ word. word.now) words.now) settings.now)) found (O.slots outs.new) result) }
 {
     let job = Job {
         alloc,
@@ -74,9 +73,9 @@ fn split_named<I: Inputs, O: Outs>(
     requires outputs { O.slots outs.old ≡ streams }
     requires asked { CanSplit job.now.settings.now }
     ensures untouched { has_dash (input_name (map (λ word. word.now) job.now.words.now) job.now.settings.now ∷ []) ≡ false → source_at (I.sources inputs.new) 0 ≡ source_at (I.sources inputs.old) 0 }
-    ensures reads { I.told ≡ true → ReadsFor (is_short (plan_of (map (λ word. word.now) job.now.words.now) job.now.settings.now)) PIECE (source_at (I.sources inputs.old) 0).left (source_at (I.sources inputs.new) 0).left }
+    ensures reads { I.told ≡ true → ReadsFor (split_for (map (λ word. word.now) job.now.words.now) job.now.settings.now).is_complete PIECE (source_at (I.sources inputs.old) 0).left (source_at (I.sources inputs.new) 0).left }
     ensures splits { RunsOver I.told (world_of (I.laid inputs.old) (I.sources inputs.old)) (input_name (map (λ word. word.now) job.now.words.now) job.now.settings.now ∷ [])
-        (SplitRun O.told (split_work (plan_of (map (λ word. word.now) job.now.words.now) job.now.settings.now)) (O.slots outs.new) result) }
+        (SplitRun O.told (split_for (map (λ word. word.now) job.now.words.now) job.now.settings.now) (O.slots outs.new) result) }
 {
     let mut buffer = match vec![in job.alloc; 0u8; PIECE] {
         Ok(buffer) => buffer,
@@ -125,8 +124,8 @@ fn split_slot<I: Inputs, O: Outs>(
     requires outputs { O.slots outs.old ≡ streams }
     requires asked { CanSplit job.now.settings.now }
     ensures splits { OfContent I.told (source_at (I.sources inputs.old) slot).left
-        (λ content. SplitOne O.told (split_work (plan_of (map (λ word. word.now) job.now.words.now) job.now.settings.now)) name.now (Some content) (O.slots outs.new) result) }
-    ensures reads { I.told ≡ true → ReadsFor (is_short (plan_of (map (λ word. word.now) job.now.words.now) job.now.settings.now)) PIECE (source_at (I.sources inputs.old) slot).left (source_at (I.sources inputs.new) slot).left }
+        (λ content. SplitOne O.told (split_for (map (λ word. word.now) job.now.words.now) job.now.settings.now) name.now (Some content) (O.slots outs.new) result) }
+    ensures reads { I.told ≡ true → ReadsFor (split_for (map (λ word. word.now) job.now.words.now) job.now.settings.now).is_complete PIECE (source_at (I.sources inputs.old) slot).left (source_at (I.sources inputs.new) slot).left }
     ensures others { KeepsOthers slot (I.sources inputs.old) (I.sources inputs.new) }
     ensures laid { I.laid inputs.new ≡ I.laid inputs.old }
 {
@@ -173,8 +172,8 @@ fn feed_files<I: Inputs, O: Outs>(
     requires outputs { O.slots outs.old ≡ streams }
     requires asked { CanSplit job.now.settings.now }
     ensures fed { OfContent I.told (source_at (I.sources inputs.old) slot).left
-        (λ content. FedAs O.told streams (split_work (plan_of (map (λ word. word.now) job.now.words.now) job.now.settings.now)) PIECE content (O.slots outs.new) result) }
-    ensures reads { I.told ≡ true → ReadsFor (is_short (plan_of (map (λ word. word.now) job.now.words.now) job.now.settings.now)) PIECE (source_at (I.sources inputs.old) slot).left (source_at (I.sources inputs.new) slot).left }
+        (λ content. FedAs O.told streams (split_for (map (λ word. word.now) job.now.words.now) job.now.settings.now) PIECE content (O.slots outs.new) result) }
+    ensures reads { I.told ≡ true → ReadsFor (split_for (map (λ word. word.now) job.now.words.now) job.now.settings.now).is_complete PIECE (source_at (I.sources inputs.old) slot).left (source_at (I.sources inputs.new) slot).left }
     ensures others { KeepsOthers slot (I.sources inputs.old) (I.sources inputs.new) }
     ensures laid { I.laid inputs.new ≡ I.laid inputs.old }
 {

@@ -1,6 +1,6 @@
 //! Whole runs of `split` over memory, which no clause can show to succeed: files with their names, messages and status.
 //! What is wanted of runs without a fault is what GNU's split makes of the same words and bytes.
-ghost use Rattle.std.specs.Prelude.{◌≡◌};
+ghost use Rattle.std.specs.Prelude.{◌≡◌, IfOk};
 ghost use Rattle.ports_core.specs.Slot.{streams};
 ghost use Rattle.ports_core.specs.Source.{IsFresh};
 
@@ -59,6 +59,17 @@ fn check(
     let mut inputs = inputs_of(alloc, files, input)?;
     inputs.pieces(1);
     check_over(rt, alloc, words, inputs, MemOut::new(alloc)?, left)
+}
+
+/// Standard input of these bytes and the file `f`; the input of this number breaks off.
+fn broken_at(alloc: Global, bytes: &[u8], slot: usize, at: usize) -> Result<MemIn, Fault>
+    ensures { IfOk result (λ inputs. IsFresh inputs.sources) }
+{
+    let mut inputs = inputs_of(alloc, &[("f", b"1\n2\n3")], bytes)?;
+    match inputs.break_at(slot, at) {
+        Ok(()) => Ok(inputs),
+        Err(fault) => Err(fault),
+    }
 }
 
 #[test]
@@ -181,8 +192,7 @@ fn tells_of_its_input(rt: HostRuntime) -> Result<(), Fail> {
         messages: b"split: cannot read 'standard input'\n",
         status: 1,
     };
-    let mut inputs = inputs_of(alloc, &[], b"a\nb\nc\n")?;
-    inputs.break_at(0, 3)?;
+    let inputs = broken_at(alloc, b"a\nb\nc\n", 0, 3)?;
     check_over(
         &rt,
         alloc,
@@ -196,8 +206,7 @@ fn tells_of_its_input(rt: HostRuntime) -> Result<(), Fail> {
         messages: b"split: cannot read 'f'\n",
         status: 1,
     };
-    let mut inputs = inputs_of(alloc, &[("f", b"1\n2\n3")], b"")?;
-    inputs.break_at(1, 2)?;
+    let inputs = broken_at(alloc, b"", 1, 2)?;
     check_over(
         &rt,
         alloc,
@@ -230,16 +239,14 @@ fn tells_a_break_where_the_names_sufficed(rt: HostRuntime) -> Result<(), Fail> {
         messages: b"split: cannot read 'standard input'\n",
         status: 1,
     };
-    let mut inputs = inputs_of(alloc, &[], b"abcdefghijklm")?;
-    inputs.break_at(0, 10)?;
+    let inputs = broken_at(alloc, b"abcdefghijklm", 0, 10)?;
     check_over(&rt, alloc, words, inputs, MemOut::new(alloc)?, &broken)?;
     let short = Left {
         files,
         messages: b"split: output file suffixes exhausted\n",
         status: 1,
     };
-    let mut inputs = inputs_of(alloc, &[], b"abcdefghijklm")?;
-    inputs.break_at(0, 11)?;
+    let inputs = broken_at(alloc, b"abcdefghijklm", 0, 11)?;
     check_over(&rt, alloc, words, inputs, MemOut::new(alloc)?, &short)?;
     Ok(())
 }
@@ -289,8 +296,7 @@ fn broken_standard_error_keeps_the_files(rt: HostRuntime) -> Result<(), Fail> {
     };
     let mut outs = MemOut::new(alloc)?;
     outs.limit(1, 7)?;
-    let mut inputs = inputs_of(alloc, &[], b"ab")?;
-    inputs.break_at(0, 1)?;
+    let inputs = broken_at(alloc, b"ab", 0, 1)?;
     check_over(&rt, alloc, &["split"], inputs, outs, &left)?;
     Ok(())
 }
