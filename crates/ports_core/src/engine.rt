@@ -1,5 +1,5 @@
-ghost use Rattle.std.specs.Prelude.{◌≡◌, ◌+◌, ◌++◌, ◌^◌, ◌<◌, ℕ, List, Bool, true, false, length, IfErr, OnOk, OnErr, IsErrOf};
-ghost use Rattle.ports_core.specs.Slot.{Slot};
+ghost use Rattle.std.specs.Prelude.{◌≡◌, ◌+◌, ◌++◌, ◌^◌, ◌<◌, ℕ, List, Bool, true, false, length, IfErr, OnOk, OnErr, IsErrOf, IsTrue};
+ghost use Rattle.ports_core.specs.Slot.{Slot, is_writable};
 ghost use Rattle.ports_core.specs.Part.{Part, Begins};
 ghost use Rattle.ports_core.specs.Engine.{TakesIn, PutsOut, CutsOff, Finishes, EndsShort, IsCaused, IsComplete, Means, RunsOut, SameWork, at_end};
 
@@ -53,7 +53,7 @@ pub trait Engine {
         ensures failed { is_over self.old ≡ true → IsErrOf result Fault.Failed × (self.new ≡ self.old) × (O.slots outs.new ≡ O.slots outs.old) }
         ensures over { OnErr result (is_over self.new ≡ true) };
 
-    /// Ends the input, and puts out what waited.
+    /// Ends the input, and puts out what waited. An engine that writes to standard output alone leaves it to be written on.
     ///
     /// # Errors
     ///
@@ -61,6 +61,7 @@ pub trait Engine {
     fn close<O: Outs>(&mut self, outs: &mut O) -> Result<(), Fault>
         requires { is_over self.old ≡ false → Ready self.old (O.slots outs.old) }
         ensures outputs { OnOk result (Finishes Holds settled whole self.old O.told (O.slots outs.old) (O.slots outs.new)) }
+        ensures writable { OnOk result ((means self.old).files ≡ false → IsTrue (is_writable (O.slots outs.new) 0)) }
         ensures cut { IfErr result (EndsShort Holds settled whole self.old O.told (O.slots outs.old) (O.slots outs.new)) }
         ensures refused { IfErr result (IsCaused (at_end (means self.old)) ⊥ (is_over self.old) (fed self.old) 0 (O.slots outs.old) (O.slots outs.new)) }
         ensures failed { is_over self.old ≡ true → IsErrOf result Fault.Failed × (self.new ≡ self.old) × (O.slots outs.new ≡ O.slots outs.old) }
