@@ -165,24 +165,17 @@ extended old mid filled fresh new near far piece all fill_is of same split =
     ∙ append_assoc (joined old) near far
     ∙ ap (λ x. joined old ++ x) (sym split)
 
--- of two parts
-pub both_counted : (piece near far : List ℕ) (m n : ℕ) → piece ≡ near ++ far → m ≡ newlines near → n ≡ newlines far → m + n ≡ newlines piece
-both_counted piece near far m n split front back =
-    let all = ap newlines split ∙ newlines-append near far in
-    omega arith
+-- the newlines of a text in two parts
+pub split_counted : (text near far : List ℕ) (count : ℕ) → count ≡ newlines text → text ≡ near ++ far → count ≡ newlines near + newlines far
+split_counted text near far count is split = is ∙ ap newlines split ∙ newlines-append near far
 
--- of the first part, which a block holds, and what follows it
-pub near_counted : (left near far block : List ℕ) (n : ℕ) → left ≡ near ++ far → block ≡ near → n ≡ newlines block → n + newlines far ≡ newlines left
-near_counted left near far block n split same of = both_counted left near far n (newlines far) split (of ∙ ap newlines same) refl
+-- and so the back of it
+pub back_counted : (text near far : List ℕ) (count m : ℕ) → count ≡ newlines text → text ≡ near ++ far → m ≡ newlines near → (m ≤ count) × (count - m ≡ newlines far)
+back_counted text near far count m is split of =
+    let all = split_counted text near far count is split in
+    (omega arith, omega arith)
 
 -- all of a text is in blocks
-pub none_left : (held left text : List ℕ) (count : ℕ) → length left ≡ 0 → held ++ left ≡ text → count + newlines left ≡ newlines text → (held ≡ text) × (count ≡ newlines text)
-none_left held [] text count none whole counted = (sym (append-nil held) ∙ whole, omega arith)
-none_left held (byte ∷ left) text count none whole counted = absurd (omega arith)
-
--- the newlines of the first n bytes, by those of the others
-pub others_counted : (x y others : List ℕ) (n count k : ℕ) → y ≡ x → others ≡ drop n y → count ≡ newlines x → k ≡ newlines others → (k ≤ count) × (count - k ≡ newlines (take n x))
-others_counted x y others n count k same behind is of =
-    let cut = newlines-take-drop n x in
-    let rest = ap newlines (behind ∙ ap (drop n) same) in
-    (omega arith, omega arith)
+pub none_left : (held left text : List ℕ) → length left ≡ 0 → held ++ left ≡ text → held ≡ text
+none_left held [] text none whole = sym (append-nil held) ∙ whole
+none_left held (byte ∷ left) text none whole = absurd (omega arith)

@@ -1,8 +1,8 @@
 -- How many lines a text has.
-use Rattle.std.proofs.Common.{◌≡◌, ◌≢◌, ℕ, zero, suc, ◌+◌, ◌<◌, ◌≤◌, Bool, true, false, cond, eqb, List, [], ◌∷◌, ◌++◌, length, take, drop, get_or, refl, sym, ap, ◌∙◌, arith}
+use Rattle.std.proofs.Common.{◌≡◌, ◌≢◌, ℕ, zero, suc, ◌+◌, ◌-◌, ◌<◌, ◌≤◌, Bool, true, false, cond, eqb, List, [], ◌∷◌, ◌++◌, length, take, drop, get_or, refl, sym, ap, ◌∙◌, arith}
 use Rattle.std.specs.List.{onto_first}
 use Rattle.std.proofs.lemmas.Bool.{eq-eqb, ne_eqb, false≢true}
-use Rattle.std.proofs.lemmas.List.{take_all, length-append}
+use Rattle.std.proofs.lemmas.List.{take_all, length-append, length-take-le}
 use Rattle.seg_core.specs.Line.{lines_of, newlines, ends_with_newline, line_count}
 use Rattle.seg_core.proofs.Newlines.{newlines-append, newlines-one_yes, newlines_more}
 
@@ -99,6 +99,15 @@ ends_with_newline-last (byte ∷ []) zero last = refl
 ends_with_newline-last (byte ∷ []) (suc n) last = absurd (omega arith)
 ends_with_newline-last (byte ∷ next ∷ x) zero last = absurd (omega arith)
 ends_with_newline-last (byte ∷ next ∷ x) (suc n) last = ends_with_newline-last (next ∷ x) n (omega arith)
+
+-- without its last newline a text has one less
+pub closed_newlines : (x : List ℕ) (n : ℕ) → n + 1 ≡ length x → get_or x n 0 ≡ 10 → newlines x ≡ newlines (take n x) + (length x - length (take n x))
+closed_newlines x n last is =
+    let one = newlines-one_yes (get_or x n 0) (eq-eqb (get_or x n 0) 10 is) in
+    let more = newlines_more x n (omega arith) in
+    let whole : newlines (take (n + 1) x) ≡ newlines x = ap newlines (take_all (n + 1) x (omega arith)) in
+    let short = length-take-le n x (omega arith) in
+    omega arith
 
 -- the lines of a text that goes on, by what stands before its last newline
 pub closed_text : (before x : List ℕ) (n : ℕ) → n + 1 ≡ length x → get_or x n 0 ≡ 10 → line_count (before ++ x) ≡ newlines before + newlines (take n x) + 1

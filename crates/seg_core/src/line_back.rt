@@ -1,5 +1,5 @@
 //! The lines of a text, looked at from its end.
-ghost use Rattle.std.specs.Prelude.{◌≡◌, ℕ, ◌+◌, ◌<◌, ◌≤◌, List, ◌++◌, length, take, drop, IfSome, IfNone};
+ghost use Rattle.std.specs.Prelude.{◌≡◌, ℕ, ◌+◌, ◌-◌, ◌<◌, ◌≤◌, List, ◌++◌, length, take, drop, IfSome, IfNone};
 ghost use Rattle.seg_core.specs.Line.{LastEndsAt, ReachesBack, line_count, newlines};
 
 use crate::line::{RUN, STEP, count_newlines};
@@ -12,6 +12,8 @@ pub fn last_newline_off(text: &[u8]) -> &[u8]
     requires { 0 < length text.now }
     ensures front { result.now ≡ take (length result.now) text.now }
     ensures count { (before : List ℕ) → line_count (before ++ text.now) ≡ newlines before + newlines result.now + 1 }
+    ensures newlines { newlines text.now ≡ newlines result.now + (length text.now - length result.now) }
+    ensures shorter { length result.now ≤ length text.now }
 {
     let last = text.len() - 1;
     if text[last] == b'\n' {

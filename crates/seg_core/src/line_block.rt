@@ -28,8 +28,9 @@ impl Model for Block {
 }
 
 impl Block {
-    /// A block that holds these bytes, which is to have room for as many as a block.
-    pub(crate) fn holding(alloc: Global, bytes: &[u8]) -> Result<Block, AllocError>
+    /// A block that holds these bytes, of which so many are newlines. It has room for as many as a block.
+    pub(crate) fn holding(alloc: Global, bytes: &[u8], count: usize) -> Result<Block, AllocError>
+        requires { count ≡ newlines bytes.now }
         ensures { IfOk result (λ block. block ≡ bytes.now) }
     {
         let mut room: Vec<u8> = Vec::with_capacity(alloc, BLOCK)?;
@@ -37,7 +38,7 @@ impl Block {
         Ok(Block {
             bytes: room,
             start: 0,
-            count: count_newlines(bytes),
+            count,
         })
     }
 
@@ -67,16 +68,15 @@ impl Block {
         BLOCK.saturating_sub(self.bytes.len())
     }
 
-    /// Puts bytes behind the others, or leaves them as they were. It answers how many newlines came.
-    pub(crate) fn append(&mut self, part: &[u8]) -> Result<usize, AllocError>
+    /// Puts bytes behind the others, of which so many are newlines, or leaves them as they were.
+    pub(crate) fn append(&mut self, part: &[u8], count: usize) -> Result<(), AllocError>
+        requires { count ≡ newlines part.now }
         ensures ok { OnOk result (self.new ≡ self.old ++ part.now) }
         ensures err { OnErr result (self.new ≡ self.old) }
-        ensures count { IfOk result (λ count. count ≡ newlines part.now) }
     {
         self.bytes.extend_from_slice(part)?;
-        let more = count_newlines(part);
-        self.count += more;
-        Ok(more)
+        self.count += count;
+        Ok(())
     }
 
     /// Drops this many bytes at the front, and says how many newlines they had.
@@ -85,22 +85,22 @@ impl Block {
         ensures left { self.new ≡ drop n self.old }
         ensures newlines { result ≡ newlines (take n self.old) }
     {
-        let gone = self.newlines_in_first(n);
+        let (first, others) = self.bytes().split_at(n);
+        let gone = count_first(first, others, self.count);
         self.count -= gone;
         self.start += n;
         gone
     }
+}
 
-    // How many newlines the first n bytes have: these are counted, or the others where they are fewer.
-    fn newlines_in_first(&self, n: usize) -> usize
-        requires { n ≤ length self.now }
-        ensures { result ≡ newlines (take n self.now) }
-    {
-        let (first, others) = self.bytes().split_at(n);
-        if first.len() <= others.len() {
-            count_newlines(first)
-        } else {
-            self.count - count_newlines(others)
-        }
+/// How many newlines the first part of a text has, of which both parts together have so many: the shorter part is counted.
+pub(crate) fn count_first(first: &[u8], others: &[u8], count: usize) -> usize
+    requires { count ≡ newlines first.now + newlines others.now }
+    ensures { result ≡ newlines first.now }
+{
+    if first.len() <= others.len() {
+        count_newlines(first)
+    } else {
+        count - count_newlines(others)
     }
 }

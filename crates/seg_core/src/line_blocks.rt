@@ -6,7 +6,7 @@ ghost use Rattle.seg_core.specs.Blocks.{Gone, first_of};
 
 use crate::line::reach;
 use crate::line_back::reach_back;
-use crate::line_block::{BLOCK, Block};
+use crate::line_block::{BLOCK, Block, count_first};
 use crate::line_reach::{Reach, ReachBack};
 use std::alloc::{AllocError, Global};
 use std::collections::VecDeque;
@@ -18,23 +18,25 @@ pub(crate) struct Left {
     pub(crate) newlines: u64,
 }
 
-/// Puts a piece behind the others, and says how many newlines it has. Room for all of it is found
-/// before anything is changed.
+/// Puts a piece behind the others, which has so many newlines. Room for all of it is found before
+/// anything is changed.
 pub(crate) fn extend(
     queue: &mut VecDeque<Block>,
     alloc: Global,
     piece: &[u8],
-) -> Result<usize, AllocError>
+    count: usize,
+) -> Result<(), AllocError>
+    requires { count ≡ newlines piece.now }
     ensures ok { OnOk result (joined queue.new.items ≡ joined queue.old.items ++ piece.now) }
     ensures err { OnErr result (queue.new.items ≡ queue.old.items) }
-    ensures count { IfOk result (λ count. count ≡ newlines piece.now) }
 {
     let (near, far) = piece.split_at(room_behind(queue).min(piece.len()));
-    let (mut fresh, far_count) = blocks_of(alloc, far)?;
+    let near_count = count_first(near, far, count);
+    let mut fresh = blocks_of(alloc, far, count - near_count)?;
     queue.reserve(fresh.len())?;
-    let near_count = fill(queue, near)?;
+    fill(queue, near, near_count)?;
     match queue.append(&mut fresh) {
-        Ok(()) => Ok(near_count + far_count),
+        Ok(()) => Ok(()),
         Err(_) => unreachable!(),
     }
 }
@@ -49,38 +51,40 @@ fn room_behind(queue: &VecDeque<Block>) -> usize
     }
 }
 
-// Fresh blocks of these bytes, and how many newlines they have.
-fn blocks_of(alloc: Global, bytes: &[u8]) -> Result<(VecDeque<Block>, usize), AllocError>
-    ensures { IfOk result (λ fresh. (joined fresh.0.items ≡ bytes.now) × (fresh.1 ≡ newlines bytes.now)) }
+// Fresh blocks of these bytes, of which so many are newlines.
+fn blocks_of(alloc: Global, bytes: &[u8], count: usize) -> Result<VecDeque<Block>, AllocError>
+    requires { count ≡ newlines bytes.now }
+    ensures { IfOk result (λ fresh. joined fresh.items ≡ bytes.now) }
 {
     let mut queue: VecDeque<Block> = VecDeque::new(alloc);
-    let mut count = 0;
+    let mut count = count;
     let mut left = bytes;
     while !left.is_empty() {
         let (near, far) = left.split_at(BLOCK.min(left.len()));
-        let block = Block::holding(alloc, near)?;
-        count += block.newlines();
+        let near_count = count_first(near, far, count);
+        let block = Block::holding(alloc, near, near_count)?;
         match queue.push_back(block) {
             Ok(()) => {}
             Err(_) => return Err(AllocError),
         }
+        count -= near_count;
         left = far;
     }
-    Ok((queue, count))
+    Ok(queue)
 }
 
-// Puts bytes behind those of the last block, and says how many newlines they have.
-fn fill(queue: &mut VecDeque<Block>, part: &[u8]) -> Result<usize, AllocError>
-    requires { deque_len queue.old ≡ 0 → part.now ≡ [] }
+// Puts bytes behind those of the last block, of which so many are newlines.
+fn fill(queue: &mut VecDeque<Block>, part: &[u8], count: usize) -> Result<(), AllocError>
+    requires none { deque_len queue.old ≡ 0 → part.now ≡ [] }
+    requires counted { count ≡ newlines part.now }
     ensures ok { OnOk result (joined queue.new.items ≡ joined queue.old.items ++ part.now) }
     ensures err { OnErr result (queue.new.items ≡ queue.old.items) }
     ensures len { deque_len queue.new ≡ deque_len queue.old }
     ensures capacity { deque_capacity queue.new ≡ deque_capacity queue.old }
-    ensures count { IfOk result (λ count. count ≡ newlines part.now) }
 {
     match queue.back_mut() {
-        Some(last) => last.append(part),
-        None => Ok(0),
+        Some(last) => last.append(part, count),
+        None => Ok(()),
     }
 }
 

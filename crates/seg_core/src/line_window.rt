@@ -1,9 +1,10 @@
 //! The last lines of what came in.
-ghost use Rattle.std.specs.Prelude.{◌≡◌, ℕ, ◌+◌, ◌-◌, ◌^◌, ◌<◌, ◌≤◌, ◌==◌, List, [], ◌++◌, length, take, drop, min, IsOk, IfOk, IfErr, OnOk};
+ghost use Rattle.std.specs.Prelude.{◌≡◌, ℕ, ◌+◌, ◌-◌, ◌^◌, ◌<◌, ◌≤◌, ◌==◌, List, [], ◌++◌, length, take, drop, min, IsOk, IfOk, IfErr, IfSome, OnOk, None};
 ghost use Rattle.seg_core.specs.Line.{but_last_lines, first_lines, line_count, newlines};
 ghost use Rattle.seg_core.specs.Window.{without_first};
 
 use crate::fault::Fault;
+use crate::line::count_newlines;
 use crate::line_back::{last_newline_off, reach_back};
 use crate::line_block::Block;
 use crate::line_blocks::{drop_front, extend, front_of, reach_in};
@@ -11,6 +12,15 @@ use crate::line_reach::ReachBack;
 use std::alloc::{AllocError, Global};
 use std::collections::VecDeque;
 use std::marker::Model;
+
+/// How much a piece makes leave a window over lines.
+#[derive(Clone, Copy, Debug, PartialEq, Eq)]
+pub struct Over {
+    /// How many bytes must leave at the front, of what the window holds and of the piece behind it.
+    pub bytes: u64,
+    /// How many newlines the piece has, if all of it stays and they were counted.
+    pub newlines: Option<usize>,
+}
 
 /// A window over lines: it keeps the last `most` of what came in. It takes as much memory as it
 /// holds bytes, in blocks of 64 KiB, of which the first and the last may be used in part only. No
@@ -76,18 +86,32 @@ impl LineWindow {
         requires fits { length self.now.held + length piece.now < 2 ^ 64 }
         ensures { result ≡ length (but_last_lines self.now.most (self.now.held ++ piece.now)) }
     {
+        self.count_over(piece).bytes
+    }
+
+    /// The same, and how many newlines the piece has if they were counted meanwhile, so that
+    /// `put_counted` needn't count them again.
+    pub fn count_over(&self, piece: &[u8]) -> Over
+        requires fits { length self.now.held + length piece.now < 2 ^ 64 }
+        ensures bytes { result.bytes ≡ length (but_last_lines self.now.most (self.now.held ++ piece.now)) }
+        ensures newlines { IfSome result.newlines (λ count. (count ≡ newlines piece.now) × (result.bytes ≤ length self.now.held)) }
+    {
         let len = self.len;
         if piece.is_empty() {
-            return 0;
+            return uncounted(0);
         }
         if self.most == 0 {
-            return len + piece.len() as u64;
+            return uncounted(len + piece.len() as u64);
         }
-        match reach_back(last_newline_off(piece), self.most) {
-            ReachBack::Begins(at) => len + at as u64,
+        let text = last_newline_off(piece);
+        match reach_back(text, self.most) {
+            ReachBack::Begins(at) => uncounted(len + at as u64),
             ReachBack::Short(count) => {
                 let lines = self.newlines + count as u64 + 1;
-                self.end_of_first(lines.saturating_sub(self.most))
+                Over {
+                    bytes: self.end_of_first(lines.saturating_sub(self.most)),
+                    newlines: Some(count + (piece.len() - text.len())),
+                }
             }
         }
     }
@@ -95,7 +119,8 @@ impl LineWindow {
     // Where the first `lines` lines end, which are complete.
     fn end_of_first(&self, lines: u64) -> u64
         requires { lines ≤ newlines self.now.held }
-        ensures { result ≡ length (first_lines lines self.now.held) }
+        ensures end { result ≡ length (first_lines lines self.now.held) }
+        ensures within { result ≤ length self.now.held }
     {
         if lines == 0 {
             return 0;
@@ -148,16 +173,42 @@ impl LineWindow {
         ensures err { IfErr result (λ fault. (fault ≡ Fault.Memory) × (self.new ≡ self.old)) }
         ensures empty { length piece.now ≡ 0 → IsOk result }
     {
+        self.put_counted(piece, count_newlines(piece))
+    }
+
+    /// The same, of a piece that has `count` newlines.
+    ///
+    /// # Errors
+    ///
+    /// `Memory` where there is no room for it, and the window stays as it was.
+    pub fn put_counted(&mut self, piece: &[u8], count: usize) -> Result<(), Fault>
+        requires within { but_last_lines self.old.most (self.old.held ++ piece.now) ≡ [] }
+        requires fits { length self.old.held + length piece.now < 2 ^ 64 }
+        requires counted { count ≡ newlines piece.now }
+        ensures ok { OnOk result (self.new ≡ record { most = self.old.most; held = self.old.held ++ piece.now }) }
+        ensures err { IfErr result (λ fault. (fault ≡ Fault.Memory) × (self.new ≡ self.old)) }
+        ensures empty { length piece.now ≡ 0 → IsOk result }
+    {
         if piece.is_empty() {
             return Ok(());
         }
-        let count = match extend(&mut self.blocks, self.alloc, piece) {
-            Ok(count) => count,
+        match extend(&mut self.blocks, self.alloc, piece, count) {
+            Ok(()) => {}
             Err(AllocError) => return Err(Fault::Memory),
-        };
+        }
         self.len += piece.len() as u64;
         self.newlines += count as u64;
         Ok(())
+    }
+}
+
+fn uncounted(bytes: u64) -> Over
+    ensures bytes { result.bytes ≡ bytes }
+    ensures newlines { result.newlines ≡ None }
+{
+    Over {
+        bytes,
+        newlines: None,
     }
 }
 

@@ -81,6 +81,7 @@ fn keeps_lines(rt: HostRuntime) {
     assert!(rt; window.len() < 100);
     assert_eq!(rt; window.over(b"\n5\n"), 2);
     assert_eq!(rt; window.over(b"\n5\n6"), 4);
+    assert_eq!(rt; window.count_over(b"\n5\n").newlines, Some(2));
     assert_eq!(rt; window.front(), b"3\n4".as_slice());
     assert!(rt; 1 <= window.len());
     window.drop_front(1);

@@ -16,8 +16,8 @@ overflow_add-self c =
     let old_ok = old.ok in
     let ok = new.ok in
     let small = new.small in
-    let part = c.count_newlines-more.ensures in
+    let part = c.requires in
     omega arith
 
 pub invariant_of-self-2 : goal.invariant_of-self-2
-invariant_of-self-2 c = block_grows c.self.inside.bytes.items c.args.part.now c.extend_from_slice.new.self.items c.self.inside.start c.self.inside.count c.count_newlines-more.result c.self.invariant.0 c.self.invariant.1 c.count_newlines-more.ensures c.in_ok-extend_from_slice.ensures.items
+invariant_of-self-2 c = block_grows c.self.inside.bytes.items c.args.part.now c.extend_from_slice.new.self.items c.self.inside.start c.self.inside.count c.args.count c.self.invariant.0 c.self.invariant.1 c.requires c.in_ok-extend_from_slice.ensures.items

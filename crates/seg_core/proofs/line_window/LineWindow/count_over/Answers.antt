@@ -2,28 +2,29 @@ use Rattle.std.proofs.Common.{◌≡◌, ◌+◌, ◌-◌, ◌++◌, ◌∙◌, 
 use Rattle.std.proofs.lemmas.List.{length-append}
 use Rattle.seg_core.specs.Line.{joined, newlines, first_lines, but_last_lines, line_count}
 use Rattle.seg_core.specs.Window.{Window}
+use Rattle.seg_core.proofs.Newlines.{newlines-le-length}
 use Rattle.seg_core.proofs.LineCounts.{line_count-le-length}
 use Rattle.seg_core.proofs.LastLines.{but_last_lines-zero, over_begins, over_short}
-use Rattle.seg_core.proofs.line_window.LineWindow.over.Goals as goal
+use Rattle.seg_core.proofs.line_window.LineWindow.count_over.Goals as goal
 
-pub returns-then-self-eq0 : goal.returns-then-self-eq0
-returns-then-self-eq0 c =
+pub returns-then-self-eq0-clause-bytes : goal.returns-then-self-eq0-clause-bytes
+returns-then-self-eq0-clause-bytes c =
     let text = joined c.self.inside.blocks.items ++ c.args.piece.now in
-    subst (λ (w : Window). c.self.inside.len + length c.args.piece.now ≡ length (but_last_lines w.most (w.held ++ c.args.piece.now))) c.self.view_is
+    c.uncounted-then-self-eq0.ensures.bytes ∙ subst (λ (w : Window). c.self.inside.len + length c.args.piece.now ≡ length (but_last_lines w.most (w.held ++ c.args.piece.now))) c.self.view_is
     (ap (λ n. n + length c.args.piece.now) c.self.invariant.long ∙ sym (length-append (joined c.self.inside.blocks.items) c.args.piece.now)
     ∙ sym (ap (λ n. length (but_last_lines n text)) c.if-self-eq0.true ∙ ap length (but_last_lines-zero text)))
 
-pub returns-in-Begins : goal.returns-in-Begins
-returns-in-Begins c =
+pub returns-in-Begins-clause-bytes : goal.returns-in-Begins-clause-bytes
+returns-in-Begins-clause-bytes c =
     let held = joined c.self.inside.blocks.items in
-    subst (λ (w : Window). c.self.inside.len + c.in-Begins.at ≡ length (but_last_lines w.most (w.held ++ c.args.piece.now))) c.self.view_is
+    c.uncounted-in-Begins.ensures.bytes ∙ subst (λ (w : Window). c.self.inside.len + c.in-Begins.at ≡ length (but_last_lines w.most (w.held ++ c.args.piece.now))) c.self.view_is
     (ap (λ n. n + c.in-Begins.at) c.self.invariant.long
-    ∙ over_begins c.self.inside.most held c.args.piece.now c.last_newline_off.result.now c.in-Begins.at c.last_newline_off.ensures.front (c.last_newline_off.ensures.count held) c.in-Begins.ensures)
+    ∙ over_begins c.self.inside.most held c.args.piece.now c.last_newline_off-text.result.now c.in-Begins.at c.last_newline_off-text.ensures.front (c.last_newline_off-text.ensures.count held) c.in-Begins.ensures)
 
 pub overflow_add-lines-in-Short : goal.overflow_add-lines-in-Short
 overflow_add-lines-in-Short c =
     let held = joined c.self.inside.blocks.items in
-    let lines = c.last_newline_off.ensures.count held in
+    let lines = c.last_newline_off-text.ensures.count held in
     let few = line_count-le-length (held ++ c.args.piece.now) in
     let long = length-append held c.args.piece.now in
     let is = ap (λ (w : Window). length w.held) c.self.view_is in
@@ -35,7 +36,7 @@ overflow_add-lines-in-Short c =
 pub overflow_add-lines : goal.overflow_add-lines
 overflow_add-lines c =
     let held = joined c.self.inside.blocks.items in
-    let lines = c.last_newline_off.ensures.count held in
+    let lines = c.last_newline_off-text.ensures.count held in
     let few = line_count-le-length (held ++ c.args.piece.now) in
     let long = length-append held c.args.piece.now in
     let is = ap (λ (w : Window). length w.held) c.self.view_is in
@@ -44,17 +45,25 @@ overflow_add-lines c =
     let fits = c.requires.fits in
     omega arith
 
-pub returns-in-Short : goal.returns-in-Short
-returns-in-Short c =
+pub returns-in-Short-clause-bytes : goal.returns-in-Short-clause-bytes
+returns-in-Short-clause-bytes c =
     let held = joined c.self.inside.blocks.items in
     let most = c.self.inside.most in
     let lines = c.self.inside.newlines + c.in-Short.count + 1 in
     let counted = c.self.invariant.counted in
     let count = c.in-Short.ensures.counted in
     let fewer = c.in-Short.ensures.fewer in
-    let is : line_count (held ++ c.args.piece.now) ≡ lines = let all = c.last_newline_off.ensures.count held in omega arith in
+    let is : line_count (held ++ c.args.piece.now) ≡ lines = let all = c.last_newline_off-text.ensures.count held in omega arith in
     let enough : lines - most ≤ newlines held = omega arith in
     subst (λ (w : Window). c.end_of_first.result ≡ length (but_last_lines w.most (w.held ++ c.args.piece.now))) c.self.view_is
-    (subst (λ (w : Window). c.end_of_first.result ≡ length (first_lines c.saturating_sub.result w.held)) (sym c.self.view_is) c.end_of_first.ensures
+    (subst (λ (w : Window). c.end_of_first.result ≡ length (first_lines c.saturating_sub.result w.held)) (sym c.self.view_is) c.end_of_first.ensures.end
     ∙ ap (λ (k : ℕ). length (first_lines k held)) c.saturating_sub.ensures
     ∙ over_short most held c.args.piece.now lines is enough)
+
+pub overflow_add-result : goal.overflow_add-result
+overflow_add-result c =
+    let all = c.last_newline_off-text.ensures.newlines in
+    let few = newlines-le-length c.args.piece.now in
+    let count = c.in-Short.ensures.counted in
+    let fits = c.type_inv.piece in
+    omega arith
