@@ -44,7 +44,7 @@ abbrev pub IsBeginning : List ℕ → List ℕ → Type 0
 IsBeginning bytes whole = (rest : List ℕ) × (whole ≡ bytes ++ rest)
 
 -- Each file begins the one at its place, and there may be more of these. One that is open may be closed by then, and any other
--- is as it was; none broke.
+-- is as it was; it is broken just where that one is.
 abbrev pub FilesBegin : List File → List File → Type 0
 FilesBegin [] wholes = Unit {0}
 FilesBegin (file ∷ files) [] = ⊥

@@ -13,7 +13,7 @@ use std::alloc::{AllocError, Global};
 use std::collections::VecDeque;
 use std::marker::Model;
 
-/// How much a piece makes leave a window over lines.
+/// What must leave a window over lines so that a piece can come in.
 #[derive(Clone, Copy, Debug, PartialEq, Eq)]
 pub struct Over {
     /// How many bytes must leave at the front, of what the window holds and of the piece behind it.
@@ -202,6 +202,7 @@ impl LineWindow {
     }
 }
 
+// So many bytes must leave, and no newlines were counted.
 fn uncounted(bytes: u64) -> Over
     ensures bytes { result.bytes ≡ bytes }
     ensures newlines { result.newlines ≡ None }
