@@ -13,6 +13,10 @@ use Rattle.ports_core.specs.declared.fault.Fault.TheVariants as fault_is
 abbrev pub TakesIn : {E : Type 0} → (E → List ℕ → Type 0) → List ℕ → E → E → Type 0
 TakesIn Holds piece old new = (x : List ℕ) → Holds old x → Holds new (x ++ piece)
 
+-- an engine that opens no file
+abbrev pub OwnsNone : {E : Type 0} → E → ℕ → List Slot → Type 0
+OwnsNone engine first slots = Unit {0}
+
 -- The outputs are at some part of what the engine makes of x, from the state `before` on, and those opened since are its own.
 pub record StandsAt {E : Type 0} (Holds : E → List ℕ → Type 0) (Owns : E → ℕ → List Slot → Type 0) (engine : E) (told : Bool) (before : List Slot) (x : List ℕ) (part : Part) (now : List Slot) : Type 0 where
   pub holds : Holds engine x
