@@ -56,7 +56,7 @@ CutsOff Holds Owns work engine piece told old new fault = (before : List Slot) (
 abbrev pub IsMet : Means → Needs → Type 0 → (Fault → Type 0) → List Slot → List Slot → Fault → Type 0
 IsMet means needs Lacks Ends old new Memory = (needs.memory ≡ true) × Lacks
 IsMet means needs Lacks Ends old new (Write slot) = (slot ≡ 0 → means.output ≡ true) × (means.files ≡ false → slot ≡ 0) × Rose slot old new
-IsMet means needs Lacks Ends old new (Open slot) = (needs.files ≡ true) × Rose slot old new
+IsMet means needs Lacks Ends old new (Open slot) = (means.files ≡ true) × (needs.files ≡ true) × Rose slot old new
 IsMet means needs Lacks Ends old new Suffixes = Ends Suffixes
 IsMet means needs Lacks Ends old new (NoMatch operand repetition) = Ends (NoMatch operand repetition)
 IsMet means needs Lacks Ends old new (Range operand repetition) = Ends (Range operand repetition)
