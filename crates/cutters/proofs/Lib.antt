@@ -1,7 +1,6 @@
 pub mod EndsLemmas
 pub mod FeedingLemmas
 pub mod LimitLemmas
-pub mod MessageLemmas
 pub mod NamesLemmas
 pub mod RunLemmas
 pub mod SpellingLemmas

@@ -18,7 +18,7 @@ use Rattle.cutters.specs.Ends.{Made, has_headers, of_inputs}
 use Rattle.cutters.specs.declared.settings.Headers.{Headers}
 use Rattle.cutters.specs.EndsSteps.{TookAll, all, stopped_at, not_begun}
 use Rattle.cutters.specs.Input.{Input, World, inputs_at}
-use Rattle.cutters.specs.Message.{SaysAll, SaysOn}
+use Rattle.ports_core.specs.Message.{SaysAll, SaysOn, output_named}
 use Rattle.cutters.specs.declared.settings.Settings.{Settings}
 use Rattle.cutters.specs.EndsAsked.{EndsAsked}
 use Rattle.cutters.specs.Outcome.{outcome_of, outcome, outcome_at, tool_of, tool_outcome, names_of, names_at, names_read, speaker, or_cutters, word_of, work_of, work_at, work_asked}
@@ -26,9 +26,9 @@ use Rattle.cutters.specs.Words.{AreRefused, settings_of, tool_settings, ends_set
 use Rattle.cutters.specs.SplitAsked.{SplitAsked}
 use Rattle.cutters.specs.SplitWords.{split_settings_of, then_check}
 use Rattle.cutters.specs.declared.settings.Settings.TheVariants.{Head, Tail, Split}
-use Rattle.cutters.specs.RunEnds.{standard_output, standard_error, EndsAs, as_defined, stopped, no_room, RunEnds, RunsOver, output_named}
+use Rattle.cutters.specs.RunEnds.{standard_output, standard_error, EndsAs, as_defined, stopped, no_room, RunEnds, RunsOver}
 use Rattle.cutters.proofs.EndsLemmas.{streams_part}
-use Rattle.cutters.proofs.MessageLemmas.{says_more, all_said_state}
+use Rattle.ports_core.proofs.MessageLemmas.{says_more, all_said_state}
 use Rattle.cutters.proofs.NamesLemmas.{are_from}
 use Rattle.cutters.proofs.StopLemmas.{error_open, stop_error, stop_told, stops_still, message_some}
 

@@ -5,7 +5,6 @@ pub mod EndsSteps
 pub mod Feeding
 pub mod Input
 pub mod Item
-pub mod Message
 pub mod Options
 pub mod Outcome
 pub mod Reads

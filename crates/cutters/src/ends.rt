@@ -13,10 +13,9 @@ ghost use Rattle.cutters.specs.Outcome.{ends_outcome};
 ghost use Rattle.cutters.specs.RunEnds.{EndsAs, RunsOver};
 
 use crate::feeding::{Fed, feed_input, feed_nothing};
-use crate::messages::{say, tell};
 use crate::settings::{EndsSettings, Headers};
 use ends_core::{Head, Tail};
-use ports_core::{Engine, Fault, Inputs, Outs, Tool, header, write_whole};
+use ports_core::{Engine, Fault, Inputs, Outs, Tool, header, say, tell, write_whole};
 use seg_core::count::{Count, Sign};
 use std::alloc::{AllocError, Global};
 

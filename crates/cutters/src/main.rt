@@ -6,7 +6,6 @@ mod ends;
 mod ends_tests;
 mod feeding;
 mod item;
-mod messages;
 mod options;
 mod run;
 mod settings;
@@ -26,9 +25,8 @@ ghost use Rattle.std.specs.Prelude.{◌≡◌};
 ghost use Rattle.ports_core.specs.Slot.{streams};
 ghost use Rattle.ports_core.specs.Source.{IsFresh};
 
-use crate::messages::say;
 use crate::run::run;
-use ports_core::{DirIn, DirOut, Fault, Tool, UsageKind};
+use ports_core::{DirIn, DirOut, Fault, Tool, UsageKind, say};
 use std::alloc::{AllocError, Global};
 use std::io::ErrorKind;
 use std::process::ExitCode;

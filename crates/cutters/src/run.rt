@@ -11,12 +11,11 @@ ghost use Rattle.cutters.specs.RunEnds.{EndsAs, RunEnds, RunsOver};
 ghost use Rattle.cutters.specs.Words.{CanRun};
 
 use crate::ends::{PIECE, run_ends};
-use crate::messages::say;
 use crate::settings::Settings;
 use crate::split::run_split;
 use crate::words::{find_tool, read_words};
 use ends_core::{Head, Tail};
-use ports_core::{Fault, Inputs, Outs, Tool};
+use ports_core::{Fault, Inputs, Outs, Tool, say};
 use std::alloc::Global;
 
 /// Runs the tool that the words name, the first being the tool's name: reads the inputs that they name, puts out what the

@@ -12,9 +12,8 @@ ghost use Rattle.cutters.specs.SplitSteps.{SplitOne, SplitRun, is_suffixes};
 
 use crate::ends::{PIECE, STANDARD_INPUT, is_dash};
 use crate::feeding::{Fed, feed_input};
-use crate::messages::{say, tell};
 use crate::split_settings::SplitSettings;
-use ports_core::{Fault, Inputs, Names, Outs, Tool};
+use ports_core::{Fault, Inputs, Names, Outs, Tool, say, tell};
 use split_core::Splitter;
 use std::alloc::{AllocError, Global};
 

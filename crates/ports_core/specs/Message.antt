@@ -1,9 +1,10 @@
--- What the program says on standard error.
+-- What a tool says on standard error.
 use Rattle.std.specs.Prelude.{◌≡◌, ℕ, ◌<◌, Bool, true, false, List, [], ◌∷◌, length, take, ◌⊎◌}
-use Rattle.ports_core.specs.Slot.{Slot, adds, breaks, told_of}
+use Rattle.ports_core.specs.Slot.{Slot, slot_at, adds, breaks, told_of}
 use Rattle.ports_core.specs.Text.{message_of}
 use Rattle.ports_core.specs.declared.tool.Tool.{Tool}
-use Rattle.ports_core.specs.declared.fault.Fault.TheVariants.{Memory}
+use Rattle.ports_core.specs.declared.fault.Fault.{Fault}
+use Rattle.ports_core.specs.declared.fault.Fault.TheVariants.{Memory, Write, Open}
 
 -- an output got the text, or a beginning of it and broke; one that was broken is passed over
 pub data Prints (told : Bool) (text : List ℕ) (old new : Slot) : Type 0 where
@@ -31,3 +32,9 @@ SaysAll told tool (text ∷ texts) old new = (mid : Slot) × Says told tool text
 abbrev pub SaysOn : Bool → Tool → List ℕ → List Slot → List Slot → Type 0
 SaysOn told tool text old new = (output error : Slot) (since : List Slot) → old ≡ output ∷ error ∷ since
     → (after : Slot) × Says told tool text error after × (new ≡ output ∷ after ∷ since)
+
+-- the name of the output that a fault speaks of; there is none where no memory was left to keep it
+abbrev pub output_named : List Slot → Fault → List ℕ
+output_named slots (Write slot) = (slot_at slots slot).name
+output_named slots (Open slot) = (slot_at slots slot).name
+output_named slots fault = []

@@ -1,7 +1,7 @@
 use Rattle.std.proofs.Common.{ℕ, List, subst}
 use Rattle.ports_core.specs.Text.{message_of}
-use Rattle.cutters.specs.Message.{SaysOn}
-use Rattle.cutters.proofs.messages.tell.Goals as goal
+use Rattle.ports_core.specs.Message.{SaysOn}
+use Rattle.ports_core.proofs.messages.tell.Goals as goal
 
 pub returns : goal.returns
 returns g c =

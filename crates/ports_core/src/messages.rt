@@ -1,18 +1,18 @@
-//! What the program says on standard error.
+//! What a tool says on standard error.
 ghost use Rattle.std.specs.Prelude.{◌≡◌, ◌∷◌, ℕ, List, true, IfOk, IsTrue};
 ghost use Rattle.ports_core.specs.Slot.{Slot, is_open, is_writable, slot_at};
 ghost use Rattle.ports_core.specs.Text.{message_of};
-ghost use Rattle.cutters.specs.Message.{PrintsOn, SaysOn};
-ghost use Rattle.cutters.specs.RunEnds.{output_named};
+ghost use Rattle.ports_core.specs.Message.{PrintsOn, SaysOn, output_named};
 
-use ports_core::{Fault, Outs, Tool, memory_exhausted, message, write_whole};
+use crate::{Fault, Outs, Tool, memory_exhausted, message, write_whole};
 use std::alloc::Global;
 
 /// The output for messages.
 const STANDARD_ERROR: usize = 1;
 
 /// Says what went wrong. The name is that of the file or the word that the fault speaks of. Where there is no memory for
-/// the message, the line that says so stands in its place; where it can't be written, it is passed over.
+/// the message, the line that says so stands in its place; where it can't be written, it is passed over. Takes memory for
+/// the message, and gives it back.
 pub fn say<O: Outs>(alloc: Global, tool: Tool, fault: &Fault, name: &str, outs: &mut O)
     requires { is_open (slot_at (O.slots outs.old) 1).state ≡ true }
     ensures { SaysOn O.told tool (message_of tool fault.now name.now) (O.slots outs.old) (O.slots outs.new) }
@@ -20,7 +20,7 @@ pub fn say<O: Outs>(alloc: Global, tool: Tool, fault: &Fault, name: &str, outs: 
     print_message(tool, message(alloc, tool, fault, name), outs)
 }
 
-/// Says what stopped a run. Where the fault speaks of an output, the name is that output's.
+/// Says what went wrong as `say` does. Where the fault speaks of an output, the name is that output's; else there is none.
 pub fn tell<O: Outs>(alloc: Global, tool: Tool, fault: &Fault, outs: &mut O)
     requires { is_open (slot_at (O.slots outs.old) 1).state ≡ true }
     ensures { SaysOn O.told tool (message_of tool fault.now (output_named (O.slots outs.old) fault.now)) (O.slots outs.old) (O.slots outs.new) }

@@ -6,7 +6,7 @@ use Rattle.ports_core.specs.Text.{message_of}
 use Rattle.ports_core.specs.declared.tool.Tool.{Tool}
 use Rattle.ports_core.specs.declared.whole.WriteCut.{WriteCut}
 use Rattle.ports_core.specs.declared.fault.Fault.TheVariants.{Memory}
-use Rattle.cutters.specs.Message.{Prints, whole, cut, passed, PrintsOn, Says, SaysAll, SaysOn}
+use Rattle.ports_core.specs.Message.{Prints, whole, cut, passed, PrintsOn, Says, SaysAll, SaysOn}
 
 open_and_sound : (slots : List Slot) → is_open (slot_at slots 1).state ≡ true → (slot_at slots 1).is_broken ≡ false → is_writable slots 1 ≡ true
 open_and_sound slots opened sound = ap (λ (b : Bool). b && not (slot_at slots 1).is_broken) opened ∙ ap not sound
