@@ -30,9 +30,9 @@ use Rattle.words_core.specs.SplitAsked.{SplitAsked}
 use Rattle.ports_core.specs.declared.alphabet.Alphabet.{Alphabet}
 use Rattle.cutters.specs.Feeding.{Does, Work, is_enough, made_of, Stops, FedAs, whole, had_enough, broke_off, ran_out, stopped, OfContent, ReadsFor}
 use Rattle.cutters.specs.Input.{Input, World, is_dash, has_dash, inputs_at}
-use Rattle.cutters.specs.Message.{SaysAll, SaysOn}
+use Rattle.ports_core.specs.Message.{SaysAll, SaysOn, output_named}
 use Rattle.cutters.specs.EndsSteps.{OfName}
-use Rattle.cutters.specs.RunEnds.{standard_output, standard_error, EndsAs, as_defined, no_room, RunsOver, output_named}
+use Rattle.cutters.specs.RunEnds.{standard_output, standard_error, EndsAs, as_defined, no_room, RunsOver}
 use Rattle.cutters.specs.RunEnds as run
 use Rattle.cutters.specs.RunOutcome.{Outcome}
 use Rattle.cutters.specs.Splitting.{split_work, split_of_content, split_outcome, plan_of, word_or}

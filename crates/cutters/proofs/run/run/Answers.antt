@@ -6,7 +6,7 @@ use Rattle.ports_core.specs.Source.{source_at}
 use Rattle.words_core.specs.Words.{settings_of}
 use Rattle.ports_core.specs.Text.{message_of}
 use Rattle.ports_core.specs.declared.tool.Tool.{Tool}
-use Rattle.cutters.specs.Message.{SaysOn}
+use Rattle.ports_core.specs.Message.{SaysOn}
 use Rattle.cutters.specs.Outcome.{names_at, speaker}
 use Rattle.cutters.proofs.RunLemmas.{tool_runs, refused_or_memory, reads_by, unread, asked_or_none}
 use Rattle.cutters.proofs.run.run.Goals as goal
