@@ -2,6 +2,7 @@
 #![tactic(auto)]
 
 mod ends_words;
+mod laws;
 mod settings;
 mod spelled;
 mod spelling;
@@ -14,5 +15,8 @@ mod table;
 mod value;
 mod words;
 
+pub use laws::{
+    last_of_ends_decides, last_of_split_decides, one_way_at_most, operands_follow_the_end,
+};
 pub use settings::{EndsSettings, Headers, Settings, SplitSettings};
 pub use words::{find_tool, read_words};
