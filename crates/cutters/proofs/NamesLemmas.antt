@@ -22,7 +22,7 @@ use Rattle.cutters.specs.EndsSteps.{HasStreams, streams_at, after_input, TookInp
 use Rattle.cutters.proofs.MessageLemmas.{says_behind, all_said_state}
 use Rattle.cutters.proofs.FeedingLemmas.{reads_none}
 use Rattle.cutters.proofs.EndsLemmas.{stops_here, and_true, or_false, or_true}
-use Rattle.cutters.proofs.SpellingLemmas.{front_and_rest}
+use Rattle.words_core.proofs.SpellingLemmas.{front_and_rest}
 
 -- tests
 

@@ -15,17 +15,17 @@ use Rattle.ports_core.specs.declared.tool.Tool.{Tool}
 use Rattle.ports_core.specs.declared.tool.Tool.TheVariants as tool
 use Rattle.ports_core.proofs.PartLemmas.{nothing_out}
 use Rattle.cutters.specs.Ends.{Made, has_headers, of_inputs}
-use Rattle.cutters.specs.declared.settings.Headers.{Headers}
+use Rattle.words_core.specs.declared.settings.Headers.{Headers}
 use Rattle.cutters.specs.EndsSteps.{TookAll, all, stopped_at, not_begun}
 use Rattle.cutters.specs.Input.{Input, World, inputs_at}
 use Rattle.cutters.specs.Message.{SaysAll, SaysOn}
-use Rattle.cutters.specs.declared.settings.Settings.{Settings}
-use Rattle.cutters.specs.EndsAsked.{EndsAsked}
+use Rattle.words_core.specs.declared.settings.Settings.{Settings}
+use Rattle.words_core.specs.EndsAsked.{EndsAsked}
 use Rattle.cutters.specs.Outcome.{outcome_of, outcome, outcome_at, tool_of, tool_outcome, names_of, names_at, names_read, speaker, or_cutters, word_of, work_of, work_at, work_asked}
-use Rattle.cutters.specs.Words.{AreRefused, settings_of, tool_settings, ends_settings}
-use Rattle.cutters.specs.SplitAsked.{SplitAsked}
-use Rattle.cutters.specs.SplitWords.{split_settings_of, then_check}
-use Rattle.cutters.specs.declared.settings.Settings.TheVariants.{Head, Tail, Split}
+use Rattle.words_core.specs.Words.{AreRefused, settings_of, tool_settings, ends_settings}
+use Rattle.words_core.specs.SplitAsked.{SplitAsked}
+use Rattle.words_core.specs.SplitWords.{split_settings_of, then_check}
+use Rattle.words_core.specs.declared.settings.Settings.TheVariants.{Head, Tail, Split}
 use Rattle.cutters.specs.RunEnds.{standard_output, standard_error, EndsAs, as_defined, stopped, no_room, RunEnds, RunsOver, output_named}
 use Rattle.cutters.proofs.EndsLemmas.{streams_part}
 use Rattle.cutters.proofs.MessageLemmas.{says_more, all_said_state}

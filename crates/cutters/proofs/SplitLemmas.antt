@@ -26,7 +26,7 @@ use Rattle.split_core.specs.Splitter as splitter
 use Rattle.cutters.specs.declared.ends.TheConstants.{PIECE}
 use Rattle.cutters.specs.declared.feeding.Fed.{Fed}
 use Rattle.cutters.specs.declared.feeding.Fed.TheVariants.{Whole, Enough, Broken}
-use Rattle.cutters.specs.SplitAsked.{SplitAsked}
+use Rattle.words_core.specs.SplitAsked.{SplitAsked}
 use Rattle.ports_core.specs.declared.alphabet.Alphabet.{Alphabet}
 use Rattle.cutters.specs.Feeding.{Does, Work, is_enough, made_of, Stops, FedAs, whole, had_enough, broke_off, ran_out, stopped, OfContent, ReadsFor}
 use Rattle.cutters.specs.Input.{Input, World, is_dash, has_dash, inputs_at}

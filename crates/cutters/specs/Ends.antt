@@ -10,9 +10,9 @@ use Rattle.ports_core.specs.declared.fault.Fault.TheVariants.{Read, Open}
 use Rattle.seg_core.specs.declared.count.Sign.{Sign}
 use Rattle.seg_core.specs.declared.count.Sign.TheVariants.{Plain, Minus, Plus}
 use Rattle.ends_core.specs.Ends.{measure, head_of, tail_of}
-use Rattle.cutters.specs.declared.settings.Headers.{Headers}
-use Rattle.cutters.specs.declared.settings.Headers.TheVariants.{ForSeveral, Never, Always}
-use Rattle.cutters.specs.EndsAsked.{EndsAsked}
+use Rattle.words_core.specs.declared.settings.Headers.{Headers}
+use Rattle.words_core.specs.declared.settings.Headers.TheVariants.{ForSeveral, Never, Always}
+use Rattle.words_core.specs.EndsAsked.{EndsAsked}
 use Rattle.cutters.specs.Feeding.{Work, is_enough, made_of}
 use Rattle.cutters.specs.Input.{Input}
 

@@ -6,7 +6,7 @@ use Rattle.ends_core.specs.declared.unit.Unit.{Unit as Counted}
 use Rattle.ends_core.specs.declared.unit.Unit.TheVariants.{Lines, Bytes}
 use Rattle.ends_core.specs.Ends.{size, behind_of, head_of, tail_of}
 use Rattle.ends_core.specs.EndsLaws.{first_of-nil}
-use Rattle.cutters.specs.EndsAsked.{EndsAsked}
+use Rattle.words_core.specs.EndsAsked.{EndsAsked}
 use Rattle.cutters.specs.EndsSteps.{IsPlain}
 use Rattle.cutters.specs.Ends.{is_minus, is_plus, head_work, tail_work}
 

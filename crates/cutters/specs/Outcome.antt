@@ -7,15 +7,15 @@ use Rattle.ports_core.specs.declared.tool.Tool.{Tool}
 use Rattle.ports_core.specs.declared.tool.Tool.TheVariants as tool
 use Rattle.ports_core.specs.declared.fault.Fault.{Fault}
 use Rattle.ports_core.specs.declared.fault.Fault.TheVariants.{Memory, Write, Read, Open, Suffixes, NoMatch, Range, Usage, Failed, TooLong}
-use Rattle.cutters.specs.declared.settings.Settings.{Settings}
-use Rattle.cutters.specs.declared.settings.Settings.TheVariants.{Head, Tail, Split}
-use Rattle.cutters.specs.EndsAsked.{EndsAsked}
+use Rattle.words_core.specs.declared.settings.Settings.{Settings}
+use Rattle.words_core.specs.declared.settings.Settings.TheVariants.{Head, Tail, Split}
+use Rattle.words_core.specs.EndsAsked.{EndsAsked}
 use Rattle.cutters.specs.Ends.{Made, head_work, tail_work, has_headers, names_in, of_inputs}
 use Rattle.cutters.specs.Feeding.{Work}
 use Rattle.cutters.specs.RunOutcome.{Outcome}
 use Rattle.cutters.specs.Splitting.{input_name, split_for, split_outcome}
 use Rattle.cutters.specs.Input.{Input}
-use Rattle.cutters.specs.Words.{tool_named, settings_of}
+use Rattle.words_core.specs.Words.{tool_named, settings_of}
 
 abbrev pub outcome_of : Made → Outcome
 outcome_of made = record { part = only_out made.out; messages = made.messages; status = if made.failed then 1 else 0 }

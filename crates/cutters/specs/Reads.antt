@@ -2,11 +2,11 @@
 use Rattle.std.specs.Prelude.{◌≡◌, ℕ, List, Result, Ok, Err}
 use Rattle.ports_core.specs.Source.{Content}
 use Rattle.ports_core.specs.declared.fault.Fault.{Fault}
-use Rattle.cutters.specs.declared.settings.Settings.{Settings}
+use Rattle.words_core.specs.declared.settings.Settings.{Settings}
 use Rattle.cutters.specs.declared.ends.TheConstants.{PIECE}
 use Rattle.cutters.specs.Outcome.{work_of}
 use Rattle.cutters.specs.Feeding.{ReadsFor}
-use Rattle.cutters.specs.Words.{settings_of}
+use Rattle.words_core.specs.Words.{settings_of}
 
 abbrev pub ReadsAt : List (List ℕ) → Result Settings Fault → Content → Content → Type 0
 ReadsAt words (Ok settings) there left = ReadsFor (work_of words settings).is_complete PIECE there left

@@ -8,7 +8,7 @@ use Rattle.ports_core.specs.declared.fault.Fault.TheVariants.{Read, Open, Suffix
 use Rattle.ports_core.specs.declared.tool.Tool.TheVariants as tool
 use Rattle.split_core.specs.Split.{Plan, settled_by, whole_by, is_short}
 use Rattle.split_core.specs.Splitter.{means_for}
-use Rattle.cutters.specs.SplitAsked.{SplitAsked}
+use Rattle.words_core.specs.SplitAsked.{SplitAsked}
 use Rattle.cutters.specs.Feeding.{Work, made_of}
 use Rattle.cutters.specs.Input.{Input}
 use Rattle.cutters.specs.RunOutcome.{Outcome}

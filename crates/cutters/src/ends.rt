@@ -4,7 +4,7 @@ ghost use Rattle.std.specs.Prelude.{◌≡◌, ◌^◌, ◌<◌, ◌||◌, ℕ, 
 ghost use Rattle.ports_core.specs.Slot.{Slot, is_open, slot_at, is_writable, streams, told_of, with_written};
 ghost use Rattle.ports_core.specs.Source.{source_at, is_readable, IsFresh};
 ghost use Rattle.cutters.specs.Ends.{has_headers, head_work, is_minus, is_plus, tail_work, names_in, header_text, of_content, of_input, of_inputs};
-ghost use Rattle.cutters.specs.EndsAsked.{EndsAsked};
+ghost use Rattle.words_core.specs.EndsAsked.{EndsAsked};
 ghost use Rattle.cutters.specs.EndsSteps.{HasStreams, HeaderFails, IsPlain, KeepsOther, OfName, OfSource, OpensOne, ReadsSource, ReadsStandard, TookAll, TookInput, standard_source, streams_at, world_of};
 ghost use Rattle.cutters.specs.EndsPlain.{head_is_plain, tail_is_plain};
 ghost use Rattle.cutters.specs.Feeding.{Does, FedAs, ReadsFor, Work};
@@ -14,11 +14,11 @@ ghost use Rattle.cutters.specs.RunEnds.{EndsAs, RunsOver};
 
 use crate::feeding::{Fed, feed_input, feed_nothing};
 use crate::messages::{say, tell};
-use crate::settings::{EndsSettings, Headers};
 use ends_core::{Head, Tail};
 use ports_core::{Engine, Fault, Inputs, Outs, Tool, header, write_whole};
 use seg_core::count::{Count, Sign};
 use std::alloc::{AllocError, Global};
+use words_core::{EndsSettings, Headers};
 
 /// How many bytes are read at once, at the most.
 pub const PIECE: usize = 65_536;

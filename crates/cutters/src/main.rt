@@ -5,22 +5,13 @@ mod ends;
 #[cfg(test)]
 mod ends_tests;
 mod feeding;
-mod item;
 mod messages;
-mod options;
 mod run;
-mod settings;
-mod spelling;
 mod split;
 #[cfg(test)]
 mod split_run_tests;
-mod split_settings;
-#[cfg(test)]
-mod split_tests;
-mod split_words;
 #[cfg(test)]
 mod tests;
-mod words;
 
 ghost use Rattle.std.specs.Prelude.{◌≡◌};
 ghost use Rattle.ports_core.specs.Slot.{streams};

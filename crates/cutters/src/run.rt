@@ -8,16 +8,15 @@ ghost use Rattle.cutters.specs.Reads.{AreNone, Reads};
 ghost use Rattle.cutters.specs.Input.{has_dash};
 ghost use Rattle.cutters.specs.Outcome.{names_of, names_read, speaker, tool_of, tool_outcome, word_of, work_of};
 ghost use Rattle.cutters.specs.RunEnds.{EndsAs, RunEnds, RunsOver};
-ghost use Rattle.cutters.specs.Words.{CanRun};
+ghost use Rattle.words_core.specs.Words.{CanRun};
 
 use crate::ends::{PIECE, run_ends};
 use crate::messages::say;
-use crate::settings::Settings;
 use crate::split::run_split;
-use crate::words::{find_tool, read_words};
 use ends_core::{Head, Tail};
 use ports_core::{Fault, Inputs, Outs, Tool};
 use std::alloc::Global;
+use words_core::{Settings, find_tool, read_words};
 
 /// Runs the tool that the words name, the first being the tool's name: reads the inputs that they name, puts out what the
 /// tool makes of them, says what went wrong on standard error, and answers the status: 0, or 1 where any fault was met.

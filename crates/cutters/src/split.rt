@@ -7,16 +7,16 @@ ghost use Rattle.cutters.specs.Feeding.{FedAs, KeepsOthers, OfContent, ReadsFor}
 ghost use Rattle.cutters.specs.Input.{has_dash};
 ghost use Rattle.cutters.specs.RunEnds.{EndsAs, RunsOver};
 ghost use Rattle.cutters.specs.Splitting.{input_name, split_for, split_outcome, word_or};
-ghost use Rattle.cutters.specs.SplitWords.{CanSplit};
+ghost use Rattle.words_core.specs.SplitWords.{CanSplit};
 ghost use Rattle.cutters.specs.SplitSteps.{SplitOne, SplitRun, is_suffixes};
 
 use crate::ends::{PIECE, STANDARD_INPUT, is_dash};
 use crate::feeding::{Fed, feed_input};
 use crate::messages::{say, tell};
-use crate::split_settings::SplitSettings;
 use ports_core::{Fault, Inputs, Names, Outs, Tool};
 use split_core::Splitter;
 use std::alloc::{AllocError, Global};
+use words_core::SplitSettings;
 
 /// What the names of the files begin with.
 const PREFIX: &str = "x";

@@ -1,23 +1,25 @@
--- What an engine owes that puts out some bytes with a piece, whatever engine it is.
-use Rattle.std.proofs.Common.{◌≡◌, ℕ, ◌+◌, ◌<◌, ◌≤◌, List, [], ◌++◌, length, take, Bool, true, false, Ok, Err, Result, IfErr, IsTrue, refl, sym, ◌∙◌, ap, subst, arith, length-append}
+-- What a stage owes that writes some bytes with a piece, whatever stage it is.
+use Rattle.std.proofs.Common.{◌≡◌, ℕ, ◌+◌, ◌<◌, ◌≤◌, List, [], ◌++◌, length, take, Bool, true, false, Ok, Err, Result, None, IfErr, IsTrue, refl, sym, ◌∙◌, ap, subst, arith, length-append}
 use Rattle.std.proofs.lemmas.Bool.{false≢true}
 use Rattle.std.proofs.lemmas.List.{take-append-le}
 use Rattle.std.proofs.Math.Seq.{take-append-add}
 use Rattle.ports_core.specs.Slot.{Slot, slot_at, is_writable, with_written, with_broken, told_of}
 use Rattle.ports_core.specs.Write.{BrokeAfter}
 use Rattle.ports_core.specs.Part.{Part, OutputsAt, StoppedBetween}
-use Rattle.ports_core.specs.Engine.{PutsOut, CutsOff, IsCaused, on_output, Finishes, EndsShort}
+use Rattle.ports_core.specs.Work.{Work, Means, Needs}
+use Rattle.ports_core.specs.Engine.{PutsOut, CutsOff, IsMet, Finishes, EndsShort, is_verdict}
+use Rattle.ports_core.specs.Engine as engine
 use Rattle.ports_core.specs.declared.fault.Fault.{Fault}
 use Rattle.ports_core.specs.declared.fault.Fault.TheVariants as fault
 use Rattle.ports_core.proofs.WriteLemmas.{told_of-append, told_of-nil, with_written-append, writable-written}
 use Rattle.ports_core.proofs.SlotLemmas.{with_written-nil}
-use Rattle.ports_core.proofs.PartLemmas.{out_more, out_cut, begins_more, part_begins_itself, files_begin_themselves, broken_at, sound_at}
+use Rattle.ports_core.proofs.PartLemmas.{out_more, out_cut, begins_more, part_begins_itself, files_begin_themselves, still_in_order, broken_at, sound_at}
 use Rattle.ends_core.specs.Stops.{Stops, broke, no_room}
 
 pub nothing_written : (told : Bool) (slots : List Slot) → with_written 0 (told_of told []) slots ≡ slots
 nothing_written told slots = ap (λ bytes. with_written 0 bytes slots) (told_of-nil told) ∙ with_written-nil 0 slots
 
--- one write behind another
+-- one write after another
 pub written_both : (told : Bool) (old mid new : List Slot) (first then : List ℕ) → mid ≡ with_written 0 (told_of told first) old → new ≡ with_written 0 (told_of told then) mid → new ≡ with_written 0 (told_of told (first ++ then)) old
 written_both told old mid new first then one other =
     other ∙ ap (with_written 0 (told_of told then)) one ∙ with_written-append 0 (told_of told first) (told_of told then) old
@@ -39,66 +41,72 @@ broke_later told old mid new first then behind n one cut = record {
   taken first n then behind within = take-append-add first (then ++ behind) n ∙ ap (λ z. first ++ z) (take-append-le n then behind within)
 
 -- what stops among few bytes stops among all
-pub stops_later : (told keeps : Bool) (old mid new : List Slot) (first then behind : List ℕ) (fault : Fault) → mid ≡ with_written 0 (told_of told first) old → Stops told false then mid new fault → Stops told keeps (first ++ (then ++ behind)) old new fault
-stops_later told keeps old mid new first then behind _ one (broke n cut) = broke (length first + n) (broke_later told old mid new first then behind n one cut)
-stops_later told keeps old mid new first then behind _ one (no_room never wrote) = absurd (false≢true never)
+pub stops_later : (told lacks : Bool) (old mid new : List Slot) (first then behind : List ℕ) (fault : Fault) → mid ≡ with_written 0 (told_of told first) old → Stops told false then mid new fault → Stops told lacks (first ++ (then ++ behind)) old new fault
+stops_later told lacks old mid new first then behind _ one (broke n cut) = broke (length first + n) (broke_later told old mid new first then behind n one cut)
+stops_later told lacks old mid new first then behind _ one (no_room never wrote) = absurd (false≢true never)
 
 -- where the bytes are the next that are settled
-pub puts_out : {E : Type 0} (Holds : E → List ℕ → Type 0) (settled : E → List ℕ → Part) (told : Bool) (e : E) (piece bytes : List ℕ) (old new : List Slot)
-    → ((x : List ℕ) → Holds e x → record (settled e x) { out = (settled e x).out ++ bytes } ≡ settled e (x ++ piece))
-    → new ≡ with_written 0 (told_of told bytes) old → PutsOut Holds settled e piece told old new
-puts_out Holds settled told e piece bytes old new next wrote before x holds at =
-    subst (λ part. OutputsAt told before part new) (next x holds) (out_more told before _ old new bytes at wrote)
+pub puts_out : {E : Type 0} (Holds : E → List ℕ → Type 0) (Owns : E → ℕ → List Slot → Type 0) (work : E → Work) (told : Bool) (e : E) (piece bytes : List ℕ) (old new : List Slot)
+    → ((x : List ℕ) → Holds e x → record ((work e).settled x) { out = ((work e).settled x).out ++ bytes } ≡ (work e).settled (x ++ piece))
+    → new ≡ with_written 0 (told_of told bytes) old → PutsOut Holds Owns work e piece told old new
+puts_out Holds Owns work told e piece bytes old new next wrote before x at =
+    subst (λ part. OutputsAt told before part new) (next x at.holds) (out_more told before _ old new bytes at.outputs wrote)
 
-between : (told keeps : Bool) (before : List Slot) (part : Part) (bytes : List ℕ) (old new : List Slot) (fault : Fault) → OutputsAt told before part old → Stops told keeps bytes old new fault → StoppedBetween told before part (record part { out = part.out ++ bytes }) fault new
-between told keeps before part bytes old new _ at (broke n cut) = out_cut told before part old new bytes n at cut
-between told keeps before part bytes old new _ at (no_room keeping wrote) = record {
+between : (told lacks : Bool) (before : List Slot) (part : Part) (bytes : List ℕ) (old new : List Slot) (fault : Fault) → OutputsAt told before part old → Stops told lacks bytes old new fault → StoppedBetween told before part (record part { out = part.out ++ bytes }) fault new
+between told lacks before part bytes old new _ at (broke n broken) = out_cut told before part old new bytes n at broken
+between told lacks before part bytes old new _ at (no_room keeping wrote) = record {
   part = record part { out = part.out ++ bytes };
   above = record { out = begins_more part.out bytes; files = files_begin_themselves part.files };
   below = part_begins_itself _;
+  place = 0;
+  order = still_in_order part.files;
   reached = new;
   outputs = out_more told before part old new bytes at wrote;
   marks = refl;
+  from = tt;
 }
 
-pub cuts_off : {E : Type 0} (Holds : E → List ℕ → Type 0) (settled : E → List ℕ → Part) (told keeps : Bool) (e : E) (piece bytes : List ℕ) (old new : List Slot) (fault : Fault)
-    → ((x : List ℕ) → Holds e x → record (settled e x) { out = (settled e x).out ++ bytes } ≡ settled e (x ++ piece))
-    → Stops told keeps bytes old new fault → CutsOff Holds settled e piece told old new fault
-cuts_off Holds settled told keeps e piece bytes old new fault next stops before x holds at =
-    subst (λ part. StoppedBetween told before (settled e x) part fault new) (next x holds) (between told keeps before (settled e x) bytes old new fault at stops)
+unjudged : (told lacks : Bool) (bytes : List ℕ) (old new : List Slot) (fault : Fault) → Stops told lacks bytes old new fault → is_verdict fault ≡ false
+unjudged told lacks bytes old new _ (broke n broken) = refl
+unjudged told lacks bytes old new _ (no_room keeping wrote) = refl
 
-pub finishes : {E : Type 0} (Holds : E → List ℕ → Type 0) (settled whole : E → List ℕ → Part) (told : Bool) (e : E) (bytes : List ℕ) (old new : List Slot)
-    → ((x : List ℕ) → Holds e x → record (settled e x) { out = (settled e x).out ++ bytes } ≡ whole e x)
-    → new ≡ with_written 0 (told_of told bytes) old → Finishes Holds settled whole e told old new
-finishes Holds settled whole told e bytes old new next wrote before x holds at =
-    subst (λ part. OutputsAt told before part new) (next x holds) (out_more told before _ old new bytes at wrote)
+pub cuts_off : {E : Type 0} (Holds : E → List ℕ → Type 0) (Owns : E → ℕ → List Slot → Type 0) (work : E → Work) (told lacks : Bool) (e : E) (piece bytes : List ℕ) (old new : List Slot) (fault : Fault)
+    → ((x : List ℕ) → Holds e x → record ((work e).settled x) { out = ((work e).settled x).out ++ bytes } ≡ (work e).settled (x ++ piece))
+    → Stops told lacks bytes old new fault → CutsOff Holds Owns work e piece told old new fault
+cuts_off Holds Owns work told lacks e piece bytes old new fault next stops before x at =
+    engine.cut (unjudged told lacks bytes old new fault stops) (subst (λ part. StoppedBetween told before ((work e).settled x) part fault new) (next x at.holds) (between told lacks before ((work e).settled x) bytes old new fault at.outputs stops))
 
-pub ends_short : {E : Type 0} (Holds : E → List ℕ → Type 0) (settled whole : E → List ℕ → Part) (told keeps : Bool) (e : E) (bytes : List ℕ) (old new : List Slot) (fault : Fault)
-    → ((x : List ℕ) → Holds e x → record (settled e x) { out = (settled e x).out ++ bytes } ≡ whole e x)
-    → Stops told keeps bytes old new fault → EndsShort Holds settled whole e told old new fault
-ends_short Holds settled whole told keeps e bytes old new fault next stops before x holds at =
-    subst (λ part. StoppedBetween told before (settled e x) part fault new) (next x holds) (between told keeps before (settled e x) bytes old new fault at stops)
+pub finishes : {E : Type 0} (Holds : E → List ℕ → Type 0) (Owns : E → ℕ → List Slot → Type 0) (work : E → Work) (told : Bool) (e : E) (bytes : List ℕ) (old new : List Slot)
+    → ((x : List ℕ) → Holds e x → record ((work e).settled x) { out = ((work e).settled x).out ++ bytes } ≡ (work e).whole x)
+    → ((x : List ℕ) → (work e).verdict x ≡ None)
+    → new ≡ with_written 0 (told_of told bytes) old → Finishes Holds Owns work e told old new
+finishes Holds Owns work told e bytes old new next well wrote before x at =
+    (well x, subst (λ part. OutputsAt told before part new) (next x at.holds) (out_more told before _ old new bytes at.outputs wrote))
+
+pub ends_short : {E : Type 0} (Holds : E → List ℕ → Type 0) (Owns : E → ℕ → List Slot → Type 0) (work : E → Work) (told lacks : Bool) (e : E) (bytes : List ℕ) (old new : List Slot) (fault : Fault)
+    → ((x : List ℕ) → Holds e x → record ((work e).settled x) { out = ((work e).settled x).out ++ bytes } ≡ (work e).whole x)
+    → Stops told lacks bytes old new fault → EndsShort Holds Owns work e told old new fault
+ends_short Holds Owns work told lacks e bytes old new fault next stops before x at =
+    engine.cut (unjudged told lacks bytes old new fault stops) (subst (λ part. StoppedBetween told before ((work e).settled x) part fault new) (next x at.holds) (between told lacks before ((work e).settled x) bytes old new fault at.outputs stops))
 
 -- why it stopped
-pub caused : (NeedsName : Type 0) (told keeps : Bool) (fed size : ℕ) (bytes : List ℕ) (old new : List Slot) (fault : Fault) → IsTrue (is_writable old 0) → Stops told keeps bytes old new fault → IsCaused (on_output keeps) NeedsName false fed size old new fault
-caused NeedsName told keeps fed size bytes old new _ can (broke n cut) = (
-  refl,
+pub met : (means : Means) (needs : Needs) (Lacks : Type 0) (Ends : Fault → Type 0) (told lacks : Bool) (bytes : List ℕ) (old new : List Slot) (fault : Fault) → means.output ≡ true → (lacks ≡ true → (needs.memory ≡ true) × Lacks)
+    → IsTrue (is_writable old 0) → Stops told lacks bytes old new fault → IsMet means needs Lacks Ends old new fault
+met means needs Lacks Ends told lacks bytes old new _ writes room can (broke n broken) = (
+  λ here. writes,
   λ alone. refl,
   (
     sound_at 0 old can,
-    subst (λ those. those.is_broken ≡ true) (ap (λ those. slot_at those 0) (sym cut.slots)) (broken_at 0 _ (writable_still told old _ (take n bytes) can refl)),
+    subst (λ those. those.is_broken ≡ true) (ap (λ those. slot_at those 0) (sym broken.slots)) (broken_at 0 _ (writable_still told old _ (take n bytes) can refl)),
   ),
 )
-caused NeedsName told keeps fed size bytes old new _ can (no_room keeping wrote) = (keeping, refl)
+met means needs Lacks Ends told lacks bytes old new _ writes room can (no_room lacking wrote) = room lacking
 
 -- the bytes in which it broke, by another name
-pub broke_in : (told keeps : Bool) (some bytes : List ℕ) (old new : List Slot) (n : ℕ) → some ≡ bytes → BrokeAfter told old new 0 some n → Stops told keeps bytes old new (fault.Write 0)
-broke_in told keeps some bytes old new n same cut = broke n (subst (λ those. BrokeAfter told old new 0 those n) same cut)
+pub broke_in : (told lacks : Bool) (some bytes : List ℕ) (old new : List Slot) (n : ℕ) → some ≡ bytes → BrokeAfter told old new 0 some n → Stops told lacks bytes old new (fault.Write 0)
+broke_in told lacks some bytes old new n same cut = broke n (subst (λ those. BrokeAfter told old new 0 those n) same cut)
 
-pub caused_by : (NeedsName : Type 0) (told keeps is_over : Bool) (fed size : ℕ) (bytes : List ℕ) (old new : List Slot) (fault : Fault) → is_over ≡ false → IsTrue (is_writable old 0) → Stops told keeps bytes old new fault → IsCaused (on_output keeps) NeedsName is_over fed size old new fault
-caused_by NeedsName told keeps is_over fed size bytes old new fault going can stops = subst (λ over. IsCaused (on_output keeps) NeedsName over fed size old new fault) (sym going) (caused NeedsName told keeps fed size bytes old new fault can stops)
-
--- nothing was to go out, and there was no room for what waits
-pub no_room_here : (told keeps : Bool) (slots : List Slot) (result : Result (Unit {0}) Fault) → keeps ≡ true → IfErr result (λ f. f ≡ fault.Memory) → IfErr result (Stops told keeps [] slots slots)
-no_room_here told keeps slots (Ok u) keeping err = tt
-no_room_here told keeps slots (Err fault) keeping err = subst (λ f. Stops told keeps [] slots slots f) (sym err) (no_room keeping (sym (nothing_written told slots)))
+-- nothing was to be written, and there was no room for what waits
+pub no_room_here : (told lacks : Bool) (slots : List Slot) (result : Result (Unit {0}) Fault) → IfErr result (λ f. (f ≡ fault.Memory) × (lacks ≡ true)) → IfErr result (Stops told lacks [] slots slots)
+no_room_here told lacks slots (Ok u) err = tt
+no_room_here told lacks slots (Err fault) err = subst (λ f. Stops told lacks [] slots slots f) (sym err.0) (no_room err.1 (sym (nothing_written told slots)))

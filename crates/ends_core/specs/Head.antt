@@ -1,39 +1,37 @@
 -- The first part of an input, as an engine puts it out: POSIX.1-2017, XCU head; the option -c is GNU's.
 use Rattle.std.specs.Prelude.{◌≡◌, ℕ, ◌-◌, ◌++◌, ◌&&◌, not, nat_le, Bool, false, List, [], length, if◌then◌else◌}
 use Rattle.seg_core.specs.Line.{AreBytes}
-use Rattle.ports_core.specs.Part.{Part, only_out}
+use Rattle.ports_core.specs.Part.{only_out}
 use Rattle.ends_core.specs.declared.unit.Unit.{Unit as Counted}
-use Rattle.ports_core.specs.Engine.{Means, on_output}
+use Rattle.ports_core.specs.Work.{Work, on_output, always_well}
 use Rattle.ends_core.specs.Ends.{measure, last_of, head_of}
 use Rattle.ends_core.specs.HeadState.{HeadState}
 
--- what must be out once x came in: all of it that belongs to the head of what may still come
-abbrev pub settled : HeadState → List ℕ → Part
-settled head x = only_out (head_of head.unit head.but_last head.count x)
+-- What a head makes of its input: what belongs to the head of all that may still come is written at once, and nothing at the end.
+-- The first n are complete once they came in. It takes memory where all but the last are asked for, which then wait.
+abbrev pub head_work : Counted → Bool → ℕ → Work
+head_work unit but_last n = record {
+  settled = λ x. only_out (head_of unit but_last n x);
+  whole = λ x. only_out (head_of unit but_last n x);
+  is_complete = λ x. not but_last && nat_le n (measure unit x);
+  verdict = always_well;
+  clears = false;
+  means = on_output but_last;
+}
 
--- what must be out at the end
-abbrev pub whole : HeadState → List ℕ → Part
-whole head x = only_out (head_of head.unit head.but_last head.count x)
+-- the work of the head that goes so
+abbrev pub work : HeadState → Work
+work head = head_work head.unit head.but_last head.count
 
--- what came in and isn't out yet, since what follows decides it: the last lines or bytes, where all but them go out
-abbrev pub waiting : HeadState → List ℕ → List ℕ
-waiting head x = if head.but_last then last_of head.unit head.count x else []
-
--- nothing more is to come
-abbrev pub is_complete : HeadState → List ℕ → Bool
-is_complete head x = not head.but_last && nat_le head.count (measure head.unit x)
-
--- it takes memory where all but the last are asked for, which then wait
-abbrev pub means : HeadState → Means
-means head = on_output head.but_last
+-- what came in and isn't written yet, since what follows decides it: the last lines or bytes, where all but them are asked for
+abbrev pub head_waiting : Counted → Bool → ℕ → List ℕ → List ℕ
+head_waiting unit but_last n x = if but_last then last_of unit n x else []
 
 -- the head can have been fed x
 pub record Holds (head : HeadState) (x : List ℕ) : Type 0 where
-  pub live : head.is_over ≡ false
-  pub fed : head.fed ≡ length x
   pub left : head.but_last ≡ false → head.left ≡ head.count - measure head.unit x
-  pub waits : head.waiting ≡ waiting head x
+  pub waits : head.waiting ≡ head_waiting head.unit head.but_last head.count x
 
--- whatever comes behind x, the head of it is that of x
+-- whatever comes after x, the head of it is that of x
 abbrev pub IsDone : Counted → Bool → ℕ → List ℕ → Type 0
 IsDone unit but_last n x = (y : List ℕ) → AreBytes y → head_of unit but_last n (x ++ y) ≡ head_of unit but_last n x

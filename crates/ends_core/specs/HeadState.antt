@@ -4,7 +4,7 @@ use Rattle.ends_core.specs.declared.unit.Unit.{Unit as Counted}
 
 pub record HeadState : Type 0 where
   pub unit : Counted
-  -- all but the last go out, and not the first
+  -- all but the last are put out, and not the first
   pub but_last : Bool
   -- how many lines or bytes those are
   pub count : ℕ
@@ -12,7 +12,5 @@ pub record HeadState : Type 0 where
   pub left : ℕ
   -- the bytes that wait
   pub waiting : List ℕ
-  -- how many bytes came in
-  pub fed : ℕ
-  -- a fault came, or the end
-  pub is_over : Bool
+  -- there may be no memory for more of them
+  pub may_lack : Bool

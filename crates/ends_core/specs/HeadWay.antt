@@ -4,7 +4,7 @@ use Rattle.ends_core.specs.declared.unit.Unit.{Unit as Counted}
 use Rattle.ends_core.specs.declared.head.Way.{Way}
 use Rattle.ends_core.specs.declared.head.Way.TheVariants.{First, ButLast}
 use Rattle.ends_core.specs.Ends.{first_of, last_of, but_last_of}
-use Rattle.ends_core.specs.Kept.{held_of, most_of, unit_of as kept_unit}
+use Rattle.ends_core.specs.Kept.{held_of, most_of, may_lack_of, unit_of as kept_unit}
 use Rattle.ends_core.specs.HeadState.{HeadState}
 
 abbrev pub unit_of : Way → Counted
@@ -29,7 +29,12 @@ abbrev pub waiting_of : Way → List ℕ
 waiting_of (First count front) = []
 waiting_of (ButLast kept) = held_of kept
 
--- what goes out with a piece
+-- there may be no memory for what waits
+abbrev pub may_lack : Way → Bool
+may_lack (First count front) = false
+may_lack (ButLast kept) = may_lack_of kept
+
+-- what is written with a piece
 abbrev pub due : Way → List ℕ → List ℕ
 due (First count front) piece = first_of front.unit front.left piece
 due (ButLast kept) piece = but_last_of (kept_unit kept) (most_of kept) (held_of kept ++ piece)
@@ -50,13 +55,12 @@ pub record SameWay (old new : Way) : Type 0 where
   pub count : count_of new ≡ count_of old
 
 -- what contracts see of a head that goes this way
-abbrev pub state_of : Way → ℕ → Bool → HeadState
-state_of way fed is_over = record {
+abbrev pub state_of : Way → HeadState
+state_of way = record {
   unit = unit_of way;
   but_last = is_but_last way;
   count = count_of way;
   left = left_of way;
   waiting = waiting_of way;
-  fed = fed;
-  is_over = is_over;
+  may_lack = may_lack way;
 }

@@ -4,7 +4,7 @@ use Rattle.ends_core.specs.declared.unit.Unit.{Unit as Counted}
 
 pub record TailState : Type 0 where
   pub unit : Counted
-  -- all from the nth on go out, and not the last
+  -- all from the nth on are put out, and not the last
   pub from_nth : Bool
   -- which n that is, or how many the last are
   pub count : ℕ
@@ -12,7 +12,5 @@ pub record TailState : Type 0 where
   pub left : ℕ
   -- the bytes that wait
   pub waiting : List ℕ
-  -- how many bytes came in
-  pub fed : ℕ
-  -- a fault came, or the end
-  pub is_over : Bool
+  -- there may be no memory for more of them
+  pub may_lack : Bool

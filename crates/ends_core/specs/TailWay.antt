@@ -4,7 +4,7 @@ use Rattle.ends_core.specs.declared.unit.Unit.{Unit as Counted}
 use Rattle.ends_core.specs.declared.tail.Way.{Way}
 use Rattle.ends_core.specs.declared.tail.Way.TheVariants.{FromNth, Last}
 use Rattle.ends_core.specs.Ends.{behind_of, last_of}
-use Rattle.ends_core.specs.Kept.{held_of, most_of, unit_of as kept_unit}
+use Rattle.ends_core.specs.Kept.{held_of, most_of, may_lack_of, unit_of as kept_unit}
 use Rattle.ends_core.specs.TailState.{TailState}
 
 abbrev pub unit_of : Way → Counted
@@ -29,7 +29,12 @@ abbrev pub waiting_of : Way → List ℕ
 waiting_of (FromNth count front) = []
 waiting_of (Last kept) = held_of kept
 
--- what goes out with a piece
+-- there may be no memory for what waits
+abbrev pub may_lack : Way → Bool
+may_lack (FromNth count front) = false
+may_lack (Last kept) = may_lack_of kept
+
+-- what is written with a piece
 abbrev pub due : Way → List ℕ → List ℕ
 due (FromNth count front) piece = behind_of front.unit front.left piece
 due (Last kept) piece = []
@@ -45,13 +50,12 @@ pub record SameWay (old new : Way) : Type 0 where
   pub count : count_of new ≡ count_of old
 
 -- what contracts see of a tail that goes this way
-abbrev pub state_of : Way → ℕ → Bool → TailState
-state_of way fed is_over = record {
+abbrev pub state_of : Way → TailState
+state_of way = record {
   unit = unit_of way;
   from_nth = is_from_nth way;
   count = count_of way;
   left = left_of way;
   waiting = waiting_of way;
-  fed = fed;
-  is_over = is_over;
+  may_lack = may_lack way;
 }

@@ -1,16 +1,19 @@
 ghost use Rattle.std.specs.Prelude.{◌≡◌, ◌+◌, ◌-◌, ◌^◌, ◌<◌, ◌≤◌, ◌↔◌, ℕ, List, [], true, false, length, IsTrue, IfOk, IfErr, OnOk};
 ghost use Rattle.ports_core.specs.Slot.{is_writable, with_written, told_of};
-ghost use Rattle.ends_core.specs.Head.{Holds, IsDone, is_complete, means, settled, whole};
+ghost use Rattle.ports_core.specs.Work.{IsLawful};
+ghost use Rattle.ports_core.specs.Engine.{OwnsNone};
+ghost use Rattle.ports_core.specs.Guard.{GuardState, HoldsIn};
+ghost use Rattle.ends_core.specs.Head.{IsDone, Holds, head_work, work};
 ghost use Rattle.ends_core.specs.HeadState.{HeadState};
-ghost use Rattle.ends_core.specs.HeadWay.{SameWay, due, is_but_last, is_full, left_of, left_waiting, state_of, unit_of, waiting_of};
+ghost use Rattle.ends_core.specs.HeadWay.{SameWay, due, is_full, left_of, left_waiting, may_lack, state_of, unit_of, waiting_of};
 ghost use Rattle.ends_core.specs.Ends.{measure};
 ghost use Rattle.ends_core.specs.Stops.{Stops};
-ghost use Rattle.ends_core.specs.HeadLaws.{counts, ends, grows, live, stays};
+ghost use Rattle.ends_core.specs.HeadLaws.{lawful};
 
 use crate::Unit;
 use crate::front::{Front, pass_front};
 use crate::kept::Kept;
-use ports_core::{Engine, Fault, Outs, fed_with};
+use ports_core::{Engine, Fault, Guarded, Outs, Stage};
 use std::alloc::Global;
 use std::marker::Model;
 
@@ -19,9 +22,13 @@ use std::marker::Model;
 /// as the last lines or bytes of what came in.
 #[derive(Drop)]
 pub struct Head {
+    engine: Guarded<HeadStage>,
+}
+
+/// A head while it is live.
+#[derive(Drop)]
+struct HeadStage {
     way: Way,
-    fed: u64,
-    is_over: bool,
 }
 
 /// What of the input goes out.
@@ -34,11 +41,15 @@ enum Way {
 }
 
 impl Model for Head {
+    ghost Value = { GuardState HeadState };
+
+    ghost view = { λ h. h.engine };
+}
+
+impl Model for HeadStage {
     ghost Value = { HeadState };
 
-    ghost view = { λ h. state_of h.way h.fed h.is_over };
-
-    ghost invariant = { λ h. (h.fed < 2 ^ 63) × (length (waiting_of h.way) ≤ h.fed) };
+    ghost view = { λ s. state_of s.way };
 }
 
 impl Head {
@@ -49,100 +60,115 @@ impl Head {
     ///
     /// `Memory` where there is no room for what waits: only where all but the last are asked for.
     pub fn open(alloc: Global, unit: Unit, but_last: bool, count: u64) -> Result<Head, Fault>
-        ensures holds { IfOk result (λ head. Holds head []) }
-        ensures unit { IfOk result (λ head. head.unit ≡ unit) }
-        ensures but_last { IfOk result (λ head. head.but_last ≡ but_last) }
-        ensures count { IfOk result (λ head. head.count ≡ count) }
+        ensures holds { IfOk result (λ head. HoldsIn Holds head []) }
+        ensures unit { IfOk result (λ head. head.stage.unit ≡ unit) }
+        ensures but_last { IfOk result (λ head. head.stage.but_last ≡ but_last) }
+        ensures count { IfOk result (λ head. head.stage.count ≡ count) }
+        ensures does { IfOk result (λ head. work head.stage ≡ head_work unit but_last count) }
         ensures bound { IfOk result (λ head. head.fed < 2 ^ 63) }
         ensures err { IfErr result (λ fault. (fault ≡ Fault.Memory) × (but_last ≡ true)) }
     {
         if but_last {
             return match Kept::open(alloc, unit, count) {
                 Ok(kept) => Ok(Head {
-                    way: Way::ButLast(kept),
-                    fed: 0,
-                    is_over: false,
+                    engine: Guarded::new(HeadStage {
+                        way: Way::ButLast(kept),
+                    }),
                 }),
                 Err(fault) => Err(fault),
             };
         }
         Ok(Head {
-            way: Way::First(count, Front { unit, left: count }),
-            fed: 0,
-            is_over: false,
+            engine: Guarded::new(HeadStage {
+                way: Way::First(count, Front { unit, left: count }),
+            }),
         })
     }
 
-    /// How many bytes wait, and so aren't out.
+    /// How many bytes wait, and so aren't written.
     pub fn held(&self) -> u64
-        ensures { result ≡ length self.now.waiting }
+        ensures { result ≡ length self.now.stage.waiting }
     {
-        self.way.held()
+        self.engine.stage().way.held()
     }
 }
 
 impl Engine for Head {
-    ghost Holds = { Holds };
+    ghost Holds = { HoldsIn Holds };
 
-    ghost settled = { settled };
-
-    ghost whole = { whole };
-
-    ghost is_complete = { is_complete };
+    ghost work = { λ head. work head.stage };
 
     ghost fed = { λ head. head.fed };
 
     ghost is_over = { λ head. head.is_over };
 
-    ghost means = { means };
+    ghost may_lack = { λ head piece. head.stage.may_lack };
 
     ghost Ready = { λ head slots. IsTrue (is_writable slots 0) };
 
+    ghost Owns = { λ head. OwnsNone head.stage };
+
     fn feed<O: Outs>(&mut self, piece: &[u8], outs: &mut O) -> Result<(), Fault> {
-        if self.is_over {
-            return Err(Fault::Failed);
-        }
-        let Some(fed) = fed_with(self.fed, piece.len()) else {
-            self.is_over = true;
-            return Err(Fault::TooLong);
-        };
-        self.fed = fed;
-        match self.way.pass(piece, outs) {
-            Ok(()) => Ok(()),
-            Err(fault) => {
-                self.is_over = true;
-                Err(fault)
-            }
-        }
+        self.engine.feed(piece, outs)
     }
 
-    /// Nothing that waits goes out, so nothing is put out.
     fn close<O: Outs>(&mut self, outs: &mut O) -> Result<(), Fault> {
-        let _ = outs;
-        let was_over = self.is_over;
-        self.is_over = true;
-        if was_over {
-            return Err(Fault::Failed);
-        }
-        Ok(())
+        self.engine.close(outs)
+    }
+
+    fn abandon<O: Outs>(&mut self, outs: &mut O) {
+        self.engine.abandon(outs)
     }
 
     fn done(&self) -> bool
-        ensures complete { (x : List ℕ) → Holds self.now x → result ≡ is_complete self.now x }
+        ensures complete { (x : List ℕ) → HoldsIn Holds self.now x → result ≡ (work self.now.stage).is_complete x }
+        ensures exact { (x : List ℕ) → HoldsIn Holds self.now x → (IsTrue result ↔ IsDone self.now.stage.unit self.now.stage.but_last self.now.stage.count x) }
+    {
+        self.engine.done()
+    }
+
+    ghost live = { λ head x holds. holds.live };
+
+    ghost counts = { λ head x holds. holds.count };
+
+    ghost lawful = { λ head. lawful head.stage.unit head.stage.but_last head.stage.count };
+}
+
+impl Stage for HeadStage {
+    ghost Holds = { Holds };
+
+    ghost work = { work };
+
+    ghost held = { λ head. length head.waiting };
+
+    ghost may_lack = { λ head piece. head.may_lack };
+
+    ghost Ready = { λ head slots. IsTrue (is_writable slots 0) };
+
+    ghost Owns = { OwnsNone };
+
+    fn pass<O: Outs>(&mut self, piece: &[u8], outs: &mut O) -> Result<(), Fault> {
+        self.way.pass(piece, outs)
+    }
+
+    fn finish<O: Outs>(&mut self, outs: &mut O) -> Result<(), Fault> {
+        let _ = outs;
+        Ok(())
+    }
+
+    /// There are no files.
+    fn clear<O: Outs>(&mut self, outs: &mut O) {
+        let _ = outs;
+    }
+
+    fn is_done(&self) -> bool
+        ensures complete { (x : List ℕ) → Holds self.now x → result ≡ (work self.now).is_complete x }
         ensures exact { (x : List ℕ) → Holds self.now x → (IsTrue result ↔ IsDone self.now.unit self.now.but_last self.now.count x) }
     {
         self.way.is_full()
     }
 
-    ghost live = { live };
-
-    ghost counts = { counts };
-
-    ghost grows = { grows };
-
-    ghost ends = { ends };
-
-    ghost stays = { stays };
+    ghost lawful = { λ head. lawful head.unit head.but_last head.count };
 }
 
 impl Way {
@@ -159,7 +185,7 @@ impl Way {
         ensures left { OnOk result (left_of self.new ≡ left_of self.old - measure (unit_of self.old) piece.now) }
         ensures waits { OnOk result (waiting_of self.new ≡ left_waiting self.old piece.now) }
         ensures out { OnOk result (O.slots outs.new ≡ with_written 0 (told_of O.told (due self.old piece.now)) (O.slots outs.old)) }
-        ensures cut { IfErr result (Stops O.told (is_but_last self.old) (due self.old piece.now) (O.slots outs.old) (O.slots outs.new)) }
+        ensures cut { IfErr result (Stops O.told (may_lack self.old) (due self.old piece.now) (O.slots outs.old) (O.slots outs.new)) }
     {
         match self {
             Way::First(_, front) => pass_front(front, piece, outs),

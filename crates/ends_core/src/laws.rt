@@ -2,16 +2,14 @@
 ghost use Rattle.std.specs.Prelude.{◌≡◌, ◌<◌, ◌≤◌, ◌+◌, ◌-◌, ◌++◌, ℕ, List, length, true, false};
 ghost use Rattle.seg_core.specs.Line.{ends_with_newline, line_count, newlines};
 ghost use Rattle.ends_core.specs.Ends.{behind_of, but_last_of, first_of, last_of, measure, size, tail_of};
-ghost use Rattle.ends_core.specs.Head.{settled, waiting};
-ghost use Rattle.ends_core.specs.HeadState.{HeadState};
-ghost use Rattle.ends_core.specs.Tail.{waiting as waiting_in_tail};
-ghost use Rattle.ends_core.specs.TailState.{TailState};
+ghost use Rattle.ends_core.specs.Head.{head_waiting, head_work};
+ghost use Rattle.ends_core.specs.Tail.{tail_waiting};
 
 use crate::Unit;
 
 /// What a head has of a text and of what follows it: of the first lines or bytes their part of the text, and of the rest as
 /// much as is still to come; of all but the last those of the text, and then those of what waited and the rest. So what
-/// went out never changes.
+/// is written never changes.
 pub fn head_goes_on(unit: Unit)
     ensures first { (n : ℕ) (x y : List ℕ) → first_of unit n (x ++ y) ≡ first_of unit n x ++ first_of unit (n - measure unit x) y }
     ensures but_last { (n : ℕ) (x y : List ℕ) → but_last_of unit n (x ++ y) ≡ but_last_of unit n x ++ but_last_of unit n (last_of unit n x ++ y) }
@@ -19,23 +17,23 @@ pub fn head_goes_on(unit: Unit)
     let _ = unit;
 }
 
-/// The first of a text and what stands behind them are the text, and so are all but the last and the last. Where all but
-/// the last go out, what went out and what waits are together what came in.
+/// The first of a text and what stands after them are the text, and so are all but the last and the last. Where all but
+/// the last are asked for, what is written and what waits are together what came in.
 pub fn nothing_is_lost(unit: Unit)
     ensures first { (n : ℕ) (x : List ℕ) → first_of unit n x ++ behind_of unit n x ≡ x }
     ensures last { (n : ℕ) (x : List ℕ) → but_last_of unit n x ++ last_of unit n x ≡ x }
-    ensures waits { (head : HeadState) (x : List ℕ) → head.but_last ≡ true → (settled head x).out ++ waiting head x ≡ x }
+    ensures waits { (n : ℕ) (x : List ℕ) → ((head_work unit true n).settled x).out ++ head_waiting unit true n x ≡ x }
 {
     let _ = unit;
 }
 
 /// What a tail has of a text and of what follows it. From the nth on it is what it has of the text, and of the rest what
-/// stands behind those that are still to be passed over. The last are the last of what waited and the rest: so what waits,
+/// stands after those that are still to be passed over. The last are the last of what waited and the rest: so what waits,
 /// the last of what came in, is all that has to be kept, and it is no more than was asked for.
 pub fn tail_goes_on(unit: Unit)
     ensures from_nth { (n : ℕ) (x y : List ℕ) → tail_of unit true n (x ++ y) ≡ tail_of unit true n x ++ behind_of unit (n - 1 - measure unit x) y }
     ensures last { (n : ℕ) (x y : List ℕ) → last_of unit n (x ++ y) ≡ last_of unit n (last_of unit n x ++ y) }
-    ensures waits { (tail : TailState) (x : List ℕ) → tail.from_nth ≡ false → waiting_in_tail tail x ≡ last_of tail.unit tail.count x }
+    ensures waits { (n : ℕ) (x : List ℕ) → tail_waiting unit false n x ≡ last_of unit n x }
     ensures few { (n : ℕ) (x : List ℕ) → size unit (last_of unit n x) ≤ n }
 {
     let _ = unit;

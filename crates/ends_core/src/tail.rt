@@ -1,16 +1,19 @@
-ghost use Rattle.std.specs.Prelude.{◌≡◌, ◌+◌, ◌-◌, ◌^◌, ◌<◌, ◌≤◌, [], true, false, not, length, IsTrue, IfOk, IfErr, OnOk};
+ghost use Rattle.std.specs.Prelude.{◌≡◌, ◌+◌, ◌-◌, ◌^◌, ◌<◌, ◌≤◌, [], true, false, length, IsTrue, IfOk, IfErr, OnOk};
 ghost use Rattle.ports_core.specs.Slot.{is_writable, with_written, told_of};
-ghost use Rattle.ends_core.specs.Tail.{Holds, is_complete, means, settled, whole};
+ghost use Rattle.ports_core.specs.Work.{IsLawful};
+ghost use Rattle.ports_core.specs.Engine.{OwnsNone};
+ghost use Rattle.ports_core.specs.Guard.{GuardState, HoldsIn};
+ghost use Rattle.ends_core.specs.Tail.{Holds, tail_work, work};
 ghost use Rattle.ends_core.specs.TailState.{TailState};
-ghost use Rattle.ends_core.specs.TailWay.{SameWay, due, is_from_nth, left_of, left_waiting, state_of, unit_of, waiting_of};
+ghost use Rattle.ends_core.specs.TailWay.{SameWay, due, left_of, left_waiting, may_lack, state_of, unit_of, waiting_of};
 ghost use Rattle.ends_core.specs.Ends.{measure};
 ghost use Rattle.ends_core.specs.Stops.{Stops};
-ghost use Rattle.ends_core.specs.TailLaws.{counts, ends, grows, live, stays};
+ghost use Rattle.ends_core.specs.TailLaws.{lawful};
 
 use crate::Unit;
 use crate::front::{Front, pass_behind};
 use crate::kept::Kept;
-use ports_core::{Engine, Fault, Outs, fed_with};
+use ports_core::{Engine, Fault, Guarded, Outs, Stage};
 use std::alloc::Global;
 use std::marker::Model;
 
@@ -19,9 +22,13 @@ use std::marker::Model;
 /// came in.
 #[derive(Drop)]
 pub struct Tail {
+    engine: Guarded<TailStage>,
+}
+
+/// A tail while it is live.
+#[derive(Drop)]
+struct TailStage {
     way: Way,
-    fed: u64,
-    is_over: bool,
 }
 
 /// What of the input goes out.
@@ -34,11 +41,15 @@ enum Way {
 }
 
 impl Model for Tail {
+    ghost Value = { GuardState TailState };
+
+    ghost view = { λ t. t.engine };
+}
+
+impl Model for TailStage {
     ghost Value = { TailState };
 
-    ghost view = { λ t. state_of t.way t.fed t.is_over };
-
-    ghost invariant = { λ t. (t.fed < 2 ^ 63) × (length (waiting_of t.way) ≤ t.fed) };
+    ghost view = { λ s. state_of s.way };
 }
 
 impl Tail {
@@ -48,100 +59,114 @@ impl Tail {
     ///
     /// `Memory` where there is no room for what waits: only where the last are asked for.
     pub fn open(alloc: Global, unit: Unit, from_nth: bool, count: u64) -> Result<Tail, Fault>
-        ensures holds { IfOk result (λ tail. Holds tail []) }
-        ensures unit { IfOk result (λ tail. tail.unit ≡ unit) }
-        ensures from_nth { IfOk result (λ tail. tail.from_nth ≡ from_nth) }
-        ensures count { IfOk result (λ tail. tail.count ≡ count) }
+        ensures holds { IfOk result (λ tail. HoldsIn Holds tail []) }
+        ensures unit { IfOk result (λ tail. tail.stage.unit ≡ unit) }
+        ensures from_nth { IfOk result (λ tail. tail.stage.from_nth ≡ from_nth) }
+        ensures count { IfOk result (λ tail. tail.stage.count ≡ count) }
+        ensures does { IfOk result (λ tail. work tail.stage ≡ tail_work unit from_nth count) }
         ensures bound { IfOk result (λ tail. tail.fed < 2 ^ 63) }
         ensures err { IfErr result (λ fault. (fault ≡ Fault.Memory) × (from_nth ≡ false)) }
     {
         if from_nth {
             return Ok(Tail {
-                way: Way::FromNth(
-                    count,
-                    Front {
-                        unit,
-                        left: count.saturating_sub(1),
-                    },
-                ),
-                fed: 0,
-                is_over: false,
+                engine: Guarded::new(TailStage {
+                    way: Way::FromNth(
+                        count,
+                        Front {
+                            unit,
+                            left: count.saturating_sub(1),
+                        },
+                    ),
+                }),
             });
         }
         match Kept::open(alloc, unit, count) {
             Ok(kept) => Ok(Tail {
-                way: Way::Last(kept),
-                fed: 0,
-                is_over: false,
+                engine: Guarded::new(TailStage {
+                    way: Way::Last(kept),
+                }),
             }),
             Err(fault) => Err(fault),
         }
     }
 
-    /// How many bytes wait, and so aren't out.
+    /// How many bytes wait, and so aren't written.
     pub fn held(&self) -> u64
-        ensures { result ≡ length self.now.waiting }
+        ensures { result ≡ length self.now.stage.waiting }
     {
-        self.way.held()
+        self.engine.stage().way.held()
     }
 }
 
 impl Engine for Tail {
-    ghost Holds = { Holds };
+    ghost Holds = { HoldsIn Holds };
 
-    ghost settled = { settled };
-
-    ghost whole = { whole };
-
-    ghost is_complete = { is_complete };
+    ghost work = { λ tail. work tail.stage };
 
     ghost fed = { λ tail. tail.fed };
 
     ghost is_over = { λ tail. tail.is_over };
 
-    ghost means = { means };
+    ghost may_lack = { λ tail piece. tail.stage.may_lack };
 
     ghost Ready = { λ tail slots. IsTrue (is_writable slots 0) };
 
+    ghost Owns = { λ tail. OwnsNone tail.stage };
+
     fn feed<O: Outs>(&mut self, piece: &[u8], outs: &mut O) -> Result<(), Fault> {
-        if self.is_over {
-            return Err(Fault::Failed);
-        }
-        let Some(fed) = fed_with(self.fed, piece.len()) else {
-            self.is_over = true;
-            return Err(Fault::TooLong);
-        };
-        self.fed = fed;
-        match self.way.pass(piece, outs) {
-            Ok(()) => Ok(()),
-            Err(fault) => {
-                self.is_over = true;
-                Err(fault)
-            }
-        }
+        self.engine.feed(piece, outs)
     }
 
     fn close<O: Outs>(&mut self, outs: &mut O) -> Result<(), Fault> {
-        if self.is_over {
-            return Err(Fault::Failed);
-        }
-        self.is_over = true;
-        self.way.end(outs)
+        self.engine.close(outs)
+    }
+
+    fn abandon<O: Outs>(&mut self, outs: &mut O) {
+        self.engine.abandon(outs)
     }
 
     fn done(&self) -> bool {
+        self.engine.done()
+    }
+
+    ghost live = { λ tail x holds. holds.live };
+
+    ghost counts = { λ tail x holds. holds.count };
+
+    ghost lawful = { λ tail. lawful tail.stage.unit tail.stage.from_nth tail.stage.count };
+}
+
+impl Stage for TailStage {
+    ghost Holds = { Holds };
+
+    ghost work = { work };
+
+    ghost held = { λ tail. length tail.waiting };
+
+    ghost may_lack = { λ tail piece. tail.may_lack };
+
+    ghost Ready = { λ tail slots. IsTrue (is_writable slots 0) };
+
+    ghost Owns = { OwnsNone };
+
+    fn pass<O: Outs>(&mut self, piece: &[u8], outs: &mut O) -> Result<(), Fault> {
+        self.way.pass(piece, outs)
+    }
+
+    fn finish<O: Outs>(&mut self, outs: &mut O) -> Result<(), Fault> {
+        self.way.end(outs)
+    }
+
+    /// There are no files.
+    fn clear<O: Outs>(&mut self, outs: &mut O) {
+        let _ = outs;
+    }
+
+    fn is_done(&self) -> bool {
         false
     }
 
-    ghost live = { live };
-
-    ghost counts = { counts };
-
-    ghost grows = { grows };
-
-    ghost ends = { ends };
-
-    ghost stays = { stays };
+    ghost lawful = { λ tail. lawful tail.unit tail.from_nth tail.count };
 }
 
 impl Way {
@@ -159,7 +184,7 @@ impl Way {
         ensures left { OnOk result (left_of self.new ≡ left_of self.old - measure (unit_of self.old) piece.now) }
         ensures waits { OnOk result (waiting_of self.new ≡ left_waiting self.old piece.now) }
         ensures out { OnOk result (O.slots outs.new ≡ with_written 0 (told_of O.told (due self.old piece.now)) (O.slots outs.old)) }
-        ensures cut { IfErr result (Stops O.told (not (is_from_nth self.old)) (due self.old piece.now) (O.slots outs.old) (O.slots outs.new)) }
+        ensures cut { IfErr result (Stops O.told (may_lack self.old) (due self.old piece.now) (O.slots outs.old) (O.slots outs.new)) }
     {
         match self {
             Way::FromNth(_, front) => pass_behind(front, piece, outs),
@@ -174,6 +199,7 @@ impl Way {
     /// `Write(0)` where standard output broke.
     fn end<O: Outs>(&mut self, outs: &mut O) -> Result<(), Fault>
         requires writable { IsTrue (is_writable (O.slots outs.old) 0) }
+        ensures same { SameWay self.old self.new }
         ensures bound { length (waiting_of self.new) ≤ length (waiting_of self.old) }
         ensures out { OnOk result (O.slots outs.new ≡ with_written 0 (told_of O.told (waiting_of self.old)) (O.slots outs.old)) }
         ensures cut { IfErr result (Stops O.told false (waiting_of self.old) (O.slots outs.old) (O.slots outs.new)) }

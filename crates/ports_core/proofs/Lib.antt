@@ -1,4 +1,6 @@
 pub mod PartLemmas
+pub mod GuardLemmas
+pub mod SweepLemmas
 pub mod FileLemmas
 pub mod SlotLemmas
 pub mod SourceLemmas

@@ -1,10 +1,10 @@
 -- Lemmas on what outputs have got.
-use Rattle.std.proofs.Common.{◌≡◌, ℕ, ◌+◌, ◌<◌, zero, suc, List, [], ◌∷◌, ◌++◌, length, take, drop, Bool, true, false, not, ◌&&◌, IsTrue, ◌⊎◌, inl, inr, refl, sym, ◌∙◌, ap, subst, arith, append_assoc, length-append}
+use Rattle.std.proofs.Common.{◌≡◌, ℕ, ◌+◌, ◌<◌, ◌≤◌, zero, suc, List, [], ◌∷◌, ◌++◌, length, map, take, drop, Bool, true, false, not, ◌&&◌, IsTrue, ◌⊎◌, inl, inr, refl, sym, ◌∙◌, ap, subst, arith, append_assoc, length-append}
 use Rattle.std.proofs.lemmas.List.{append-nil, take-append-drop}
 use Rattle.std.proofs.lemmas.Bool.{false≢true}
 use Rattle.ports_core.specs.Slot.{Slot, is_open, slot_at, is_writable, with_written, with_broken, told_of}
 use Rattle.ports_core.specs.Write.{BrokeAfter}
-use Rattle.ports_core.specs.Part.{File, Part, nothing, only_out, OutputsAt, IsBeginning, FilesBegin, Begins, IsNext, Marks, StoppedBetween, file_of, told_file}
+use Rattle.ports_core.specs.Part.{File, Part, nothing, only_out, OutputsAt, IsBeginning, FilesBegin, Begins, IsNext, Marks, IsAt, InOrder, AllClosed, InTurn, StoppedBetween, StoppedInTurn, file_of, told_file}
 use Rattle.ports_core.specs.declared.slot.State.{State}
 use Rattle.ports_core.specs.declared.slot.State.TheVariants as state
 use Rattle.ports_core.specs.declared.fault.Fault.{Fault}
@@ -32,11 +32,11 @@ take_begins n bytes = (drop n bytes, sym (take-append-drop n bytes))
 pub take_begins_behind : (n : ℕ) (before bytes : List ℕ) → IsBeginning (before ++ take n bytes) (before ++ bytes)
 take_begins_behind n before bytes = (drop n bytes, ap (λ rest. before ++ rest) (sym (take-append-drop n bytes)) ∙ sym (append_assoc before (take n bytes) (drop n bytes)))
 
--- a file that is open may be closed by then
-pub state_trans : (low middle high : State) → (low ≡ state.Open) ⊎ (low ≡ middle) → (middle ≡ state.Open) ⊎ (middle ≡ high) → (low ≡ state.Open) ⊎ (low ≡ high)
-state_trans low middle high (inl is) second = inl is
-state_trans low middle high (inr same) (inl is) = inl (same ∙ is)
-state_trans low middle high (inr same) (inr also) = inr (same ∙ also)
+-- a file that is open may be closed by then; any other stays
+pub kept_trans : {X : Type 0} (state_of : X → State) (low middle high : X) → (state_of low ≡ state.Open) ⊎ (low ≡ middle) → (state_of middle ≡ state.Open) ⊎ (middle ≡ high) → (state_of low ≡ state.Open) ⊎ (low ≡ high)
+kept_trans state_of low middle high (inl is) second = inl is
+kept_trans state_of low middle high (inr same) (inl is) = inl (ap state_of same ∙ is)
+kept_trans state_of low middle high (inr same) (inr also) = inr (same ∙ also)
 
 pub files_begin_themselves : (files : List File) → FilesBegin files files
 files_begin_themselves [] = tt
@@ -47,7 +47,7 @@ files_trans [] middle high first second = tt
 files_trans (file ∷ files) [] high first second = absurd first
 files_trans (file ∷ files) (mid ∷ middle) [] first second = absurd second
 files_trans (file ∷ files) (mid ∷ middle) (whole ∷ high) first second =
-    (first.0 ∙ second.0, first.1 ∙ second.1, first.2 ∙ second.2, state_trans file.state mid.state whole.state first.3 second.3, begins_trans _ _ _ first.4 second.4, files_trans files middle high first.5 second.5)
+    (first.0 ∙ second.0, first.1 ∙ second.1, first.2 ∙ second.2, kept_trans (λ (those : File). those.state) file mid whole first.3 second.3, begins_trans _ _ _ first.4 second.4, files_trans files middle high first.5 second.5)
 
 pub part_begins_itself : (part : Part) → Begins part part
 part_begins_itself part = record { out = begins_itself part.out; files = files_begin_themselves part.files }
@@ -80,15 +80,22 @@ nothing_out told before standard = record {
   files = refl;
 }
 
+-- no file is touched
+pub still_in_order : (files : List File) → InOrder files files files 0
+still_in_order files = record { done = refl; untouched = refl }
+
 -- a write of which the beginning went out before the output broke
 pub out_cut : (told : Bool) (before : List Slot) (part : Part) (old new : List Slot) (more : List ℕ) (n : ℕ) → OutputsAt told before part old → BrokeAfter told old new 0 more n → StoppedBetween told before part (record part { out = part.out ++ more }) (Write 0) new
 out_cut told before part old new more n at broke = record {
   part = record part { out = part.out ++ take n more };
   above = record { out = begins_more part.out (take n more); files = files_begin_themselves part.files };
   below = record { out = take_begins_behind n part.out more; files = files_begin_themselves part.files };
+  place = 0;
+  order = still_in_order part.files;
   reached = with_written 0 (told_of told (take n more)) old;
   outputs = out_more told before part old _ (take n more) at refl;
   marks = (there, broke.slots);
+  from = inl refl;
 } where
   there : 0 < length (with_written 0 (told_of told (take n more)) old)
   there =
@@ -97,15 +104,18 @@ out_cut told before part old new more n at broke = record {
       let all : length old ≡ length (with_written 0 (told_of told part.out) before) + length at.since = ap length at.slots ∙ length-append (with_written 0 (told_of told part.out) before) at.since in
       let front : length (with_written 0 (told_of told part.out) before) ≡ length before = length-changed_at 0 _ before in omega arith
 
--- a fault that came before anything went out
-pub stopped_here : (told : Bool) (before : List Slot) (low high : Part) (fault : Fault) (old new : List Slot) → OutputsAt told before low old → Begins low high → Marks (IsNext low high) fault old new → StoppedBetween told before low high fault new
-stopped_here told before low high fault old new at begins marks = record {
+-- a fault that came before anything went out, and from no output
+pub stopped_here : (told : Bool) (before : List Slot) (low high : Part) (fault : Fault) (old new : List Slot) → OutputsAt told before low old → Begins low high → Marks (IsNext low high) fault old new → IsAt fault (length before) 0 (length low.files) → StoppedBetween told before low high fault new
+stopped_here told before low high fault old new at begins marks from = record {
   part = low;
   above = part_begins_itself low;
   below = begins;
+  place = 0;
+  order = record { done = refl; untouched = refl };
   reached = old;
   outputs = at;
   marks = marks;
+  from = from;
 }
 
 -- an output that could be written broke
@@ -126,12 +136,9 @@ pub nothing_begins_part : (part : Part) → Begins nothing part
 nothing_begins_part part = record { out = nothing_begins part.out; files = tt }
 
 -- the mark of a fault, where the next file is known by another sentence
-marks_by : (IsName IsOther : List ℕ → Type 0) (fault : Fault) (before after : List Slot) → ((name : List ℕ) → IsName name → IsOther name) → Marks IsName fault before after → Marks IsOther fault before after
+pub marks_by : (IsName IsOther : List ℕ → Type 0) (fault : Fault) (before after : List Slot) → ((name : List ℕ) → IsName name → IsOther name) → Marks IsName fault before after → Marks IsOther fault before after
 marks_by IsName IsOther (Write slot) before after also is = is
-marks_by IsName IsOther (Open slot) before after also is = (is.0, (is.1.0, left_also is.1.0 is.1.1, is.1.2)) where
-  left_also : (kept : List ℕ) → IsName kept ⊎ (kept ≡ []) → IsOther kept ⊎ (kept ≡ [])
-  left_also kept (inl named) = inl (also kept named)
-  left_also kept (inr none) = inr none
+marks_by IsName IsOther (Open slot) before after also is = (is.0, (is.1.0, is.1.1, also is.1.0 is.1.2, is.1.3, is.1.4))
 marks_by IsName IsOther Memory before after also is = is
 marks_by IsName IsOther (Read slot) before after also is = is
 marks_by IsName IsOther Suffixes before after also is = is
@@ -156,17 +163,94 @@ next_wider part high more begins name next =
     let found = next_in part name next.front next.file next.rest more.files (subst (λ files. FilesBegin files more.files) next.files begins.files) (length part.files) next.place next.name_is in
     record { front = found.0; file = found.1; rest = found.2; files = found.3; place = found.4; name_is = found.5 }
 
--- what stopped between two parts, stopped between those that one begins and that the other is begun by
-pub stopped_between : (told : Bool) (before : List Slot) (less low high more : Part) (fault : Fault) (now : List Slot) → Begins less low → StoppedBetween told before low high fault now → Begins high more → StoppedBetween told before less more fault now
-stopped_between told before less low high more fault now lower stop wider = record {
+-- what stopped between two parts in turn, stopped between those that one begins and that the other is begun by
+pub turn_between : (told : Bool) (before : List Slot) (less low high more : Part) (fault : Fault) (now : List Slot) → Begins less low → StoppedInTurn told before low high fault now → Begins high more → StoppedInTurn told before less more fault now
+turn_between told before less low high more fault now lower stop wider = record {
   part = stop.part;
   above = part_trans _ _ _ lower stop.above;
   below = part_trans _ _ _ stop.below wider;
+  place = stop.place;
+  turn = stop.turn;
   reached = stop.reached;
   outputs = stop.outputs;
   marks = marks_by (IsNext stop.part high) (IsNext stop.part more) fault stop.reached now (next_wider stop.part high more wider) stop.marks;
+  from = stop.from;
 }
 
--- what stopped between two parts, stopped between nothing and more
-pub stopped_wider : (told : Bool) (before : List Slot) (low high more : Part) (fault : Fault) (now : List Slot) → StoppedBetween told before low high fault now → Begins high more → StoppedBetween told before nothing more fault now
-stopped_wider told before low high more fault now stop wider = stopped_between told before nothing low high more fault now (nothing_begins_part low) stop wider
+open_differs : state.Open ≡ state.Closed → ⊥
+open_differs is = false≢true (sym (ap is_open is))
+
+closed_stays : (file whole : File) → file.state ≡ state.Closed → (file.state ≡ state.Open) ⊎ (file ≡ whole) → file ≡ whole
+closed_stays file whole closed (inl is) = absurd (open_differs (sym is ∙ closed))
+closed_stays file whole closed (inr same) = same
+
+done_by : (place : ℕ) (part high : List File) → FilesBegin part high → AllClosed (take place part) → place ≤ length part → take place part ≡ take place high
+done_by zero part high begins closed within = refl
+done_by (suc place) [] high begins closed within = absurd (omega arith)
+done_by (suc place) (file ∷ part) [] begins closed within = absurd begins
+done_by (suc place) (file ∷ part) (whole ∷ high) begins closed within =
+    ap (λ one. one ∷ take place part) (closed_stays file whole closed.0 begins.3) ∙ ap (λ rest. whole ∷ rest) (done_by place part high begins.5 closed.1 (omega arith))
+
+drop_past : {X : Type 0} (n : ℕ) (xs : List X) → length xs ≤ n → drop n xs ≡ []
+drop_past zero [] within = refl
+drop_past (suc n) [] within = refl
+drop_past zero (x ∷ xs) within = absurd (omega arith)
+drop_past (suc n) (x ∷ xs) within = drop_past n xs (omega arith)
+
+no_fewer : (low part : List File) → FilesBegin low part → length low ≤ length part
+no_fewer [] part begins = omega arith
+no_fewer (file ∷ low) [] begins = absurd begins
+no_fewer (file ∷ low) (whole ∷ part) begins = let fewer : length low ≤ length part = no_fewer low part begins.5 in omega arith
+
+-- in turn is in order
+pub in_order : (low part high : List File) (place : ℕ) → FilesBegin low part → FilesBegin part high → InTurn part place → InOrder low part high place
+in_order low part high place above below turn = record {
+  done = done_by place part high below turn.closed turn.within;
+  untouched = drop_past (suc place) part turn.last ∙ sym (drop_past (suc place) low (let fewer : length low ≤ length part = no_fewer low part above in let last : length part ≤ suc place = turn.last in omega arith));
+}
+
+pub stopped_in_turn : (told : Bool) (before : List Slot) (low high : Part) (fault : Fault) (now : List Slot) → StoppedInTurn told before low high fault now → StoppedBetween told before low high fault now
+stopped_in_turn told before low high fault now stop = record {
+  part = stop.part;
+  above = stop.above;
+  below = stop.below;
+  place = stop.place;
+  order = in_order low.files stop.part.files high.files stop.place stop.above.files stop.below.files stop.turn;
+  reached = stop.reached;
+  outputs = stop.outputs;
+  marks = stop.marks;
+  from = stop.from;
+}
+
+-- closed files, and one more
+pub all_before : {X : Type 0} (front : List X) (x : X) → take (length front) (front ++ x ∷ []) ≡ front
+all_before [] x = refl
+all_before (y ∷ front) x = ap (λ rest. y ∷ rest) (all_before front x)
+
+pub take_all : {X : Type 0} (xs : List X) → take (length xs) xs ≡ xs
+take_all [] = refl
+take_all (x ∷ xs) = ap (λ rest. x ∷ rest) (take_all xs)
+
+pub turn_last : (files : List File) (file : File) (place : ℕ) → length files ≡ place → AllClosed files → InTurn (files ++ file ∷ []) place
+turn_last files file place count closed = record {
+  closed = subst (λ n. AllClosed (take n (files ++ file ∷ []))) count (subst AllClosed (sym (all_before files file)) closed);
+  within = let all : length (files ++ file ∷ []) ≡ length files + 1 = length-append files (file ∷ []) in omega arith;
+  last = let all : length (files ++ file ∷ []) ≡ length files + 1 = length-append files (file ∷ []) in omega arith;
+}
+
+pub turn_next : (files : List File) → AllClosed files → InTurn files (length files)
+turn_next files closed = record { closed = subst AllClosed (sym (take_all files)) closed; within = omega arith; last = omega arith }
+
+map_count : {X Y : Type 0} (f : X → Y) (xs : List X) → length (map f xs) ≡ length xs
+map_count f [] = refl
+map_count f (x ∷ xs) = ap suc (map_count f xs)
+
+count_of : (change : File → File) (slots : List Slot) (files : List File) → map file_of slots ≡ map change files → length files ≡ length slots
+count_of change slots files is = sym (map_count change files) ∙ ap length (sym is) ∙ map_count file_of slots
+
+-- how many slots there are
+pub outputs_count : (told : Bool) (before : List Slot) (part : Part) (now : List Slot) → OutputsAt told before part now → length now ≡ length before + length part.files
+outputs_count told before part now at =
+    let all : length now ≡ length (with_written 0 (told_of told part.out) before) + length at.since = ap length at.slots ∙ length-append (with_written 0 (told_of told part.out) before) at.since in
+    let front : length (with_written 0 (told_of told part.out) before) ≡ length before = length-changed_at 0 _ before in
+    let since : length at.since ≡ length part.files = sym (count_of (told_file told) at.since part.files at.files) in omega arith

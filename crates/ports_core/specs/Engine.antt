@@ -1,81 +1,98 @@
--- What each call of an engine owes. `Holds engine fed` says that the engine can have been fed these bytes, and
--- `settled engine fed` is what its outputs must have got by then.
-use Rattle.std.specs.Prelude.{◌≡◌, ℕ, ◌+◌, ◌≤◌, ◌^◌, Bool, true, false, List, ◌++◌}
+-- What each call of an engine owes. `Holds engine x` says that the engine can have been fed x, `work engine` what it makes of
+-- that, and `Owns engine first slots` that the slots from `first` on are those that it opened.
+use Rattle.std.specs.Prelude.{◌≡◌, ℕ, ◌+◌, ◌≤◌, ◌^◌, Bool, true, false, List, ◌++◌, None, length}
 use Rattle.ports_core.specs.Slot.{Slot, Rose}
 use Rattle.ports_core.specs.Part.{Part, OutputsAt, StoppedBetween}
+use Rattle.ports_core.specs.Swept.{Swept}
+use Rattle.ports_core.specs.Work.{Work, Means, Needs, IsSettled, Judges}
 use Rattle.ports_core.specs.declared.fault.Fault.{Fault}
 use Rattle.ports_core.specs.declared.fault.Fault.TheVariants.{Memory, Write, Read, Open, Suffixes, NoMatch, Range, Usage, Failed, TooLong}
+use Rattle.ports_core.specs.declared.fault.Fault.TheVariants as fault_is
 
--- whatever the engine was fed before, it was fed this piece behind it
+-- whatever the engine was fed before, it was fed this piece after it
 abbrev pub TakesIn : {E : Type 0} → (E → List ℕ → Type 0) → List ℕ → E → E → Type 0
 TakesIn Holds piece old new = (x : List ℕ) → Holds old x → Holds new (x ++ piece)
 
--- if the outputs had got what was settled before the piece, they have got what is settled with it
-abbrev pub PutsOut : {E : Type 0} → (E → List ℕ → Type 0) → (E → List ℕ → Part) → E → List ℕ → Bool → List Slot → List Slot → Type 0
-PutsOut Holds settled engine piece told old new = (before : List Slot) (x : List ℕ) → Holds engine x
-    → OutputsAt told before (settled engine x) old → OutputsAt told before (settled engine (x ++ piece)) new
+-- an engine that opens no file
+abbrev pub OwnsNone : {E : Type 0} → E → ℕ → List Slot → Type 0
+OwnsNone engine first slots = Unit {0}
 
--- after a fault they have got a part between these two
-abbrev pub CutsOff : {E : Type 0} → (E → List ℕ → Type 0) → (E → List ℕ → Part) → E → List ℕ → Bool → List Slot → List Slot → Fault → Type 0
-CutsOff Holds settled engine piece told old new fault = (before : List Slot) (x : List ℕ) → Holds engine x
-    → OutputsAt told before (settled engine x) old
-    → StoppedBetween told before (settled engine x) (settled engine (x ++ piece)) fault new
+-- The outputs are at some part of what the engine makes of x, from the state `before` on, and those opened since are its own.
+pub record StandsAt {E : Type 0} (Holds : E → List ℕ → Type 0) (Owns : E → ℕ → List Slot → Type 0) (engine : E) (told : Bool) (before : List Slot) (x : List ℕ) (part : Part) (now : List Slot) : Type 0 where
+  pub holds : Holds engine x
+  pub owns : Owns engine (length before) now
+  pub outputs : OutputsAt told before part now
 
--- what an engine uses, and so which faults it can give
-pub record Means : Type 0 where
-  -- it takes memory, for bytes that wait or for names
-  pub memory : Bool
-  -- it opens files and writes to them; else it writes to standard output alone
-  pub files : Bool
-  -- it draws the names of files
-  pub names : Bool
+-- if the outputs had what was settled before the piece, they have what is settled with it
+abbrev pub PutsOut : {E : Type 0} → (E → List ℕ → Type 0) → (E → ℕ → List Slot → Type 0) → (E → Work) → E → List ℕ → Bool → List Slot → List Slot → Type 0
+PutsOut Holds Owns work engine piece told old new = (before : List Slot) (x : List ℕ) → StandsAt Holds Owns engine told before x ((work engine).settled x) old
+    → OutputsAt told before ((work engine).settled (x ++ piece)) new
 
--- an engine that writes to standard output alone
-abbrev pub on_output : Bool → Means
-on_output memory = record { memory = memory; files = false; names = false }
+-- a fault with which a tool's work itself ends
+abbrev pub is_verdict : Fault → Bool
+is_verdict Memory = false
+is_verdict (Write slot) = false
+is_verdict (Read slot) = false
+is_verdict (Open slot) = false
+is_verdict Suffixes = true
+is_verdict (NoMatch operand repetition) = true
+is_verdict (Range operand repetition) = true
+is_verdict (Usage kind word) = false
+is_verdict Failed = false
+is_verdict TooLong = false
 
--- the whole input so far needs more files than there are names, and the files that have one are out
-abbrev pub RunsOut : {E : Type 0} → (E → List ℕ → Type 0) → (E → List ℕ → Part) → (E → List ℕ → Bool) → E → List ℕ → Bool → List Slot → List Slot → Type 0
-RunsOut Holds settled is_complete engine piece told old new = (before : List Slot) (x : List ℕ) → Holds engine x
-    → OutputsAt told before (settled engine x) old
-    → (is_complete engine (x ++ piece) ≡ true) × OutputsAt told before (settled engine (x ++ piece)) new
+-- How a fault leaves the outputs: it stopped them between two parts; or they reached all of the second, since the work ends with
+-- this fault, and then files may have been removed.
+pub data Ended (told : Bool) (before : List Slot) (low high : Part) (clears : Bool) (fault : Fault) (now : List Slot) : Type 0 where
+  cut : is_verdict fault ≡ false → StoppedBetween told before low high fault now → Ended told before low high clears fault now
+  judged : is_verdict fault ≡ true → (reached : List Slot) → OutputsAt told before high reached → Swept clears (length before) reached now → Ended told before low high clears fault now
 
--- what causes each fault of an engine that uses these means; `NeedsName` where its names ran out
-abbrev pub IsCaused : Means → Type 0 → Bool → ℕ → ℕ → List Slot → List Slot → Fault → Type 0
-IsCaused means NeedsName is_over fed size old new Memory = (means.memory ≡ true) × (is_over ≡ false)
-IsCaused means NeedsName is_over fed size old new (Write slot) = (is_over ≡ false) × (means.files ≡ false → slot ≡ 0) × Rose slot old new
-IsCaused means NeedsName is_over fed size old new (Open slot) = (is_over ≡ false) × (means.files ≡ true) × Rose slot old new
-IsCaused means NeedsName is_over fed size old new Suffixes = (is_over ≡ false) × (means.names ≡ true) × NeedsName
-IsCaused means NeedsName is_over fed size old new Failed = (is_over ≡ true) × (new ≡ old)
-IsCaused means NeedsName is_over fed size old new TooLong = (is_over ≡ false) × (2 ^ 63 ≤ fed + size) × (new ≡ old)
-IsCaused means NeedsName is_over fed size old new (Read slot) = ⊥
-IsCaused means NeedsName is_over fed size old new (NoMatch operand repetition) = ⊥
-IsCaused means NeedsName is_over fed size old new (Range operand repetition) = ⊥
-IsCaused means NeedsName is_over fed size old new (Usage kind word) = ⊥
+-- how a fault leaves the outputs within an input
+abbrev pub CutsOff : {E : Type 0} → (E → List ℕ → Type 0) → (E → ℕ → List Slot → Type 0) → (E → Work) → E → List ℕ → Bool → List Slot → List Slot → Fault → Type 0
+CutsOff Holds Owns work engine piece told old new fault = (before : List Slot) (x : List ℕ) → StandsAt Holds Owns engine told before x ((work engine).settled x) old
+    → Ended told before ((work engine).settled x) ((work engine).settled (x ++ piece)) (work engine).clears fault new
 
--- at the end an engine takes no memory, and draws no name
-abbrev pub at_end : Means → Means
-at_end means = record { memory = false; files = means.files; names = false }
+-- The causes of a fault that meets an engine which isn't over: `Lacks` where it may want memory, `Ends` where its work ends so.
+abbrev pub IsMet : Means → Needs → Type 0 → (Fault → Type 0) → List Slot → List Slot → Fault → Type 0
+IsMet means needs Lacks Ends old new Memory = (needs.memory ≡ true) × Lacks
+IsMet means needs Lacks Ends old new (Write slot) = (slot ≡ 0 → means.output ≡ true) × (means.files ≡ false → slot ≡ 0) × Rose slot old new
+IsMet means needs Lacks Ends old new (Open slot) = (means.files ≡ true) × (needs.files ≡ true) × Rose slot old new
+IsMet means needs Lacks Ends old new Suffixes = Ends Suffixes
+IsMet means needs Lacks Ends old new (NoMatch operand repetition) = Ends (NoMatch operand repetition)
+IsMet means needs Lacks Ends old new (Range operand repetition) = Ends (Range operand repetition)
+IsMet means needs Lacks Ends old new Failed = ⊥
+IsMet means needs Lacks Ends old new TooLong = ⊥
+IsMet means needs Lacks Ends old new (Read slot) = ⊥
+IsMet means needs Lacks Ends old new (Usage kind word) = ⊥
 
--- at the end the outputs have got the whole part, where they had got what was settled
-abbrev pub Finishes : {E : Type 0} → (E → List ℕ → Type 0) → (E → List ℕ → Part) → (E → List ℕ → Part) → E → Bool → List Slot → List Slot → Type 0
-Finishes Holds settled whole engine told old new = (before : List Slot) (x : List ℕ) → Holds engine x
-    → OutputsAt told before (settled engine x) old → OutputsAt told before (whole engine x) new
+-- whatever the engine was fed, with this piece its work ends with the fault
+abbrev pub EndsWith : {E : Type 0} → (E → List ℕ → Type 0) → (E → Work) → E → List ℕ → Fault → Type 0
+EndsWith Holds work engine piece fault = (x : List ℕ) → Holds engine x → IsSettled (work engine) (x ++ piece) fault
 
--- after a fault at the end they have got a part between these two
-abbrev pub EndsShort : {E : Type 0} → (E → List ℕ → Type 0) → (E → List ℕ → Part) → (E → List ℕ → Part) → E → Bool → List Slot → List Slot → Fault → Type 0
-EndsShort Holds settled whole engine told old new fault = (before : List Slot) (x : List ℕ) → Holds engine x
-    → OutputsAt told before (settled engine x) old → StoppedBetween told before (settled engine x) (whole engine x) fault new
+-- whatever the engine was fed, at its end the work ends with the fault
+abbrev pub EndsThere : {E : Type 0} → (E → List ℕ → Type 0) → (E → Work) → E → Fault → Type 0
+EndsThere Holds work engine fault = (x : List ℕ) → Holds engine x → Judges (work engine) x fault
 
--- the engine does the same work as before, by the same means: the same bytes settle the same
-pub record SameWork {E : Type 0} (settled whole : E → List ℕ → Part) (is_complete : E → List ℕ → Bool) (means : E → Means) (old new : E) : Type 0 where
-  pub settled_same : (x : List ℕ) → settled new x ≡ settled old x
-  pub whole_same : (x : List ℕ) → whole new x ≡ whole old x
-  pub complete_same : (x : List ℕ) → is_complete new x ≡ is_complete old x
-  pub means_same : means new ≡ means old
+-- what causes each fault of a call that takes in `size` bytes, where `Met` causes those of an engine which isn't over
+pub data IsCaused (Met : Fault → Type 0) (is_over : Bool) (fed size : ℕ) (old new : List Slot) : Fault → Type 0 where
+  over : is_over ≡ true → new ≡ old → IsCaused Met is_over fed size old new fault_is.Failed
+  long : is_over ≡ false → 2 ^ 63 ≤ fed + size → new ≡ old → IsCaused Met is_over fed size old new fault_is.TooLong
+  met : (fault : Fault) → is_over ≡ false → Met fault → IsCaused Met is_over fed size old new fault
 
--- more input changes nothing
-pub record IsComplete {E : Type 0} (settled whole : E → List ℕ → Part) (is_complete : E → List ℕ → Bool) (engine : E) (x y : List ℕ) : Type 0 where
-  pub still : is_complete engine (x ++ y) ≡ true
-  pub settled_stays : settled engine (x ++ y) ≡ settled engine x
-  pub whole_stays : whole engine (x ++ y) ≡ settled engine x
+-- at the end the outputs have the whole part, where they had what was settled, and the work ends well
+abbrev pub Finishes : {E : Type 0} → (E → List ℕ → Type 0) → (E → ℕ → List Slot → Type 0) → (E → Work) → E → Bool → List Slot → List Slot → Type 0
+Finishes Holds Owns work engine told old new = (before : List Slot) (x : List ℕ) → StandsAt Holds Owns engine told before x ((work engine).settled x) old
+    → ((work engine).verdict x ≡ None) × OutputsAt told before ((work engine).whole x) new
+
+-- how a fault leaves the outputs at the end
+abbrev pub EndsShort : {E : Type 0} → (E → List ℕ → Type 0) → (E → ℕ → List Slot → Type 0) → (E → Work) → E → Bool → List Slot → List Slot → Fault → Type 0
+EndsShort Holds Owns work engine told old new fault = (before : List Slot) (x : List ℕ) → StandsAt Holds Owns engine told before x ((work engine).settled x) old
+    → Ended told before ((work engine).settled x) ((work engine).whole x) (work engine).clears fault new
+
+-- the slots from this place on are the engine's own, before and after
+abbrev pub KeepsOwn : {E : Type 0} → (E → ℕ → List Slot → Type 0) → E → E → List Slot → List Slot → Type 0
+KeepsOwn Owns old new before after = (first : ℕ) → Owns old first before → Owns new first after
+
+-- what it may remove is cleared away
+abbrev pub Clears : {E : Type 0} → (E → ℕ → List Slot → Type 0) → (E → Work) → E → List Slot → List Slot → Type 0
+Clears Owns work engine old new = (first : ℕ) → Owns engine first old → Swept (work engine).clears first old new

@@ -1,7 +1,7 @@
 use Rattle.std.proofs.Common.{◌∙◌, refl}
 use Rattle.ports_core.specs.Source.{source_at}
 use Rattle.cutters.proofs.FeedingLemmas.{reads_none}
-use Rattle.cutters.proofs.SpellingLemmas.{none_left}
+use Rattle.words_core.proofs.SpellingLemmas.{none_left}
 use Rattle.cutters.proofs.NamesLemmas.{walk_begins, walk_streams, walk_readable, walk_goes_on_at, walk_stops_at, walk_ends, reads_on_at, untouched_at_first, untouched_on, untouched_by}
 use Rattle.cutters.proofs.ends.take_names.Goals as goal
 

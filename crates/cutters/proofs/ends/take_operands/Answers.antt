@@ -1,6 +1,6 @@
 use Rattle.std.proofs.Common.{◌∙◌, refl, sym, ap, map, ℕ, List, Bor}
-use Rattle.cutters.specs.declared.settings.Headers.{Headers}
-use Rattle.cutters.specs.EndsAsked.{EndsAsked}
+use Rattle.words_core.specs.declared.settings.Headers.{Headers}
+use Rattle.words_core.specs.EndsAsked.{EndsAsked}
 use Rattle.cutters.specs.Ends.{has_headers, names_in}
 use Rattle.cutters.specs.Input.{has_dash}
 use Rattle.ports_core.specs.Source.{source_at}

@@ -1,9 +1,9 @@
 use Rattle.std.proofs.Common.{◌∙◌, sym, ap, Result, ℕ, List, map, refl, subst}
 use Rattle.ports_core.specs.declared.fault.Fault.{Fault}
-use Rattle.cutters.specs.declared.settings.Settings.{Settings}
+use Rattle.words_core.specs.declared.settings.Settings.{Settings}
 use Rattle.cutters.specs.Input.{has_dash}
 use Rattle.ports_core.specs.Source.{source_at}
-use Rattle.cutters.specs.Words.{settings_of}
+use Rattle.words_core.specs.Words.{settings_of}
 use Rattle.ports_core.specs.Text.{message_of}
 use Rattle.ports_core.specs.declared.tool.Tool.{Tool}
 use Rattle.cutters.specs.Message.{SaysOn}

@@ -1,5 +1,5 @@
 use Rattle.std.proofs.Common.{◌∙◌, sym, ap, map}
-use Rattle.cutters.specs.declared.settings.Settings.{Settings}
+use Rattle.words_core.specs.declared.settings.Settings.{Settings}
 use Rattle.cutters.specs.Input.{has_dash}
 use Rattle.cutters.specs.Outcome.{names_of}
 use Rattle.ports_core.specs.Source.{source_at}

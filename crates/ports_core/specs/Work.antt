@@ -1,0 +1,66 @@
+-- What a tool makes of an input, whatever engine does it: what it has put out once some bytes came in, and what at the end.
+use Rattle.std.specs.Prelude.{◌≡◌, Bool, true, false, List, ◌++◌, ℕ, Option, Some, None}
+use Rattle.ports_core.specs.Part.{Part, Begins}
+use Rattle.ports_core.specs.declared.fault.Fault.{Fault}
+
+-- what a call of an engine may need, and so which faults it can give
+pub record Needs : Type 0 where
+  -- memory, for bytes that wait or for names
+  pub memory : Bool
+  -- new files
+  pub files : Bool
+
+-- what an engine uses
+pub record Means : Type 0 where
+  -- it writes to standard output
+  pub output : Bool
+  -- it writes to files that it opens
+  pub files : Bool
+  -- what it may need as it takes in a piece, and at the end
+  pub feeding : Needs
+  pub closing : Needs
+
+abbrev pub no_needs : Needs
+no_needs = record { memory = false; files = false }
+
+-- an engine that writes to standard output alone
+abbrev pub on_output : Bool → Means
+on_output memory = record { output = true; files = false; feeding = record { memory = memory; files = false }; closing = no_needs }
+
+pub record Work : Type 0 where
+  -- what is written once these bytes came in
+  pub settled : List ℕ → Part
+  -- what is written where the input ends after them, before any file is removed
+  pub whole : List ℕ → Part
+  -- whatever comes after them, the outputs stay
+  pub is_complete : List ℕ → Bool
+  -- the fault with which the work itself ends there: names ran out, no match, a range
+  pub verdict : List ℕ → Option Fault
+  -- after a fault, and after an input that breaks off, its files are removed
+  pub clears : Bool
+  pub means : Means
+
+-- the work of a tool that ends with no fault of its own
+abbrev pub always_well : List ℕ → Option Fault
+always_well x = None
+
+-- the work ends with this fault where the input ends after x
+abbrev pub Judges : Work → List ℕ → Fault → Type 0
+Judges work x fault = work.verdict x ≡ Some fault
+
+-- the work ends with this fault, whatever comes after x
+abbrev pub IsSettled : Work → List ℕ → Fault → Type 0
+IsSettled work x fault = (work.is_complete x ≡ true) × Judges work x fault
+
+-- more input changes nothing
+pub record IsComplete (work : Work) (x y : List ℕ) : Type 0 where
+  pub still : work.is_complete (x ++ y) ≡ true
+  pub settled_stays : work.settled (x ++ y) ≡ work.settled x
+  pub whole_stays : work.whole (x ++ y) ≡ work.settled x
+  pub verdict_stays : work.verdict (x ++ y) ≡ work.verdict x
+
+-- What is written is never taken back, and once the output is complete it stays.
+pub record IsLawful (work : Work) : Type 0 where
+  pub grows : (x y : List ℕ) → Begins (work.settled x) (work.settled (x ++ y))
+  pub ends : (x : List ℕ) → Begins (work.settled x) (work.whole x)
+  pub stays : (x y : List ℕ) → work.is_complete x ≡ true → IsComplete work x y

@@ -1,0 +1,74 @@
+ghost use Rattle.std.specs.Prelude.{◌≡◌, ◌+◌, ◌^◌, ◌<◌, ◌≤◌, ℕ, List, Bool, true, false, length, IfErr, OnOk, IsTrue};
+ghost use Rattle.ports_core.specs.Slot.{Slot, is_writable};
+ghost use Rattle.ports_core.specs.Work.{Work, IsLawful};
+ghost use Rattle.ports_core.specs.Engine.{TakesIn, PutsOut, CutsOff, Finishes, EndsShort, EndsWith, EndsThere, IsMet, KeepsOwn, Clears, is_verdict};
+
+use crate::{Fault, Outs};
+
+/// What is a tool's own in its engine, as long as no fault and no end came: `Guarded` adds what all engines share.
+pub trait Stage {
+    /// The stage can have been fed these bytes.
+    ghost Holds: { Self → List ℕ → Type 0 };
+
+    /// What it makes of its input.
+    ghost work: { Self → Work };
+
+    /// How many bytes wait in it.
+    ghost held: { Self → ℕ };
+
+    /// There may be no memory for a piece.
+    ghost may_lack: { Self → List ℕ → Bool };
+
+    /// The outputs that it goes on with can be written.
+    ghost Ready: { Self → List Slot → Type 0 };
+
+    /// The slots from this place on are those that it opened.
+    ghost Owns: { Self → ℕ → List Slot → Type 0 };
+
+    /// Takes the next piece, and writes what is settled with it.
+    ///
+    /// # Errors
+    ///
+    /// As `Engine::feed`, but for `TooLong` and `Failed`.
+    fn pass<O: Outs>(&mut self, piece: &[u8], outs: &mut O) -> Result<(), Fault>
+        requires fits { held self.old + length piece.now < 2 ^ 63 }
+        requires ready { Ready self.old (O.slots outs.old) }
+        ensures same { work self.new ≡ work self.old }
+        ensures held { held self.new ≤ held self.old + length piece.now }
+        ensures holds { OnOk result (TakesIn Holds piece.now self.old self.new) }
+        ensures outputs { OnOk result (PutsOut Holds Owns work self.old piece.now O.told (O.slots outs.old) (O.slots outs.new)) }
+        ensures ready { OnOk result (Ready self.new (O.slots outs.new)) }
+        ensures owns { OnOk result (KeepsOwn Owns self.old self.new (O.slots outs.old) (O.slots outs.new)) }
+        ensures owned { IfErr result (λ fault. is_verdict fault ≡ false → KeepsOwn Owns self.old self.new (O.slots outs.old) (O.slots outs.new)) }
+        ensures cut { IfErr result (CutsOff Holds Owns work self.old piece.now O.told (O.slots outs.old) (O.slots outs.new)) }
+        ensures met { IfErr result (IsMet (work self.old).means (work self.old).means.feeding (may_lack self.old piece.now ≡ true) (EndsWith Holds work self.old piece.now) (O.slots outs.old) (O.slots outs.new)) };
+
+    /// Writes what waited.
+    ///
+    /// # Errors
+    ///
+    /// As `Engine::close`, but for `Failed`.
+    fn finish<O: Outs>(&mut self, outs: &mut O) -> Result<(), Fault>
+        requires ready { Ready self.old (O.slots outs.old) }
+        ensures same { work self.new ≡ work self.old }
+        ensures held { held self.new ≤ held self.old }
+        ensures outputs { OnOk result (Finishes Holds Owns work self.old O.told (O.slots outs.old) (O.slots outs.new)) }
+        ensures writable { OnOk result ((work self.old).means.output ≡ true → IsTrue (is_writable (O.slots outs.new) 0)) }
+        ensures owns { OnOk result (KeepsOwn Owns self.old self.new (O.slots outs.old) (O.slots outs.new)) }
+        ensures owned { IfErr result (λ fault. is_verdict fault ≡ false → KeepsOwn Owns self.old self.new (O.slots outs.old) (O.slots outs.new)) }
+        ensures cut { IfErr result (EndsShort Holds Owns work self.old O.told (O.slots outs.old) (O.slots outs.new)) }
+        ensures met { IfErr result (IsMet (work self.old).means (work self.old).means.closing (Unit {0}) (EndsThere Holds work self.old) (O.slots outs.old) (O.slots outs.new)) };
+
+    /// Removes the files that it made, in order, if its work clears them; a removal that fails is passed over.
+    fn clear<O: Outs>(&mut self, outs: &mut O)
+        requires { (first : ℕ) × Owns self.old first (O.slots outs.old) }
+        ensures same { work self.new ≡ work self.old }
+        ensures held { held self.new ≤ held self.old }
+        ensures swept { Clears Owns work self.old (O.slots outs.old) (O.slots outs.new) };
+
+    /// Whether the output is complete: whatever comes, it stays.
+    fn is_done(&self) -> bool
+        ensures { (x : List ℕ) → Holds self.now x → result ≡ (work self.now).is_complete x };
+
+    ghost lawful: { (stage : Self) → IsLawful (work stage) };
+}

@@ -1,0 +1,338 @@
+-- Lemmas on the loop that feeds an engine.
+use Rattle.std.proofs.Common.{◌≡◌, ℕ, ◌+◌, ◌<◌, ◌≤◌, ◌^◌, max, zero, suc, Bool, true, false, not, ◌&&◌, ◌||◌, IsTrue, if◌then◌else◌, List, [], ◌∷◌, ◌++◌, length, take, drop, slice_index_or, Result, Ok, Err, OnOk, IfOk, IfErr, Some, None, ◌⊎◌, arith, append_assoc, length-append, length-take, inl, inr, refl, sym, ◌∙◌, ap, subst}
+use Rattle.std.proofs.lemmas.List.{append-nil, take-append-drop}
+use Rattle.std.proofs.lemmas.Bool.{false≢true}
+use Rattle.ports_core.specs.Slot.{Slot, changed_at}
+use Rattle.ports_core.specs.Source.{Content, Source, source_at, is_readable, gives, fails, without, Gave, BrokeOff}
+use Rattle.ports_core.specs.Part.{Part, OutputsAt}
+use Rattle.ports_core.specs.Swept.{Swept}
+use Rattle.ports_core.specs.Work.{Work, Means, Needs, IsLawful, IsComplete, Judges, IsSettled}
+use Rattle.ports_core.specs.Engine.{StandsAt, TakesIn, PutsOut, CutsOff, Finishes, EndsShort, EndsWith, EndsThere, IsCaused, IsMet, Ended, is_verdict, KeepsOwn, Clears}
+use Rattle.ports_core.specs.Engine as engine
+use Rattle.ports_core.specs.declared.fault.Fault.{Fault}
+use Rattle.ports_core.specs.declared.fault.Fault.TheVariants.{Memory, Write, Read, Open, Suffixes, NoMatch, Range, Usage, Failed, TooLong}
+use Rattle.ports_core.proofs.SlotLemmas.{length-changed_at}
+use Rattle.run_core.specs.declared.feeding.Fed.{Fed}
+use Rattle.run_core.specs.declared.feeding.Fed.TheVariants.{Whole, Enough, Broken}
+use Rattle.run_core.specs.Input.{empty}
+use Rattle.run_core.specs.Feeding.{is_enough, IsLong, Stops, HasAll, to_end, enough, IsStep, feeding, closing, FedAs, whole, had_enough, broke_off, judged, stopped, OfContent, KeepsOthers, IsNeeded, ReadsFor, EndsSo, finished, fell_short}
+
+-- what was read of the input with this number so far, and what is left of it
+pub record HasRead (content : Content) (x : List ℕ) (slot : ℕ) (sources : List Source) : Type 0 where
+  pub bytes : content.bytes ≡ x ++ (source_at sources slot).left.bytes
+  pub breaks_off : (source_at sources slot).left.breaks_off ≡ content.breaks_off
+
+pub nothing_read : (slot : ℕ) (sources : List Source) → HasRead (source_at sources slot).left [] slot sources
+nothing_read slot sources = record { bytes = refl; breaks_off = refl }
+
+-- a change of one input
+
+changed_there : {X : Type 0} (default : X) (place : ℕ) (change : X → X) (xs : List X) → place < length xs → slice_index_or (changed_at place change xs) place default ≡ change (slice_index_or xs place default)
+changed_there default place change [] within = absurd (omega arith)
+changed_there default zero change (x ∷ xs) within = refl
+changed_there default (suc place) change (x ∷ xs) within = changed_there default place change xs (omega arith)
+
+changed_elsewhere : {X : Type 0} (default : X) (place other : ℕ) (change : X → X) (xs : List X) → (other ≡ place → ⊥) → slice_index_or (changed_at place change xs) other default ≡ slice_index_or xs other default
+changed_elsewhere default place other change [] differs = refl
+changed_elsewhere default zero zero change (x ∷ xs) differs = absurd (differs refl)
+changed_elsewhere default zero (suc other) change (x ∷ xs) differs = refl
+changed_elsewhere default (suc place) zero change (x ∷ xs) differs = refl
+changed_elsewhere default (suc place) (suc other) change (x ∷ xs) differs = changed_elsewhere default place other change xs (λ same. differs (ap suc same))
+
+pub keeps_others : (slot : ℕ) (change : Source → Source) (old new : List Source) → new ≡ changed_at slot change old → KeepsOthers slot old new
+keeps_others slot change old new is = record {
+  count = ap length is ∙ length-changed_at slot change old;
+  others = λ place differs. ap (λ those. source_at those place) is ∙ changed_elsewhere _ slot place change old differs;
+}
+
+pub keeps_itself : (slot : ℕ) (sources : List Source) → KeepsOthers slot sources sources
+keeps_itself slot sources = record { count = refl; others = λ place differs. refl }
+
+pub keeps_again : (slot : ℕ) (old mid new : List Source) → KeepsOthers slot old mid → KeepsOthers slot mid new → KeepsOthers slot old new
+keeps_again slot old mid new first second = record {
+  count = second.count ∙ first.count;
+  others = λ place differs. second.others place differs ∙ first.others place differs;
+}
+
+-- an input that can be read is there
+readable_within : (sources : List Source) (slot : ℕ) → IsTrue (is_readable sources slot) → slot < length sources
+readable_within [] slot can = absurd (false≢true can)
+readable_within (source ∷ sources) zero can = omega arith
+readable_within (source ∷ sources) (suc slot) can = let within : slot < length sources = readable_within sources slot can in omega arith
+
+left_after : (slot : ℕ) (sources new : List Source) (size n : ℕ) → IsTrue (is_readable sources slot) → new ≡ changed_at slot (gives size n) sources → source_at new slot ≡ gives size n (source_at sources slot)
+left_after slot sources new size n can is = ap (λ those. source_at those slot) is ∙ changed_there _ slot (gives size n) sources (readable_within sources slot can)
+
+-- a read changes no flag
+pub still_readable : (slot : ℕ) (sources new : List Source) (size n : ℕ) → new ≡ changed_at slot (gives size n) sources → IsTrue (is_readable sources slot) → IsTrue (is_readable new slot)
+still_readable slot sources new size n is can = ap (λ (source : Source). source.is_open && not source.is_broken) (left_after slot sources new size n can is) ∙ can
+
+pub read_more : (content : Content) (x : List ℕ) (slot : ℕ) (sources new : List Source) (old_buffer buffer : List ℕ) (size n : ℕ) → HasRead content x slot sources → IsTrue (is_readable sources slot) → Gave (source_at sources slot).left old_buffer buffer n → new ≡ changed_at slot (gives size n) sources → HasRead content (x ++ take n buffer) slot new
+read_more content x slot sources new old_buffer buffer size n read can gave is =
+    let after : (source_at new slot).left ≡ without n (source_at sources slot).left = ap (λ source. source.left) (left_after slot sources new size n can is) in
+    record {
+      bytes = read.bytes ∙ ap (λ bytes. x ++ bytes) (sym (take-append-drop n (source_at sources slot).left.bytes))
+          ∙ sym (append_assoc x (take n (source_at sources slot).left.bytes) (drop n (source_at sources slot).left.bytes))
+          ∙ ap (λ bytes. (x ++ bytes) ++ drop n (source_at sources slot).left.bytes) (sym gave.front)
+          ∙ ap (λ left. (x ++ take n buffer) ++ left.bytes) (sym after);
+      breaks_off = ap (λ left. left.breaks_off) after ∙ read.breaks_off;
+    }
+
+-- why an engine that is live is stopped
+stops : (work : Work) (content : Content) (most : ℕ) (needs : Needs) (Lacks : Type 0) (Ends : Fault → Type 0) (fault : Fault) (taken size : ℕ) (old new : List Slot) → is_verdict fault ≡ false → (2 ^ 63 ≤ taken + size → IsLong work.is_complete most content.bytes)
+    → IsCaused (IsMet work.means needs Lacks Ends old new) false taken size old new fault → Stops work most (Some content) new fault
+stops work content most needs Lacks Ends _ taken size old new is long (engine.over is_over kept) = absurd (false≢true is_over)
+stops work content most needs Lacks Ends _ taken size old new is long (engine.long live many kept) = long many
+stops work content most needs Lacks Ends fault taken size old new is long (engine.met _ live why) = by_why fault is why where
+  by_why : (fault : Fault) → is_verdict fault ≡ false → IsMet work.means needs Lacks Ends old new fault → Stops work most (Some content) new fault
+  by_why Memory is why = tt
+  by_why (Write slot) is why = (why.1, why.2.1)
+  by_why (Open slot) is why = why.0
+  by_why TooLong is why = absurd why
+  by_why Suffixes is why = absurd (false≢true (sym is))
+  by_why Failed is why = absurd why
+  by_why (Read slot) is why = absurd why
+  by_why (NoMatch operand repetition) is why = absurd (false≢true (sym is))
+  by_why (Range operand repetition) is why = absurd (false≢true (sym is))
+  by_why (Usage kind word) is why = absurd why
+
+-- a verdict comes only where the work ends so
+judges : (means : Means) (needs : Needs) (Lacks : Type 0) (Ends : Fault → Type 0) (fault : Fault) (over : Bool) (taken size : ℕ) (old new : List Slot) → is_verdict fault ≡ true → IsCaused (IsMet means needs Lacks Ends old new) over taken size old new fault → Ends fault
+judges means needs Lacks Ends _ over taken size old new is (engine.over is_over kept) = absurd (false≢true is)
+judges means needs Lacks Ends _ over taken size old new is (engine.long live many kept) = absurd (false≢true is)
+judges means needs Lacks Ends fault over taken size old new is (engine.met _ live why) = by_why fault is why where
+  by_why : (fault : Fault) → is_verdict fault ≡ true → IsMet means needs Lacks Ends old new fault → Ends fault
+  by_why Memory is why = absurd (false≢true is)
+  by_why (Write slot) is why = absurd (false≢true is)
+  by_why (Open slot) is why = absurd (false≢true is)
+  by_why TooLong is why = absurd why
+  by_why Suffixes is why = why
+  by_why Failed is why = absurd why
+  by_why (Read slot) is why = absurd why
+  by_why (NoMatch operand repetition) is why = why
+  by_why (Range operand repetition) is why = why
+  by_why (Usage kind word) is why = absurd why
+
+ends_whole : (breaks complete : Bool) → breaks ≡ false → (not breaks || complete) ≡ true
+ends_whole false complete is = refl
+ends_whole true complete is = absurd (false≢true (sym is))
+
+or_complete : (breaks complete : Bool) → complete ≡ true → (not breaks || complete) ≡ true
+or_complete breaks true is = either_way breaks where
+  either_way : (b : Bool) → (not b || true) ≡ true
+  either_way true = refl
+  either_way false = refl
+or_complete breaks false is = absurd (false≢true is)
+
+-- what a fault left within an input, and what was made of its files then
+short_of_piece : (told : Bool) (most : ℕ) (work : Work) (content : Content) (x piece rest : List ℕ) (reached new before : List Slot) (fault : Fault) → IsLawful work → content.bytes ≡ (x ++ piece) ++ rest → length piece ≤ most → work.is_complete x ≡ false
+    → Ended told before (work.settled x) (work.settled (x ++ piece)) work.clears fault reached
+    → (is_verdict fault ≡ false → Stops work most (Some content) reached fault) → (is_verdict fault ≡ true → IsSettled work (x ++ piece) fault)
+    → (is_verdict fault ≡ true → new ≡ reached) → (is_verdict fault ≡ false → Swept work.clears (length before) reached new) → FedAs told before work most content new (Err fault)
+short_of_piece told most work content x piece rest reached new before fault lawful is within going (engine.cut unjudged stop) why settles kept swept =
+    stopped fault unjudged _ _ (feeding x piece rest is within going) reached (why unjudged) stop (swept unjudged)
+short_of_piece told most work content x piece rest reached new before fault lawful is within going (engine.judged judging first at cleared) why settles kept swept =
+    let stays : IsComplete work (x ++ piece) rest = lawful.stays (x ++ piece) rest (settles judging).0 in
+    judged fault judging (or_complete content.breaks_off _ (ap work.is_complete is ∙ stays.still)) (ap work.verdict is ∙ stays.verdict_stays ∙ (settles judging).1) first
+    (subst (λ part. OutputsAt told before part first) (sym stays.whole_stays ∙ ap work.whole (sym is)) at)
+    (subst (λ those. Swept work.clears (length before) first those) (sym (kept judging)) cleared)
+
+-- what is known of an input that the engine has got all of, by what became of it
+abbrev pub HasGot : Work → Content → List ℕ → Fed → Type 0
+HasGot work content x Whole = (content.breaks_off ≡ false) × (work.is_complete x ≡ false) × (content.bytes ≡ x)
+HasGot work content x Enough = (work.is_complete x ≡ true) × ((rest : List ℕ) × (content.bytes ≡ x ++ rest))
+HasGot work content x Broken = ⊥
+
+got_all : (work : Work) (content : Content) (x : List ℕ) (fed : Fed) → HasGot work content x fed → HasAll work content x
+got_all work content x Whole got = to_end got.0 got.2
+got_all work content x Enough got = enough got.1.0 got.1.1 got.0
+got_all work content x Broken got = absurd got
+
+whole_at : (work : Work) (x rest : List ℕ) → IsLawful work → work.is_complete x ≡ true → work.whole (x ++ rest) ≡ work.whole x
+whole_at work x rest lawful done =
+    let here : IsComplete work x [] = lawful.stays x [] done in
+    let there : IsComplete work x rest = lawful.stays x rest done in
+    there.whole_stays ∙ sym here.whole_stays ∙ ap work.whole (append-nil x)
+
+fed_all : (told : Bool) (most : ℕ) (work : Work) (content : Content) (x : List ℕ) (new before : List Slot) (fed : Fed) → IsLawful work → HasGot work content x fed → work.verdict x ≡ None → OutputsAt told before (work.whole x) new → FedAs told before work most content new (Ok fed)
+fed_all told most work content x new before Whole lawful got well at =
+    whole got.0 (ap work.is_complete got.2 ∙ got.1) (ap work.verdict got.2 ∙ well) (subst (λ bytes. OutputsAt told before (work.whole bytes) new) (sym got.2) at)
+fed_all told most work content x new before Enough lawful got well at =
+    let stays : IsComplete work x got.1.0 = lawful.stays x got.1.0 got.0 in
+    had_enough (ap work.is_complete got.1.1 ∙ stays.still) (ap work.verdict got.1.1 ∙ stays.verdict_stays ∙ well)
+    (subst (λ part. OutputsAt told before part new) (sym (ap work.whole got.1.1 ∙ whole_at work x got.1.0 lawful got.0)) at)
+fed_all told most work content x new before Broken lawful got well at = absurd got
+
+judged_all : (told : Bool) (most : ℕ) (work : Work) (content : Content) (x : List ℕ) (reached new before : List Slot) (fed : Fed) (fault : Fault) → is_verdict fault ≡ true → IsLawful work → HasGot work content x fed → Judges work x fault → OutputsAt told before (work.whole x) reached → Swept work.clears (length before) reached new → FedAs told before work most content new (Err fault)
+judged_all told most work content x reached new before Whole fault judging lawful got verdict at swept =
+    judged fault judging (ends_whole content.breaks_off _ got.0) (ap work.verdict got.2 ∙ verdict) reached (subst (λ bytes. OutputsAt told before (work.whole bytes) reached) (sym got.2) at) swept
+judged_all told most work content x reached new before Enough fault judging lawful got verdict at swept =
+    let stays : IsComplete work x got.1.0 = lawful.stays x got.1.0 got.0 in
+    judged fault judging (or_complete content.breaks_off _ (ap work.is_complete got.1.1 ∙ stays.still)) (ap work.verdict got.1.1 ∙ stays.verdict_stays ∙ verdict) reached
+    (subst (λ part. OutputsAt told before part reached) (sym (ap work.whole got.1.1 ∙ whole_at work x got.1.0 lawful got.0)) at) swept
+judged_all told most work content x reached new before Broken fault judging lawful got verdict at swept = absurd got
+
+-- what a fault left at the end, and what was made of its files then
+short_of_end : (told : Bool) (most : ℕ) (work : Work) (content : Content) (x : List ℕ) (reached new before : List Slot) (fed : Fed) (fault : Fault) → IsLawful work → HasGot work content x fed
+    → Ended told before (work.settled x) (work.whole x) work.clears fault reached
+    → (is_verdict fault ≡ false → Stops work most (Some content) reached fault) → (is_verdict fault ≡ true → Judges work x fault)
+    → (is_verdict fault ≡ true → new ≡ reached) → (is_verdict fault ≡ false → Swept work.clears (length before) reached new) → FedAs told before work most content new (Err fault)
+short_of_end told most work content x reached new before fed fault lawful got (engine.cut unjudged stop) why verdict kept swept =
+    stopped fault unjudged _ _ (closing x (got_all work content x fed got)) reached (why unjudged) stop (swept unjudged)
+short_of_end told most work content x reached new before fed fault lawful got (engine.judged judging first at cleared) why verdict kept swept =
+    judged_all told most work content x first new before fed fault judging lawful got (verdict judging) at (subst (λ those. Swept work.clears (length before) first those) (sym (kept judging)) cleared)
+
+module _ {E : Type 0} (Holds : E → List ℕ → Type 0) (Owns : E → ℕ → List Slot → Type 0) (work : E → Work) (is_over : E → Bool) (fed_of : E → ℕ) where
+  -- the loop has fed the engine x
+  pub record Feeds (told : Bool) (start now : E) (x : List ℕ) (old slots : List Slot) : Type 0 where
+    pub same : work now ≡ work start
+    pub holds : Holds now x
+    pub owns : KeepsOwn Owns start now old slots
+    pub outputs : (before : List Slot) → Owns start (length before) old → OutputsAt told before ((work start).settled []) old → OutputsAt told before ((work now).settled x) slots
+    pub bound : fed_of now < 2 ^ 63
+
+  pub begins : (told : Bool) (start : E) (old : List Slot) → Holds start [] → fed_of start < 2 ^ 63 → Feeds told start start [] old old
+  begins told start old holds bound = record { same = refl; holds = holds; owns = λ first own. own; outputs = λ before own at. at; bound = bound }
+
+  -- the engine and its outputs stand at what it was fed
+  pub stands : (told : Bool) (start now : E) (x : List ℕ) (old mid before : List Slot) → Feeds told start now x old mid → Owns start (length before) old → OutputsAt told before ((work start).settled []) old → StandsAt Holds Owns now told before x ((work now).settled x) mid
+  stands told start now x old mid before so_far own at = record { holds = so_far.holds; owns = so_far.owns (length before) own; outputs = so_far.outputs before own at }
+
+  pub goes_on : (told : Bool) (start now next : E) (x piece : List ℕ) (old mid new : List Slot) → Feeds told start now x old mid → work next ≡ work now → TakesIn Holds piece now next → PutsOut Holds Owns work now piece told mid new → KeepsOwn Owns now next mid new → fed_of next < 2 ^ 63 → Feeds told start next (x ++ piece) old new
+  goes_on told start now next x piece old mid new so_far same takes puts keeps bound = record {
+    same = same ∙ so_far.same;
+    holds = takes x so_far.holds;
+    owns = λ first own. keeps first (so_far.owns first own);
+    outputs = λ before own at. subst (λ (those : Work). OutputsAt told before (those.settled (x ++ piece)) new) (sym same) (puts before x (stands told start now x old mid before so_far own at));
+    bound = bound;
+  }
+
+  -- the laws that engines keep
+  pub record Laws : Type 0 where
+    pub live : (e : E) (x : List ℕ) → Holds e x → is_over e ≡ false
+    pub counts : (e : E) (x : List ℕ) → Holds e x → fed_of e ≡ length x
+    pub lawful : (e : E) → IsLawful (work e)
+
+  long_here : (now : E) (most : ℕ) (content : Content) (x piece rest : List ℕ) → content.bytes ≡ (x ++ piece) ++ rest → length piece ≤ most → (work now).is_complete x ≡ false → 2 ^ 63 ≤ length x + length piece → IsLong (work now).is_complete most content.bytes
+  long_here now most content x piece rest is within going long = record { before = x; piece = piece; rest = rest; cut = is; within = within; going = going; long = let size : length (x ++ piece) ≡ length x + length piece = length-append x piece in omega (arith, long) }
+
+  -- the loop ended at a fault of the engine, within the input
+  pub stopped_feeding : (laws : Laws) (told : Bool) (most : ℕ) (lack : Type 0) (start now next : E) (content : Content) (x piece rest : List ℕ) (old mid reached new before : List Slot) (fault : Fault) → Feeds told start now x old mid → Owns start (length before) old → OutputsAt told before ((work start).settled []) old
+      → content.bytes ≡ (x ++ piece) ++ rest → length piece ≤ most → (work now).is_complete x ≡ false → CutsOff Holds Owns work now piece told mid reached fault
+      → IsCaused (IsMet (work now).means (work now).means.feeding lack (EndsWith Holds work now piece) mid reached) (is_over now) (fed_of now) (length piece) mid reached fault
+      → work next ≡ work now → (is_verdict fault ≡ false → KeepsOwn Owns now next mid reached) → (is_verdict fault ≡ true → new ≡ reached) → (is_verdict fault ≡ false → Clears Owns work next reached new)
+      → FedAs told before (work start) most content new (Err fault)
+  stopped_feeding laws told most lack start now next content x piece rest old mid reached new before fault so_far own at is within going cuts caused same owned kept cleared =
+      let why = subst (λ n. IsCaused (IsMet (work now).means (work now).means.feeding lack (EndsWith Holds work now piece) mid reached) false n (length piece) mid reached fault) (laws.counts now x so_far.holds)
+      (subst (λ over. IsCaused (IsMet (work now).means (work now).means.feeding lack (EndsWith Holds work now piece) mid reached) over (fed_of now) (length piece) mid reached fault) (laws.live now x so_far.holds) caused) in
+      subst (λ (those : Work). FedAs told before those most content new (Err fault)) so_far.same
+      (short_of_piece told most (work now) content x piece rest reached new before fault (laws.lawful now) is within going (cuts before x (stands told start now x old mid before so_far own at))
+      (λ unjudged. stops (work now) content most (work now).means.feeding lack (EndsWith Holds work now piece) fault (length x) (length piece) mid reached unjudged (long_here now most content x piece rest is within going) why)
+      (λ judging. judges (work now).means (work now).means.feeding lack (EndsWith Holds work now piece) fault _ _ _ mid reached judging caused x so_far.holds)
+      kept
+      (λ unjudged. subst (λ (those : Work). Swept those.clears (length before) reached new) same (cleared unjudged (length before) (owned unjudged (length before) (so_far.owns (length before) own)))))
+
+  -- the loop ended with the input, or where nothing more can follow
+  pub ended : (laws : Laws) (told : Bool) (most : ℕ) (start now : E) (content : Content) (x : List ℕ) (old mid new before : List Slot) (fed : Fed) (result : Result Fed Fault) → Feeds told start now x old mid → Owns start (length before) old → OutputsAt told before ((work start).settled []) old → HasGot (work now) content x fed
+      → EndsSo Holds Owns work is_over fed_of told now fed mid new result → FedAs told before (work start) most content new result
+  ended laws told most start now content x old mid new before fed result so_far own at got (finished finishes) =
+      let done = finishes before x (stands told start now x old mid before so_far own at) in
+      subst (λ (those : Work). FedAs told before those most content new (Ok fed)) so_far.same (fed_all told most (work now) content x new before fed (laws.lawful now) got done.0 done.1)
+  ended laws told most start now content x old mid new before fed result so_far own at got (fell_short fault reached short caused kept cleared) =
+      let why = subst (λ over. IsCaused (IsMet (work now).means (work now).means.closing (Unit {0}) (EndsThere Holds work now) mid reached) over (fed_of now) 0 mid reached fault) (laws.live now x so_far.holds) caused in
+      subst (λ (those : Work). FedAs told before those most content new (Err fault)) so_far.same
+      (short_of_end told most (work now) content x reached new before fed fault (laws.lawful now) got (short before x (stands told start now x old mid before so_far own at))
+      (λ unjudged. stops (work now) content most (work now).means.closing (Unit {0}) (EndsThere Holds work now) fault (fed_of now) 0 mid reached unjudged (λ long. absurd (let bound : fed_of now < 2 ^ 63 = so_far.bound in omega (arith, bound, long))) why)
+      (λ judging. judges (work now).means (work now).means.closing (Unit {0}) (EndsThere Holds work now) fault _ _ _ mid reached judging caused x so_far.holds)
+      kept
+      (λ unjudged. cleared unjudged (length before) (so_far.owns (length before) own)))
+
+  -- the loop ended where the input broke off
+  pub broken_off : (told : Bool) (most : ℕ) (start now : E) (content : Content) (x : List ℕ) (old slots new before : List Slot) → Feeds told start now x old slots → Owns start (length before) old → OutputsAt told before ((work start).settled []) old → content.bytes ≡ x → content.breaks_off ≡ true → (work now).is_complete x ≡ false
+      → Clears Owns work now slots new → FedAs told before (work start) most content new (Ok Broken)
+  broken_off told most start now content x old slots new before so_far own at all breaks going cleared =
+      subst (λ (those : Work). FedAs told before those most content new (Ok Broken)) so_far.same
+      (broke_off breaks (ap (work now).is_complete all ∙ going) slots
+      (subst (λ bytes. OutputsAt told before ((work now).settled bytes) slots) (sym all) (so_far.outputs before own at))
+      (cleared (length before) (so_far.owns (length before) own)))
+
+  -- an input without bytes: the engine is closed at once
+  pub closed_at_start : (laws : Laws) (told : Bool) (most : ℕ) (start : E) (old new before : List Slot) (fed : Fed) (result : Result Fed Fault) → Holds start [] → fed_of start < 2 ^ 63 → Owns start (length before) old → OutputsAt told before ((work start).settled []) old → HasGot (work start) empty [] fed
+      → EndsSo Holds Owns work is_over fed_of told start fed old new result → FedAs told before (work start) most empty new result
+  closed_at_start laws told most start old new before fed result holds bound own at got ends =
+      ended laws told most start start empty [] old old new before fed result (begins told start old holds bound) own at got ends
+
+  -- an input that ended, or was enough, didn't break off
+  pub ends_sound : (told : Bool) (engine : E) (fed : Fed) (old new : List Slot) (result : Result Fed Fault) (P : Type 0) → (fed ≡ Broken → ⊥) → EndsSo Holds Owns work is_over fed_of told engine fed old new result → IfOk result (λ found. found ≡ Broken → P)
+  ends_sound told engine fed old new result P differs (finished finishes) = λ is. absurd (differs is)
+  ends_sound told engine fed old new result P differs (fell_short fault reached short caused kept cleared) = tt
+
+  -- how a close ended, where what it gave up is known
+  pub close_short : (told : Bool) (engine mid : E) (fed : Fed) (old reached new : List Slot) (fault : Fault) → EndsShort Holds Owns work engine told old reached fault
+      → IsCaused (IsMet (work engine).means (work engine).means.closing (Unit {0}) (EndsThere Holds work engine) old reached) (is_over engine) (fed_of engine) 0 old reached fault
+      → work mid ≡ work engine → (is_verdict fault ≡ false → KeepsOwn Owns engine mid old reached) → (is_verdict fault ≡ true → new ≡ reached) → (is_verdict fault ≡ false → Clears Owns work mid reached new)
+      → EndsSo Holds Owns work is_over fed_of told engine fed old new (Err fault)
+  close_short told engine mid fed old reached new fault short caused same owned kept cleared =
+      fell_short fault reached short caused kept (λ unjudged first own. subst (λ (those : Work). Swept those.clears first reached new) same (cleared unjudged first (owned unjudged first own)))
+
+pub read_to_end : (content : Content) (x : List ℕ) (slot : ℕ) (sources : List Source) → HasRead content x slot sources → (source_at sources slot).left.bytes ≡ [] → (source_at sources slot).left.breaks_off ≡ false → (content.breaks_off ≡ false) × (content.bytes ≡ x)
+read_to_end content x slot sources read none sound = (sym read.breaks_off ∙ sound, read.bytes ∙ ap (λ rest. x ++ rest) none ∙ append-nil x)
+
+pub read_broken : (content : Content) (x : List ℕ) (slot : ℕ) (sources : List Source) → HasRead content x slot sources → BrokeOff (source_at sources slot).left → (content.bytes ≡ x) × (content.breaks_off ≡ true)
+read_broken content x slot sources read broke = (read.bytes ∙ ap (λ rest. x ++ rest) broke.no_more ∙ append-nil x, sym read.breaks_off ∙ broke.breaks_off)
+
+pub of_content : (told : Bool) (there seen : Content) (P : Content → Type 0) → (told ≡ true → P there) → P seen → OfContent told there P
+of_content true there seen P told untold = (there, λ t. refl, told refl)
+of_content false there seen P told untold = (seen, λ t. absurd (false≢true t), untold)
+
+-- what was read was needed
+
+pub needed_none : (is_complete : List ℕ → Bool) (most : ℕ) → IsNeeded is_complete most []
+needed_none is_complete most = inl refl
+
+pub piece_within : (n most : ℕ) (buffer : List ℕ) → n ≤ most → length (take n buffer) ≤ most
+piece_within n most buffer within = omega (arith, length-take n buffer)
+
+pub needed_more : (is_complete : List ℕ → Bool) (most n : ℕ) (x buffer : List ℕ) → is_complete x ≡ false → n ≤ most → IsNeeded is_complete most (x ++ take n buffer)
+needed_more is_complete most n x buffer going within = inr (x, take n buffer, refl, piece_within n most buffer within, going)
+
+pub read_failed : (content : Content) (x : List ℕ) (slot : ℕ) (sources new : List Source) (size : ℕ) → HasRead content x slot sources → IsTrue (is_readable sources slot) → new ≡ changed_at slot (fails size) sources → content.bytes ≡ x ++ (source_at new slot).left.bytes
+read_failed content x slot sources new size read can is =
+    read.bytes ∙ ap (λ (left : Content). x ++ left.bytes)
+    (sym (ap (λ those. (source_at those slot).left) is ∙ ap (λ (source : Source). source.left) (changed_there _ slot (fails size) sources (readable_within sources slot can))))
+
+-- nothing was read
+pub reads_none : (is_complete : List ℕ → Bool) (most : ℕ) (there left : Content) → left ≡ there → ReadsFor is_complete most there left
+reads_none is_complete most there left is = ([], needed_none is_complete most, ap (λ (content : Content). content.bytes) (sym is))
+
+-- the same by what another test says of the same bytes
+pub reads_as : (one other : List ℕ → Bool) (most : ℕ) (there left : Content) → ((x : List ℕ) → one x ≡ other x) → ReadsFor one most there left → ReadsFor other most there left
+reads_as one other most there left same (x, inl none, is) = (x, inl none, is)
+reads_as one other most there left same (x, inr (before, piece, cut, within, going), is) = (x, inr (before, piece, cut, within, sym (same before) ∙ going), is)
+
+-- the same by another name for the greatest piece
+pub reads_room : (is_complete : List ℕ → Bool) (room most : ℕ) (there left : Content) → room ≡ most → ReadsFor is_complete room there left → ReadsFor is_complete most there left
+reads_room is_complete room most there left same reads = subst (λ n. ReadsFor is_complete n there left) same reads
+
+pub content_too : (told : Bool) (there : Content) (P Q : Content → Type 0) → ((content : Content) → P content → Q content) → OfContent told there P → OfContent told there Q
+content_too told there P Q also (content, is, holds) = (content, is, also content holds)
+
+greater : (a b most : ℕ) → a ≤ most → b ≤ most → max a b ≤ most
+greater a b most first second = omega (arith, first, second)
+
+-- no read asked for more
+pub asked_again : (slot size most n : ℕ) (sources new : List Source) → IsTrue (is_readable sources slot) → new ≡ changed_at slot (gives size n) sources → size ≤ most → (source_at sources slot).asked ≤ most → (source_at new slot).asked ≤ most
+asked_again slot size most n sources new can is within so_far = subst (λ asked. asked ≤ most) (sym (ap (λ (source : Source). source.asked) (left_after slot sources new size n can is))) (greater (source_at sources slot).asked size most so_far within)
+
+failed_at : (slot size : ℕ) (sources new : List Source) → IsTrue (is_readable sources slot) → new ≡ changed_at slot (fails size) sources → source_at new slot ≡ fails size (source_at sources slot)
+failed_at slot size sources new can is = ap (λ those. source_at those slot) is ∙ changed_there _ slot (fails size) sources (readable_within sources slot can)
+
+pub asked_at_end : (slot size most : ℕ) (sources new : List Source) → IsTrue (is_readable sources slot) → new ≡ changed_at slot (fails size) sources → size ≤ most → (source_at sources slot).asked ≤ most → (source_at new slot).asked ≤ most
+asked_at_end slot size most sources new can is within so_far = subst (λ asked. asked ≤ most) (sym (ap (λ (source : Source). source.asked) (failed_at slot size sources new can is))) (greater (source_at sources slot).asked size most so_far within)
+
+pub broken_now : (slot size : ℕ) (sources new : List Source) → IsTrue (is_readable sources slot) → new ≡ changed_at slot (fails size) sources → (source_at new slot).is_broken ≡ true
+broken_now slot size sources new can is = ap (λ (source : Source). source.is_broken) (failed_at slot size sources new can is)
+
+-- the same of the fault that is handed on
+pub given_so : (told : Bool) (before new : List Slot) (work : Work) (most : ℕ) (content : Content) (given fault : Fault) → given ≡ fault → FedAs told before work most content new (Err fault) → FedAs told before work most content new (Err given)
+given_so told before new work most content given fault is fed = subst (λ those. FedAs told before work most content new (Err those)) (sym is) fed

@@ -1,0 +1,16 @@
+use Rattle.std.proofs.Common.{◌≡◌, sym, subst, Err}
+use Rattle.ports_core.specs.declared.fault.Fault.{Fault}
+use Rattle.run_core.specs.Feeding.{EndsSo, finished}
+use Rattle.run_core.proofs.FeedingLemmas.{close_short}
+use Rattle.run_core.proofs.feeding.end.Goals as goal
+
+pub returns-in-Ok : goal.returns-in-Ok
+returns-in-Ok g c = finished c.in-Ok.ensures.outputs
+
+pub given_up-requires : goal.given_up-requires
+given_up-requires g c unjudged = (c.requires.owns.0, c.in-Err.ensures.owned unjudged c.requires.owns.0 c.requires.owns.1)
+
+pub returns-in-Err : goal.returns-in-Err
+returns-in-Err g c =
+    subst (λ those. EndsSo g.E.Engine.Holds g.E.Engine.Owns g.E.Engine.work g.E.Engine.is_over g.E.Engine.fed g.O.Outs.told c.args.engine.now c.args.fed (g.O.Outs.slots c.args.outs.now) (g.O.Outs.slots c.given_up.new.outs) (Err those)) (sym c.given_up.ensures.same)
+    (close_short _ _ _ _ _ _ _ _ _ _ _ _ c.in-Err.fault c.in-Err.ensures.cut c.in-Err.ensures.refused c.close.ensures.same c.in-Err.ensures.owned c.given_up.ensures.judged c.given_up.ensures.swept)

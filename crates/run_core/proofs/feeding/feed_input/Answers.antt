@@ -1,0 +1,155 @@
+use Rattle.std.proofs.Common.{◌≡◌, ◌≤◌, length, ◌++◌, ◌∙◌, [], true, false, sym, ap, refl, take, arith}
+use Rattle.std.proofs.lemmas.List.{append-nil}
+use Rattle.std.proofs.lemmas.Bool.{false≢true}
+use Rattle.ports_core.specs.Work.{Work}
+use Rattle.run_core.proofs.FeedingLemmas.{begins, nothing_read, keeps_itself, keeps_again, keeps_others, read_broken, broken_off, of_content, still_readable, read_more, read_failed, goes_on, stopped_feeding, read_to_end, ended, needed_none, needed_more, piece_within, asked_again, asked_at_end, broken_now, ends_sound, given_so, Laws}
+use Rattle.run_core.proofs.feeding.feed_input.Goals as goal
+
+pub pieces-init : goal.pieces-init
+pieces-init g c = record {
+  fed = [];
+  feeds = begins _ _ _ _ _ _ _ _ c.requires.fresh c.requires.bound;
+  readable = c.requires.input;
+  others = keeps_itself _ _;
+  read = λ told. nothing_read _ _;
+  needed = needed_none _ _;
+  asked = λ within. within;
+  laid = refl;
+  ready = c.requires.output;
+}
+
+pub read-requires : goal.read-requires
+read-requires g c = c.pieces.invariant.readable
+
+-- where the read broke off
+
+pub abandon-requires : goal.abandon-requires
+abandon-requires g c = (c.requires.owns.0, c.pieces.invariant.feeds.owns c.requires.owns.0 c.requires.owns.1)
+
+pub returns-in-Err-clause-ends : goal.returns-in-Err-clause-ends
+returns-in-Err-clause-ends g c before own at =
+    let so_far = c.pieces.invariant in
+    let going : (g.E.Engine.work c.pieces.engine).is_complete so_far.fed ≡ false = sym (c.done.ensures so_far.fed so_far.feeds.holds) ∙ c.pieces-test.true in
+    of_content g.I.Inputs.told _ (record { bytes = so_far.fed; breaks_off = true }) _
+    (λ told. let broke = read_broken _ _ _ _ (so_far.read told) (c.in-Err.ensures.break_off told) in
+    broken_off _ _ _ _ _ _ _ _ _ _ so_far.fed _ _ _ before so_far.feeds own at broke.0 broke.1 going c.abandon.ensures.swept)
+    (broken_off _ _ _ _ _ _ _ _ _ _ so_far.fed _ _ _ before so_far.feeds own at refl refl going c.abandon.ensures.swept)
+
+pub returns-in-Err-clause-others : goal.returns-in-Err-clause-others
+returns-in-Err-clause-others g c = keeps_again _ _ _ _ c.pieces.invariant.others (keeps_others _ _ _ _ c.in-Err.ensures.err.1)
+
+pub returns-in-Err-clause-reads : goal.returns-in-Err-clause-reads
+returns-in-Err-clause-reads g c told =
+    let so_far = c.pieces.invariant in (so_far.fed, so_far.needed, read_failed _ _ _ _ _ _ (so_far.read told) so_far.readable c.in-Err.ensures.err.1)
+
+pub returns-in-Err-clause-asked : goal.returns-in-Err-clause-asked
+returns-in-Err-clause-asked g c within = asked_at_end _ _ _ _ _ c.pieces.invariant.readable c.in-Err.ensures.err.1 (omega arith) (c.pieces.invariant.asked within)
+
+pub returns-in-Err-clause-broke : goal.returns-in-Err-clause-broke
+returns-in-Err-clause-broke g c is = broken_now _ _ _ _ c.pieces.invariant.readable c.in-Err.ensures.err.1
+
+-- where the input ended
+
+pub end-requires-clause-owns : goal.end-requires-clause-owns
+end-requires-clause-owns g c = (c.requires.owns.0, c.pieces.invariant.feeds.owns c.requires.owns.0 c.requires.owns.1)
+
+pub returns-then-n-eq0-clause-ends : goal.returns-then-n-eq0-clause-ends
+returns-then-n-eq0-clause-ends g c before own at =
+    let so_far = c.pieces.invariant in
+    let going : (g.E.Engine.work c.pieces.engine).is_complete so_far.fed ≡ false = sym (c.done.ensures so_far.fed so_far.feeds.holds) ∙ c.pieces-test.true in
+    let laws : Laws g.E.Engine.Holds g.E.Engine.Owns g.E.Engine.work g.E.Engine.is_over g.E.Engine.fed
+    = record { live = g.met.E.Engine.live; counts = g.met.E.Engine.counts; lawful = g.met.E.Engine.lawful } in
+    of_content g.I.Inputs.told _ (record { bytes = so_far.fed; breaks_off = false }) _
+    (λ told. let at_end = (c.in-Ok.ensures.bytes told).ended c.if-n-eq0.true (omega (arith, c.requires.room)) in
+    ended _ _ _ _ _ laws _ _ _ _ _ so_far.fed _ _ _ before _ c.end.result so_far.feeds own at
+    (let all = read_to_end _ _ _ _ (so_far.read told) at_end.0 at_end.1 in (all.0, going, all.1))
+    c.end.ensures)
+    (ended _ _ _ _ _ laws _ _ _ _ _ so_far.fed _ _ _ before _ c.end.result so_far.feeds own at (refl, going, refl) c.end.ensures)
+
+pub returns-then-n-eq0-clause-others : goal.returns-then-n-eq0-clause-others
+returns-then-n-eq0-clause-others g c = keeps_again _ _ _ _ c.pieces.invariant.others (keeps_others _ _ _ _ c.in-Ok.ensures.rest)
+
+pub returns-then-n-eq0-clause-reads : goal.returns-then-n-eq0-clause-reads
+returns-then-n-eq0-clause-reads g c told =
+    let so_far = c.pieces.invariant in (
+      so_far.fed ++ take c.in-Ok.n c.read.new.buffer,
+      needed_more _ _ c.in-Ok.n so_far.fed c.read.new.buffer (ap (λ (work : Work). work.is_complete so_far.fed) (sym so_far.feeds.same) ∙ sym (c.done.ensures so_far.fed so_far.feeds.holds) ∙ c.pieces-test.true) (omega (arith, c.in-Ok.ensures.bound)),
+      (read_more _ _ _ _ _ _ _ _ _ (so_far.read told) so_far.readable (c.in-Ok.ensures.bytes told) c.in-Ok.ensures.rest).bytes,
+    )
+
+pub returns-then-n-eq0-clause-asked : goal.returns-then-n-eq0-clause-asked
+returns-then-n-eq0-clause-asked g c within = asked_again _ _ _ _ _ _ c.pieces.invariant.readable c.in-Ok.ensures.rest (omega arith) (c.pieces.invariant.asked within)
+
+pub returns-then-n-eq0-clause-broke : goal.returns-then-n-eq0-clause-broke
+returns-then-n-eq0-clause-broke g c = ends_sound _ _ _ _ _ _ _ _ _ _ c.end.result _ (λ is. cc) c.end.ensures
+
+-- where the engine took the piece
+
+pub pieces-preserved : goal.pieces-preserved
+pieces-preserved g c =
+    let so_far = c.pieces.invariant in record {
+      fed = so_far.fed ++ take c.in-Ok.n c.read.new.buffer;
+      feeds = goes_on _ _ _ _ _ _ _ _ _ so_far.fed (take c.in-Ok.n c.read.new.buffer) _ _ _ so_far.feeds c.in-Ok-feed.ensures.same c.in-Ok-feed.ensures.holds c.in-Ok-feed.ensures.outputs c.in-Ok-feed.ensures.owns c.in-Ok-feed.ensures.bound;
+      readable = still_readable _ _ _ _ c.in-Ok.n c.in-Ok.ensures.rest so_far.readable;
+      others = keeps_again _ _ _ _ so_far.others (keeps_others _ _ _ _ c.in-Ok.ensures.rest);
+      read = λ told. read_more _ _ _ _ _ _ _ _ _ (so_far.read told) so_far.readable (c.in-Ok.ensures.bytes told) c.in-Ok.ensures.rest;
+      needed = needed_more _ _ c.in-Ok.n so_far.fed c.read.new.buffer (ap (λ (work : Work). work.is_complete so_far.fed) (sym so_far.feeds.same) ∙ sym (c.done.ensures so_far.fed so_far.feeds.holds) ∙ c.pieces-test.true) (omega (arith, c.in-Ok.ensures.bound));
+      asked = λ within. asked_again _ _ _ _ _ _ so_far.readable c.in-Ok.ensures.rest (omega arith) (so_far.asked within);
+      laid = c.read.ensures.kept ∙ so_far.laid;
+      ready = c.in-Ok-feed.ensures.ready;
+    }
+
+-- where it failed
+
+pub given_up-requires : goal.given_up-requires
+given_up-requires g c unjudged = (c.requires.owns.0, c.in-Err-feed.ensures.owned unjudged c.requires.owns.0 (c.pieces.invariant.feeds.owns c.requires.owns.0 c.requires.owns.1))
+
+pub returns-in-Err-feed-clause-ends : goal.returns-in-Err-feed-clause-ends
+returns-in-Err-feed-clause-ends g c before own at =
+    let so_far = c.pieces.invariant in
+    let within : length (take c.in-Ok.n c.read.new.buffer) ≤ length c.args.buffer.now = piece_within c.in-Ok.n _ c.read.new.buffer (omega (arith, c.in-Ok.ensures.bound)) in
+    let going : (g.E.Engine.work c.pieces.engine).is_complete so_far.fed ≡ false = sym (c.done.ensures so_far.fed so_far.feeds.holds) ∙ c.pieces-test.true in
+    let laws : Laws g.E.Engine.Holds g.E.Engine.Owns g.E.Engine.work g.E.Engine.is_over g.E.Engine.fed
+    = record { live = g.met.E.Engine.live; counts = g.met.E.Engine.counts; lawful = g.met.E.Engine.lawful } in
+    of_content g.I.Inputs.told _ (record { bytes = so_far.fed ++ take c.in-Ok.n c.read.new.buffer; breaks_off = false }) _
+    (λ told. given_so _ _ _ _ _ _ _ _ c.given_up.ensures.same (stopped_feeding _ _ _ _ _ laws _ _ _ _ _ _ _ so_far.fed (take c.in-Ok.n c.read.new.buffer) _ _ _ _ _ before c.in-Err-feed.fault so_far.feeds own at
+    (read_more _ _ _ _ _ _ _ _ _ (so_far.read told) so_far.readable (c.in-Ok.ensures.bytes told) c.in-Ok.ensures.rest).bytes within going
+    c.in-Err-feed.ensures.cut c.in-Err-feed.ensures.refused c.feed.ensures.same c.in-Err-feed.ensures.owned c.given_up.ensures.judged c.given_up.ensures.swept))
+    (given_so _ _ _ _ _ _ _ _ c.given_up.ensures.same (stopped_feeding _ _ _ _ _ laws _ _ _ _ _ _ _ so_far.fed (take c.in-Ok.n c.read.new.buffer) [] _ _ _ _ before c.in-Err-feed.fault so_far.feeds own at
+    (sym (append-nil _)) within going c.in-Err-feed.ensures.cut c.in-Err-feed.ensures.refused c.feed.ensures.same c.in-Err-feed.ensures.owned c.given_up.ensures.judged c.given_up.ensures.swept))
+
+pub returns-in-Err-feed-clause-others : goal.returns-in-Err-feed-clause-others
+returns-in-Err-feed-clause-others g c = keeps_again _ _ _ _ c.pieces.invariant.others (keeps_others _ _ _ _ c.in-Ok.ensures.rest)
+
+pub returns-in-Err-feed-clause-reads : goal.returns-in-Err-feed-clause-reads
+returns-in-Err-feed-clause-reads g c told =
+    let so_far = c.pieces.invariant in (
+      so_far.fed ++ take c.in-Ok.n c.read.new.buffer,
+      needed_more _ _ c.in-Ok.n so_far.fed c.read.new.buffer (ap (λ (work : Work). work.is_complete so_far.fed) (sym so_far.feeds.same) ∙ sym (c.done.ensures so_far.fed so_far.feeds.holds) ∙ c.pieces-test.true) (omega (arith, c.in-Ok.ensures.bound)),
+      (read_more _ _ _ _ _ _ _ _ _ (so_far.read told) so_far.readable (c.in-Ok.ensures.bytes told) c.in-Ok.ensures.rest).bytes,
+    )
+
+pub returns-in-Err-feed-clause-asked : goal.returns-in-Err-feed-clause-asked
+returns-in-Err-feed-clause-asked g c within = asked_again _ _ _ _ _ _ c.pieces.invariant.readable c.in-Ok.ensures.rest (omega arith) (c.pieces.invariant.asked within)
+
+-- where nothing more can follow
+
+pub end-requires-2-clause-owns : goal.end-requires-2-clause-owns
+end-requires-2-clause-owns g c = (c.requires.owns.0, c.pieces.invariant.feeds.owns c.requires.owns.0 c.requires.owns.1)
+
+pub returns-clause-broke : goal.returns-clause-broke
+returns-clause-broke g c = ends_sound _ _ _ _ _ _ _ _ _ _ c.end-2.result _ (λ is. cc) c.end-2.ensures
+
+pub returns-clause-ends : goal.returns-clause-ends
+returns-clause-ends g c before own at =
+    let so_far = c.pieces.invariant in
+    let done : (g.E.Engine.work c.pieces.engine).is_complete so_far.fed ≡ true = sym (c.done.ensures so_far.fed so_far.feeds.holds) ∙ c.pieces-test.false in
+    let laws : Laws g.E.Engine.Holds g.E.Engine.Owns g.E.Engine.work g.E.Engine.is_over g.E.Engine.fed
+    = record { live = g.met.E.Engine.live; counts = g.met.E.Engine.counts; lawful = g.met.E.Engine.lawful } in
+    of_content g.I.Inputs.told _ (record { bytes = so_far.fed; breaks_off = false }) _
+    (λ told. ended _ _ _ _ _ laws _ _ _ _ _ so_far.fed _ _ _ before _ c.end-2.result so_far.feeds own at (done, (_, (so_far.read told).bytes)) c.end-2.ensures)
+    (ended _ _ _ _ _ laws _ _ _ _ _ so_far.fed _ _ _ before _ c.end-2.result so_far.feeds own at (done, ([], sym (append-nil so_far.fed))) c.end-2.ensures)
+
+pub returns-clause-reads : goal.returns-clause-reads
+returns-clause-reads g c told =
+    let so_far = c.pieces.invariant in (so_far.fed, so_far.needed, (so_far.read told).bytes)

@@ -1,0 +1,97 @@
+-- What becomes of an input that is fed to an engine piece by piece.
+use Rattle.std.specs.Prelude.{◌≡◌, ℕ, ◌≤◌, ◌^◌, Bool, true, false, not, ◌||◌, List, [], ◌++◌, length, ◌⊎◌, Option, Some, None, Result, Ok, Err, if◌then◌else◌}
+use Rattle.ports_core.specs.Slot.{Slot, slot_at}
+use Rattle.ports_core.specs.Source.{Content, Source, source_at}
+use Rattle.ports_core.specs.Part.{Part, OutputsAt, StoppedBetween, nothing}
+use Rattle.ports_core.specs.Swept.{Swept}
+use Rattle.ports_core.specs.Work.{Work, Judges}
+use Rattle.ports_core.specs.Engine.{Finishes, EndsShort, EndsThere, IsCaused, IsMet, is_verdict}
+use Rattle.ports_core.specs.declared.fault.Fault.{Fault}
+use Rattle.run_core.specs.declared.feeding.Fed.{Fed}
+use Rattle.run_core.specs.declared.feeding.Fed.TheVariants.{Whole, Enough, Broken}
+use Rattle.ports_core.specs.declared.fault.Fault.TheVariants.{Memory, Write, Read, Open, Suffixes, NoMatch, Range, Usage, Failed, TooLong}
+
+-- the input ends, or the output is complete before it breaks off
+abbrev pub is_enough : Work → Content → Bool
+is_enough work content = not content.breaks_off || work.is_complete content.bytes
+
+-- what the engine makes of an input
+abbrev pub made_of : Work → Content → Part
+made_of work content = if is_enough work content then work.whole content.bytes else work.settled content.bytes
+
+-- More bytes came in than any tool takes: the output of those before the last piece, of at most `most` bytes, was not complete.
+pub record IsLong (is_complete : List ℕ → Bool) (most : ℕ) (bytes : List ℕ) : Type 0 where
+  pub before : List ℕ
+  pub piece : List ℕ
+  pub rest : List ℕ
+  pub cut : bytes ≡ (before ++ piece) ++ rest
+  pub within : length piece ≤ most
+  pub going : is_complete before ≡ false
+  pub long : 2 ^ 63 ≤ length (before ++ piece)
+
+abbrev pub HasLong : (List ℕ → Bool) → ℕ → Option Content → Type 0
+HasLong is_complete most None = ⊥
+HasLong is_complete most (Some content) = IsLong is_complete most content.bytes
+
+-- What stops a tool at an input before all that it makes of it is written, where the outputs are left so: no memory, an output
+-- broke, a file could not be opened, more input than any tool takes. A tool writes to standard output or to files as its means say.
+abbrev pub Stops : Work → ℕ → Option Content → List Slot → Fault → Type 0
+Stops work most content now Memory = Unit {0}
+Stops work most content now (Write slot) = (work.means.files ≡ false → slot ≡ 0) × ((slot_at now slot).is_broken ≡ true)
+Stops work most content now (Open slot) = work.means.files ≡ true
+Stops work most content now TooLong = HasLong work.is_complete most content
+Stops work most content now (Read slot) = ⊥
+Stops work most content now Suffixes = ⊥
+Stops work most content now (NoMatch operand repetition) = ⊥
+Stops work most content now (Range operand repetition) = ⊥
+Stops work most content now (Usage kind word) = ⊥
+Stops work most content now Failed = ⊥
+
+-- the engine has got all of an input that it needs: the input ended, or nothing more could follow
+pub data HasAll (work : Work) (content : Content) (x : List ℕ) : Type 0 where
+  to_end : content.breaks_off ≡ false → content.bytes ≡ x → HasAll work content x
+  enough : (rest : List ℕ) → content.bytes ≡ x ++ rest → work.is_complete x ≡ true → HasAll work content x
+
+-- One call of an engine over this input, fed by pieces of at most `most` bytes: what was settled before it, and what after it.
+pub data IsStep (work : Work) (most : ℕ) (content : Content) : Part → Part → Type 0 where
+  opening : IsStep work most content nothing (work.settled [])
+  feeding : (x piece rest : List ℕ) → content.bytes ≡ (x ++ piece) ++ rest → length piece ≤ most → work.is_complete x ≡ false → IsStep work most content (work.settled x) (work.settled (x ++ piece))
+  closing : (x : List ℕ) → HasAll work content x → IsStep work most content (work.settled x) (work.whole x)
+
+-- How feeding an input by pieces of at most `most` bytes ends, from the outputs as they were before: it ended, or nothing more could
+-- follow; or it broke off before that, and the files go if the work clears them; or the work itself ends with a fault, and the files
+-- go likewise; or a fault stopped one call, and then the files go.
+pub data FedAs (told : Bool) (before : List Slot) (work : Work) (most : ℕ) (content : Content) (new : List Slot) : Result Fed Fault → Type 0 where
+  whole : content.breaks_off ≡ false → work.is_complete content.bytes ≡ false → work.verdict content.bytes ≡ None → OutputsAt told before (work.whole content.bytes) new → FedAs told before work most content new (Ok Whole)
+  had_enough : work.is_complete content.bytes ≡ true → work.verdict content.bytes ≡ None → OutputsAt told before (work.whole content.bytes) new → FedAs told before work most content new (Ok Enough)
+  broke_off : content.breaks_off ≡ true → work.is_complete content.bytes ≡ false → (reached : List Slot) → OutputsAt told before (work.settled content.bytes) reached → Swept work.clears (length before) reached new → FedAs told before work most content new (Ok Broken)
+  judged : (fault : Fault) → is_verdict fault ≡ true → is_enough work content ≡ true → Judges work content.bytes fault → (reached : List Slot) → OutputsAt told before (work.whole content.bytes) reached → Swept work.clears (length before) reached new → FedAs told before work most content new (Err fault)
+  stopped : (fault : Fault) → is_verdict fault ≡ false → (low high : Part) → IsStep work most content low high → (reached : List Slot) → Stops work most (Some content) reached fault → StoppedBetween told before low high fault reached → Swept work.clears (length before) reached new → FedAs told before work most content new (Err fault)
+
+-- an input that tells its bytes had this content; of others it is known no further than their reads gave it
+abbrev pub OfContent : Bool → Content → (Content → Type 0) → Type 0
+OfContent told there P = (content : Content) × (told ≡ true → content ≡ there) × P content
+
+-- no input but this one was touched
+pub record KeepsOthers (slot : ℕ) (old new : List Source) : Type 0 where
+  pub count : length new ≡ length old
+  pub others : (place : ℕ) → (place ≡ slot → ⊥) → source_at new place ≡ source_at old place
+
+-- What was read of an input was needed: the last piece has at most `most` bytes, and the output of those before it was not
+-- complete.
+abbrev pub IsNeeded : (List ℕ → Bool) → ℕ → List ℕ → Type 0
+IsNeeded is_complete most x = (x ≡ []) ⊎ ((before : List ℕ) × (piece : List ℕ) × (x ≡ before ++ piece) × (length piece ≤ most) × (is_complete before ≡ false))
+
+-- of the input that was there, this is left, and what was read was needed
+abbrev pub ReadsFor : (List ℕ → Bool) → ℕ → Content → Content → Type 0
+ReadsFor is_complete most there left = (x : List ℕ) × IsNeeded is_complete most x × (there.bytes ≡ x ++ left.bytes)
+
+-- How closing an engine ends that has got all of its input: it finished; or a fault stopped it, and its files went if the work clears
+-- them, by itself where that fault is a verdict.
+pub data EndsSo {E : Type 0} (Holds : E → List ℕ → Type 0) (Owns : E → ℕ → List Slot → Type 0) (work : E → Work) (is_over : E → Bool) (fed_of : E → ℕ) (told : Bool) (engine : E) (fed : Fed) (old new : List Slot) : Result Fed Fault → Type 0 where
+  finished : Finishes Holds Owns work engine told old new → EndsSo Holds Owns work is_over fed_of told engine fed old new (Ok fed)
+  fell_short : (fault : Fault) (reached : List Slot) → EndsShort Holds Owns work engine told old reached fault
+      → IsCaused (IsMet (work engine).means (work engine).means.closing (Unit {0}) (EndsThere Holds work engine) old reached) (is_over engine) (fed_of engine) 0 old reached fault
+      → (is_verdict fault ≡ true → new ≡ reached)
+      → (is_verdict fault ≡ false → (first : ℕ) → Owns engine first old → Swept (work engine).clears first reached new)
+      → EndsSo Holds Owns work is_over fed_of told engine fed old new (Err fault)

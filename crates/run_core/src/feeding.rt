@@ -1,0 +1,126 @@
+//! Feeding an engine one input, piece by piece.
+ghost use Rattle.std.specs.Prelude.{◌≡◌, ◌^◌, ◌<◌, ◌≤◌, ℕ, List, [], true, false, length, IsTrue, IfOk, IfErr, OnOk};
+ghost use Rattle.ports_core.specs.Slot.{Slot};
+ghost use Rattle.ports_core.specs.Source.{source_at, is_readable};
+ghost use Rattle.ports_core.specs.Part.{OutputsAt};
+ghost use Rattle.ports_core.specs.Engine.{Clears, KeepsOwn, is_verdict};
+ghost use Rattle.run_core.specs.Input.{empty};
+ghost use Rattle.run_core.specs.Feeding.{EndsSo, FedAs, KeepsOthers, OfContent, ReadsFor};
+
+use ports_core::{Engine, Fault, Inputs, Outs};
+
+/// What became of an input.
+#[derive(Clone, Copy, Debug, PartialEq, Eq)]
+pub enum Fed {
+    /// It ended, and the engine could have gone on.
+    Whole,
+    /// The engine was done with it: nothing more could follow in the output.
+    Enough,
+    /// It broke off before that, and the engine isn't closed.
+    Broken,
+}
+
+/// Feeds an engine all of an input, in pieces of at most the buffer's length, until it is done with it. Then, or at the
+/// end of the input, the engine is closed. Where the input breaks off before that, and after a fault, the engine gives its
+/// files up.
+///
+/// # Errors
+///
+/// The engine's fault.
+pub fn feed_input<E: Engine, I: Inputs, O: Outs>(
+    engine: &mut E,
+    slot: usize,
+    buffer: &mut [u8],
+    inputs: &mut I,
+    outs: &mut O,
+) -> Result<Fed, Fault>
+    requires room { 0 < length buffer.old }
+    requires fresh { E.Holds engine.old [] }
+    requires bound { E.fed engine.old < 2 ^ 63 }
+    requires input { IsTrue (is_readable (I.sources inputs.old) slot) }
+    requires output { E.Ready engine.old (O.slots outs.old) }
+    requires owns { (first : ℕ) × E.Owns engine.old first (O.slots outs.old) }
+    ensures ends { (before : List Slot) → E.Owns engine.old (length before) (O.slots outs.old) → OutputsAt O.told before ((E.work engine.old).settled []) (O.slots outs.old)
+        → OfContent I.told (source_at (I.sources inputs.old) slot).left (λ content. FedAs O.told before (E.work engine.old) (length buffer.old) content (O.slots outs.new) result) }
+    ensures reads { I.told ≡ true → ReadsFor (E.work engine.old).is_complete (length buffer.old) (source_at (I.sources inputs.old) slot).left (source_at (I.sources inputs.new) slot).left }
+    ensures asked { (source_at (I.sources inputs.old) slot).asked ≤ length buffer.old → (source_at (I.sources inputs.new) slot).asked ≤ length buffer.old }
+    ensures broke { IfOk result (λ fed. fed ≡ Fed.Broken → (source_at (I.sources inputs.new) slot).is_broken ≡ true) }
+    ensures laid { I.laid inputs.new ≡ I.laid inputs.old }
+    ensures others { KeepsOthers slot (I.sources inputs.old) (I.sources inputs.new) }
+{
+    'pieces: while !engine.done() {
+        let n = match inputs.read(slot, buffer) {
+            Ok(n) => n,
+            Err(_) => {
+                engine.abandon(outs);
+                return Ok(Fed::Broken);
+            }
+        };
+        if n == 0 {
+            return end(engine, Fed::Whole, outs);
+        }
+        match engine.feed(&buffer[..n], outs) {
+            Ok(()) => {}
+            Err(fault) => return Err(given_up(engine, fault, outs)),
+        }
+    }
+    end(engine, Fed::Enough, outs)
+}
+
+/// Feeds an engine an input without bytes.
+///
+/// # Errors
+///
+/// The engine's fault.
+pub fn feed_nothing<E: Engine, O: Outs>(engine: &mut E, outs: &mut O) -> Result<Fed, Fault>
+    requires fresh { E.Holds engine.old [] }
+    requires bound { E.fed engine.old < 2 ^ 63 }
+    requires output { E.Ready engine.old (O.slots outs.old) }
+    requires owns { (first : ℕ) × E.Owns engine.old first (O.slots outs.old) }
+    ensures ends { (before : List Slot) (most : ℕ) → E.Owns engine.old (length before) (O.slots outs.old) → OutputsAt O.told before ((E.work engine.old).settled []) (O.slots outs.old)
+        → FedAs O.told before (E.work engine.old) most empty (O.slots outs.new) result }
+{
+    if engine.done() {
+        return end(engine, Fed::Enough, outs);
+    }
+    end(engine, Fed::Whole, outs)
+}
+
+/// Closes an engine that has got all of its input, of which this became.
+///
+/// # Errors
+///
+/// The engine's fault.
+fn end<E: Engine, O: Outs>(engine: &mut E, fed: Fed, outs: &mut O) -> Result<Fed, Fault>
+    requires ready { E.is_over engine.old ≡ false → E.Ready engine.old (O.slots outs.old) }
+    requires owns { (first : ℕ) × E.Owns engine.old first (O.slots outs.old) }
+    ensures { EndsSo E.Holds E.Owns E.work E.is_over E.fed O.told engine.old fed (O.slots outs.old) (O.slots outs.new) result }
+{
+    match engine.close(outs) {
+        Ok(()) => Ok(fed),
+        Err(fault) => Err(given_up(engine, fault, outs)),
+    }
+}
+
+/// Gives up an engine's files after its fault, unless that is a verdict on its input, and returns the fault.
+fn given_up<E: Engine, O: Outs>(engine: &mut E, fault: Fault, outs: &mut O) -> Fault
+    requires { is_verdict fault ≡ false → ((first : ℕ) × E.Owns engine.old first (O.slots outs.old)) }
+    ensures same { result ≡ fault }
+    ensures judged { is_verdict fault ≡ true → O.slots outs.new ≡ O.slots outs.old }
+    ensures swept { is_verdict fault ≡ false → Clears E.Owns E.work engine.old (O.slots outs.old) (O.slots outs.new) }
+{
+    if !is_verdict(&fault) {
+        engine.abandon(outs);
+    }
+    fault
+}
+
+/// Whether a fault is one with which a tool's work itself ends.
+fn is_verdict(fault: &Fault) -> bool
+    ensures { result ≡ is_verdict fault.now }
+{
+    matches!(
+        fault,
+        Fault::Suffixes | Fault::NoMatch(_, _) | Fault::Range(_, _)
+    )
+}
