@@ -1,13 +1,11 @@
 -- The first part of an input, as an engine puts it out: POSIX.1-2017, XCU head; the option -c is GNU's.
-use Rattle.std.specs.Prelude.{◌≡◌, ℕ, ◌<◌, ◌-◌, ◌++◌, ◌&&◌, not, nat_le, Bool, false, List, [], length, All, if◌then◌else◌}
+use Rattle.std.specs.Prelude.{◌≡◌, ℕ, ◌-◌, ◌++◌, ◌&&◌, not, nat_le, Bool, false, List, [], length, if◌then◌else◌}
+use Rattle.seg_core.specs.Line.{AreBytes}
 use Rattle.ports_core.specs.Part.{only_out}
 use Rattle.ends_core.specs.declared.unit.Unit.{Unit as Counted}
 use Rattle.ports_core.specs.Work.{Work, on_output, always_well}
 use Rattle.ends_core.specs.Ends.{measure, last_of, head_of}
 use Rattle.ends_core.specs.HeadState.{HeadState}
-
-abbrev pub AreBytes : List ℕ → Type 0
-AreBytes x = All (λ byte. byte < 256) x
 
 -- What a head makes of its input: what belongs to the head of all that may still come is written at once, and nothing at the end.
 -- The first n are complete once they came in. It takes memory where all but the last are asked for, which then wait.

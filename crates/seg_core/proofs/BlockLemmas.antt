@@ -1,5 +1,5 @@
 -- A text in blocks.
-use Rattle.std.proofs.Common.{◌≡◌, ℕ, zero, suc, ◌+◌, ◌-◌, ◌<◌, ◌≤◌, List, [], ◌∷◌, ◌++◌, length, take, drop, get_or, set, refl, sym, ap, ◌∙◌, arith, drop-cons, add-one}
+use Rattle.std.proofs.Common.{◌≡◌, ℕ, zero, suc, ◌+◌, ◌-◌, ◌^◌, ◌<◌, ◌≤◌, List, [], ◌∷◌, ◌++◌, length, take, drop, get_or, set, refl, sym, ap, ◌∙◌, arith, drop-cons, add-one}
 use Rattle.std.proofs.lemmas.List.{append-nil, append_assoc, length-append, length-drop, drop-append-le, take-append-le, drop-drop}
 use Rattle.std.proofs.Math.Seq.{drop-append-add, take-append-add}
 use Rattle.seg_core.specs.Line.{joined, newlines, first_lines, line_count, but_last_lines}
@@ -140,19 +140,20 @@ counted_drop most n text new len count gone so_far within left is =
     let short = ap length left ∙ length-drop n text in
     let cut = newlines-take-drop n text in
     let rest = ap newlines left in
-    record { few = omega arith; long = omega arith; counted = omega arith }
+    let fits = so_far.fits in
+    record { few = omega arith; fits = omega arith; long = omega arith; counted = omega arith }
 
 -- and once a piece comes behind
-pub counted_put : (most : ℕ) (text piece new : List ℕ) (len count more : ℕ) → IsCounted most text len count → but_last_lines most (text ++ piece) ≡ [] → new ≡ text ++ piece → more ≡ newlines piece
+pub counted_put : (most : ℕ) (text piece new : List ℕ) (len count more : ℕ) → IsCounted most text len count → len + length piece < 2 ^ 63 → but_last_lines most (text ++ piece) ≡ [] → new ≡ text ++ piece → more ≡ newlines piece
     → IsCounted most new (len + length piece) (count + more)
-counted_put most text piece new len count more so_far within grown is =
+counted_put most text piece new len count more so_far fits within grown is =
     let long = so_far.long in
     let counted = so_far.counted in
     let few = few_from_nothing most (text ++ piece) within in
     let same = ap line_count grown in
     let all = ap length grown ∙ length-append text piece in
     let both = ap newlines grown ∙ newlines-append text piece in
-    record { few = omega arith; long = omega arith; counted = omega arith }
+    record { few = omega arith; fits = omega arith; long = omega arith; counted = omega arith }
 
 -- fresh blocks behind those of which the last was filled
 pub extended : (old mid filled fresh new : List (List ℕ)) (near far piece : List ℕ) → new ≡ filled ++ fresh → joined filled ≡ joined mid ++ near → joined fresh ≡ far → mid ≡ old → piece ≡ near ++ far

@@ -1,10 +1,14 @@
 -- The lines of a text. A text is a list of bytes, and the byte 10 is the newline.
-use Rattle.std.specs.Prelude.{◌≡◌, ◌≢◌, ℕ, ◌+◌, ◌-◌, ◌<◌, ◌≤◌, ◌==◌, Bool, true, false, List, [], ◌∷◌, ◌++◌, ◌⊎◌, if◌then◌else◌, length, take, drop}
+use Rattle.std.specs.Prelude.{◌≡◌, ◌≢◌, ℕ, ◌+◌, ◌-◌, ◌<◌, ◌≤◌, ◌==◌, Bool, true, false, List, [], ◌∷◌, ◌++◌, ◌⊎◌, if◌then◌else◌, length, take, drop, All}
 use Rattle.std.specs.List.{onto_first}
 use Rattle.seg_core.specs.declared.line_reach.Reach.{Reach}
 use Rattle.seg_core.specs.declared.line_reach.Reach.TheVariants.{Ends, Short}
 use Rattle.seg_core.specs.declared.line_reach.ReachBack.{ReachBack}
 use Rattle.seg_core.specs.declared.line_reach.ReachBack.TheVariants as back
+
+-- the numbers of a text are bytes
+abbrev pub AreBytes : List ℕ → Type 0
+AreBytes x = All (λ byte. byte < 256) x
 
 -- the lines one after another
 abbrev pub joined : List (List ℕ) → List ℕ

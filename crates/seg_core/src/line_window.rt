@@ -13,6 +13,9 @@ use std::alloc::{AllocError, Global};
 use std::collections::VecDeque;
 use std::marker::Model;
 
+/// The most bytes that a window over lines holds: 2^63-1.
+const MOST_HELD: u64 = 0x7fff_ffff_ffff_ffff;
+
 /// What must leave a window over lines so that a piece can come in.
 #[derive(Clone, Copy, Debug, PartialEq, Eq)]
 pub struct Over {
@@ -22,9 +25,9 @@ pub struct Over {
     pub newlines: Option<usize>,
 }
 
-/// A window over lines: it keeps the last `most` of what came in. It takes as much memory as it
-/// holds bytes, in blocks of 64 KiB, of which the first and the last may be used in part only. No
-/// byte moves from block to block.
+/// A window over lines: it keeps the last `most` of what came in, at most 2^63-1 bytes. It takes as
+/// much memory as it holds bytes, in blocks of 64 KiB, of which the first and the last may be used in
+/// part only. No byte moves from block to block.
 #[derive(Drop)]
 pub struct LineWindow {
     alloc: Global,
@@ -83,7 +86,6 @@ impl LineWindow {
     /// How many bytes stand before the last `most` lines of what it holds and the piece behind it:
     /// so many must leave at the front. It may be more than it holds.
     pub fn over(&self, piece: &[u8]) -> u64
-        requires fits { length self.now.held + length piece.now < 2 ^ 64 }
         ensures { result ≡ length (but_last_lines self.now.most (self.now.held ++ piece.now)) }
     {
         self.count_over(piece).bytes
@@ -92,7 +94,6 @@ impl LineWindow {
     /// The same, and how many newlines the piece has if they were counted meanwhile, so that
     /// `put_counted` needn't count them again.
     pub fn count_over(&self, piece: &[u8]) -> Over
-        requires fits { length self.now.held + length piece.now < 2 ^ 64 }
         ensures bytes { result.bytes ≡ length (but_last_lines self.now.most (self.now.held ++ piece.now)) }
         ensures newlines { IfSome result.newlines (λ count. (count ≡ newlines piece.now) × (result.bytes ≤ length self.now.held)) }
     {
@@ -165,10 +166,10 @@ impl LineWindow {
     ///
     /// # Errors
     ///
-    /// `Memory` where there is no room for it, and the window stays as it was.
+    /// `Memory` where there is no room for it, as for more than 2^63-1 bytes in all, and the window
+    /// stays as it was.
     pub fn put(&mut self, piece: &[u8]) -> Result<(), Fault>
-        requires within { but_last_lines self.old.most (self.old.held ++ piece.now) ≡ [] }
-        requires fits { length self.old.held + length piece.now < 2 ^ 64 }
+        requires { but_last_lines self.old.most (self.old.held ++ piece.now) ≡ [] }
         ensures ok { OnOk result (self.new ≡ record { most = self.old.most; held = self.old.held ++ piece.now }) }
         ensures err { IfErr result (λ fault. (fault ≡ Fault.Memory) × (self.new ≡ self.old)) }
         ensures empty { length piece.now ≡ 0 → IsOk result }
@@ -180,10 +181,10 @@ impl LineWindow {
     ///
     /// # Errors
     ///
-    /// `Memory` where there is no room for it, and the window stays as it was.
+    /// `Memory` where there is no room for it, as for more than 2^63-1 bytes in all, and the window
+    /// stays as it was.
     pub fn put_counted(&mut self, piece: &[u8], count: usize) -> Result<(), Fault>
         requires within { but_last_lines self.old.most (self.old.held ++ piece.now) ≡ [] }
-        requires fits { length self.old.held + length piece.now < 2 ^ 64 }
         requires counted { count ≡ newlines piece.now }
         ensures ok { OnOk result (self.new ≡ record { most = self.old.most; held = self.old.held ++ piece.now }) }
         ensures err { IfErr result (λ fault. (fault ≡ Fault.Memory) × (self.new ≡ self.old)) }
@@ -191,6 +192,9 @@ impl LineWindow {
     {
         if piece.is_empty() {
             return Ok(());
+        }
+        if piece.len() as u64 > MOST_HELD - self.len {
+            return Err(Fault::Memory);
         }
         match extend(&mut self.blocks, self.alloc, piece, count) {
             Ok(()) => {}

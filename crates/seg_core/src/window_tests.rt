@@ -12,7 +12,6 @@ const LETTERS: &[u8; 26] = b"abcdefghijklmnopqrstuvwxyz";
 
 // Takes a piece in, and lets go what is over.
 fn keep_lines(window: &mut LineWindow, piece: &[u8]) -> Result<(), Fault>
-    requires { length window.old.held + length piece.now < 2 ^ 64 }
     ensures { OnOk result (window.new.held ≡ last_lines window.old.most (window.old.held ++ piece.now)) }
 {
     let over = window.over(piece);
@@ -74,11 +73,9 @@ fn keeps_lines(rt: HostRuntime) {
         ("e\n\n", 4),
         ("1\n2\n3\n4", 3),
     ] {
-        assert!(rt; window.len() < 100 && piece.len() < 100);
         keep_lines(&mut window, piece.as_bytes()).expect(&rt, "room");
         assert_eq!(rt; window.len(), len, "behind {piece}");
     }
-    assert!(rt; window.len() < 100);
     assert_eq!(rt; window.over(b"\n5\n"), 2);
     assert_eq!(rt; window.over(b"\n5\n6"), 4);
     assert_eq!(rt; window.count_over(b"\n5\n").newlines, Some(2));
@@ -130,7 +127,6 @@ fn same_lines(rt: &impl Abort, alloc: Global, text: &[u8], lines: u64, size: usi
     let mut window = LineWindow::new(alloc, lines).expect(rt, "room");
     assert!(rt; 0 < size);
     for piece in text.chunks(size) {
-        assert!(rt; window.len() <= 200_000 && piece.len() <= 200_000);
         keep_lines(&mut window, piece).expect(rt, "room");
     }
     let mut at = slow_start(text, lines);

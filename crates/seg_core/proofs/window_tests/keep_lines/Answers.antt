@@ -6,8 +6,8 @@ use Rattle.seg_core.specs.Window.{Window}
 use Rattle.seg_core.proofs.Carried.{left_behind, left_alone, fits_behind, fits_alone, over-le-length}
 use Rattle.seg_core.proofs.window_tests.keep_lines.Goals as goal
 
-pub put-requires-clause-within : goal.put-requires-clause-within
-put-requires-clause-within c =
+pub put-requires : goal.put-requires
+put-requires c =
     let within : c.over-over.result ≤ length c.args.window.now.held = let t = c.if-over-held.true in let e = c.len-held.ensures.len in omega arith in
     subst (λ (w : Window). but_last_lines w.most (w.held ++ c.args.piece.now) ≡ []) (sym c.drop_front.ensures)
     (fits_behind c.args.window.now.most c.args.window.now.held c.args.piece.now c.over-over.result c.over-over.ensures within)
@@ -26,8 +26,8 @@ split_at-requires c =
     let held = c.len-held.ensures.len in
     omega (arith, over-le-length c.args.window.now.most c.args.window.now.held c.args.piece.now)
 
-pub put-requires-else-over-held-clause-within : goal.put-requires-else-over-held-clause-within
-put-requires-else-over-held-clause-within c =
+pub put-requires-else-over-held : goal.put-requires-else-over-held
+put-requires-else-over-held c =
     let now = c.args.window.now in
     let rest = c.split_at.result.1.now in
     let beyond : c.over-over.result ≡ length now.held + (c.over-over.result - c.len-held.result) = let t = c.if-over-held.false in let e = c.len-held.ensures.len in omega arith in

@@ -30,7 +30,7 @@ overflow_add-lines-in-Short c =
     let is = ap (λ (w : Window). length w.held) c.self.view_is in
     let count = c.in-Short.ensures.counted in
     let all = c.self.invariant.counted in
-    let fits = c.requires.fits in
+    let fits = c.self.invariant.fits in
     omega arith
 
 pub overflow_add-lines : goal.overflow_add-lines
@@ -42,7 +42,7 @@ overflow_add-lines c =
     let is = ap (λ (w : Window). length w.held) c.self.view_is in
     let count = c.in-Short.ensures.counted in
     let all = c.self.invariant.counted in
-    let fits = c.requires.fits in
+    let fits = c.self.invariant.fits in
     omega arith
 
 pub returns-in-Short-clause-bytes : goal.returns-in-Short-clause-bytes

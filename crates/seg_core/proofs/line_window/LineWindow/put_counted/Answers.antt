@@ -12,12 +12,15 @@ overflow_add-self-2 c =
     let few = newlines-le-length (joined c.self.inside.blocks.items) in
     let more = newlines-le-length c.args.piece.now in
     let of = c.requires.counted in
-    let fits = c.requires.fits in
+    let fits = c.self.invariant.fits in
     omega arith
 
 pub invariant_of-self-2 : goal.invariant_of-self-2
 invariant_of-self-2 c =
+    let fits = c.self.invariant.fits in
+    let long = c.self.invariant.long in
+    let room = c.if-piece-self.false in
     counted_put c.self.inside.most (joined c.self.inside.blocks.items) c.args.piece.now (joined c.extend.new.queue.items) c.self.inside.len c.self.inside.newlines c.args.count
-    c.self.invariant
+    c.self.invariant (omega arith)
     (subst (λ (w : Window). but_last_lines w.most (w.held ++ c.args.piece.now) ≡ []) (sym c.self.view_is) c.requires.within)
     c.in-Ok.ensures.ok c.requires.counted
