@@ -1,7 +1,7 @@
 use Rattle.std.proofs.Common.{◌∙◌, length, subst}
 use Rattle.split_core.specs.Sharing.{StopsShort, added}
 use Rattle.split_core.proofs.RoundLemmas.{no_room, first_gathered, became_dealt}
-use Rattle.split_core.proofs.round_splitter.pass.Goals as goal
+use Rattle.split_core.proofs.round_splitter.deal_out.Goals as goal
 
 pub returns-in-Err-clause-cut : goal.returns-in-Err-clause-cut
 returns-in-Err-clause-cut g c = no_room g.O.Outs.told c.args.files.now _ (g.O.Outs.slots c.args.outs.now)
