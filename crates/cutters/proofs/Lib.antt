@@ -1,7 +1,3 @@
-pub mod EndsLemmas
-pub mod FeedingLemmas
-pub mod MessageLemmas
-pub mod NamesLemmas
+pub mod AdapterLemmas
 pub mod RunLemmas
-pub mod SplitLemmas
-pub mod StopLemmas
+pub mod SpeakerLemmas

@@ -1,12 +1,2 @@
-pub mod Ends
-pub mod EndsPlain
-pub mod EndsSteps
-pub mod Feeding
-pub mod Input
-pub mod Message
+pub mod Tasks
 pub mod Outcome
-pub mod Reads
-pub mod RunEnds
-pub mod RunOutcome
-pub mod SplitSteps
-pub mod Splitting

@@ -1,49 +1,19 @@
--- What a whole run puts out, where its outputs take all that they are given.
-use Rattle.std.specs.Prelude.{ℕ, true, false, List, [], ◌∷◌, Option, Some, None, Result, Ok, Err, slice_index_or, if◌then◌else◌}
-use Rattle.ports_core.specs.Part.{nothing, only_out}
+-- What a whole run does, by its words.
+use Rattle.std.specs.Prelude.{◌≡◌, ℕ, Bool, List, [], ◌∷◌, Option, Some, None, Result, Ok, Err, slice_index_or}
+use Rattle.ports_core.specs.Slot.{Slot}
+use Rattle.ports_core.specs.Source.{Content}
 use Rattle.ports_core.specs.Text.{message_of}
-use Rattle.ports_core.specs.Engine.{on_output}
+use Rattle.ports_core.specs.Message.{Says}
 use Rattle.ports_core.specs.declared.tool.Tool.{Tool}
 use Rattle.ports_core.specs.declared.tool.Tool.TheVariants as tool
 use Rattle.ports_core.specs.declared.fault.Fault.{Fault}
 use Rattle.ports_core.specs.declared.fault.Fault.TheVariants.{Memory, Write, Read, Open, Suffixes, NoMatch, Range, Usage, Failed, TooLong}
+use Rattle.run_core.specs.Feeding.{ReadsFor}
+use Rattle.run_core.specs.Input.{Input}
+use Rattle.run_core.specs.RunEnds.{EndsAs, standard_error, streams_with, largest_piece}
 use Rattle.words_core.specs.declared.settings.Settings.{Settings}
-use Rattle.words_core.specs.declared.settings.Settings.TheVariants.{Head, Tail, Split}
-use Rattle.words_core.specs.EndsAsked.{EndsAsked}
-use Rattle.cutters.specs.Ends.{Made, head_work, tail_work, has_headers, of_inputs}
-use Rattle.cutters.specs.Feeding.{Work}
-use Rattle.cutters.specs.RunOutcome.{Outcome}
-use Rattle.cutters.specs.Splitting.{split_for, split_outcome}
-use Rattle.cutters.specs.Input.{Input}
 use Rattle.words_core.specs.Words.{tool_named, settings_of}
-
-abbrev pub outcome_of : Made → Outcome
-outcome_of made = record { part = only_out made.out; messages = made.messages; status = if made.failed then 1 else 0 }
-
-abbrev pub ends_outcome : Tool → Work → EndsAsked → List (List ℕ) → List Input → Outcome
-ends_outcome tool work asked names inputs = outcome_of (of_inputs tool work (has_headers asked.headers names) true inputs)
-
-abbrev pub tool_of : Settings → Tool
-tool_of (Head asked) = tool.Head
-tool_of (Tail asked) = tool.Tail
-tool_of (Split asked) = tool.Split
-
--- what a tool makes of one input
-abbrev pub work_of : Settings → Work
-work_of (Head asked) = head_work asked
-work_of (Tail asked) = tail_work asked
-work_of (Split asked) = split_for asked
-
--- the names of the inputs that a tool reads
-abbrev pub names_of : Settings → List (List ℕ)
-names_of (Head asked) = asked.names
-names_of (Tail asked) = asked.names
-names_of (Split asked) = asked.input ∷ []
-
-abbrev pub tool_outcome : List Input → Settings → Outcome
-tool_outcome inputs (Head asked) = ends_outcome tool.Head (head_work asked) asked asked.names inputs
-tool_outcome inputs (Tail asked) = ends_outcome tool.Tail (tail_work asked) asked asked.names inputs
-tool_outcome inputs (Split asked) = split_outcome (split_for asked) inputs
+use Rattle.cutters.specs.Tasks.{task_of, names_of}
 
 -- who refuses words: their tool, or the program where they name none
 abbrev pub or_cutters : Option Tool → Tool
@@ -67,17 +37,20 @@ word_of words (Range operand repetition) = []
 word_of words Failed = []
 word_of words TooLong = []
 
--- words that are refused: a message and nothing else
-abbrev pub refusal : List (List ℕ) → Fault → Outcome
-refusal words fault = record { part = nothing; messages = message_of (speaker words) fault (word_of words fault) ∷ []; status = 1 }
+-- words that are refused: a message, status 1, and nothing else
+pub record Refuses (told : Bool) (tool : Tool) (text : List ℕ) (new : List Slot) (status : ℕ) : Type 0 where
+  pub error : Slot
+  pub says : Says told tool text standard_error error
+  pub slots : new ≡ streams_with error
+  pub failed : status ≡ 1
 
-abbrev pub outcome_at : List (List ℕ) → List Input → Result Settings Fault → Outcome
-outcome_at words inputs (Ok settings) = tool_outcome inputs settings
-outcome_at words inputs (Err fault) = refusal words fault
+abbrev pub RunEndsAt : Bool → List (List ℕ) → List Input → List Slot → ℕ → Result Settings Fault → Type 0
+RunEndsAt told words inputs new status (Ok settings) = EndsAs told (task_of settings) inputs new status
+RunEndsAt told words inputs new status (Err fault) = Refuses told (speaker words) (message_of (speaker words) fault (word_of words fault)) new status
 
--- what these words make of these inputs
-abbrev pub outcome : List (List ℕ) → List Input → Outcome
-outcome words inputs = outcome_at words inputs (settings_of words)
+-- a run of these words on these inputs left the outputs so, and returned this status
+abbrev pub RunEnds : Bool → List (List ℕ) → List Input → List Slot → ℕ → Type 0
+RunEnds told words inputs new status = RunEndsAt told words inputs new status (settings_of words)
 
 -- the names that these words read
 abbrev pub names_at : Result Settings Fault → List (List ℕ)
@@ -87,13 +60,15 @@ names_at (Err fault) = []
 abbrev pub names_read : List (List ℕ) → List (List ℕ)
 names_read words = names_at (settings_of words)
 
--- what these words make of one input; nothing where they are refused
-abbrev pub no_work : Work
-no_work = record { settled = λ x. nothing; whole = λ x. nothing; is_complete = λ x. true; means = on_output false }
+-- what is read of standard input: nothing for words that are refused; else pieces of at most 65,536 bytes, and none once the output
+-- is complete
+abbrev pub ReadsAt : Result Settings Fault → Content → Content → Type 0
+ReadsAt (Ok settings) there left = ReadsFor (task_of settings).work.is_complete largest_piece there left
+ReadsAt (Err fault) there left = left ≡ there
 
-abbrev pub work_at : Result Settings Fault → Work
-work_at (Ok settings) = work_of settings
-work_at (Err fault) = no_work
+abbrev pub Reads : List (List ℕ) → Content → Content → Type 0
+Reads words there left = ReadsAt (settings_of words) there left
 
-abbrev pub work_asked : List (List ℕ) → Work
-work_asked words = work_at (settings_of words)
+-- the words ask for nothing
+abbrev pub AreNone : List (List ℕ) → Type 0
+AreNone words = (fault : Fault) × (settings_of words ≡ Err fault)

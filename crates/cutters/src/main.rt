@@ -4,8 +4,6 @@
 mod ends;
 #[cfg(test)]
 mod ends_tests;
-mod feeding;
-mod messages;
 mod run;
 mod split;
 #[cfg(test)]
@@ -17,9 +15,8 @@ ghost use Rattle.std.specs.Prelude.{◌≡◌};
 ghost use Rattle.ports_core.specs.Slot.{streams};
 ghost use Rattle.ports_core.specs.Source.{IsFresh};
 
-use crate::messages::say;
 use crate::run::run;
-use ports_core::{DirIn, DirOut, Fault, Tool, UsageKind};
+use ports_core::{DirIn, DirOut, Fault, Tool, UsageKind, say};
 use std::alloc::{AllocError, Global};
 use std::io::ErrorKind;
 use std::process::ExitCode;
@@ -78,7 +75,7 @@ fn run_args(
     }
 }
 
-/// Says what is wrong, and answers the status.
+/// Says what is wrong, and returns the status.
 fn refuse(alloc: Global, fault: &Fault, outs: &mut DirOut<HostRuntime>) -> u8
     requires { outs.old ≡ streams }
 {

@@ -2,24 +2,23 @@
 ghost use Rattle.std.specs.Prelude.{◌≡◌, true, false, map};
 ghost use Rattle.ports_core.specs.Slot.{streams};
 ghost use Rattle.ports_core.specs.Source.{source_at, IsFresh};
-ghost use Rattle.cutters.specs.EndsSteps.{world_of};
-ghost use Rattle.cutters.specs.Feeding.{ReadsFor};
-ghost use Rattle.cutters.specs.Reads.{AreNone, Reads};
-ghost use Rattle.cutters.specs.Input.{has_dash};
-ghost use Rattle.cutters.specs.Outcome.{names_of, names_read, speaker, tool_of, tool_outcome, word_of, work_of};
-ghost use Rattle.cutters.specs.RunEnds.{EndsAs, RunEnds, RunsOver};
+ghost use Rattle.run_core.specs.Feeding.{ReadsFor};
+ghost use Rattle.run_core.specs.Input.{has_dash};
+ghost use Rattle.run_core.specs.RunEnds.{EndsAs, RunsOver, largest_piece};
+ghost use Rattle.run_core.specs.RunSteps.{world_of};
+ghost use Rattle.cutters.specs.Outcome.{AreNone, Reads, RunEnds, names_read, speaker, word_of};
+ghost use Rattle.cutters.specs.Tasks.{names_of, task_of};
 ghost use Rattle.words_core.specs.Words.{CanRun};
 
-use crate::ends::{PIECE, run_ends};
-use crate::messages::say;
-use crate::split::run_split;
-use ends_core::{Head, Tail};
-use ports_core::{Fault, Inputs, Outs, Tool};
+use crate::ends::{HeadAdapter, TailAdapter};
+use crate::split::SplitAdapter;
+use ports_core::{Fault, Inputs, Outs, Tool, say};
+use run_core::run_inputs;
 use std::alloc::Global;
 use words_core::{Settings, find_tool, read_words};
 
 /// Runs the tool that the words name, the first being the tool's name: reads the inputs that they name, puts out what the
-/// tool makes of them, says what went wrong on standard error, and answers the status: 0, or 1 where any fault was met.
+/// tool makes of them, says what went wrong on standard error, and returns the status: 0, or 1 where any fault was met.
 pub fn run<I: Inputs, O: Outs>(alloc: Global, words: &[&str], inputs: &mut I, outs: &mut O) -> u8
     requires inputs { IsFresh (I.sources inputs.old) }
     requires outputs { O.slots outs.old ≡ streams }
@@ -48,18 +47,32 @@ fn run_tool<I: Inputs, O: Outs>(
     requires outputs { O.slots outs.old ≡ streams }
     requires can { CanRun settings.now }
     ensures ends { RunsOver I.told (world_of (I.laid inputs.old) (I.sources inputs.old)) (names_of settings.now)
-        (λ found. EndsAs O.told (tool_of settings.now) (work_of settings.now) (λ those. tool_outcome those settings.now) found (O.slots outs.new) result) }
+        (λ found. EndsAs O.told (task_of settings.now) found (O.slots outs.new) result) }
     ensures untouched { has_dash (names_of settings.now) ≡ false → source_at (I.sources inputs.new) 0 ≡ source_at (I.sources inputs.old) 0 }
-    ensures reads { I.told ≡ true → ReadsFor (work_of settings.now).is_complete PIECE (source_at (I.sources inputs.old) 0).left (source_at (I.sources inputs.new) 0).left }
+    ensures reads { I.told ≡ true → ReadsFor (task_of settings.now).work.is_complete largest_piece (source_at (I.sources inputs.old) 0).left (source_at (I.sources inputs.new) 0).left }
 {
     match settings {
-        Settings::Head(settings) => {
-            run_ends::<Head, I, O>(alloc, Tool::Head, settings, inputs, outs)
-        }
-        Settings::Tail(settings) => {
-            run_ends::<Tail, I, O>(alloc, Tool::Tail, settings, inputs, outs)
-        }
-        Settings::Split(settings) => { run_split(alloc, settings, inputs, outs) }
+        Settings::Head(settings) => run_inputs(
+            alloc,
+            &HeadAdapter { settings },
+            &settings.names,
+            inputs,
+            outs,
+        ),
+        Settings::Tail(settings) => run_inputs(
+            alloc,
+            &TailAdapter { settings },
+            &settings.names,
+            inputs,
+            outs,
+        ),
+        Settings::Split(settings) => run_inputs(
+            alloc,
+            &SplitAdapter { settings },
+            &[settings.input],
+            inputs,
+            outs,
+        ),
     }
 }
 

@@ -111,7 +111,7 @@ module _ (told : Bool) (state next : PartsState) (piece : List ℕ) (old new : L
   met_by : (f : Fault) → Breaks old new f → Stopped told state piece old new next f → IsMet (work state).means (work state).means.feeding (true ≡ true) (EndsWith Stands work state piece) old new f
   met_by Memory breaks stop = (refl, refl)
   met_by (Write slot) breaks stop = (λ none. absurd (let behind : 2 ≤ slot = breaks.0 in omega (arith, none)), λ none. absurd (false≢true (sym none)), breaks.1)
-  met_by (Open slot) breaks stop = (refl, breaks)
+  met_by (Open slot) breaks stop = (refl, refl, breaks)
   met_by Suffixes breaks stop = settles stop
   met_by (Read slot) breaks stop = absurd breaks
   met_by (NoMatch operand repetition) breaks stop = absurd breaks

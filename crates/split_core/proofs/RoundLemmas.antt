@@ -236,7 +236,7 @@ takes_in old new piece count elide names next opened x holds = record {
 pub caused : (round : RoundState) (piece : List ℕ) (old new : List Slot) (why : Fault) → IsOfFiles old new why → IsMet (work round).means (work round).means.feeding (true ≡ true) (EndsWith Holds work round piece) old new why
 caused round piece old new fault.Memory is = (refl, refl)
 caused round piece old new (fault.Write slot) is = (λ none. absurd (let behind : 2 ≤ slot = is.0 in omega (arith, none)), λ alone. absurd (false≢true (sym alone)), is.1)
-caused round piece old new (fault.Open slot) is = (refl, is)
+caused round piece old new (fault.Open slot) is = (refl, refl, is)
 caused round piece old new (fault.Read slot) is = absurd is
 caused round piece old new fault.Suffixes is = absurd is
 caused round piece old new (fault.NoMatch operand repetition) is = absurd is

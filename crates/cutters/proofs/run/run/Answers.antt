@@ -1,7 +1,7 @@
 use Rattle.std.proofs.Common.{◌∙◌, sym, ap, Result, ℕ, List, map, refl, subst}
 use Rattle.ports_core.specs.declared.fault.Fault.{Fault}
 use Rattle.words_core.specs.declared.settings.Settings.{Settings}
-use Rattle.cutters.specs.Input.{has_dash}
+use Rattle.run_core.specs.Input.{has_dash}
 use Rattle.ports_core.specs.Source.{source_at}
 use Rattle.words_core.specs.Words.{settings_of}
 use Rattle.ports_core.specs.Text.{message_of}

@@ -1,0 +1,85 @@
+-- What each tool does with its inputs, where words ask for it: POSIX.1-2017, XCU head, tail and split; several files for tail, headers
+-- and their options, bytes, and all but the last are GNU's, and so is what split does where an input breaks off.
+use Rattle.std.specs.Prelude.{ℕ, nat_lt, Bool, true, false, List, [], ◌∷◌, length, codes}
+use Rattle.ports_core.specs.Name.{Naming}
+use Rattle.ports_core.specs.declared.fault.Fault.{Fault}
+use Rattle.ports_core.specs.declared.tool.Tool.TheVariants as tool
+use Rattle.seg_core.specs.declared.count.Sign.{Sign}
+use Rattle.seg_core.specs.declared.count.Sign.TheVariants.{Plain, Minus, Plus}
+use Rattle.ends_core.specs.Head.{head_work}
+use Rattle.ends_core.specs.Tail.{tail_work}
+use Rattle.split_core.specs.Split.{Plan, split_work}
+use Rattle.run_core.specs.Task.{Task}
+use Rattle.words_core.specs.declared.settings.Headers.{Headers}
+use Rattle.words_core.specs.declared.settings.Headers.TheVariants.{ForSeveral, Never, Always}
+use Rattle.words_core.specs.declared.settings.Settings.{Settings}
+use Rattle.words_core.specs.declared.settings.Settings.TheVariants.{Head, Tail, Split}
+use Rattle.words_core.specs.EndsAsked.{EndsAsked}
+use Rattle.words_core.specs.SplitAsked.{SplitAsked}
+
+abbrev pub is_minus : Sign → Bool
+is_minus Plain = false
+is_minus Minus = true
+is_minus Plus = false
+
+abbrev pub is_plus : Sign → Bool
+is_plus Plain = false
+is_plus Minus = false
+is_plus Plus = true
+
+-- whether a header goes before each input: as an option says, and else where there are several
+abbrev pub has_headers : Headers → List (List ℕ) → Bool
+has_headers ForSeveral names = nat_lt 1 (length names)
+has_headers Never names = false
+has_headers Always names = true
+
+-- a fault that speaks of nothing but the tool
+abbrev pub of_nothing : Fault → List ℕ
+of_nothing fault = []
+
+-- `head`: the first lines or bytes, and with `-` before the count all but the last
+abbrev pub head_task : EndsAsked → Task
+head_task asked = record {
+  tool = tool.Head;
+  work = head_work asked.unit (is_minus asked.count.sign) asked.count.amount;
+  subject = of_nothing;
+  with_header = has_headers asked.headers asked.names;
+}
+
+-- `tail`: the last lines or bytes, with `+` before the count all from that one on
+abbrev pub tail_task : EndsAsked → Task
+tail_task asked = record {
+  tool = tool.Tail;
+  work = tail_work asked.unit (is_plus asked.count.sign) asked.count.amount;
+  subject = of_nothing;
+  with_header = has_headers asked.headers asked.names;
+}
+
+-- the names of its files
+abbrev pub naming_of : SplitAsked → Naming
+naming_of asked = record {
+  prefix = asked.prefix;
+  alphabet = asked.alphabet;
+  width = asked.width;
+  auto = asked.auto;
+  drawn = 0;
+}
+
+abbrev pub plan_of : SplitAsked → Plan
+plan_of asked = record { cut = asked.cut; elide = asked.elide; names = naming_of asked }
+
+-- `split`: the input cut into files
+abbrev pub split_task : SplitAsked → Task
+split_task asked = record { tool = tool.Split; work = split_work (plan_of asked); subject = of_nothing; with_header = false }
+
+-- what a tool does with each of its inputs
+abbrev pub task_of : Settings → Task
+task_of (Head asked) = head_task asked
+task_of (Tail asked) = tail_task asked
+task_of (Split asked) = split_task asked
+
+-- the names of its inputs
+abbrev pub names_of : Settings → List (List ℕ)
+names_of (Head asked) = asked.names
+names_of (Tail asked) = asked.names
+names_of (Split asked) = asked.input ∷ []
