@@ -1,5 +1,5 @@
 -- Lemmas on opening a tool's engine.
-use Rattle.std.proofs.Common.{◌≡◌, ℕ, ◌+◌, ◌-◌, ◌<◌, ◌≤◌, ◌^◌, zero, suc, Bool, true, false, if◌then◌else◌, List, [], length, None, ◌⊎◌, inl, inr, IsTrue, refl, sym, ◌∙◌, ap, subst, arith}
+use Rattle.std.proofs.Common.{◌≡◌, ℕ, ◌+◌, ◌-◌, ◌<◌, ◌≤◌, ◌^◌, zero, suc, Bool, true, false, if◌then◌else◌, List, [], length, None, ◌⊎◌, inl, inr, IsTrue, Result, Ok, Err, IfOk, IfErr, OnOk, refl, sym, ◌∙◌, ap, subst, arith}
 use Rattle.ports_core.specs.Name.{Naming}
 use Rattle.ports_core.specs.Slot.{Slot, Rose, slot_at, is_writable}
 use Rattle.ports_core.specs.Part.{Part, OutputsAt, StoppedBetween, nothing, only_out}
@@ -21,9 +21,12 @@ use Rattle.split_core.specs.declared.cut.Cut.{Cut}
 use Rattle.split_core.specs.Sharing.{CannotOpen}
 use Rattle.split_core.specs.Split.{Plan, settled_by, split_work}
 use Rattle.run_core.specs.Feeding.{Stops}
-use Rattle.run_core.specs.RunSteps.{OpensShort}
+use Rattle.run_core.specs.RunSteps.{Opens, OpensShort}
+use Rattle.seg_core.specs.declared.count.Count.{Count}
+use Rattle.words_core.specs.EndsAsked.{EndsAsked}
+use Rattle.words_core.specs.declared.settings.Headers.{Headers}
 use Rattle.words_core.specs.SplitAsked.{SplitAsked}
-use Rattle.cutters.specs.Tasks.{plan_of}
+use Rattle.cutters.specs.Tasks.{plan_of, is_minus, is_plus, head_task, tail_task}
 
 head_of-nil : (unit : Counted) (but_last : Bool) (n : ℕ) → head_of unit but_last n [] ≡ []
 head_of-nil unit false n = first_of-nil unit n
@@ -91,3 +94,46 @@ split_stops told plan old new fault two stop (inr (slot, is, rose)) = record {
 
 pub split_short : (told : Bool) (plan asked : Plan) (old new : List Slot) (fault : Fault) → plan ≡ asked → 2 ≤ length old → ((before : List Slot) → OutputsAt told before nothing old → StoppedBetween told before nothing (settled_by plan []) fault new) → CannotOpen old new fault → OpensShort (split_work asked) told old new fault
 split_short told plan asked old new fault is two stop why = subst (λ those. OpensShort (split_work those) told old new fault) is (split_stops told plan old new fault two stop why)
+
+-- an engine that was opened from outputs that are left as they were
+
+pub if_does : {E : Type 0} (work : E → Work) (first asked : Work) (result : Result E Fault) → IfOk result (λ e. work e ≡ first) → first ≡ asked → IfOk result (λ e. work e ≡ asked)
+if_does work first asked (Ok e) does is = does ∙ is
+if_does work first asked (Err fault) does is = tt
+
+pub opened_of : {E : Type 0} (Holds : E → List ℕ → Type 0) (Owns : E → ℕ → List Slot → Type 0) (work : E → Work) (Ready : E → List Slot → Type 0) (fed : E → ℕ) (asked : Work) (told : Bool) (old new : List Slot) (result : Result E Fault)
+    → IfOk result (λ e. Holds e []) → IfOk result (λ e. work e ≡ asked) → IfOk result (λ e. fed e < 2 ^ 63) → IfOk result (λ e. Ready e new) → IfOk result (λ e. Owns e (length old) new) → OutputsAt told old (asked.settled []) new
+    → IfOk result (Opens Holds Owns work Ready fed asked told old new)
+opened_of Holds Owns work Ready fed asked told old new (Ok e) fresh does bound ready owns at = record { fresh = fresh; does = does; bound = bound; ready = ready; owns = owns; outputs = at }
+opened_of Holds Owns work Ready fed asked told old new (Err fault) fresh does bound ready owns at = tt
+
+pub whatever : {E : Type 0} (P : E → Type 0) (result : Result E Fault) → ((e : E) → P e) → IfOk result P
+whatever P (Ok e) all = all e
+whatever P (Err fault) all = tt
+
+pub no_memory_for : {E : Type 0} (told : Bool) (work : Work) (slots : List Slot) (result : Result E Fault) (P : Type 0) → work.clears ≡ false → 2 ≤ length slots → IfErr result (λ fault. (fault ≡ Memory) × P) → IfErr result (OpensShort work told slots slots)
+no_memory_for told work slots (Ok e) P keeps two err = tt
+no_memory_for told work slots (Err fault) P keeps two err = no_memory told work slots fault keeps two err.0
+
+-- the work that is asked for
+
+pub head_asked : (asked : EndsAsked) (unit : Counted) (count : Count) (headers : Headers) (names : List (List ℕ)) (minus : Bool) → record { unit = unit; count = count; headers = headers; names = names } ≡ asked → minus ≡ is_minus count.sign → head_work unit minus count.amount ≡ (head_task asked).work
+head_asked asked unit count headers names minus is signed = ap (λ b. head_work unit b count.amount) signed ∙ ap (λ (those : EndsAsked). (head_task those).work) is
+
+pub tail_asked : (asked : EndsAsked) (unit : Counted) (count : Count) (headers : Headers) (names : List (List ℕ)) (plus : Bool) → record { unit = unit; count = count; headers = headers; names = names } ≡ asked → plus ≡ is_plus count.sign → tail_work unit plus count.amount ≡ (tail_task asked).work
+tail_asked asked unit count headers names plus is signed = ap (λ b. tail_work unit b count.amount) signed ∙ ap (λ (those : EndsAsked). (tail_task those).work) is
+
+-- split, with the names that were made
+pub split_opened : {E : Type 0} (Holds : E → List ℕ → Type 0) (Owns : E → ℕ → List Slot → Type 0) (work : E → Work) (Ready : E → List Slot → Type 0) (fed : E → ℕ) (plan asked : Plan) (told : Bool) (old new : List Slot) (result : Result E Fault) → plan ≡ asked → 2 ≤ length old
+    → IfOk result (λ e. Holds e []) → IfOk result (λ e. work e ≡ split_work plan) → IfOk result (λ e. fed e < 2 ^ 63) → IfOk result (λ e. Ready e new) → IfOk result (λ e. Owns e (length old) new)
+    → OnOk result ((before : List Slot) → OutputsAt told before nothing old → OutputsAt told before (settled_by plan []) new)
+    → IfOk result (Opens Holds Owns work Ready fed (split_work asked) told old new)
+split_opened Holds Owns work Ready fed plan asked told old new (Ok e) is two fresh does bound ready owns puts =
+    subst (λ those. Opens Holds Owns work Ready fed (split_work those) told old new e) is
+    (record { fresh = fresh; does = does; bound = bound; ready = ready; owns = owns; outputs = split_starts told plan old new two puts })
+split_opened Holds Owns work Ready fed plan asked told old new (Err fault) is two fresh does bound ready owns puts = tt
+
+pub split_short_if : {E : Type 0} (told : Bool) (plan asked : Plan) (old new : List Slot) (result : Result E Fault) → plan ≡ asked → 2 ≤ length old
+    → IfErr result (λ fault. (before : List Slot) → OutputsAt told before nothing old → StoppedBetween told before nothing (settled_by plan []) fault new) → IfErr result (CannotOpen old new) → IfErr result (OpensShort (split_work asked) told old new)
+split_short_if told plan asked old new (Ok e) is two stop why = tt
+split_short_if told plan asked old new (Err fault) is two stop why = split_short told plan asked old new fault is two stop why

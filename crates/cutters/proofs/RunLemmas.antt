@@ -11,6 +11,10 @@ use Rattle.run_core.specs.Feeding.{ReadsFor}
 use Rattle.run_core.specs.Input.{Input, World, inputs_at}
 use Rattle.run_core.specs.RunEnds.{standard_output, standard_error, streams_with, largest_piece, EndsAs, no_room, RunsOver}
 use Rattle.run_core.proofs.NamesLemmas.{are_from}
+use Rattle.seg_core.specs.declared.count.Count.{Count}
+use Rattle.ends_core.specs.declared.unit.Unit.{Unit as Counted}
+use Rattle.words_core.specs.EndsAsked.{EndsAsked}
+use Rattle.words_core.specs.declared.settings.Headers.{Headers}
 use Rattle.words_core.specs.declared.settings.Settings.{Settings}
 use Rattle.words_core.specs.Words.{settings_of}
 use Rattle.cutters.specs.Outcome.{RunEnds, RunEndsAt, Refuses, Reads, ReadsAt, names_at, names_read, speaker, word_of}
@@ -28,6 +32,15 @@ pub for_settings : (told_in told : Bool) (world : World) (settings same : Settin
     → RunsOver told_in world (names_of settings) (λ found. EndsAs told (task_of settings) found new status)
 for_settings told_in told world settings same new status is runs =
     subst (λ those. RunsOver told_in world (names_of those) (λ found. EndsAs told (task_of those) found new status)) (sym is) runs
+
+-- the same by another list of the same names
+pub runs_names : (told_in : Bool) (world : World) (names same : List (List ℕ)) (P : List Input → Type 0) → names ≡ same → RunsOver told_in world names P → RunsOver told_in world same P
+runs_names told_in world names same P is runs = subst (λ those. RunsOver told_in world those P) is runs
+
+-- the names that a run reads are those of its settings
+pub ends_names : (asked : EndsAsked) (unit : Counted) (count : Count) (headers : Headers) (items now : List (Bor (List ℕ))) → now ≡ items → record { unit = unit; count = count; headers = headers; names = map (λ (name : Bor (List ℕ)). name.now) items } ≡ asked
+    → map (λ (name : Bor (List ℕ)). name.now) now ≡ asked.names
+ends_names asked unit count headers items now same is = ap (map (λ (name : Bor (List ℕ)). name.now)) same ∙ ap (λ (those : EndsAsked). those.names) is
 
 -- words that are refused, or weren't read for want of memory
 

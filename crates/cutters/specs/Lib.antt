@@ -1,2 +1,3 @@
+pub mod Props
 pub mod Tasks
 pub mod Outcome

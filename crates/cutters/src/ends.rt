@@ -11,11 +11,13 @@ use std::alloc::Global;
 use words_core::{EndsSettings, Headers};
 
 /// What a run knows of `head`.
+#[derive(Clone, Copy)]
 pub struct HeadAdapter<'a, 'b> {
     pub settings: &'a EndsSettings<'b>,
 }
 
 /// What a run knows of `tail`.
+#[derive(Clone, Copy)]
 pub struct TailAdapter<'a, 'b> {
     pub settings: &'a EndsSettings<'b>,
 }

@@ -1,4 +1,5 @@
 //! `split`: an input cut into files (POSIX.1-2017, XCU split).
+ghost use Rattle.cutters.specs.Props.{CanSplit-prop};
 ghost use Rattle.cutters.specs.Tasks.{split_task};
 ghost use Rattle.words_core.specs.SplitWords.{CanSplit};
 
@@ -9,9 +10,10 @@ use std::alloc::Global;
 use words_core::SplitSettings;
 
 /// What a run knows of `split`.
+#[derive(Clone, Copy)]
 pub struct SplitAdapter<'a, 'b> {
     pub settings: &'a SplitSettings<'b>,
-    ghost can: { CanSplit settings.now },
+    ghost can: { CanSplit settings.now } by { CanSplit-prop settings.now },
 }
 
 impl<'a, 'b> Adapter for SplitAdapter<'a, 'b> {
