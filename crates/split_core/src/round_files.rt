@@ -41,7 +41,7 @@ impl RoundFiles {
     ///
     /// # Errors
     ///
-    /// `Open` where one can't be opened, `Memory` where there is no room for a name.
+    /// `Open` where one can't be opened, `Memory` where there is no room for a name or for one more output.
     pub(crate) fn open_first<O: Outs>(&mut self, count: usize, outs: &mut O) -> Result<(), Fault>
         requires ready { AreReady self.old (O.slots outs.old) }
         requires none { self.old.outputs ≡ [] }
@@ -64,7 +64,7 @@ impl RoundFiles {
     ///
     /// # Errors
     ///
-    /// `Write` where an output broke, `Open` where a file can't be opened, `Memory` where there is no room for a name.
+    /// `Write` where an output broke, `Open` where a file can't be opened, `Memory` where there is no room for a name or for one more output.
     pub(crate) fn write<O: Outs>(
         &mut self,
         gathered: &[Gathered],
@@ -175,7 +175,7 @@ impl RoundFiles {
     }
 }
 
-/// Puts an output behind the others, for which there is room.
+/// Puts an output after the others, where there is room for it.
 fn put(outputs: &mut Vec<usize>, slot: usize)
     requires { vec_len outputs.old < vec_capacity outputs.old }
     ensures { outputs.new.items ≡ outputs.old.items ++ slot ∷ [] }

@@ -15,7 +15,8 @@ use std::alloc::{AllocError, Global};
 use std::marker::Model;
 
 /// Deals the lines of an input in turn to so many files (GNU coreutils manual, split, `-n r/N`). What each file gets of a
-/// piece is gathered first, which takes as much memory as the piece, and is written at once.
+/// piece is gathered first, which takes as much memory as the piece, and is written at once. The number of each file's output is
+/// kept.
 #[derive(Drop)]
 pub struct RoundSplitter {
     deal: Deal,
