@@ -1,6 +1,6 @@
 //! What a tool says on standard error.
-ghost use Rattle.std.specs.Prelude.{◌≡◌, ◌∷◌, ℕ, List, true, IfOk, IsTrue};
-ghost use Rattle.ports_core.specs.Slot.{Slot, is_open, is_writable, slot_at};
+ghost use Rattle.std.specs.Prelude.{◌≡◌, ℕ, List, true, IfOk};
+ghost use Rattle.ports_core.specs.Slot.{is_open, slot_at};
 ghost use Rattle.ports_core.specs.Text.{message_of};
 ghost use Rattle.ports_core.specs.Message.{PrintsOn, SaysOn, output_named};
 
