@@ -20,7 +20,7 @@ use Rattle.cutters.specs.declared.feeding.Fed.TheVariants.{Whole, Enough, Broken
 use Rattle.cutters.specs.Ends.{header_text, of_content}
 use Rattle.cutters.specs.Feeding.{Does, Work, is_enough, made_of, IsLong, Stops, FedAs, whole, had_enough, broke_off, ran_out, stopped, OfContent, ReadsFor}
 use Rattle.cutters.specs.Input.{empty}
-use Rattle.cutters.specs.Message.{SaysOn}
+use Rattle.ports_core.specs.Message.{SaysOn}
 use Rattle.cutters.specs.RunEnds.{standard_output}
 use Rattle.cutters.specs.EndsSteps.{IsPlain, HasStreams, HeaderFails, no_room, broke, streams_at, TookInput, took, cut_off, OfSource, ReadsSource}
 

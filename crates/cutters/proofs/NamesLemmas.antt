@@ -16,10 +16,10 @@ use Rattle.cutters.specs.declared.ends.Progress.{Progress}
 use Rattle.cutters.specs.Ends.{Made, nothing_made, joined, of_input, of_inputs, is_missing}
 use Rattle.cutters.specs.Feeding.{Work, KeepsOthers, ReadsFor}
 use Rattle.cutters.specs.Input.{has_dash, Input, World, AreFrom, is_dash, input_of, inputs_from, inputs_at, file_input, standard_input, read_before, next_slot, empty}
-use Rattle.cutters.specs.Message.{SaysAll, SaysOn}
+use Rattle.ports_core.specs.Message.{SaysAll, SaysOn}
 use Rattle.cutters.specs.RunEnds.{standard_output, standard_error, RunsOver}
 use Rattle.cutters.specs.EndsSteps.{HasStreams, streams_at, after_input, TookInput, took, cut_off, TookAll, all, stopped_at, OfSource, KeepsOther, OpensOne, OfName, ReadsSource, ReadsStandard, standard_source, world_of}
-use Rattle.cutters.proofs.MessageLemmas.{says_behind, all_said_state}
+use Rattle.ports_core.proofs.MessageLemmas.{says_behind, all_said_state}
 use Rattle.cutters.proofs.FeedingLemmas.{reads_none}
 use Rattle.cutters.proofs.EndsLemmas.{stops_here, and_true, or_false, or_true}
 use Rattle.words_core.proofs.SpellingLemmas.{front_and_rest}

@@ -1,6 +1,5 @@
 -- Lemmas on how a run ends.
-use Rattle.std.proofs.Common.{◌≡◌, ℕ, Bool, true, false, if◌then◌else◌, List, [], ◌∷◌, ◌++◌, Some, None, Result, Ok, Err, codes, inl, inr, ◌⊎◌, refl, sym, ◌∙◌, ap, subst, lit<}
-use Rattle.std.specs.Str.{bytes_eq}
+use Rattle.std.proofs.Common.{◌≡◌, ℕ, Bool, true, false, if◌then◌else◌, List, [], ◌∷◌, ◌++◌, Some, None, Result, Ok, Err, codes, inl, inr, ◌⊎◌, refl, sym, ◌∙◌, ap, subst, lit<, Option, option_map}
 use mir.Val.{bool_byte}
 use Rattle.ports_core.specs.Slot.{Slot, is_open, slot_at, streams}
 use Rattle.ports_core.specs.Source.{Content}
@@ -22,9 +21,12 @@ use Rattle.cutters.specs.Message.{SaysAll, SaysOn}
 use Rattle.words_core.specs.declared.settings.Settings.{Settings}
 use Rattle.words_core.specs.EndsAsked.{EndsAsked}
 use Rattle.cutters.specs.Outcome.{outcome_of, outcome, outcome_at, tool_of, tool_outcome, names_of, names_at, names_read, speaker, or_cutters, word_of, work_of, work_at, work_asked}
-use Rattle.words_core.specs.Words.{AreRefused, settings_of, tool_settings, ends_settings}
+use Rattle.words_core.specs.Given.{Given}
+use Rattle.words_core.specs.Spelling.{given_by}
+use Rattle.words_core.specs.Table.{ToolRow, row_named, tools}
+use Rattle.words_core.specs.Words.{settings_for, settings_of, tool_settings}
 use Rattle.words_core.specs.SplitAsked.{SplitAsked}
-use Rattle.words_core.specs.SplitWords.{split_settings_of, then_check}
+use Rattle.words_core.specs.SplitWords.{split_asked, then_check}
 use Rattle.words_core.specs.declared.settings.Settings.TheVariants.{Head, Tail, Split}
 use Rattle.cutters.specs.RunEnds.{standard_output, standard_error, EndsAs, as_defined, stopped, no_room, RunEnds, RunsOver, output_named}
 use Rattle.cutters.proofs.EndsLemmas.{streams_part}
@@ -83,52 +85,51 @@ tool_in : Result Settings Fault → Tool
 tool_in (Ok settings) = tool_of settings
 tool_in (Err fault) = tool.Cutters
 
-by_head : (asked : Result EndsAsked Fault) (settings : Settings) → then_check asked (λ those. Ok (Head those)) ≡ Ok settings → tool.Head ≡ tool_of settings
-unfolding tool_in
-by_head (Ok asked) settings is = ap tool_in is
-by_head (Err fault) settings is = absurd (cc)
-
-by_tail : (asked : Result EndsAsked Fault) (settings : Settings) → then_check asked (λ those. Ok (Tail those)) ≡ Ok settings → tool.Tail ≡ tool_of settings
-unfolding tool_in
-by_tail (Ok asked) settings is = ap tool_in is
-by_tail (Err fault) settings is = absurd (cc)
-
 by_split : (asked : Result SplitAsked Fault) (settings : Settings) → then_check asked (λ those. Ok (Split those)) ≡ Ok settings → tool.Split ≡ tool_of settings
 unfolding tool_in
 by_split (Ok asked) settings is = ap tool_in is
 by_split (Err fault) settings is = absurd (cc)
 
-named : (is_head is_tail is_split : Bool) (words : List (List ℕ)) (settings : Settings)
-    → tool_settings words (if is_head then Some tool.Head else (if is_tail then Some tool.Tail else (if is_split then Some tool.Split else None))) ≡ Ok settings
-    → or_cutters (if is_head then Some tool.Head else (if is_tail then Some tool.Tail else (if is_split then Some tool.Split else None))) ≡ tool_of settings
-named true is_tail is_split words settings is = by_head (ends_settings words) settings is
-named false true is_split words settings is = by_tail (ends_settings words) settings is
-named false false true words settings is = by_split (split_settings_of words) settings is
-named false false false words settings is = absurd (cc)
+by_tool : (which : Tool) (given : Given) (settings : Settings) → settings_for which given ≡ Ok settings → which ≡ tool_of settings
+unfolding tool_in
+by_tool tool.Head given settings is = ap tool_in is
+by_tool tool.Tail given settings is = ap tool_in is
+by_tool tool.Split given settings is = by_split (split_asked given) settings is
+by_tool tool.Csplit given settings is = absurd (cc)
+by_tool tool.Tee given settings is = absurd (cc)
+by_tool tool.Cutters given settings is = absurd (cc)
+
+by_given : (which : Tool) (given : Result Given Fault) (settings : Settings) → then_check given (settings_for which) ≡ Ok settings → which ≡ tool_of settings
+by_given which (Ok given) settings is = by_tool which given settings is
+by_given which (Err fault) settings is = absurd (cc)
+
+named : (row : Option ToolRow) (words : List (List ℕ)) (settings : Settings) → tool_settings words row ≡ Ok settings → or_cutters (option_map (λ row. row.tool) row) ≡ tool_of settings
+named (Some row) words settings is = by_given row.tool (given_by row words) settings is
+named None words settings is = absurd (cc)
 
 runs_as_named : (words : List (List ℕ)) (settings : Settings) → settings_of words ≡ Ok settings → speaker words ≡ tool_of settings
 runs_as_named [] settings is = absurd (cc)
-runs_as_named (name ∷ words) settings is = named (bytes_eq name (codes "head")) (bytes_eq name (codes "tail")) (bytes_eq name (codes "split")) words settings is
+runs_as_named (name ∷ words) settings is = named (row_named tools name) words settings is
 
 pub tool_runs : (told_in told : Bool) (world : World) (words : List (List ℕ)) (settings : Settings) (new : List Slot) (status : ℕ) → settings_of words ≡ Ok settings
-    → RunsOver told_in world (names_of words settings) (λ found. EndsAs told (tool_of settings) (work_of words settings) (λ those. tool_outcome words those settings) found new status)
+    → RunsOver told_in world (names_of settings) (λ found. EndsAs told (tool_of settings) (work_of settings) (λ those. tool_outcome those settings) found new status)
     → RunsOver told_in world (names_read words) (λ found. RunEnds told words found new status)
 tool_runs told_in told world words settings new status is runs =
     subst (λ tool. RunsOver told_in world (names_read words) (λ found. EndsAs told tool (work_asked words) (outcome words) found new status)) (sym (runs_as_named words settings is))
-    (subst (λ (meant : Result Settings Fault). RunsOver told_in world (names_at words meant) (λ found. EndsAs told (tool_of settings) (work_at words meant) (λ those. outcome_at words those meant) found new status)) (sym is) runs)
+    (subst (λ (meant : Result Settings Fault). RunsOver told_in world (names_at meant) (λ found. EndsAs told (tool_of settings) (work_at meant) (λ those. outcome_at words those meant) found new status)) (sym is) runs)
 
-pub for_settings : (told_in told : Bool) (world : World) (words : List (List ℕ)) (settings same : Settings) (new : List Slot) (status : ℕ) → settings ≡ same
-    → RunsOver told_in world (names_of words same) (λ found. EndsAs told (tool_of same) (work_of words same) (λ those. tool_outcome words those same) found new status)
-    → RunsOver told_in world (names_of words settings) (λ found. EndsAs told (tool_of settings) (work_of words settings) (λ those. tool_outcome words those settings) found new status)
-for_settings told_in told world words settings same new status is runs =
-    subst (λ those. RunsOver told_in world (names_of words those) (λ found. EndsAs told (tool_of those) (work_of words those) (λ all_those. tool_outcome words all_those those) found new status)) (sym is) runs
+pub for_settings : (told_in told : Bool) (world : World) (settings same : Settings) (new : List Slot) (status : ℕ) → settings ≡ same
+    → RunsOver told_in world (names_of same) (λ found. EndsAs told (tool_of same) (work_of same) (λ those. tool_outcome those same) found new status)
+    → RunsOver told_in world (names_of settings) (λ found. EndsAs told (tool_of settings) (work_of settings) (λ those. tool_outcome those settings) found new status)
+for_settings told_in told world settings same new status is runs =
+    subst (λ those. RunsOver told_in world (names_of those) (λ found. EndsAs told (tool_of those) (work_of those) (λ all_those. tool_outcome all_those those) found new status)) (sym is) runs
 
 -- words that are refused, or weren't read for want of memory
-pub refused_or_memory : (told_in told : Bool) (world : World) (words : List (List ℕ)) (fault : Fault) (old new : List Slot) → (fault ≡ Memory) ⊎ AreRefused words fault → old ≡ streams
+pub refused_or_memory : (told_in told : Bool) (world : World) (words : List (List ℕ)) (fault : Fault) (old new : List Slot) → (fault ≡ Memory) ⊎ (settings_of words ≡ Err fault) → old ≡ streams
     → SaysOn told (speaker words) (message_of (speaker words) fault (word_of words fault)) old new → RunsOver told_in world (names_read words) (λ found. RunEnds told words found new 1)
 refused_or_memory told_in told world words fault old new (inr is) fresh says =
     let said = says standard_output standard_error [] fresh in
-    subst (λ (meant : Result Settings Fault). RunsOver told_in world (names_at words meant) (λ found. EndsAs told (speaker words) (work_at words meant) (λ those. outcome_at words those meant) found new 1)) (sym is) (
+    subst (λ (meant : Result Settings Fault). RunsOver told_in world (names_at meant) (λ found. EndsAs told (speaker words) (work_at meant) (λ those. outcome_at words those meant) found new 1)) (sym is) (
       [],
       record { are = refl; there = λ t. refl },
       as_defined said.0 (said.0, said.1, refl) (subst (OutputsAt told (standard_output ∷ said.0 ∷ []) nothing) (sym said.2) (nothing_out told (standard_output ∷ said.0 ∷ []) (lit< tt))) refl,
@@ -142,21 +143,21 @@ refused_or_memory told_in told world words fault old new (inl is) fresh says =
 
 -- what was read
 
-pub reads_for : (words : List (List ℕ)) (settings same : Settings) (there left : Content) → settings ≡ same → ReadsFor (work_of words same).is_complete PIECE there left → ReadsFor (work_of words settings).is_complete PIECE there left
-reads_for words settings same there left is reads = subst (λ those. ReadsFor (work_of words those).is_complete PIECE there left) (sym is) reads
+pub reads_for : (settings same : Settings) (there left : Content) → settings ≡ same → ReadsFor (work_of same).is_complete PIECE there left → ReadsFor (work_of settings).is_complete PIECE there left
+reads_for settings same there left is reads = subst (λ those. ReadsFor (work_of those).is_complete PIECE there left) (sym is) reads
 
-pub reads_by : (words : List (List ℕ)) (settings : Settings) (there left : Content) → settings_of words ≡ Ok settings → ReadsFor (work_of words settings).is_complete PIECE there left → Reads words there left
-reads_by words settings there left is reads = subst (λ (meant : Result Settings Fault). ReadsAt words meant there left) (sym is) reads
+pub reads_by : (words : List (List ℕ)) (settings : Settings) (there left : Content) → settings_of words ≡ Ok settings → ReadsFor (work_of settings).is_complete PIECE there left → Reads words there left
+reads_by words settings there left is reads = subst (λ (meant : Result Settings Fault). ReadsAt meant there left) (sym is) reads
 
-pub unread : (words : List (List ℕ)) (meant : Result Settings Fault) (there : Content) → ReadsAt words meant there there
-unread words (Ok settings) there = ([], inl refl, refl)
-unread words (Err fault) there = refl
+pub unread : (meant : Result Settings Fault) (there : Content) → ReadsAt meant there there
+unread (Ok settings) there = ([], inl refl, refl)
+unread (Err fault) there = refl
 
--- the names are those of the operands
-pub took_operands : (told_in told : Bool) (world : World) (tool : Tool) (work : Work) (most : ℕ) (headers : Headers) (names asked : List (List ℕ)) (with_header : Bool) (new : List Slot) (result : Result Bool Fault) → most ≡ PIECE → with_header ≡ has_headers headers names → names ≡ asked
+-- the names are those that are asked for
+pub took_inputs : (told_in told : Bool) (world : World) (tool : Tool) (work : Work) (most : ℕ) (headers : Headers) (names asked : List (List ℕ)) (with_header : Bool) (new : List Slot) (result : Result Bool Fault) → most ≡ PIECE → with_header ≡ has_headers headers names → names ≡ asked
     → RunsOver told_in world names (λ found. TookAll told tool work most (of_inputs tool work with_header true) found new result)
     → RunsOver told_in world asked (λ found. TookAll told tool work PIECE (of_inputs tool work (has_headers headers asked) true) found new result)
-took_operands told_in told world tool work most headers names asked with_header new result room headed same runs =
+took_inputs told_in told world tool work most headers names asked with_header new result room headed same runs =
     subst (λ those. RunsOver told_in world those (λ found. TookAll told tool work PIECE (of_inputs tool work (has_headers headers those) true) found new result)) same
     (subst (λ (header : Bool). RunsOver told_in world names (λ found. TookAll told tool work PIECE (of_inputs tool work header true) found new result)) headed
     (subst (λ n. RunsOver told_in world names (λ found. TookAll told tool work n (of_inputs tool work with_header true) found new result)) room runs))

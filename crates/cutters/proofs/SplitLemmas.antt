@@ -30,12 +30,12 @@ use Rattle.words_core.specs.SplitAsked.{SplitAsked}
 use Rattle.ports_core.specs.declared.alphabet.Alphabet.{Alphabet}
 use Rattle.cutters.specs.Feeding.{Does, Work, is_enough, made_of, Stops, FedAs, whole, had_enough, broke_off, ran_out, stopped, OfContent, ReadsFor}
 use Rattle.cutters.specs.Input.{Input, World, is_dash, has_dash, inputs_at}
-use Rattle.cutters.specs.Message.{SaysAll, SaysOn}
+use Rattle.ports_core.specs.Message.{SaysAll, SaysOn, output_named}
 use Rattle.cutters.specs.EndsSteps.{OfName}
-use Rattle.cutters.specs.RunEnds.{standard_output, standard_error, EndsAs, as_defined, no_room, RunsOver, output_named}
+use Rattle.cutters.specs.RunEnds.{standard_output, standard_error, EndsAs, as_defined, no_room, RunsOver}
 use Rattle.cutters.specs.RunEnds as run
 use Rattle.cutters.specs.RunOutcome.{Outcome}
-use Rattle.cutters.specs.Splitting.{split_work, split_of_content, split_outcome, plan_of, word_or}
+use Rattle.cutters.specs.Splitting.{split_work, split_of_content, split_outcome, plan_of}
 use Rattle.cutters.specs.SplitSteps.{is_suffixes, SplitOne, put_out, cut_off, SplitRun, one, not_begun}
 use Rattle.cutters.proofs.EndsLemmas.{fed_same, or_true, or_false}
 use Rattle.cutters.proofs.FeedingLemmas.{reads_none}
@@ -79,13 +79,12 @@ made_begins plan content =
     (part_begins plan.names _ _ (settled_begins plan.cut plan.elide content.bytes))
 
 -- the names that were made are those of the plan
-pub plan_is : (words : List (List ℕ)) (asked : SplitAsked) (cut : Cut) (alphabet : Alphabet) (width : ℕ) (auto elide : Bool) (input place : Option ℕ) (prefix : List ℕ) (names : Naming)
-    → names ≡ record { prefix = prefix; alphabet = alphabet; width = width; auto = auto; drawn = 0 } → prefix ≡ word_or words (codes "x") place
-    → record { cut = cut; alphabet = alphabet; width = width; auto = auto; elide = elide; input = input; prefix = place } ≡ asked
-    → record { cut = cut; elide = elide; names = names } ≡ plan_of words asked
-plan_is words asked cut alphabet width auto elide input place prefix names made begins is =
-    ap (λ (those : Naming). record { cut = cut; elide = elide; names = those }) (made ∙ ap (λ (bytes : List ℕ). record { prefix = bytes; alphabet = alphabet; width = width; auto = auto; drawn = 0 }) begins)
-    ∙ ap (plan_of words) is
+pub plan_is : (asked : SplitAsked) (cut : Cut) (alphabet : Alphabet) (width : ℕ) (auto elide : Bool) (input prefix : List ℕ) (names : Naming)
+    → names ≡ record { prefix = prefix; alphabet = alphabet; width = width; auto = auto; drawn = 0 }
+    → record { cut = cut; alphabet = alphabet; width = width; auto = auto; elide = elide; input = input; prefix = prefix } ≡ asked
+    → record { cut = cut; elide = elide; names = names } ≡ plan_of asked
+plan_is asked cut alphabet width auto elide input prefix names made is =
+    ap (λ (those : Naming). record { cut = cut; elide = elide; names = those }) made ∙ ap plan_of is
 
 -- how an engine that was opened was fed
 

@@ -12,8 +12,7 @@ use Rattle.ports_core.specs.declared.fault.Fault.TheVariants.{Memory, Write, Rea
 use Rattle.ports_core.proofs.WriteLemmas.{told_of-nil}
 use Rattle.ports_core.specs.Source.{Content}
 use Rattle.cutters.specs.Feeding.{Work, Stops}
-use Rattle.cutters.specs.Message.{Prints, whole, cut, passed, Says, SaysOn}
-use Rattle.cutters.specs.RunEnds.{output_named}
+use Rattle.ports_core.specs.Message.{Prints, whole, cut, passed, Says, SaysOn, output_named}
 
 -- a line that tells a fault isn't empty: it ends with a newline
 

@@ -44,14 +44,6 @@ tail_work asked = record {
   means = on_output (not (is_plus asked.count.sign));
 }
 
--- the names of the inputs: the operands, and standard input where there is none
-abbrev pub or_dash : List (List ℕ) → List (List ℕ)
-or_dash [] = codes "-" ∷ []
-or_dash (name ∷ names) = name ∷ names
-
-abbrev pub names_in : List (List ℕ) → List ℕ → List (List ℕ)
-names_in words places = or_dash (map (λ place. slice_index_or words place []) places)
-
 -- whether a header goes before each input: as an option says, and else where there are several
 abbrev pub has_headers : Headers → List (List ℕ) → Bool
 has_headers ForSeveral names = nat_lt 1 (length names)

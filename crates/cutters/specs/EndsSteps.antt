@@ -11,7 +11,7 @@ use Rattle.cutters.specs.declared.ends.Progress.{Progress}
 use Rattle.cutters.specs.Ends.{Made, is_missing}
 use Rattle.cutters.specs.Feeding.{Work, Stops, KeepsOthers, ReadsFor}
 use Rattle.cutters.specs.Input.{Input, IsFor, World, is_dash, input_of, next_slot, empty}
-use Rattle.cutters.specs.Message.{SaysAll}
+use Rattle.ports_core.specs.Message.{SaysAll}
 use Rattle.cutters.specs.RunEnds.{standard_output, standard_error}
 
 -- both streams, where standard output got these bytes

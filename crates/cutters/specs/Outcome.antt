@@ -10,10 +10,10 @@ use Rattle.ports_core.specs.declared.fault.Fault.TheVariants.{Memory, Write, Rea
 use Rattle.words_core.specs.declared.settings.Settings.{Settings}
 use Rattle.words_core.specs.declared.settings.Settings.TheVariants.{Head, Tail, Split}
 use Rattle.words_core.specs.EndsAsked.{EndsAsked}
-use Rattle.cutters.specs.Ends.{Made, head_work, tail_work, has_headers, names_in, of_inputs}
+use Rattle.cutters.specs.Ends.{Made, head_work, tail_work, has_headers, of_inputs}
 use Rattle.cutters.specs.Feeding.{Work}
 use Rattle.cutters.specs.RunOutcome.{Outcome}
-use Rattle.cutters.specs.Splitting.{input_name, split_for, split_outcome}
+use Rattle.cutters.specs.Splitting.{split_for, split_outcome}
 use Rattle.cutters.specs.Input.{Input}
 use Rattle.words_core.specs.Words.{tool_named, settings_of}
 
@@ -29,21 +29,21 @@ tool_of (Tail asked) = tool.Tail
 tool_of (Split asked) = tool.Split
 
 -- what a tool makes of one input
-abbrev pub work_of : List (List ℕ) → Settings → Work
-work_of words (Head asked) = head_work asked
-work_of words (Tail asked) = tail_work asked
-work_of words (Split asked) = split_for words asked
+abbrev pub work_of : Settings → Work
+work_of (Head asked) = head_work asked
+work_of (Tail asked) = tail_work asked
+work_of (Split asked) = split_for asked
 
--- the names of the inputs that a tool reads, among these words
-abbrev pub names_of : List (List ℕ) → Settings → List (List ℕ)
-names_of words (Head asked) = names_in words asked.operands
-names_of words (Tail asked) = names_in words asked.operands
-names_of words (Split asked) = input_name words asked ∷ []
+-- the names of the inputs that a tool reads
+abbrev pub names_of : Settings → List (List ℕ)
+names_of (Head asked) = asked.names
+names_of (Tail asked) = asked.names
+names_of (Split asked) = asked.input ∷ []
 
-abbrev pub tool_outcome : List (List ℕ) → List Input → Settings → Outcome
-tool_outcome words inputs (Head asked) = ends_outcome tool.Head (head_work asked) asked (names_in words asked.operands) inputs
-tool_outcome words inputs (Tail asked) = ends_outcome tool.Tail (tail_work asked) asked (names_in words asked.operands) inputs
-tool_outcome words inputs (Split asked) = split_outcome (split_for words asked) inputs
+abbrev pub tool_outcome : List Input → Settings → Outcome
+tool_outcome inputs (Head asked) = ends_outcome tool.Head (head_work asked) asked asked.names inputs
+tool_outcome inputs (Tail asked) = ends_outcome tool.Tail (tail_work asked) asked asked.names inputs
+tool_outcome inputs (Split asked) = split_outcome (split_for asked) inputs
 
 -- who refuses words: their tool, or the program where they name none
 abbrev pub or_cutters : Option Tool → Tool
@@ -72,7 +72,7 @@ abbrev pub refusal : List (List ℕ) → Fault → Outcome
 refusal words fault = record { part = nothing; messages = message_of (speaker words) fault (word_of words fault) ∷ []; status = 1 }
 
 abbrev pub outcome_at : List (List ℕ) → List Input → Result Settings Fault → Outcome
-outcome_at words inputs (Ok settings) = tool_outcome words inputs settings
+outcome_at words inputs (Ok settings) = tool_outcome inputs settings
 outcome_at words inputs (Err fault) = refusal words fault
 
 -- what these words make of these inputs
@@ -80,20 +80,20 @@ abbrev pub outcome : List (List ℕ) → List Input → Outcome
 outcome words inputs = outcome_at words inputs (settings_of words)
 
 -- the names that these words read
-abbrev pub names_at : List (List ℕ) → Result Settings Fault → List (List ℕ)
-names_at words (Ok settings) = names_of words settings
-names_at words (Err fault) = []
+abbrev pub names_at : Result Settings Fault → List (List ℕ)
+names_at (Ok settings) = names_of settings
+names_at (Err fault) = []
 
 abbrev pub names_read : List (List ℕ) → List (List ℕ)
-names_read words = names_at words (settings_of words)
+names_read words = names_at (settings_of words)
 
 -- what these words make of one input; nothing where they are refused
 abbrev pub no_work : Work
 no_work = record { settled = λ x. nothing; whole = λ x. nothing; is_complete = λ x. true; means = on_output false }
 
-abbrev pub work_at : List (List ℕ) → Result Settings Fault → Work
-work_at words (Ok settings) = work_of words settings
-work_at words (Err fault) = no_work
+abbrev pub work_at : Result Settings Fault → Work
+work_at (Ok settings) = work_of settings
+work_at (Err fault) = no_work
 
 abbrev pub work_asked : List (List ℕ) → Work
-work_asked words = work_at words (settings_of words)
+work_asked words = work_at (settings_of words)

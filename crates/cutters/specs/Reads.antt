@@ -8,13 +8,13 @@ use Rattle.cutters.specs.Outcome.{work_of}
 use Rattle.cutters.specs.Feeding.{ReadsFor}
 use Rattle.words_core.specs.Words.{settings_of}
 
-abbrev pub ReadsAt : List (List ℕ) → Result Settings Fault → Content → Content → Type 0
-ReadsAt words (Ok settings) there left = ReadsFor (work_of words settings).is_complete PIECE there left
-ReadsAt words (Err fault) there left = left ≡ there
+abbrev pub ReadsAt : Result Settings Fault → Content → Content → Type 0
+ReadsAt (Ok settings) there left = ReadsFor (work_of settings).is_complete PIECE there left
+ReadsAt (Err fault) there left = left ≡ there
 
 -- nothing for words that are refused; else pieces of at most so many bytes, and none once the output was complete
 abbrev pub Reads : List (List ℕ) → Content → Content → Type 0
-Reads words there left = ReadsAt words (settings_of words) there left
+Reads words there left = ReadsAt (settings_of words) there left
 
 -- the words ask for nothing
 abbrev pub AreNone : List (List ℕ) → Type 0

@@ -1,13 +1,13 @@
 -- How a whole run ends, from the streams as it found them.
 use Rattle.std.specs.Prelude.{◌≡◌, ℕ, Bool, List, [], ◌∷◌, ◌++◌, codes}
-use Rattle.ports_core.specs.Slot.{Slot, opened, slot_at}
+use Rattle.ports_core.specs.Slot.{Slot, opened}
 use Rattle.ports_core.specs.declared.slot.Mode.TheVariants.{Append}
 use Rattle.ports_core.specs.Part.{OutputsAt, StoppedBetween}
 use Rattle.ports_core.specs.Text.{message_of}
 use Rattle.ports_core.specs.declared.fault.Fault.{Fault}
-use Rattle.ports_core.specs.declared.fault.Fault.TheVariants.{Memory, Write, Open}
+use Rattle.ports_core.specs.declared.fault.Fault.TheVariants.{Memory}
 use Rattle.ports_core.specs.declared.tool.Tool.{Tool}
-use Rattle.cutters.specs.Message.{SaysAll}
+use Rattle.ports_core.specs.Message.{SaysAll, output_named}
 use Rattle.cutters.specs.Input.{Input, World, Finds}
 use Rattle.cutters.specs.RunOutcome.{Outcome}
 use Rattle.cutters.specs.Outcome.{outcome, speaker, work_asked}
@@ -19,12 +19,6 @@ standard_output = opened (codes "standard output") Append
 
 abbrev pub standard_error : Slot
 standard_error = opened (codes "standard error") Append
-
--- the name of the output that a fault which stops a run speaks of; there is none where no memory was left to keep it
-abbrev pub output_named : List Slot → Fault → List ℕ
-output_named slots (Write slot) = (slot_at slots slot).name
-output_named slots (Open slot) = (slot_at slots slot).name
-output_named slots fault = []
 
 -- A run ended so, where `work` is what is made of one input and `made` the outcome of any inputs: its outcome is out, and standard error was left as `error`; or a
 -- fault stopped it at one input, when those before it were out and told: then standard output and the files lie between their

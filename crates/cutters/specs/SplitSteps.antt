@@ -9,7 +9,7 @@ use Rattle.ports_core.specs.declared.tool.Tool.TheVariants as tool
 use Rattle.cutters.specs.declared.ends.TheConstants.{PIECE}
 use Rattle.cutters.specs.Feeding.{Work, Stops}
 use Rattle.cutters.specs.Input.{Input}
-use Rattle.cutters.specs.Message.{SaysAll}
+use Rattle.ports_core.specs.Message.{SaysAll}
 use Rattle.cutters.specs.RunEnds.{standard_output, standard_error}
 use Rattle.cutters.specs.Splitting.{split_of_content}
 

@@ -13,35 +13,26 @@ use Rattle.cutters.specs.Feeding.{Work, made_of}
 use Rattle.cutters.specs.Input.{Input}
 use Rattle.cutters.specs.RunOutcome.{Outcome}
 
--- the word at a place, and this one where none is given
-abbrev pub word_or : List (List ℕ) → List ℕ → Option ℕ → List ℕ
-word_or words default None = default
-word_or words default (Some place) = slice_index_or words place []
-
--- the name of the one input: standard input where there is no operand
-abbrev pub input_name : List (List ℕ) → SplitAsked → List ℕ
-input_name words asked = word_or words (codes "-") asked.input
-
--- the names of its files: the prefix is `x` where there is no second operand
-abbrev pub naming_of : List (List ℕ) → SplitAsked → Naming
-naming_of words asked = record {
-  prefix = word_or words (codes "x") asked.prefix;
+-- the names of its files
+abbrev pub naming_of : SplitAsked → Naming
+naming_of asked = record {
+  prefix = asked.prefix;
   alphabet = asked.alphabet;
   width = asked.width;
   auto = asked.auto;
   drawn = 0;
 }
 
-abbrev pub plan_of : List (List ℕ) → SplitAsked → Plan
-plan_of words asked = record { cut = asked.cut; elide = asked.elide; names = naming_of words asked }
+abbrev pub plan_of : SplitAsked → Plan
+plan_of asked = record { cut = asked.cut; elide = asked.elide; names = naming_of asked }
 
 -- what `split` makes of its input
 abbrev pub split_work : Plan → Work
 split_work plan = record { settled = settled_by plan; whole = whole_by plan; is_complete = is_short plan; means = means_for plan.cut }
 
--- what these words ask `split` to make of its input
-abbrev pub split_for : List (List ℕ) → SplitAsked → Work
-split_for words asked = split_work (plan_of words asked)
+-- what `split` makes of its input where it is asked for this
+abbrev pub split_for : SplitAsked → Work
+split_for asked = split_work (plan_of asked)
 
 -- what is told of an input: that there were too few names, or else that it broke off
 abbrev pub split_messages : Work → List ℕ → Content → List (List ℕ)

@@ -3,7 +3,7 @@
 ghost use Rattle.std.specs.Prelude.{◌≡◌, ◌^◌, ◌<◌, ◌||◌, ℕ, List, Option, Some, [], true, false, map, length, IfOk, IfErr, IfSome, OnOk, IsTrue};
 ghost use Rattle.ports_core.specs.Slot.{Slot, is_open, slot_at, is_writable, streams, told_of, with_written};
 ghost use Rattle.ports_core.specs.Source.{source_at, is_readable, IsFresh};
-ghost use Rattle.cutters.specs.Ends.{has_headers, head_work, is_minus, is_plus, tail_work, names_in, header_text, of_content, of_input, of_inputs};
+ghost use Rattle.cutters.specs.Ends.{has_headers, head_work, is_minus, is_plus, tail_work, header_text, of_content, of_input, of_inputs};
 ghost use Rattle.words_core.specs.EndsAsked.{EndsAsked};
 ghost use Rattle.cutters.specs.EndsSteps.{HasStreams, HeaderFails, IsPlain, KeepsOther, OfName, OfSource, OpensOne, ReadsSource, ReadsStandard, TookAll, TookInput, standard_source, streams_at, world_of};
 ghost use Rattle.cutters.specs.EndsPlain.{head_is_plain, tail_is_plain};
@@ -36,7 +36,7 @@ pub trait Ends: Engine {
     /// # Errors
     ///
     /// `Memory` where there is no room for what it keeps.
-    fn open(alloc: Global, settings: &EndsSettings) -> Result<Self, Fault>
+    fn open(alloc: Global, settings: &EndsSettings<'_>) -> Result<Self, Fault>
         ensures fresh { IfOk result (λ engine. Self.Holds engine []) }
         ensures bound { IfOk result (λ engine. Self.fed engine < 2 ^ 63) }
         ensures does { IfOk result (λ engine. Does (Self.settled engine) (Self.whole engine) (Self.is_complete engine) (Self.means engine) (work settings.now)) }
@@ -51,7 +51,7 @@ pub trait Ends: Engine {
 struct Job<'a> {
     alloc: Global,
     tool: Tool,
-    settings: &'a EndsSettings,
+    settings: &'a EndsSettings<'a>,
     with_header: bool,
 }
 
@@ -259,29 +259,6 @@ fn take_names<E: Ends + Drop, I: Inputs, O: Outs>(
     Ok(progress.failed)
 }
 
-/// The names of the inputs: the operands, or standard input where there is none.
-fn names_of<'a>(alloc: Global, words: &[&'a str], operands: &[usize]) -> Result<Vec<&'a str>, Fault>
-    ensures ok { IfOk result (λ names. map (λ name. name.now) names.items ≡ names_in (map (λ word. word.now) words.now) operands.now) }
-    ensures err { IfErr result (λ fault. fault ≡ Fault.Memory) }
-{
-    let mut names = Vec::new(alloc);
-    let mut left = operands;
-    while let [place, behind @ ..] = left {
-        match names.push(words.get(*place).copied().unwrap_or("")) {
-            Ok(()) => {}
-            Err(_) => return Err(Fault::Memory),
-        }
-        left = behind;
-    }
-    if operands.is_empty() {
-        match names.push(STANDARD_INPUT) {
-            Ok(()) => {}
-            Err(_) => return Err(Fault::Memory),
-        }
-    }
-    Ok(names)
-}
-
 /// Whether headers go before this many inputs.
 fn has_headers(headers: Headers, names: &[&str]) -> bool
     ensures { result ≡ has_headers headers (map (λ name. name.now) names.now) }
@@ -293,25 +270,20 @@ fn has_headers(headers: Headers, names: &[&str]) -> bool
     }
 }
 
-fn take_operands<E: Ends + Drop, I: Inputs, O: Outs>(
+fn take_inputs<E: Ends + Drop, I: Inputs, O: Outs>(
     alloc: Global,
     tool: Tool,
-    words: &[&str],
-    settings: &EndsSettings,
+    settings: &EndsSettings<'_>,
     inputs: &mut I,
     outs: &mut O,
 ) -> Result<bool, Fault>
     requires fresh { IsFresh (I.sources inputs.old) }
     requires outputs { O.slots outs.old ≡ streams }
-    ensures took { RunsOver I.told (world_of (I.laid inputs.old) (I.sources inputs.old)) (names_in (map (λ word. word.now) words.now) settings.now.operands)
-        (λ found. TookAll O.told tool (E.work settings.now) PIECE (of_inputs tool (E.work settings.now) (has_headers settings.now.headers (names_in (map (λ word. word.now) words.now) settings.now.operands)) true) found (O.slots outs.new) result) }
-    ensures untouched { has_dash (names_in (map (λ word. word.now) words.now) settings.now.operands) ≡ false → source_at (I.sources inputs.new) 0 ≡ source_at (I.sources inputs.old) 0 }
+    ensures took { RunsOver I.told (world_of (I.laid inputs.old) (I.sources inputs.old)) settings.now.names
+        (λ found. TookAll O.told tool (E.work settings.now) PIECE (of_inputs tool (E.work settings.now) (has_headers settings.now.headers settings.now.names) true) found (O.slots outs.new) result) }
+    ensures untouched { has_dash settings.now.names ≡ false → source_at (I.sources inputs.new) 0 ≡ source_at (I.sources inputs.old) 0 }
     ensures reads { I.told ≡ true → ReadsFor (E.work settings.now).is_complete PIECE (source_at (I.sources inputs.old) 0).left (source_at (I.sources inputs.new) 0).left }
 {
-    let names = match names_of(alloc, words, &settings.operands) {
-        Ok(names) => names,
-        Err(fault) => return Err(fault),
-    };
     let mut buffer = match vec![in alloc; 0u8; PIECE] {
         Ok(buffer) => buffer,
         Err(AllocError) => return Err(Fault::Memory),
@@ -320,28 +292,27 @@ fn take_operands<E: Ends + Drop, I: Inputs, O: Outs>(
         alloc,
         tool,
         settings,
-        with_header: has_headers(settings.headers, &names),
+        with_header: has_headers(settings.headers, &settings.names),
     };
-    take_names::<E, I, O>(&job, &names, &mut buffer, inputs, outs)
+    take_names::<E, I, O>(&job, &settings.names, &mut buffer, inputs, outs)
 }
 
 /// A whole run of `head` or `tail`: its status is 1 where a fault was met.
 pub fn run_ends<E: Ends + Drop, I: Inputs, O: Outs>(
     alloc: Global,
     tool: Tool,
-    words: &[&str],
-    settings: &EndsSettings,
+    settings: &EndsSettings<'_>,
     inputs: &mut I,
     outs: &mut O,
 ) -> u8
     requires fresh { IsFresh (I.sources inputs.old) }
     requires outputs { O.slots outs.old ≡ streams }
-    ensures untouched { has_dash (names_in (map (λ word. word.now) words.now) settings.now.operands) ≡ false → source_at (I.sources inputs.new) 0 ≡ source_at (I.sources inputs.old) 0 }
+    ensures untouched { has_dash settings.now.names ≡ false → source_at (I.sources inputs.new) 0 ≡ source_at (I.sources inputs.old) 0 }
     ensures reads { I.told ≡ true → ReadsFor (E.work settings.now).is_complete PIECE (source_at (I.sources inputs.old) 0).left (source_at (I.sources inputs.new) 0).left }
-    ensures ends { RunsOver I.told (world_of (I.laid inputs.old) (I.sources inputs.old)) (names_in (map (λ word. word.now) words.now) settings.now.operands)
-        (λ found. EndsAs O.told tool (E.work settings.now) (ends_outcome tool (E.work settings.now) settings.now (names_in (map (λ word. word.now) words.now) settings.now.operands)) found (O.slots outs.new) result) }
+    ensures ends { RunsOver I.told (world_of (I.laid inputs.old) (I.sources inputs.old)) settings.now.names
+        (λ found. EndsAs O.told tool (E.work settings.now) (ends_outcome tool (E.work settings.now) settings.now settings.now.names) found (O.slots outs.new) result) }
 {
-    match take_operands::<E, I, O>(alloc, tool, words, settings, inputs, outs) {
+    match take_inputs::<E, I, O>(alloc, tool, settings, inputs, outs) {
         Ok(failed) => u8::from(failed),
         Err(fault) => {
             tell(alloc, tool, &fault, outs);
@@ -353,7 +324,7 @@ pub fn run_ends<E: Ends + Drop, I: Inputs, O: Outs>(
 impl Ends for Head {
     ghost work = { head_work };
 
-    fn open(alloc: Global, settings: &EndsSettings) -> Result<Self, Fault> {
+    fn open(alloc: Global, settings: &EndsSettings<'_>) -> Result<Self, Fault> {
         let Count { sign, amount } = settings.count;
         Head::open(alloc, settings.unit, is_minus(sign), amount)
     }
@@ -364,7 +335,7 @@ impl Ends for Head {
 impl Ends for Tail {
     ghost work = { tail_work };
 
-    fn open(alloc: Global, settings: &EndsSettings) -> Result<Self, Fault> {
+    fn open(alloc: Global, settings: &EndsSettings<'_>) -> Result<Self, Fault> {
         let Count { sign, amount } = settings.count;
         Tail::open(alloc, settings.unit, is_plus(sign), amount)
     }

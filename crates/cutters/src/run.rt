@@ -30,7 +30,7 @@ pub fn run<I: Inputs, O: Outs>(alloc: Global, words: &[&str], inputs: &mut I, ou
     ensures reads { I.told ≡ true → Reads (map (λ word. word.now) words.now) (source_at (I.sources inputs.old) 0).left (source_at (I.sources inputs.new) 0).left }
 {
     match read_words(alloc, words) {
-        Ok(settings) => run_tool(alloc, words, &settings, inputs, outs),
+        Ok(settings) => run_tool(alloc, &settings, inputs, outs),
         Err(fault) => {
             say(alloc, speaker(words), &fault, word_of(words, &fault), outs);
             1
@@ -40,27 +40,26 @@ pub fn run<I: Inputs, O: Outs>(alloc: Global, words: &[&str], inputs: &mut I, ou
 
 fn run_tool<I: Inputs, O: Outs>(
     alloc: Global,
-    words: &[&str],
-    settings: &Settings,
+    settings: &Settings<'_>,
     inputs: &mut I,
     outs: &mut O,
 ) -> u8
     requires inputs { IsFresh (I.sources inputs.old) }
     requires outputs { O.slots outs.old ≡ streams }
     requires can { CanRun settings.now }
-    ensures ends { RunsOver I.told (world_of (I.laid inputs.old) (I.sources inputs.old)) (names_of (map (λ word. word.now) words.now) settings.now)
-        (λ found. EndsAs O.told (tool_of settings.now) (work_of (map (λ word. word.now) words.now) settings.now) (λ those. tool_outcome (map (λ word. word.now) words.now) those settings.now) found (O.slots outs.new) result) }
-    ensures untouched { has_dash (names_of (map (λ word. word.now) words.now) settings.now) ≡ false → source_at (I.sources inputs.new) 0 ≡ source_at (I.sources inputs.old) 0 }
-    ensures reads { I.told ≡ true → ReadsFor (work_of (map (λ word. word.now) words.now) settings.now).is_complete PIECE (source_at (I.sources inputs.old) 0).left (source_at (I.sources inputs.new) 0).left }
+    ensures ends { RunsOver I.told (world_of (I.laid inputs.old) (I.sources inputs.old)) (names_of settings.now)
+        (λ found. EndsAs O.told (tool_of settings.now) (work_of settings.now) (λ those. tool_outcome those settings.now) found (O.slots outs.new) result) }
+    ensures untouched { has_dash (names_of settings.now) ≡ false → source_at (I.sources inputs.new) 0 ≡ source_at (I.sources inputs.old) 0 }
+    ensures reads { I.told ≡ true → ReadsFor (work_of settings.now).is_complete PIECE (source_at (I.sources inputs.old) 0).left (source_at (I.sources inputs.new) 0).left }
 {
     match settings {
         Settings::Head(settings) => {
-            run_ends::<Head, I, O>(alloc, Tool::Head, words, settings, inputs, outs)
+            run_ends::<Head, I, O>(alloc, Tool::Head, settings, inputs, outs)
         }
         Settings::Tail(settings) => {
-            run_ends::<Tail, I, O>(alloc, Tool::Tail, words, settings, inputs, outs)
+            run_ends::<Tail, I, O>(alloc, Tool::Tail, settings, inputs, outs)
         }
-        Settings::Split(settings) => { run_split(alloc, words, settings, inputs, outs) }
+        Settings::Split(settings) => { run_split(alloc, settings, inputs, outs) }
     }
 }
 

@@ -6,11 +6,11 @@ ghost use Rattle.cutters.specs.EndsSteps.{world_of};
 ghost use Rattle.cutters.specs.Feeding.{FedAs, KeepsOthers, OfContent, ReadsFor};
 ghost use Rattle.cutters.specs.Input.{has_dash};
 ghost use Rattle.cutters.specs.RunEnds.{EndsAs, RunsOver};
-ghost use Rattle.cutters.specs.Splitting.{input_name, split_for, split_outcome, word_or};
+ghost use Rattle.cutters.specs.Splitting.{split_for, split_outcome};
 ghost use Rattle.words_core.specs.SplitWords.{CanSplit};
 ghost use Rattle.cutters.specs.SplitSteps.{SplitOne, SplitRun, is_suffixes};
 
-use crate::ends::{PIECE, STANDARD_INPUT, is_dash};
+use crate::ends::{PIECE, is_dash};
 use crate::feeding::{Fed, feed_input};
 use crate::messages::{say, tell};
 use ports_core::{Fault, Inputs, Names, Outs, Tool};
@@ -18,38 +18,29 @@ use split_core::Splitter;
 use std::alloc::{AllocError, Global};
 use words_core::SplitSettings;
 
-/// What the names of the files begin with.
-const PREFIX: &str = "x";
-
 /// What the steps of a run have in common.
 #[derive(Clone, Copy)]
 struct Job<'a> {
     alloc: Global,
-    words: &'a [&'a str],
-    settings: &'a SplitSettings,
+    settings: &'a SplitSettings<'a>,
 }
 
 /// A whole run of `split`: its status is 1 where a fault was met.
 pub fn run_split<I: Inputs, O: Outs>(
     alloc: Global,
-    words: &[&str],
-    settings: &SplitSettings,
+    settings: &SplitSettings<'_>,
     inputs: &mut I,
     outs: &mut O,
 ) -> u8
     requires fresh { IsFresh (I.sources inputs.old) }
     requires outputs { O.slots outs.old ≡ streams }
     requires asked { CanSplit settings.now }
-    ensures untouched { has_dash (input_name (map (λ word. word.now) words.now) settings.now ∷ []) ≡ false → source_at (I.sources inputs.new) 0 ≡ source_at (I.sources inputs.old) 0 }
-    ensures reads { I.told ≡ true → ReadsFor (split_for (map (λ word. word.now) words.now) settings.now).is_complete PIECE (source_at (I.sources inputs.old) 0).left (source_at (I.sources inputs.new) 0).left }
-    ensures ends { RunsOver I.told (world_of (I.laid inputs.old) (I.sources inputs.old)) (input_name (map (λ word. word.now) words.now) settings.now ∷ [])
-        (λ found. EndsAs O.told Tool.Split (split_for (map (λ word. word.now) words.now) settings.now) (split_outcome (split_for (map (λ word. word.now) words.now) settings.now)) found (O.slots outs.new) result) }
+    ensures untouched { has_dash (settings.now.input ∷ []) ≡ false → source_at (I.sources inputs.new) 0 ≡ source_at (I.sources inputs.old) 0 }
+    ensures reads { I.told ≡ true → ReadsFor (split_for settings.now).is_complete PIECE (source_at (I.sources inputs.old) 0).left (source_at (I.sources inputs.new) 0).left }
+    ensures ends { RunsOver I.told (world_of (I.laid inputs.old) (I.sources inputs.old)) (settings.now.input ∷ [])
+        (λ found. EndsAs O.told Tool.Split (split_for settings.now) (split_outcome (split_for settings.now)) found (O.slots outs.new) result) }
 {
-    let job = Job {
-        alloc,
-        words,
-        settings,
-    };
+    let job = Job { alloc, settings };
     match split_named(&job, inputs, outs) {
         Ok(failed) => u8::from(failed),
         Err(fault) => {
@@ -59,7 +50,7 @@ pub fn run_split<I: Inputs, O: Outs>(
     }
 }
 
-/// Splits the input that the words name, and answers whether a fault was told.
+/// Splits the input that the settings name, and answers whether a fault was told.
 ///
 /// # Errors
 ///
@@ -72,17 +63,17 @@ fn split_named<I: Inputs, O: Outs>(
     requires fresh { IsFresh (I.sources inputs.old) }
     requires outputs { O.slots outs.old ≡ streams }
     requires asked { CanSplit job.now.settings.now }
-    ensures untouched { has_dash (input_name (map (λ word. word.now) job.now.words.now) job.now.settings.now ∷ []) ≡ false → source_at (I.sources inputs.new) 0 ≡ source_at (I.sources inputs.old) 0 }
-    ensures reads { I.told ≡ true → ReadsFor (split_for (map (λ word. word.now) job.now.words.now) job.now.settings.now).is_complete PIECE (source_at (I.sources inputs.old) 0).left (source_at (I.sources inputs.new) 0).left }
-    ensures splits { RunsOver I.told (world_of (I.laid inputs.old) (I.sources inputs.old)) (input_name (map (λ word. word.now) job.now.words.now) job.now.settings.now ∷ [])
-        (SplitRun O.told (split_for (map (λ word. word.now) job.now.words.now) job.now.settings.now) (O.slots outs.new) result) }
+    ensures untouched { has_dash (job.now.settings.now.input ∷ []) ≡ false → source_at (I.sources inputs.new) 0 ≡ source_at (I.sources inputs.old) 0 }
+    ensures reads { I.told ≡ true → ReadsFor (split_for job.now.settings.now).is_complete PIECE (source_at (I.sources inputs.old) 0).left (source_at (I.sources inputs.new) 0).left }
+    ensures splits { RunsOver I.told (world_of (I.laid inputs.old) (I.sources inputs.old)) (job.now.settings.now.input ∷ [])
+        (SplitRun O.told (split_for job.now.settings.now) (O.slots outs.new) result) }
 {
     let mut buffer = match vec![in job.alloc; 0u8; PIECE] {
         Ok(buffer) => buffer,
         Err(AllocError) => return Err(Fault::Memory),
     };
     let settings = job.settings;
-    let name = word_or(job.words, STANDARD_INPUT, settings.input);
+    let name = settings.input;
     if is_dash(name) {
         return split_slot(job, "standard input", 0, &mut buffer, inputs, outs);
     }
@@ -93,16 +84,6 @@ fn split_named<I: Inputs, O: Outs>(
             Ok(true)
         }
         Err(_) => Err(Fault::Memory),
-    }
-}
-
-/// The word at a place, and this one where none is given.
-fn word_or<'a>(words: &[&'a str], default: &'a str, place: Option<usize>) -> &'a str
-    ensures { result.now ≡ word_or (map (λ word. word.now) words.now) default.now place }
-{
-    match place {
-        Some(place) => words.get(place).copied().unwrap_or(""),
-        None => default,
     }
 }
 
@@ -124,8 +105,8 @@ fn split_slot<I: Inputs, O: Outs>(
     requires outputs { O.slots outs.old ≡ streams }
     requires asked { CanSplit job.now.settings.now }
     ensures splits { OfContent I.told (source_at (I.sources inputs.old) slot).left
-        (λ content. SplitOne O.told (split_for (map (λ word. word.now) job.now.words.now) job.now.settings.now) name.now (Some content) (O.slots outs.new) result) }
-    ensures reads { I.told ≡ true → ReadsFor (split_for (map (λ word. word.now) job.now.words.now) job.now.settings.now).is_complete PIECE (source_at (I.sources inputs.old) slot).left (source_at (I.sources inputs.new) slot).left }
+        (λ content. SplitOne O.told (split_for job.now.settings.now) name.now (Some content) (O.slots outs.new) result) }
+    ensures reads { I.told ≡ true → ReadsFor (split_for job.now.settings.now).is_complete PIECE (source_at (I.sources inputs.old) slot).left (source_at (I.sources inputs.new) slot).left }
     ensures others { KeepsOthers slot (I.sources inputs.old) (I.sources inputs.new) }
     ensures laid { I.laid inputs.new ≡ I.laid inputs.old }
 {
@@ -172,16 +153,15 @@ fn feed_files<I: Inputs, O: Outs>(
     requires outputs { O.slots outs.old ≡ streams }
     requires asked { CanSplit job.now.settings.now }
     ensures fed { OfContent I.told (source_at (I.sources inputs.old) slot).left
-        (λ content. FedAs O.told streams (split_for (map (λ word. word.now) job.now.words.now) job.now.settings.now) PIECE content (O.slots outs.new) result) }
-    ensures reads { I.told ≡ true → ReadsFor (split_for (map (λ word. word.now) job.now.words.now) job.now.settings.now).is_complete PIECE (source_at (I.sources inputs.old) slot).left (source_at (I.sources inputs.new) slot).left }
+        (λ content. FedAs O.told streams (split_for job.now.settings.now) PIECE content (O.slots outs.new) result) }
+    ensures reads { I.told ≡ true → ReadsFor (split_for job.now.settings.now).is_complete PIECE (source_at (I.sources inputs.old) slot).left (source_at (I.sources inputs.new) slot).left }
     ensures others { KeepsOthers slot (I.sources inputs.old) (I.sources inputs.new) }
     ensures laid { I.laid inputs.new ≡ I.laid inputs.old }
 {
     let settings = job.settings;
-    let prefix = word_or(job.words, PREFIX, settings.prefix);
     let names = match Names::new(
         job.alloc,
-        prefix,
+        settings.prefix,
         settings.alphabet,
         settings.width,
         settings.auto,

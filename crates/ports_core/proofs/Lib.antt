@@ -11,3 +11,4 @@ pub mod CounterLemmas
 pub mod OrderLemmas
 pub mod DirInLemmas
 pub mod DirOutLemmas
+pub mod MessageLemmas

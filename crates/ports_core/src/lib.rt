@@ -17,6 +17,7 @@ mod laws;
 mod length;
 mod mem_in;
 mod mem_out;
+mod messages;
 #[cfg(test)]
 mod name_tests;
 mod names;
@@ -41,6 +42,7 @@ pub use laws::{names_are_in_order, no_name_is_given_twice};
 pub use length::{MOST_BYTES, fed_with};
 pub use mem_in::MemIn;
 pub use mem_out::MemOut;
+pub use messages::{say, tell};
 pub use names::{Names, numbered};
 pub use outs::Outs;
 pub use slot::{Mode, State};

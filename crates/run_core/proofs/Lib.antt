@@ -1,1 +1,6 @@
 pub mod FeedingLemmas
+pub mod JoinedLemmas
+pub mod StopLemmas
+pub mod InputLemmas
+pub mod NamesLemmas
+pub mod RunLemmas

@@ -116,7 +116,7 @@ fn given_up<E: Engine, O: Outs>(engine: &mut E, fault: Fault, outs: &mut O) -> F
 }
 
 /// Whether a fault is one with which a tool's work itself ends.
-fn is_verdict(fault: &Fault) -> bool
+pub fn is_verdict(fault: &Fault) -> bool
     ensures { result ≡ is_verdict fault.now }
 {
     matches!(

@@ -1,6 +1,10 @@
 //! A run of a tool over its inputs: each is fed to an engine of its own, piece by piece, and what went wrong is said.
 #![tactic(auto)]
 
+mod adapter;
 mod feeding;
+mod inputs;
 
+pub use adapter::Adapter;
 pub use feeding::{Fed, feed_input, feed_nothing};
+pub use inputs::{STANDARD_INPUT, is_dash, run_inputs};

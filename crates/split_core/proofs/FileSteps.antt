@@ -1,40 +1,28 @@
 -- One file is opened, written or closed.
-use Rattle.std.proofs.Common.{◌≡◌, ◌≢◌, ℕ, ◌+◌, ◌-◌, ◌<◌, ◌≤◌, zero, suc, max, Bool, true, false, not, ◌&&◌, cond, eqb, List, [], ◌∷◌, ◌++◌, length, map, take, get_or, ◌⊎◌, inl, inr, IsTrue, refl, sym, ◌∙◌, ap, subst, arith, length-append, Ok, Err, Result, OnOk, IfErr}
-use Rattle.std.proofs.lemmas.Bool.{cases_lt, ne_eqb}
-use Rattle.std.proofs.lemmas.List.{map-append, length-map, get_or-append_right, get_or_append_left, get_or_past}
-use Rattle.ports_core.specs.Name.{Naming, next_name}
-use Rattle.ports_core.specs.Slot.{Slot, is_open, no_slot, slot_at, changed_at, opened, unopened, adds, closes, is_writable, is_closable, with_written, with_broken, told_of, broke, numberless, Rose}
+use Rattle.std.proofs.Common.{◌≡◌, ◌≢◌, ℕ, ◌+◌, ◌-◌, ◌<◌, ◌≤◌, zero, suc, max, Bool, true, false, not, ◌&&◌, List, [], ◌∷◌, ◌++◌, length, map, take, drop, get_or, ◌⊎◌, inl, inr, IsTrue, refl, sym, ◌∙◌, ap, subst, arith, length-append, Ok, Err, Result, OnOk, IfErr}
+use Rattle.std.proofs.lemmas.Bool.{cases_lt}
+use Rattle.std.proofs.lemmas.List.{map-append, length-map, length-take-le, get_or-append_right, get_or_append_left, get_or_past}
+use Rattle.ports_core.specs.Name.{Naming, next_name, with_one_drawn}
+use Rattle.ports_core.specs.Slot.{Slot, is_open, no_slot, slot_at, changed_at, opened, unopened, adds, breaks, closes, is_writable, is_closable, with_written, with_broken, told_of, broke, numberless, Rose}
 use Rattle.ports_core.specs.Write.{BrokeAfter}
-use Rattle.ports_core.specs.Part.{OutputsAt, Begins, IsNext, Marks, StoppedBetween}
+use Rattle.ports_core.specs.Part.{OutputsAt, Begins, Marks, IsNext, IsAt}
 use Rattle.ports_core.specs.declared.slot.Mode.TheVariants.{Fresh}
 use Rattle.ports_core.specs.declared.slot.State.TheVariants.{Open}
 use Rattle.ports_core.specs.declared.fault.Fault.{Fault}
 use Rattle.ports_core.specs.declared.fault.Fault.TheVariants as fault
-use Rattle.ports_core.proofs.PartLemmas.{stopped_here, broken_at, sound_at}
+use Rattle.ports_core.proofs.PartLemmas.{broken_at, sound_at}
 use Rattle.ports_core.proofs.SlotLemmas.{length-changed_at}
 use Rattle.ports_core.proofs.WriteLemmas.{writable-written}
 use Rattle.ports_core.proofs.FileLemmas.{file_more, file_changes, write_makes, close_makes, slots_counted, gets, ended}
-use Rattle.split_core.specs.Split.{share, name_of, file_at, only_files}
+use Rattle.split_core.specs.Split.{share, name_of, from_start, file_at, only_files}
 use Rattle.split_core.specs.FilesState.{FilesState}
-use Rattle.split_core.specs.Round.{AreReady, from_start}
+use Rattle.split_core.specs.Round.{AreReady, OwnsFiles, output_at}
 use Rattle.split_core.specs.RoundLaws.{all_begin_themselves}
-use Rattle.split_core.specs.Sharing.{AllBegin, added, filled, filed, open_part, closing_part, StayBroken, Became, StopsShort, HaveClosed, ClosesShort, with_opened, FailsToFollow, CannotOpen, CannotClose, could_not, unnamed, IsOfFiles}
-use Rattle.split_core.proofs.FilesLemmas.{filled_begin, filled_next, filled_same, length-filled, filed_more, open_length, open_begins, filed_gets, filed_ends, changed_begin, cut_begin, parts_begin, closed_shares, stay_broken, stay_later, stay_changed, stay_opened, became_then, stops_then, caused_later, added_next, added_begin, added_fewer, filled_again, filled_further}
+use Rattle.split_core.specs.Sharing.{AllBegin, added, filled, filed, closed_first, open_part, closing_part, StayBroken, StandAt, KeepsFiles, Became, IsDue, HaltedAt, StopsAt, StopsShort, HaveClosed, ClosesShort, with_opened, FailsToFollow, CannotOpen, CannotClose, could_not, unnamed, IsOfFiles}
+use Rattle.split_core.proofs.MoveLemmas.{writable_within}
+use Rattle.split_core.proofs.FilesLemmas.{filled_begin, filled_next, filled_same, length-filled, filed_more, open_length, length-filed, filed_gets, filed_ends, changed_begin, cut_begin, parts_begin, closed_shares, stay_broken, stay_later, stay_changed, stay_opened, became_then, halts_then, stops_in_order, caused_later, added_next, added_begin, added_fewer, filled_again, filled_further, length-added, added_before, added_past, take_changed, drop_changed, take_filled, take_further, drop_filled, drop_past_filled, take_filed, drop_filed}
 
 -- Opening
-
--- the first file's output, where this one was opened
-first_is : (count first slot : ℕ) → (0 < count → first + count ≡ slot) → cond (eqb count 0) slot first + count ≡ slot
-first_is zero first slot last = omega arith
-first_is (suc count) first slot last = let other : eqb (suc count) 0 ≡ false = ne_eqb (suc count) 0 (λ is. omega (arith, is)) in ap (λ is. cond is slot first + suc count) other ∙ last (omega arith)
-
-first_behind : (count first slot : ℕ) → (0 < count → 2 ≤ first) → 2 ≤ slot → 2 ≤ cond (eqb count 0) slot first
-first_behind zero first slot behind streams = streams
-first_behind (suc count) first slot behind streams = let other : eqb (suc count) 0 ≡ false = ne_eqb (suc count) 0 (λ is. omega (arith, is)) in rw other (behind (omega arith))
-
-first_kept : (count first slot : ℕ) → 0 < count → cond (eqb count 0) slot first ≡ first
-first_kept zero first slot some = absurd (omega arith)
-first_kept (suc count) first slot some = let other : eqb (suc count) 0 ≡ false = ne_eqb (suc count) 0 (λ is. omega (arith, is)) in ap (λ is. cond is slot first) other
 
 writable_before : (slots : List Slot) (one : Slot) (place : ℕ) → place < length slots → IsTrue (is_writable slots place) → IsTrue (is_writable (slots ++ one ∷ []) place)
 writable_before slots one place within can = ap (λ slot. is_open slot.state && not slot.is_broken) (get_or_append_left slots (one ∷ []) no_slot place within) ∙ can
@@ -44,96 +32,121 @@ writable_last slots name place is =
     let none : place - length slots ≡ 0 = omega arith in
     ap (λ slot. is_open slot.state && not slot.is_broken) (get_or-append_right slots (opened name Fresh ∷ []) (length slots) place no_slot refl (omega arith) ∙ ap (λ at. slot_at (opened name Fresh ∷ []) at) none)
 
+-- the output that was added, and those before it
+
+last_output : (outputs : List ℕ) (slot place : ℕ) → place ≡ length outputs → get_or (outputs ++ slot ∷ []) place 0 ≡ slot
+last_output outputs slot place is = ap (λ n. get_or (outputs ++ slot ∷ []) n 0) is ∙ there outputs where
+  there : (xs : List ℕ) → get_or (xs ++ slot ∷ []) (length xs) 0 ≡ slot
+  there [] = refl
+  there (x ∷ xs) = there xs
+
+output_before : (outputs : List ℕ) (slot place : ℕ) → place < length outputs → get_or (outputs ++ slot ∷ []) place 0 ≡ get_or outputs place 0
+output_before outputs slot place within = get_or_append_left outputs (slot ∷ []) 0 place within
+
+-- each output is one of the slots
+output_within : (files : FilesState) (slots : List Slot) (place : ℕ) → AreReady files slots → place < length files.outputs → output_at files place < length slots
+output_within files slots place ready within = writable_within (output_at files place) slots (ready.closable place within).1
+
+outputs_more : (outputs : List ℕ) (slot : ℕ) → length (outputs ++ slot ∷ []) ≡ length outputs + 1
+outputs_more outputs slot = length-append outputs (slot ∷ [])
+
 ready_opened : (files next : FilesState) (old new : List Slot) (name : List ℕ) → AreReady files old → next ≡ with_opened (length old) files → new ≡ old ++ opened name Fresh ∷ [] → AreReady next new
 ready_opened files next old new name ready made is = rw (made, is) (record {
   streams = let more = length-append old (opened name Fresh ∷ []) in let some : 2 ≤ length old = ready.streams in omega arith;
-  drawn = ap (λ n. n + 1) ready.drawn;
-  last = λ some. (let more = length-append old (opened name Fresh ∷ []) in let here = first_is files.opened files.first (length old) ready.last in omega arith);
-  behind = λ some. first_behind files.opened files.first (length old) ready.behind ready.streams;
-  writable = λ place within. elim (cases_lt place files.opened) [
-    | inl before ↦ was place before
-    | inr past ↦ writable_last old name (first + place) (let here = first_is files.opened files.first (length old) ready.last in omega arith)
-  ];
+  drawn = ap (λ n. n + 1) ready.drawn ∙ sym (outputs_more files.outputs (length old));
+  apart = λ place other less within. apart place other less (cases_lt other (length files.outputs)) (let more = outputs_more files.outputs (length old) in omega (arith, within));
+  closable = λ place within. closable place (cases_lt place (length files.outputs)) (let more = outputs_more files.outputs (length old) in omega (arith, within));
 }) where
-  first : ℕ
-  first = cond (eqb files.opened 0) (length old) files.first
+  outputs : List ℕ
+  outputs = files.outputs ++ length old ∷ []
 
-  was : (place : ℕ) → place < files.opened → IsTrue (is_writable (old ++ opened name Fresh ∷ []) (cond (eqb files.opened 0) (length old) files.first + place))
-  was place before =
-      let same : cond (eqb files.opened 0) (length old) files.first ≡ files.first = first_kept files.opened files.first (length old) (omega arith) in
-      let here : files.first + files.opened ≡ length old = ready.last (omega arith) in
-      rw same (writable_before old (opened name Fresh) (files.first + place) (omega arith) (ready.writable place before))
+  apart : (place other : ℕ) → place < other → (other < length files.outputs) ⊎ (length files.outputs ≤ other) → other < length files.outputs + 1 → get_or (files.outputs ++ length old ∷ []) place 0 < get_or (files.outputs ++ length old ∷ []) other 0
+  apart place other less (inl before) within =
+      rw (output_before files.outputs (length old) place (omega arith), output_before files.outputs (length old) other before) (ready.apart place other less before)
+  apart place other less (inr past) within =
+      rw (output_before files.outputs (length old) place (omega arith), last_output files.outputs (length old) other (omega arith)) (output_within files old place ready (omega arith))
 
-opens : (told : Bool) (files : FilesState) (before : List Slot) (these : List (List ℕ)) (old new : List Slot) → files.names.drawn ≡ files.opened → length these ≡ files.opened
-    → new ≡ old ++ opened (next_name files.names) Fresh ∷ [] → OutputsAt told before (open_part files.names these) old → OutputsAt told before (open_part files.names (filled (suc files.opened) these)) new
+  closable : (place : ℕ) → (place < length files.outputs) ⊎ (length files.outputs ≤ place) → place < length files.outputs + 1 → is_closable (old ++ opened name Fresh ∷ []) (get_or (files.outputs ++ length old ∷ []) place 0)
+  closable place (inl before) within = rw (output_before files.outputs (length old) place before)
+      ((ready.closable place before).0, writable_before old (opened name Fresh) (output_at files place) (output_within files old place ready before) (ready.closable place before).1)
+  closable place (inr past) within = rw (last_output files.outputs (length old) place (omega arith)) (ready.streams, writable_last old name (length old) refl)
+
+owned_opened : (files next : FilesState) (old new : List Slot) (name : List ℕ) → files.names.drawn ≡ length files.outputs → next ≡ with_opened (length old) files → new ≡ old ++ opened name Fresh ∷ [] → KeepsFiles files old next new
+owned_opened files next old new name drawn made is first owns = rw (made, is) (record {
+  stand = λ place within. stand place (cases_lt place (length files.outputs)) (let more = outputs_more files.outputs (length old) in omega (arith, within));
+  last = λ same. (let more = outputs_more files.outputs (length old) in let slots = length-append old (opened name Fresh ∷ []) in let all = owns.last drawn in omega arith);
+}) where
+  stand : (place : ℕ) → (place < length files.outputs) ⊎ (length files.outputs ≤ place) → place < length files.outputs + 1 → get_or (files.outputs ++ length old ∷ []) place 0 ≡ first + place
+  stand place (inl before) within = output_before files.outputs (length old) place before ∙ owns.stand place before
+  stand place (inr past) within = let all = owns.last drawn in let here : length old ≡ first + place = omega arith in last_output files.outputs (length old) place (omega arith) ∙ here
+
+-- it could not be opened: then a name was drawn for it, or nothing changed
+owned_unopened : (files next : FilesState) (old new : List Slot) (why : Fault) → files.names.drawn ≡ length files.outputs → FailsToFollow files old next new why → KeepsFiles files old next new
+owned_unopened files next old new _ drawn (could_not why fails made) first owns = rw made (record {
+  stand = owns.stand;
+  last = λ same. absurd (omega (arith, same, drawn));
+})
+owned_unopened files next old new _ drawn (unnamed same made) first owns = subst (λ slots. OwnsFiles next first slots) (sym same) (subst (λ those. OwnsFiles those first old) (sym made) owns)
+
+opens : (told : Bool) (files : FilesState) (before : List Slot) (these : List (List ℕ)) (old new : List Slot) → files.names.drawn ≡ length files.outputs → length these ≡ length files.outputs
+    → new ≡ old ++ opened (next_name files.names) Fresh ∷ [] → OutputsAt told before (open_part files.names these) old → OutputsAt told before (open_part files.names (filled (suc (length files.outputs)) these)) new
 opens told files before these old new drawn count is at =
     subst (λ those. OutputsAt told before (only_files those) new) (sym files_are)
-    (file_more told before (open_part files.names these) old new (name_of names files.opened) Fresh at (is ∙ ap (λ place. old ++ opened (name_of names place) Fresh ∷ []) drawn)) where
+    (file_more told before (open_part files.names these) old new (name_of names (length files.outputs)) Fresh at (is ∙ ap (λ place. old ++ opened (name_of names place) Fresh ∷ []) drawn)) where
       names : Naming
       names = from_start files.names
 
-      place_is : 0 + length (map (share Open) these) ≡ files.opened
+      place_is : 0 + length (map (share Open) these) ≡ length files.outputs
       place_is = let long : length (map (share Open) these) ≡ length these = length-map these (share Open) in omega arith
 
-      files_are : filed (from_start files.names) 0 (map (share Open) (filled (suc files.opened) these)) ≡ filed (from_start files.names) 0 (map (share Open) these) ++ file_at (from_start files.names) files.opened (share Open []) ∷ []
+      files_are : filed (from_start files.names) 0 (map (share Open) (filled (suc (length files.outputs)) these)) ≡ filed (from_start files.names) 0 (map (share Open) these) ++ file_at (from_start files.names) (length files.outputs) (share Open []) ∷ []
       files_are =
-          ap (λ those. filed (from_start files.names) 0 (map (share Open) those)) (filled_next files.opened these count)
+          ap (λ those. filed (from_start files.names) 0 (map (share Open) those)) (filled_next (length files.outputs) these count)
           ∙ ap (λ shares. filed (from_start files.names) 0 shares) (map-append (share Open) these ([] ∷ []))
           ∙ filed_more (from_start files.names) 0 (map (share Open) these) (share Open [])
           ∙ ap (λ place. filed (from_start files.names) 0 (map (share Open) these) ++ file_at (from_start files.names) place (share Open []) ∷ []) place_is
 
-pub became_opened : (told : Bool) (files next : FilesState) (old new : List Slot) (place : ℕ) → AreReady files old → next ≡ with_opened (length old) files → new ≡ old ++ opened (next_name files.names) Fresh ∷ [] → place ≡ files.opened
+pub became_opened : (told : Bool) (files next : FilesState) (old new : List Slot) (place : ℕ) → AreReady files old → next ≡ with_opened (length old) files → new ≡ old ++ opened (next_name files.names) Fresh ∷ [] → place ≡ length files.outputs
     → Became told files (filled (place + 1)) (place + 1) old next new
 became_opened told files next old new place ready made is here = record {
   ready = ready_opened files next old new (next_name files.names) ready made is;
   opened = count ∙ omega arith;
   names = ap (λ (those : FilesState). from_start those.names) made;
-  lengths = λ these long. length-filled (place + 1) these ∙ (let more : next.opened ≡ files.opened + 1 = count in omega arith);
-  outputs = λ before these long at. subst (λ n. OutputsAt told before (open_part files.names (filled n these)) new) further (opens told files before these old new ready.drawn long is at);
+  lengths = λ these long. length-filled (place + 1) these ∙ (let more : length next.outputs ≡ length files.outputs + 1 = count in omega arith);
+  outputs = λ before these at. subst (λ n. OutputsAt told before (open_part files.names (filled n these)) new) further (opens told files before these old new ready.drawn at.count is at.outputs);
+  owned = owned_opened files next old new (next_name files.names) ready.drawn made is;
   sound = stay_opened old new (opened (next_name files.names) Fresh) is;
 } where
-  count : next.opened ≡ files.opened + 1
-  count = ap (λ (those : FilesState). those.opened) made
+  count : length next.outputs ≡ length files.outputs + 1
+  count = ap (λ (those : FilesState). length those.outputs) made ∙ outputs_more files.outputs (length old)
 
-  further : suc files.opened ≡ place + 1
+  further : suc (length files.outputs) ≡ place + 1
   further = omega arith
 
 -- it is open
-pub became_same : (told : Bool) (files : FilesState) (old : List Slot) (place : ℕ) → AreReady files old → place < files.opened → Became told files (filled (place + 1)) (place + 1) old files old
+pub became_same : (told : Bool) (files : FilesState) (old : List Slot) (place : ℕ) → AreReady files old → place < length files.outputs → Became told files (filled (place + 1)) (place + 1) old files old
 became_same told files old place ready within = record {
   ready = ready;
   opened = omega arith;
   names = refl;
   lengths = λ these long. length-filled (place + 1) these ∙ omega arith;
-  outputs = λ before these long at. subst (λ those. OutputsAt told before (open_part files.names those) old) (sym (filled_same (place + 1) these (omega arith))) at;
+  outputs = λ before these at. (let long : length these ≡ length files.outputs = at.count in subst (λ those. OutputsAt told before (open_part files.names those) old) (sym (filled_same (place + 1) these (omega arith))) at.outputs);
+  owned = λ first owns. owns;
   sound = stay_broken old;
 }
 
--- the next file is known by its place
-is_next : (names : Naming) (n : ℕ) (these : List (List ℕ)) (name : List ℕ) → length these ≡ n → name ≡ name_of (from_start names) n → IsNext (open_part names these) (open_part names (filled (suc n) these)) name
-is_next names n these name long is = record {
-  front = filed (from_start names) 0 (map (share Open) these);
-  file = file_at (from_start names) (0 + length (map (share Open) these)) (share Open []);
-  rest = [];
-  files = ap (λ those. filed (from_start names) 0 (map (share Open) those)) (filled_next n these long)
-      ∙ ap (λ shares. filed (from_start names) 0 shares) (map-append (share Open) these ([] ∷ []))
-      ∙ filed_more (from_start names) 0 (map (share Open) these) (share Open []);
-  place = refl;
-  name_is = ap (name_of (from_start names)) place_is ∙ sym is;
-} where
-  place_is : 0 + length (map (share Open) these) ≡ n
-  place_is = let count : length (map (share Open) these) ≡ length these = length-map these (share Open) in omega arith
+marks_failed : (IsName : List ℕ → Type 0) (files next : FilesState) (old new : List Slot) (why : Fault) → IsName (next_name files.names) → FailsToFollow files old next new why → Marks IsName why old new
+marks_failed IsName files next old new _ named (could_not _ (broke slot kept is kept_is made) drew) = (is, (next_name files.names, kept, named, kept_is, made))
+marks_failed IsName files next old new _ named (could_not _ (numberless full same) drew) = same
+marks_failed IsName files next old new _ named (unnamed same made) = same
 
-marks_failed : (IsName : List ℕ → Type 0) (old new : List Slot) (name : List ℕ) (why : Fault) → IsName name → FailsToFollow old name new why → Marks IsName why old new
-marks_failed IsName old new name _ named (could_not _ (broke slot kept is kept_is made)) = (is, (kept, which kept_is, made)) where
-  which : (kept ≡ name) ⊎ (kept ≡ []) → IsName kept ⊎ (kept ≡ [])
-  which (inl same) = inl (subst IsName (sym same) named)
-  which (inr none) = inr none
-marks_failed IsName old new name _ named (could_not _ (numberless full same)) = same
-marks_failed IsName old new name _ named (unnamed same) = same
+from_next : (files next : FilesState) (old new : List Slot) (why : Fault) (first place count : ℕ) → place ≡ count → FailsToFollow files old next new why → IsAt why first place count
+from_next files next old new _ first place count here (could_not _ (broke slot kept is kept_is made) drew) = here
+from_next files next old new _ first place count here (could_not _ (numberless full same) drew) = tt
+from_next files next old new _ first place count here (unnamed same made) = tt
 
-pub fails_caused : (old new : List Slot) (name : List ℕ) (why : Fault) → FailsToFollow old name new why → CannotOpen old new why
-fails_caused old new name _ (could_not _ (broke slot kept is kept_is made)) = inr (
+pub fails_caused : (files next : FilesState) (old new : List Slot) (why : Fault) → FailsToFollow files old next new why → CannotOpen old new why
+fails_caused files next old new _ (could_not _ (broke slot kept is kept_is made) drew) = inr (
   slot,
   refl,
   (
@@ -144,8 +157,8 @@ fails_caused old new name _ (could_not _ (broke slot kept is kept_is made)) = in
 ) where
   none : slot - length old ≡ 0
   none = omega arith
-fails_caused old new name _ (could_not _ (numberless full same)) = inl refl
-fails_caused old new name _ (unnamed same) = inl refl
+fails_caused files next old new _ (could_not _ (numberless full same) drew) = inl refl
+fails_caused files next old new _ (unnamed same made) = inl refl
 
 pub of_files : (old new : List Slot) (why : Fault) → CannotOpen old new why → IsOfFiles old new why
 of_files old new why (inl none) = subst (IsOfFiles old new) (sym none) tt
@@ -155,15 +168,22 @@ pub cannot_later : (old mid new : List Slot) (why : Fault) → StayBroken old mi
 cannot_later old mid new why stay (inl none) = inl none
 cannot_later old mid new why stay (inr (slot, is, rose)) = inr (slot, is, (stay slot rose.0, rose.1))
 
-pub stops_unopened : (told : Bool) (files : FilesState) (old new : List Slot) (place : ℕ) (why : Fault) → files.names.drawn ≡ files.opened → place ≡ files.opened → FailsToFollow old (next_name files.names) new why
-    → StopsShort told files (filled (place + 1)) old new why
-stops_unopened told files old new place why drawn here fails before these long at =
-    subst (λ n. StoppedBetween told before (open_part files.names these) (open_part files.names (filled n these)) why new) further
-    (stopped_here told before (open_part files.names these) (open_part files.names (filled (suc files.opened) these)) why old new at (open_begins files.names these _ (filled_begin (suc files.opened) these))
-    (marks_failed (IsNext (open_part files.names these) (open_part files.names (filled (suc files.opened) these))) old new (next_name files.names) why
-    (is_next files.names files.opened these (next_name files.names) long (ap (name_of (from_start files.names)) drawn)) fails)) where
-      further : suc files.opened ≡ place + 1
-      further = omega arith
+pub stops_unopened : (told : Bool) (files next : FilesState) (old new : List Slot) (place : ℕ) (why : Fault) → files.names.drawn ≡ length files.outputs → place ≡ length files.outputs → FailsToFollow files old next new why
+    → StopsAt told files (filled (place + 1)) place old new why
+stops_unopened told files next old new place why drawn here fails before these at =
+    let long : length these ≡ length files.outputs = at.count in
+    let more = length-filled (place + 1) these in
+    record {
+      part = these;
+      above = all_begin_themselves these;
+      below = filled_begin (place + 1) these;
+      done = sym (take_filled place (place + 1) these (omega arith));
+      untouched = refl;
+      reached = old;
+      outputs = at.outputs;
+      marks = marks_failed (IsDue files.names these (filled (place + 1) these)) files next old new why (ap (name_of (from_start files.names)) (drawn ∙ sym long), omega arith) fails;
+      from = from_next files next old new why (length before) place (length these) (here ∙ sym long) fails;
+    }
 
 -- Writing
 
@@ -171,55 +191,56 @@ ready_written : (files : FilesState) (slot : ℕ) (bytes : List ℕ) (old new : 
 ready_written files slot bytes old new ready is = rw is (record {
   streams = subst (λ n. 2 ≤ n) (sym (length-changed_at slot (adds bytes) old)) ready.streams;
   drawn = ready.drawn;
-  last = λ some. ready.last some ∙ sym (length-changed_at slot (adds bytes) old);
-  behind = ready.behind;
-  writable = λ place within. writable-written old slot (files.first + place) bytes ∙ ready.writable place within;
+  apart = ready.apart;
+  closable = λ place within. ((ready.closable place within).0, writable-written old slot (output_at files place) bytes ∙ (ready.closable place within).1);
 })
 
--- where the file at a place is among the outputs
-place_of : (told : Bool) (files : FilesState) (before : List Slot) (these : List (List ℕ)) (slots : List Slot) (place : ℕ) → AreReady files slots → length these ≡ files.opened → place < files.opened
-    → OutputsAt told before (open_part files.names these) slots → files.first + place ≡ length before + place
-place_of told files before these slots place ready long within at =
-    let all : length slots ≡ length before + length (open_part files.names these).files = slots_counted told before _ slots at in
-    let count : length (open_part files.names these).files ≡ length these = open_length files.names these in
-    let last : files.first + files.opened ≡ length slots = ready.last (omega arith) in
-    omega arith
+-- as many slots
+pub owned_same : (files : FilesState) (old new : List Slot) → length new ≡ length old → KeepsFiles files old files new
+owned_same files old new size first owns = record { stand = owns.stand; last = λ drawn. owns.last drawn ∙ sym size }
 
-writes : (told : Bool) (files : FilesState) (before : List Slot) (these : List (List ℕ)) (old new : List Slot) (place : ℕ) (bytes : List ℕ) → AreReady files old → length these ≡ files.opened → place < files.opened
-    → new ≡ with_written (files.first + place) (told_of told bytes) old → OutputsAt told before (open_part files.names these) old → OutputsAt told before (open_part files.names (changed_at place (λ had. had ++ bytes) these)) new
-writes told files before these old new place bytes ready long within is at =
+writes : (told : Bool) (files : FilesState) (before : List Slot) (these : List (List ℕ)) (old new : List Slot) (place : ℕ) (bytes : List ℕ) → place < length files.outputs → new ≡ with_written (output_at files place) (told_of told bytes) old → StandAt told files before these old
+    → OutputsAt told before (open_part files.names (changed_at place (λ had. had ++ bytes) these)) new
+writes told files before these old new place bytes within is at =
     subst (λ those. OutputsAt told before (only_files those) new) (filed_gets (from_start files.names) 0 place bytes these)
-    (file_changes told (adds (told_of told bytes)) (gets bytes) (write_makes told bytes) before (open_part files.names these) old new place at
-    (is ∙ ap (λ slot. with_written slot (told_of told bytes) old) (place_of told files before these old place ready long within at)))
+    (file_changes told (adds (told_of told bytes)) (gets bytes) (write_makes told bytes) before (open_part files.names these) old new place at.outputs
+    (is ∙ ap (λ slot. with_written slot (told_of told bytes) old) (at.owns.stand place within)))
 
-pub became_written : (told : Bool) (files : FilesState) (old new : List Slot) (place : ℕ) (bytes : List ℕ) → AreReady files old → place < files.opened → new ≡ with_written (files.first + place) (told_of told bytes) old
+pub became_written : (told : Bool) (files : FilesState) (old new : List Slot) (place : ℕ) (bytes : List ℕ) → AreReady files old → place < length files.outputs → new ≡ with_written (output_at files place) (told_of told bytes) old
     → Became told files (changed_at place (λ had. had ++ bytes)) (place + 1) old files new
 became_written told files old new place bytes ready within is = record {
-  ready = ready_written files (files.first + place) (told_of told bytes) old new ready is;
+  ready = ready_written files (output_at files place) (told_of told bytes) old new ready is;
   opened = omega arith;
   names = refl;
   lengths = λ these long. length-changed_at place _ these ∙ long;
-  outputs = λ before these long at. writes told files before these old new place bytes ready long within is at;
-  sound = stay_changed (files.first + place) (adds (told_of told bytes)) old new (λ one. refl) is;
+  outputs = λ before these at. writes told files before these old new place bytes within is at;
+  owned = owned_same files old new (ap length is ∙ length-changed_at (output_at files place) _ old);
+  sound = stay_changed (output_at files place) (adds (told_of told bytes)) old new (λ one. refl) is;
 }
 
-pub stops_written : (told : Bool) (files : FilesState) (old new : List Slot) (place : ℕ) (bytes : List ℕ) (n : ℕ) → AreReady files old → place < files.opened → BrokeAfter told old new (files.first + place) bytes n
-    → StopsShort told files (changed_at place (λ had. had ++ bytes)) old new (fault.Write (files.first + place))
-stops_written told files old new place bytes n ready within cut before these long at = record {
-  part = open_part files.names (changed_at place (λ had. had ++ take n bytes) these);
-  above = open_begins files.names these _ (changed_begin place (take n bytes) these);
-  below = open_begins files.names _ _ (cut_begin place n bytes these);
-  reached = with_written (files.first + place) (told_of told (take n bytes)) old;
-  outputs = writes told files before these old _ place (take n bytes) ready long within refl at;
-  marks = (let same : length (with_written (files.first + place) (told_of told (take n bytes)) old) ≡ length old = length-changed_at (files.first + place) _ old in let last : files.first + files.opened ≡ length old = ready.last (omega arith) in omega arith, cut.slots);
+pub stops_written : (told : Bool) (files : FilesState) (old new : List Slot) (place : ℕ) (bytes : List ℕ) (n : ℕ) → AreReady files old → place < length files.outputs → BrokeAfter told old new (output_at files place) bytes n
+    → StopsAt told files (changed_at place (λ had. had ++ bytes)) place old new (fault.Write (output_at files place))
+stops_written told files old new place bytes n ready within cut before these at = record {
+  part = changed_at place (λ had. had ++ take n bytes) these;
+  above = changed_begin place (take n bytes) these;
+  below = cut_begin place n bytes these;
+  done = take_changed place (λ had. had ++ take n bytes) these ∙ sym (take_changed place (λ had. had ++ bytes) these);
+  untouched = drop_changed place (λ had. had ++ take n bytes) these;
+  reached = with_written (output_at files place) (told_of told (take n bytes)) old;
+  outputs = writes told files before these old _ place (take n bytes) within refl at;
+  marks = ((let same : length (with_written (output_at files place) (told_of told (take n bytes)) old) ≡ length old = length-changed_at (output_at files place) _ old in let inside = output_within files old place ready within in omega arith), cut.slots);
+  from = inr (at.owns.stand place within);
 }
 
-pub rose_written : (told : Bool) (files : FilesState) (old new : List Slot) (place : ℕ) (bytes : List ℕ) (n : ℕ) → AreReady files old → place < files.opened → BrokeAfter told old new (files.first + place) bytes n
-    → IsOfFiles old new (fault.Write (files.first + place))
+pub rose_written : (told : Bool) (files : FilesState) (old new : List Slot) (place : ℕ) (bytes : List ℕ) (n : ℕ) → AreReady files old → place < length files.outputs → BrokeAfter told old new (output_at files place) bytes n
+    → IsOfFiles old new (fault.Write (output_at files place))
 rose_written told files old new place bytes n ready within cut = (
-  sound_at (files.first + place) old (ready.writable place within),
-  ap (λ slots. (slot_at slots (files.first + place)).is_broken) cut.slots
-      ∙ broken_at (files.first + place) _ (writable-written old (files.first + place) (files.first + place) _ ∙ ready.writable place within),
+  (ready.closable place within).0,
+  (
+    sound_at (output_at files place) old (ready.closable place within).1,
+    ap (λ slots. (slot_at slots (output_at files place)).is_broken) cut.slots
+        ∙ broken_at (output_at files place) _ (writable-written old (output_at files place) (output_at files place) _ ∙ (ready.closable place within).1),
+  ),
 )
 
 -- Closing
@@ -227,20 +248,17 @@ rose_written told files old new place bytes n ready within cut = (
 -- so many are closed, and the others can be
 pub record Closing (told : Bool) (files : FilesState) (place : ℕ) (old now : List Slot) : Type 0 where
   pub size : length now ≡ length old
-  pub left : (other : ℕ) → place ≤ other → other < files.opened → IsTrue (is_writable now (files.first + other))
+  pub left : (other : ℕ) → place ≤ other → other < length files.outputs → is_closable now (output_at files other)
   pub closed : HaveClosed told files place old now
   pub sound : StayBroken old now
 
 pub none_closed : (told : Bool) (files : FilesState) (slots : List Slot) → AreReady files slots → Closing told files 0 slots slots
 none_closed told files slots ready = record {
   size = refl;
-  left = λ other past within. ready.writable other within;
-  closed = λ before these long at. at;
+  left = λ other past within. ready.closable other within;
+  closed = λ before these at. at.outputs;
   sound = stay_broken slots;
 }
-
-pub closable : (told : Bool) (files : FilesState) (place : ℕ) (old now : List Slot) → AreReady files old → place < files.opened → Closing told files place old now → is_closable now (files.first + place)
-closable told files place old now ready within so_far = ((let behind : 2 ≤ files.first = ready.behind (omega arith) in omega arith), so_far.left place (omega arith) within)
 
 writable_other : (slots : List Slot) (place other : ℕ) → place ≢ other → is_writable (changed_at place closes slots) other ≡ is_writable slots other
 writable_other [] place other differs = refl
@@ -249,19 +267,20 @@ writable_other (one ∷ slots) zero (suc other) differs = refl
 writable_other (one ∷ slots) (suc place) zero differs = refl
 writable_other (one ∷ slots) (suc place) (suc other) differs = writable_other slots place other (λ is. differs (ap suc is))
 
-closes_next : (told : Bool) (files : FilesState) (before : List Slot) (these : List (List ℕ)) (old now new : List Slot) (place : ℕ) → AreReady files old → Closing told files place old now → length these ≡ files.opened → place < files.opened
-    → new ≡ changed_at (files.first + place) closes now → OutputsAt told before (open_part files.names these) old → OutputsAt told before (closing_part files.names (suc place) these) new
-closes_next told files before these old now new place ready so_far long within is at =
+closes_next : (told : Bool) (files : FilesState) (before : List Slot) (these : List (List ℕ)) (old now new : List Slot) (place : ℕ) → Closing told files place old now → place < length files.outputs
+    → new ≡ changed_at (output_at files place) closes now → StandAt told files before these old → OutputsAt told before (closing_part files.names (suc place) these) new
+closes_next told files before these old now new place so_far within is at =
     subst (λ those. OutputsAt told before (only_files those) new) (filed_ends (from_start files.names) 0 place these)
-    (file_changes told closes ended (close_makes told) before (closing_part files.names place these) now new place (so_far.closed before these long at)
-    (is ∙ ap (λ slot. changed_at slot closes now) (place_of told files before these old place ready long within at)))
+    (file_changes told closes ended (close_makes told) before (closing_part files.names place these) now new place (so_far.closed before these at)
+    (is ∙ ap (λ slot. changed_at slot closes now) (at.owns.stand place within)))
 
-pub one_closed : (told : Bool) (files : FilesState) (place : ℕ) (old now new : List Slot) → AreReady files old → place < files.opened → Closing told files place old now → new ≡ changed_at (files.first + place) closes now → Closing told files (place + 1) old new
+pub one_closed : (told : Bool) (files : FilesState) (place : ℕ) (old now new : List Slot) → AreReady files old → place < length files.outputs → Closing told files place old now → new ≡ changed_at (output_at files place) closes now → Closing told files (place + 1) old new
 one_closed told files place old now new ready within so_far is = record {
-  size = ap length is ∙ length-changed_at (files.first + place) closes now ∙ so_far.size;
-  left = λ other past inside. ap (λ slots. is_writable slots (files.first + other)) is ∙ writable_other now (files.first + place) (files.first + other) (λ same. omega (arith, same)) ∙ so_far.left other (omega arith) inside;
-  closed = λ before these long at. subst (λ n. OutputsAt told before (closing_part files.names n these) new) further (closes_next told files before these old now new place ready so_far long within is at);
-  sound = stay_later old now new so_far.sound (stay_changed (files.first + place) closes now new (λ one. refl) is);
+  size = ap length is ∙ length-changed_at (output_at files place) closes now ∙ so_far.size;
+  left = λ other past inside. (let can = so_far.left other (omega arith) inside in let apart = ready.apart place other (omega arith) inside in
+      (can.0, ap (λ slots. is_writable slots (output_at files other)) is ∙ writable_other now (output_at files place) (output_at files other) (λ same. omega (arith, same)) ∙ can.1));
+  closed = λ before these at. subst (λ n. OutputsAt told before (closing_part files.names n these) new) further (closes_next told files before these old now new place so_far within is at);
+  sound = stay_later old now new so_far.sound (stay_changed (output_at files place) closes now new (λ one. refl) is);
 } where
   further : suc place ≡ place + 1
   further = omega arith
@@ -269,15 +288,41 @@ one_closed told files place old now new ready within so_far is = record {
 closing_begins : (names : Naming) (these : List (List ℕ)) (n m : ℕ) → n ≤ m → Begins (closing_part names n these) (closing_part names m these)
 closing_begins names these n m few = parts_begin (from_start names) _ _ (closed_shares n m these few)
 
-pub stops_closing : (told : Bool) (files : FilesState) (place : ℕ) (old now new : List Slot) → AreReady files old → place < files.opened → Closing told files place old now
-    → new ≡ with_broken (files.first + place) (changed_at (files.first + place) closes now) → ClosesShort told files files.opened old new (fault.Write (files.first + place))
-stops_closing told files place old now new ready within so_far is before these long at = record {
+-- which files are closed by then
+
+take_closed : (place n : ℕ) (these : List (List ℕ)) → place ≤ n → take place (closed_first (suc place) these) ≡ take place (closed_first n these)
+take_closed zero n these few = refl
+take_closed (suc place) zero these few = absurd (omega arith)
+take_closed (suc place) (suc n) [] few = refl
+take_closed (suc place) (suc n) (bytes ∷ these) few = ap (λ rest. share Rattle.ports_core.specs.declared.slot.State.TheVariants.Closed bytes ∷ rest) (take_closed place n these (omega arith))
+
+drop_closed : (n : ℕ) (these : List (List ℕ)) → drop n (closed_first n these) ≡ drop n (map (share Open) these)
+drop_closed zero these = refl
+drop_closed (suc n) [] = refl
+drop_closed (suc n) (bytes ∷ these) = drop_closed n these
+
+count_closed : (n : ℕ) (these : List (List ℕ)) → length (closed_first n these) ≡ length these
+count_closed zero these = length-map these (share Open)
+count_closed (suc n) [] = refl
+count_closed (suc n) (bytes ∷ these) = ap suc (count_closed n these)
+
+pub stops_closing : (told : Bool) (files : FilesState) (place : ℕ) (old now new : List Slot) → AreReady files old → place < length files.outputs → Closing told files place old now
+    → new ≡ with_broken (output_at files place) (changed_at (output_at files place) closes now) → ClosesShort told files (length files.outputs) old new (fault.Write (output_at files place))
+stops_closing told files place old now new ready within so_far is before these at = record {
   part = closing_part files.names (suc place) these;
   above = closing_begins files.names these 0 (suc place) (omega arith);
-  below = closing_begins files.names these (suc place) files.opened (omega (arith, within));
-  reached = changed_at (files.first + place) closes now;
-  outputs = closes_next told files before these old now _ place ready so_far long within refl at;
-  marks = (let same : length (changed_at (files.first + place) closes now) ≡ length now = length-changed_at (files.first + place) closes now in let all : length now ≡ length old = so_far.size in let last : files.first + files.opened ≡ length old = ready.last (omega arith) in omega arith, is);
+  below = closing_begins files.names these (suc place) (length files.outputs) (omega (arith, within));
+  place = place;
+  order = record {
+    done = take_filed place (from_start files.names) 0 (closed_first (suc place) these) ∙ ap (filed (from_start files.names) 0) (take_closed place (length files.outputs) these (omega (arith, within)))
+        ∙ sym (take_filed place (from_start files.names) 0 (closed_first (length files.outputs) these));
+    untouched = drop_filed (suc place) (from_start files.names) 0 (closed_first (suc place) these) ∙ ap (filed (from_start files.names) (0 + suc place)) (drop_closed (suc place) these)
+        ∙ sym (drop_filed (suc place) (from_start files.names) 0 (map (share Open) these));
+  };
+  reached = changed_at (output_at files place) closes now;
+  outputs = closes_next told files before these old now _ place so_far within refl at;
+  marks = ((let same : length (changed_at (output_at files place) closes now) ≡ length now = length-changed_at (output_at files place) closes now in let all : length now ≡ length old = so_far.size in let inside = output_within files old place ready within in omega arith), is);
+  from = inr (at.owns.stand place within);
 }
 
 broken_now : (place : ℕ) (slots : List Slot) → place < length slots → (slot_at (with_broken place slots) place).is_broken ≡ true
@@ -285,56 +330,76 @@ broken_now place [] within = absurd (omega arith)
 broken_now zero (one ∷ slots) within = refl
 broken_now (suc place) (one ∷ slots) within = broken_now place slots (omega arith)
 
-pub rose_closing : (told : Bool) (files : FilesState) (place : ℕ) (old now new : List Slot) → AreReady files old → place < files.opened → Closing told files place old now
-    → new ≡ with_broken (files.first + place) (changed_at (files.first + place) closes now) → Rose (files.first + place) old new
+pub rose_closing : (told : Bool) (files : FilesState) (place : ℕ) (old now new : List Slot) → AreReady files old → place < length files.outputs → Closing told files place old now
+    → new ≡ with_broken (output_at files place) (changed_at (output_at files place) closes now) → Rose (output_at files place) old new
 rose_closing told files place old now new ready within so_far is = (
-  so_far.sound (files.first + place) (sound_at (files.first + place) now (so_far.left place (omega arith) within)),
-  ap (λ slots. (slot_at slots (files.first + place)).is_broken) is
-      ∙ broken_now (files.first + place) _ (let all : files.first + files.opened ≡ length old = ready.last (omega arith) in let same : length now ≡ length old = so_far.size in let kept = length-changed_at (files.first + place) closes now in omega arith),
+  so_far.sound (output_at files place) (sound_at (output_at files place) now (so_far.left place (omega arith) within).1),
+  ap (λ slots. (slot_at slots (output_at files place)).is_broken) is
+      ∙ broken_now (output_at files place) _ (let inside = output_within files old place ready within in let same : length now ≡ length old = so_far.size in let kept = length-changed_at (output_at files place) closes now in omega arith),
 )
 
 -- what reaching a file owes, by the result of opening it
 
-pub reached : (told : Bool) (files next : FilesState) (old new : List Slot) (place : ℕ) (result : Result (Unit {0}) Fault) → AreReady files old → place ≡ files.opened → OnOk result (next ≡ with_opened (length old) files)
+pub reached : (told : Bool) (files next : FilesState) (old new : List Slot) (place : ℕ) (result : Result (Unit {0}) Fault) → AreReady files old → place ≡ length files.outputs → OnOk result (next ≡ with_opened (length old) files)
     → OnOk result (new ≡ old ++ opened (next_name files.names) Fresh ∷ []) → OnOk result (Became told files (filled (place + 1)) (place + 1) old next new)
 reached told files next old new place (Ok u) ready here made is = became_opened told files next old new place ready made is here
 reached told files next old new place (Err why) ready here made is = tt
 
-pub reached_short : (told : Bool) (files : FilesState) (old new : List Slot) (place : ℕ) (result : Result (Unit {0}) Fault) → AreReady files old → place ≡ files.opened → IfErr result (FailsToFollow old (next_name files.names) new)
-    → IfErr result (StopsShort told files (filled (place + 1)) old new)
-reached_short told files old new place (Ok u) ready here fails = tt
-reached_short told files old new place (Err why) ready here fails = stops_unopened told files old new place why ready.drawn here fails
+pub reached_short : (told : Bool) (files next : FilesState) (old new : List Slot) (place : ℕ) (result : Result (Unit {0}) Fault) → AreReady files old → place ≡ length files.outputs → IfErr result (FailsToFollow files old next new)
+    → IfErr result (StopsAt told files (filled (place + 1)) place old new)
+reached_short told files next old new place (Ok u) ready here fails = tt
+reached_short told files next old new place (Err why) ready here fails = stops_unopened told files next old new place why ready.drawn here fails
 
-pub reached_caused : (old new : List Slot) (name : List ℕ) (result : Result (Unit {0}) Fault) → IfErr result (FailsToFollow old name new) → IfErr result (CannotOpen old new)
-reached_caused old new name (Ok u) fails = tt
-reached_caused old new name (Err why) fails = fails_caused old new name why fails
+pub reached_caused : (files next : FilesState) (old new : List Slot) (result : Result (Unit {0}) Fault) → IfErr result (FailsToFollow files old next new) → IfErr result (CannotOpen old new)
+reached_caused files next old new (Ok u) fails = tt
+reached_caused files next old new (Err why) fails = fails_caused files next old new why fails
+
+pub reached_owned : (files next : FilesState) (old new : List Slot) (result : Result (Unit {0}) Fault) → AreReady files old → OnOk result (next ≡ with_opened (length old) files) → OnOk result (new ≡ old ++ opened (next_name files.names) Fresh ∷ [])
+    → IfErr result (FailsToFollow files old next new) → KeepsFiles files old next new
+reached_owned files next old new (Ok u) ready made is fails = owned_opened files next old new (next_name files.names) ready.drawn made is
+reached_owned files next old new (Err why) ready made is fails = owned_unopened files next old new why ready.drawn fails
 
 -- what reaching a file and writing to it owes
 
-pub sent : (told : Bool) (files between : FilesState) (old mid new : List Slot) (place slot : ℕ) (bytes : List ℕ) → Became told files (filled (place + 1)) (place + 1) old between mid → slot ≡ between.first + place
+pub sent : (told : Bool) (files between : FilesState) (old mid new : List Slot) (place slot : ℕ) (bytes : List ℕ) → Became told files (filled (place + 1)) (place + 1) old between mid → slot ≡ output_at between place
     → new ≡ with_written slot (told_of told bytes) mid → Became told files (λ these. changed_at place (λ had. had ++ bytes) (filled (place + 1) these)) (place + 1) old between new
 sent told files between old mid new place slot bytes before slot_is is =
     became_then told files (filled (place + 1)) (changed_at place (λ had. had ++ bytes)) _ (place + 1) (place + 1) (place + 1) old mid new between between before
     (became_written told between mid new place bytes before.ready within (is ∙ ap (λ at. with_written at (told_of told bytes) mid) slot_is)) (λ these. refl) (omega arith) where
-      within : place < between.opened
-      within = let count : between.opened ≡ max files.opened (place + 1) = before.opened in omega arith
+      within : place < length between.outputs
+      within = let count : length between.outputs ≡ max (length files.outputs) (place + 1) = before.opened in omega arith
 
-pub sent_short : (told : Bool) (files between : FilesState) (old mid new : List Slot) (place slot : ℕ) (bytes : List ℕ) (n : ℕ) → Became told files (filled (place + 1)) (place + 1) old between mid → slot ≡ between.first + place
-    → BrokeAfter told mid new slot bytes n → StopsShort told files (λ these. changed_at place (λ had. had ++ bytes) (filled (place + 1) these)) old new (fault.Write slot)
-sent_short told files between old mid new place slot bytes n before slot_is cut =
-    subst (λ at. StopsShort told files (λ these. changed_at place (λ had. had ++ bytes) (filled (place + 1) these)) old new (fault.Write at)) (sym slot_is)
-    (stops_then told files (filled (place + 1)) (changed_at place (λ had. had ++ bytes)) _ (place + 1) old mid new between (fault.Write (between.first + place)) before
-    (stops_written told between mid new place bytes n before.ready within (subst (λ at. BrokeAfter told mid new at bytes n) slot_is cut)) (λ these. filled_begin (place + 1) these) (λ these. all_begin_themselves _)) where
-      within : place < between.opened
-      within = let count : between.opened ≡ max files.opened (place + 1) = before.opened in omega arith
+-- there is such a file then
+pub sent_within : (told : Bool) (files between : FilesState) (old mid : List Slot) (place : ℕ) → Became told files (filled (place + 1)) (place + 1) old between mid → place < length between.outputs
+sent_within told files between old mid place before = let count : length between.outputs ≡ max (length files.outputs) (place + 1) = before.opened in omega arith
 
-pub sent_caused : (told : Bool) (files between : FilesState) (old mid new : List Slot) (place slot : ℕ) (bytes : List ℕ) (n : ℕ) → Became told files (filled (place + 1)) (place + 1) old between mid → slot ≡ between.first + place
+pub sent_writable : (told : Bool) (files between : FilesState) (old mid : List Slot) (place slot : ℕ) → Became told files (filled (place + 1)) (place + 1) old between mid → slot ≡ output_at between place → IsTrue (is_writable mid slot)
+sent_writable told files between old mid place slot before slot_is = subst (λ at. IsTrue (is_writable mid at)) (sym slot_is) (before.ready.closable place (sent_within told files between old mid place before)).1
+
+pub sent_short : (told : Bool) (files between : FilesState) (old mid new : List Slot) (place slot : ℕ) (bytes : List ℕ) (n : ℕ) → place ≤ length files.outputs → Became told files (filled (place + 1)) (place + 1) old between mid → slot ≡ output_at between place
+    → BrokeAfter told mid new slot bytes n → StopsAt told files (λ these. changed_at place (λ had. had ++ bytes) (filled (place + 1) these)) place old new (fault.Write slot)
+sent_short told files between old mid new place slot bytes n near before slot_is cut =
+    subst (λ at. StopsAt told files (λ these. changed_at place (λ had. had ++ bytes) (filled (place + 1) these)) place old new (fault.Write at)) (sym slot_is)
+    (halts_then told files (filled (place + 1)) (changed_at place (λ had. had ++ bytes)) _ (place + 1) place old mid new between (fault.Write (output_at between place)) before
+    (stops_written told between mid new place bytes n before.ready (sent_within told files between old mid place before) (subst (λ at. BrokeAfter told mid new at bytes n) slot_is cut)) (λ these. filled_begin (place + 1) these) (λ these. all_begin_themselves _)
+    (λ these. (let further : suc place ≡ place + 1 = omega arith in subst (λ n. drop n (filled (place + 1) these) ≡ drop n these) (sym further) (drop_filled (place + 1) these)))
+    (λ these long. refl))
+
+pub sent_caused : (told : Bool) (files between : FilesState) (old mid new : List Slot) (place slot : ℕ) (bytes : List ℕ) (n : ℕ) → Became told files (filled (place + 1)) (place + 1) old between mid → slot ≡ output_at between place
     → BrokeAfter told mid new slot bytes n → IsOfFiles old new (fault.Write slot)
 sent_caused told files between old mid new place slot bytes n before slot_is cut =
     caused_later old mid new (fault.Write slot) before.sound
-    (subst (λ at. IsOfFiles mid new (fault.Write at)) (sym slot_is) (rose_written told between mid new place bytes n before.ready within (subst (λ at. BrokeAfter told mid new at bytes n) slot_is cut))) where
-      within : place < between.opened
-      within = let count : between.opened ≡ max files.opened (place + 1) = before.opened in omega arith
+    (subst (λ at. IsOfFiles mid new (fault.Write at)) (sym slot_is) (rose_written told between mid new place bytes n before.ready (sent_within told files between old mid place before) (subst (λ at. BrokeAfter told mid new at bytes n) slot_is cut)))
+
+pub sent_owned : (told : Bool) (files between : FilesState) (old mid new : List Slot) (place slot : ℕ) (bytes : List ℕ) (n : ℕ) → Became told files (filled (place + 1)) (place + 1) old between mid → BrokeAfter told mid new slot bytes n → KeepsFiles files old between new
+sent_owned told files between old mid new place slot bytes n before cut first owns =
+    owned_same between mid new (ap length cut.slots ∙ length-changed_at slot breaks _ ∙ length-changed_at slot (adds (told_of told (take n bytes))) mid) first (before.owned first owns)
+
+-- where the file that couldn't be reached was to be written as well
+pub sent_unreached : (told : Bool) (files : FilesState) (old new : List Slot) (place : ℕ) (bytes : List ℕ) (why : Fault) → StopsAt told files (filled (place + 1)) place old new why → StopsAt told files (λ these. changed_at place (λ had. had ++ bytes) (filled (place + 1) these)) place old new why
+sent_unreached told files old new place bytes why stops before these at =
+    Rattle.split_core.proofs.FilesLemmas.halted_wider told before new files.names files.names these these (filled (place + 1) these) _ place why refl (stops before these at) (all_begin_themselves these) (changed_begin place bytes (filled (place + 1) these)) refl
+    (sym (take_changed place (λ had. had ++ bytes) (filled (place + 1) these)))
 
 -- the loop over all files
 
@@ -345,11 +410,16 @@ sent_next told files between next old mid new place bytes more before within is 
     (λ these. (let further : suc place ≡ place + 1 = omega arith in subst (λ n. changed_at place (λ had. had ++ bytes) (filled n (added these (take place more))) ≡ added these (take n more)) further (added_next place these more bytes within is))) (omega arith)
 
 pub sent_stops : (told : Bool) (files between : FilesState) (old mid new : List Slot) (place : ℕ) (bytes : List ℕ) (more : List (List ℕ)) (why : Fault) → Became told files (λ these. added these (take place more)) place old between mid → place < length more → bytes ≡ get_or more place bytes
-    → StopsShort told between (λ these. changed_at place (λ had. had ++ bytes) (filled (place + 1) these)) mid new why → StopsShort told files (λ these. added these more) old new why
+    → StopsAt told between (λ these. changed_at place (λ had. had ++ bytes) (filled (place + 1) these)) place mid new why → StopsShort told files (λ these. added these more) old new why
 sent_stops told files between old mid new place bytes more why before within is stops =
-    stops_then told files _ _ _ place old mid new between why before stops (λ these. added_begin these (take place more))
+    stops_in_order told files (λ these. added these more) place old new why
+    (halts_then told files (λ these. added these (take place more)) (λ these. changed_at place (λ had. had ++ bytes) (filled (place + 1) these)) (λ these. added these more) place place old mid new between why before stops (λ these. added_begin these (take place more))
     (λ these. (let further : suc place ≡ place + 1 = omega arith in
     subst (λ low. AllBegin low (added these more)) (sym (subst (λ n. changed_at place (λ had. had ++ bytes) (filled n (added these (take place more))) ≡ added these (take n more)) further (added_next place these more bytes within is))) (added_fewer (place + 1) these more)))
+    (λ these. added_past place these more within)
+    (λ these long. take_changed place (λ had. had ++ bytes) (filled (place + 1) (added these (take place more)))
+    ∙ take_filled place (place + 1) (added these (take place more)) (let all = length-added these (take place more) in let some : length (take place more) ≡ place = length-take-le place more (omega arith) in omega arith)
+    ∙ added_before place these more))
 
 pub opened_next : (told : Bool) (files between next : FilesState) (old mid new : List Slot) (place : ℕ) → Became told files (filled place) place old between mid → Became told between (filled (place + 1)) (place + 1) mid next new
     → Became told files (filled (place + 1)) (place + 1) old next new
@@ -357,22 +427,49 @@ opened_next told files between next old mid new place before after =
     became_then told files _ _ _ place (place + 1) (place + 1) old mid new between next before after
     (λ these. (let further : suc place ≡ place + 1 = omega arith in subst (λ n. filled n (filled place these) ≡ filled n these) further (filled_again place these))) (omega arith)
 
-pub opened_stops : (told : Bool) (files between : FilesState) (old mid new : List Slot) (place count : ℕ) (why : Fault) → Became told files (filled place) place old between mid → place < count → StopsShort told between (filled (place + 1)) mid new why
+pub opened_stops : (told : Bool) (files between : FilesState) (old mid new : List Slot) (place count : ℕ) (why : Fault) → Became told files (filled place) place old between mid → place < count → StopsAt told between (filled (place + 1)) place mid new why
     → StopsShort told files (filled count) old new why
 opened_stops told files between old mid new place count why before within stops =
-    stops_then told files _ _ _ place old mid new between why before stops (λ these. filled_begin place these)
-    (λ these. (let further : suc place ≡ place + 1 = omega arith in
-    subst (λ low. AllBegin low (filled count these)) (sym (subst (λ n. filled n (filled place these) ≡ filled n these) further (filled_again place these))) (filled_further (place + 1) count these (omega arith))))
+    stops_in_order told files (filled count) place old new why
+    (halts_then told files (filled place) (filled (place + 1)) (filled count) place place old mid new between why before stops (λ these. filled_begin place these)
+    (λ these. subst (λ low. AllBegin low (filled count these)) (sym (again these)) (filled_further (place + 1) count these (omega arith)))
+    (λ these. drop_past_filled place these)
+    (λ these long. ap (take place) (again these) ∙ sym (take_further place (place + 1) these (omega arith)) ∙ take_further place count these (omega arith))) where
+      again : (these : List (List ℕ)) → filled (place + 1) (filled place these) ≡ filled (place + 1) these
+      again these = let further : suc place ≡ place + 1 = omega arith in subst (λ n. filled n (filled place these) ≡ filled n these) further (filled_again place these)
 
 -- closing, by the fault
 
-pub closes_short : (told : Bool) (files : FilesState) (place slot : ℕ) (old now new : List Slot) (why : Fault) → AreReady files old → place < files.opened → Closing told files place old now → slot ≡ files.first + place
-    → (why ≡ fault.Write slot) × (new ≡ with_broken slot (changed_at slot closes now)) → ClosesShort told files files.opened old new why
+pub closes_short : (told : Bool) (files : FilesState) (place slot : ℕ) (old now new : List Slot) (why : Fault) → AreReady files old → place < length files.outputs → Closing told files place old now → slot ≡ output_at files place
+    → (why ≡ fault.Write slot) × (new ≡ with_broken slot (changed_at slot closes now)) → ClosesShort told files (length files.outputs) old new why
 closes_short told files place slot old now new why ready within so_far slot_is failed =
-    subst (λ those. ClosesShort told files files.opened old new those) (sym (failed.0 ∙ ap fault.Write slot_is))
+    subst (λ those. ClosesShort told files (length files.outputs) old new those) (sym (failed.0 ∙ ap fault.Write slot_is))
     (stops_closing told files place old now new ready within so_far (failed.1 ∙ ap (λ at. with_broken at (changed_at at closes now)) slot_is))
 
-pub closes_caused : (told : Bool) (files : FilesState) (place slot : ℕ) (old now new : List Slot) (why : Fault) → AreReady files old → place < files.opened → Closing told files place old now → slot ≡ files.first + place
+pub closes_caused : (told : Bool) (files : FilesState) (place slot : ℕ) (old now new : List Slot) (why : Fault) → AreReady files old → place < length files.outputs → Closing told files place old now → slot ≡ output_at files place
     → (why ≡ fault.Write slot) × (new ≡ with_broken slot (changed_at slot closes now)) → CannotClose old new why
 closes_caused told files place slot old now new why ready within so_far slot_is failed =
-    (files.first + place, failed.0 ∙ ap fault.Write slot_is, rose_closing told files place old now new ready within so_far (failed.1 ∙ ap (λ at. with_broken at (changed_at at closes now)) slot_is))
+    (output_at files place, failed.0 ∙ ap fault.Write slot_is, (ready.closable place within).0, rose_closing told files place old now new ready within so_far (failed.1 ∙ ap (λ at. with_broken at (changed_at at closes now)) slot_is))
+
+pub closes_owned : (told : Bool) (files : FilesState) (place slot : ℕ) (old now new : List Slot) → Closing told files place old now → new ≡ with_broken slot (changed_at slot closes now) → KeepsFiles files old files new
+closes_owned told files place slot old now new so_far is = owned_same files old new (ap length is ∙ length-changed_at slot breaks _ ∙ length-changed_at slot closes now ∙ so_far.size)
+
+pub closable_next : (told : Bool) (files : FilesState) (place slot : ℕ) (old now : List Slot) → place < length files.outputs → Closing told files place old now → slot ≡ output_at files place → is_closable now slot
+closable_next told files place slot old now within so_far slot_is = subst (is_closable now) (sym slot_is) (so_far.left place (omega arith) within)
+
+-- what a field of the list of outputs shows
+
+any_default : (xs : List ℕ) (place one other : ℕ) → place < length xs → get_or xs place one ≡ get_or xs place other
+any_default [] place one other within = absurd (omega arith)
+any_default (x ∷ xs) zero one other within = refl
+any_default (x ∷ xs) (suc place) one other within = any_default xs place one other (omega arith)
+
+pub output_is : (files : FilesState) (items : List ℕ) (place slot : ℕ) → items ≡ files.outputs → place < length files.outputs → slot ≡ get_or items place slot → slot ≡ output_at files place
+output_is files items place slot same within is = is ∙ ap (λ those. get_or those place slot) same ∙ any_default files.outputs place slot 0 within
+
+pub unchanged : (files : FilesState) (names next : Naming) (items reserved : List ℕ) → record { names = names; outputs = items } ≡ files → reserved ≡ items → next ≡ names → record { names = next; outputs = reserved } ≡ files
+unchanged files names next items reserved is same names_same = ap (λ those. record { names = next; outputs = those }) same ∙ ap (λ those. record { names = those; outputs = items }) names_same ∙ is
+
+pub drew_one : (files : FilesState) (names next : Naming) (items reserved : List ℕ) → record { names = names; outputs = items } ≡ files → reserved ≡ items → next ≡ with_one_drawn names → record { names = next; outputs = reserved } ≡ record files { names = with_one_drawn files.names }
+drew_one files names next items reserved is same drew =
+    ap (λ those. record { names = next; outputs = those }) same ∙ ap (λ those. record { names = those; outputs = items }) drew ∙ ap (λ (those : FilesState). record those { names = with_one_drawn those.names }) is

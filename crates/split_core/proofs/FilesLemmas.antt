@@ -1,22 +1,22 @@
 -- Lemmas on files that are opened, written and closed in order.
-use Rattle.std.proofs.Common.{◌≡◌, ℕ, ◌+◌, ◌<◌, ◌≤◌, zero, suc, max, Bool, List, [], ◌∷◌, ◌++◌, length, map, take, get_or, inl, inr, refl, sym, ◌∙◌, ap, subst, arith}
+use Rattle.std.proofs.Common.{◌≡◌, ℕ, ◌+◌, ◌<◌, ◌≤◌, zero, suc, max, Bool, List, [], ◌∷◌, ◌++◌, length, map, take, drop, get_or, inl, inr, refl, sym, ◌∙◌, ap, subst, arith}
 use Rattle.std.proofs.lemmas.Bool.{cases_lt}
 use Rattle.std.proofs.lemmas.List.{length-map, get_or_append_left, get_or_past}
 use Rattle.ports_core.specs.Name.{Naming}
 use Rattle.ports_core.specs.Slot.{Slot, no_slot, slot_at, changed_at}
-use Rattle.ports_core.specs.Part.{OutputsAt, FilesBegin, Begins, StoppedBetween}
+use Rattle.ports_core.specs.Part.{File, OutputsAt, FilesBegin, Begins, IsNext, IsAt, Marks, StoppedBetween}
 use Rattle.ports_core.specs.declared.slot.State.{State}
 use Rattle.ports_core.specs.declared.slot.State.TheVariants.{Open, Closed}
 use Rattle.ports_core.specs.declared.fault.Fault.{Fault}
 use Rattle.ports_core.specs.declared.fault.Fault.TheVariants as fault
-use Rattle.ports_core.proofs.PartLemmas.{begins_itself, begins_more, begins_trans, nothing_begins, take_begins_behind, part_begins_itself, stopped_between}
+use Rattle.ports_core.proofs.PartLemmas.{begins_itself, begins_more, begins_trans, nothing_begins, take_begins_behind, marks_by}
 use Rattle.ports_core.proofs.FileLemmas.{gets, ended}
-use Rattle.split_core.specs.Split.{Share, share, file_at, only_files}
+use Rattle.split_core.specs.Split.{Share, share, name_of, from_start, file_at, only_files}
 use Rattle.split_core.specs.FilesState.{FilesState}
-use Rattle.split_core.specs.Round.{AreReady, from_start}
+use Rattle.split_core.specs.Round.{AreReady}
 use Rattle.split_core.specs.RoundLaws.{all_begin_themselves}
-use Rattle.split_core.specs.ShareLaws.{SharesBegin}
-use Rattle.split_core.specs.Sharing.{AllBegin, added, filled, filed, open_part, closed_first, StayBroken, Became, StopsShort, IsOfFiles}
+use Rattle.split_core.specs.ShareLaws.{SharesBegin, kept_file}
+use Rattle.split_core.specs.Sharing.{AllBegin, added, filled, filed, open_part, closed_first, StayBroken, StandAt, Became, IsDue, HaltedAt, StopsAt, StopsShort, IsOfFiles}
 
 -- Beginnings
 
@@ -36,7 +36,7 @@ bytes_closed (suc n) (bytes ∷ these) = ap (λ rest. bytes ∷ rest) (bytes_clo
 filed_begin : (names : Naming) (place : ℕ) (shares others : List Share) → SharesBegin shares others → FilesBegin (filed names place shares) (filed names place others)
 filed_begin names place [] others begin = tt
 filed_begin names place (one ∷ shares) [] begin = absurd begin
-filed_begin names place (one ∷ shares) (other ∷ others) begin = (refl, refl, refl, begin.0, begin.1, filed_begin names (place + 1) shares others begin.2)
+filed_begin names place (one ∷ shares) (other ∷ others) begin = (refl, refl, refl, kept_file names place one other begin.0, begin.1, filed_begin names (place + 1) shares others begin.2)
 
 pub parts_begin : (names : Naming) (shares others : List Share) → SharesBegin shares others → Begins (only_files (filed names 0 shares)) (only_files (filed names 0 others))
 parts_begin names shares others begin = record { out = nothing_begins []; files = filed_begin names 0 shares others begin }
@@ -57,7 +57,7 @@ closed_shares (suc n) zero these few = absurd (omega (arith, few))
 closed_shares (suc n) (suc m) [] few = tt
 closed_shares (suc n) (suc m) (bytes ∷ these) few = (inr refl, begins_itself bytes, closed_shares n m these (omega arith))
 
-all_trans : (low middle high : List (List ℕ)) → AllBegin low middle → AllBegin middle high → AllBegin low high
+pub all_trans : (low middle high : List (List ℕ)) → AllBegin low middle → AllBegin middle high → AllBegin low high
 all_trans [] middle high first second = tt
 all_trans (bytes ∷ low) [] high first second = absurd first
 all_trans (bytes ∷ low) (mid ∷ middle) [] first second = absurd second
@@ -203,7 +203,7 @@ stay_opened old new one is slot sound = elim (cases_lt slot (length old)) [
 
 pub caused_later : (old mid new : List Slot) (why : Fault) → StayBroken old mid → IsOfFiles mid new why → IsOfFiles old new why
 caused_later old mid new fault.Memory stay caused = tt
-caused_later old mid new (fault.Write slot) stay caused = (stay slot caused.0, caused.1)
+caused_later old mid new (fault.Write slot) stay caused = (caused.0, (stay slot caused.1.0, caused.1.1))
 caused_later old mid new (fault.Open slot) stay caused = (stay slot caused.0, caused.1)
 caused_later old mid new (fault.Read slot) stay caused = caused
 caused_later old mid new fault.Suffixes stay caused = caused
@@ -213,6 +213,127 @@ caused_later old mid new (fault.Usage kind word) stay caused = caused
 caused_later old mid new fault.Failed stay caused = caused
 caused_later old mid new fault.TooLong stay caused = caused
 
+-- Files in order
+
+pub length_begin : (these those : List (List ℕ)) → AllBegin these those → length these ≤ length those
+length_begin [] those begin = omega arith
+length_begin (bytes ∷ these) [] begin = absurd begin
+length_begin (bytes ∷ these) (whole ∷ those) begin = let rest = length_begin these those begin.1 in omega arith
+
+abbrev no_lists : List (List ℕ)
+no_lists = []
+
+pub drop_no_lists : (n : ℕ) → drop n no_lists ≡ []
+drop_no_lists zero = refl
+drop_no_lists (suc n) = refl
+
+-- the first ones have all that was added, once so many got theirs
+pub added_before : (place : ℕ) (these more : List (List ℕ)) → take place (added these (take place more)) ≡ take place (added these more)
+added_before zero these more = refl
+added_before (suc place) [] [] = refl
+added_before (suc place) [] (next ∷ more) = ap (λ rest. next ∷ rest) (added_before place [] more)
+added_before (suc place) (bytes ∷ these) [] = refl
+added_before (suc place) (bytes ∷ these) (next ∷ more) = ap (λ rest. (bytes ++ next) ∷ rest) (added_before place these more)
+
+-- and the others what they had
+pub added_behind : (place : ℕ) (these more : List (List ℕ)) → place < length more → drop place (added these (take place more)) ≡ drop place these
+added_behind place these [] within = absurd (omega arith)
+added_behind zero [] (next ∷ more) within = refl
+added_behind zero (bytes ∷ these) (next ∷ more) within = refl
+added_behind (suc place) [] (next ∷ more) within = added_behind place [] more (omega arith) ∙ drop_no_lists place
+added_behind (suc place) (bytes ∷ these) (next ∷ more) within = added_behind place these more (omega arith)
+
+drop_next : (place : ℕ) (these those : List (List ℕ)) → drop place these ≡ drop place those → drop (suc place) these ≡ drop (suc place) those
+drop_next place these those same = sym (drop_one place these) ∙ ap (drop 1) same ∙ drop_one place those where
+  drop_one : (n : ℕ) (xs : List (List ℕ)) → drop 1 (drop n xs) ≡ drop (suc n) xs
+  drop_one zero xs = refl
+  drop_one (suc n) [] = refl
+  drop_one (suc n) (x ∷ xs) = drop_one n xs
+
+pub added_past : (place : ℕ) (these more : List (List ℕ)) → place < length more → drop (suc place) (added these (take place more)) ≡ drop (suc place) these
+added_past place these more within = drop_next place _ _ (added_behind place these more within)
+
+pub take_changed : (place : ℕ) (change : List ℕ → List ℕ) (these : List (List ℕ)) → take place (changed_at place change these) ≡ take place these
+take_changed zero change these = refl
+take_changed (suc place) change [] = refl
+take_changed (suc place) change (bytes ∷ these) = ap (λ rest. bytes ∷ rest) (take_changed place change these)
+
+pub drop_changed : (place : ℕ) (change : List ℕ → List ℕ) (these : List (List ℕ)) → drop (suc place) (changed_at place change these) ≡ drop (suc place) these
+drop_changed place change [] = refl
+drop_changed zero change (bytes ∷ these) = refl
+drop_changed (suc place) change (bytes ∷ these) = drop_changed place change these
+
+pub take_filled : (place n : ℕ) (these : List (List ℕ)) → place ≤ length these → take place (filled n these) ≡ take place these
+take_filled zero n these few = refl
+take_filled (suc place) zero these few = refl
+take_filled (suc place) (suc n) [] few = absurd (omega arith)
+take_filled (suc place) (suc n) (bytes ∷ these) few = ap (λ rest. bytes ∷ rest) (take_filled place n these (omega arith))
+
+pub take_further : (place n : ℕ) (these : List (List ℕ)) → place ≤ n → take place (filled place these) ≡ take place (filled n these)
+take_further zero n these few = refl
+take_further (suc place) zero these few = absurd (omega arith)
+take_further (suc place) (suc n) [] few = ap (λ rest. [] ∷ rest) (take_further place n [] (omega arith))
+take_further (suc place) (suc n) (bytes ∷ these) few = ap (λ rest. bytes ∷ rest) (take_further place n these (omega arith))
+
+pub drop_filled : (n : ℕ) (these : List (List ℕ)) → drop n (filled n these) ≡ drop n these
+drop_filled zero these = refl
+drop_filled (suc n) [] = drop_filled n [] ∙ drop_no_lists n
+drop_filled (suc n) (bytes ∷ these) = drop_filled n these
+
+pub drop_past_filled : (n : ℕ) (these : List (List ℕ)) → drop (suc n) (filled n these) ≡ drop (suc n) these
+drop_past_filled n these = drop_next n _ _ (drop_filled n these)
+
+take_shared : (n : ℕ) (these : List (List ℕ)) → take n (map (share Open) these) ≡ map (share Open) (take n these)
+take_shared zero these = refl
+take_shared (suc n) [] = refl
+take_shared (suc n) (bytes ∷ these) = ap (λ rest. share Open bytes ∷ rest) (take_shared n these)
+
+drop_shared : (n : ℕ) (these : List (List ℕ)) → drop n (map (share Open) these) ≡ map (share Open) (drop n these)
+drop_shared zero these = refl
+drop_shared (suc n) [] = refl
+drop_shared (suc n) (bytes ∷ these) = drop_shared n these
+
+pub take_filed : (n : ℕ) (names : Naming) (place : ℕ) (shares : List Share) → take n (filed names place shares) ≡ filed names place (take n shares)
+take_filed zero names place shares = refl
+take_filed (suc n) names place [] = refl
+take_filed (suc n) names place (one ∷ shares) = ap (λ rest. file_at names place one ∷ rest) (take_filed n names (place + 1) shares)
+
+pub drop_filed : (n : ℕ) (names : Naming) (place : ℕ) (shares : List Share) → drop n (filed names place shares) ≡ filed names (place + n) (drop n shares)
+drop_filed zero names place shares = let here : place ≡ place + 0 = omega arith in ap (λ at. filed names at shares) here
+drop_filed (suc n) names place [] = refl
+drop_filed (suc n) names place (one ∷ shares) = let further : place + 1 + n ≡ place + suc n = omega arith in drop_filed n names (place + 1) shares ∙ ap (λ at. filed names at (drop n shares)) further
+
+pub take_open : (n : ℕ) (names : Naming) (these those : List (List ℕ)) → take n these ≡ take n those → take n (open_part names these).files ≡ take n (open_part names those).files
+take_open n names these those same =
+    take_filed n (from_start names) 0 (map (share Open) these) ∙ ap (filed (from_start names) 0) (take_shared n these ∙ ap (map (share Open)) same ∙ sym (take_shared n those))
+    ∙ sym (take_filed n (from_start names) 0 (map (share Open) those))
+
+pub drop_open : (n : ℕ) (names : Naming) (these those : List (List ℕ)) → drop n these ≡ drop n those → drop n (open_part names these).files ≡ drop n (open_part names those).files
+drop_open n names these those same =
+    drop_filed n (from_start names) 0 (map (share Open) these) ∙ ap (filed (from_start names) (0 + n)) (drop_shared n these ∙ ap (map (share Open)) same ∙ sym (drop_shared n those))
+    ∙ sym (drop_filed n (from_start names) 0 (map (share Open) those))
+
+-- the file at a place of a list
+next_filed : (names : Naming) (from n : ℕ) (shares : List Share) → n < length shares → (front : List File) × (one : Share) × (rest : List File) × (filed names from shares ≡ front ++ file_at names (from + n) one ∷ rest) × (length front ≡ n)
+next_filed names from n [] within = absurd (omega arith)
+next_filed names from zero (one ∷ shares) within = ([], one, filed names (from + 1) shares, (let here : from ≡ from + 0 = omega arith in ap (λ at. file_at names at one ∷ filed names (from + 1) shares) here), refl)
+next_filed names from (suc n) (first ∷ shares) within =
+    let more = next_filed names (from + 1) n shares (omega arith) in
+    let moved : from + 1 + n ≡ from + suc n = omega arith in
+    (file_at names from first ∷ more.0, more.1, more.2, ap (λ files. file_at names from first ∷ files) (more.3 ∙ ap (λ at. more.0 ++ file_at names at more.1 ∷ more.2) moved), ap suc more.4)
+
+next_due : (names : Naming) (part those : List (List ℕ)) (name : List ℕ) → IsDue names part those name → IsNext (open_part names part) (open_part names those) name
+next_due names part those name due =
+    let found = next_filed (from_start names) 0 (length part) (map (share Open) those) (let count = length-map those (share Open) in let less : length part < length those = due.1 in omega arith) in
+    record {
+      front = found.0;
+      file = file_at (from_start names) (0 + length part) found.1;
+      rest = found.2;
+      files = found.3;
+      place = found.4 ∙ sym (open_length names part);
+      name_is = (let none : 0 + length part ≡ length part = omega arith in ap (name_of (from_start names)) none) ∙ sym due.0;
+    }
+
 -- Steps in a row
 
 pub nothing_made : (told : Bool) (files : FilesState) (makes : List (List ℕ) → List (List ℕ)) (slots : List Slot) → AreReady files slots → ((these : List (List ℕ)) → makes these ≡ these) → Became told files makes 0 slots files slots
@@ -221,40 +342,68 @@ nothing_made told files makes slots ready same = record {
   opened = omega arith;
   names = refl;
   lengths = λ these is. ap length (same these) ∙ is;
-  outputs = λ before these is at. subst (λ those. OutputsAt told before (open_part files.names those) slots) (sym (same these)) at;
+  outputs = λ before these at. subst (λ those. OutputsAt told before (open_part files.names those) slots) (sym (same these)) at.outputs;
+  owned = λ first owns. owns;
   sound = stay_broken slots;
+}
+
+-- where they stand after a step
+pub stand_then : (told : Bool) (files between : FilesState) (makes : List (List ℕ) → List (List ℕ)) (count : ℕ) (old mid before : List Slot) (these : List (List ℕ)) → Became told files makes count old between mid → StandAt told files before these old → StandAt told between before (makes these) mid
+stand_then told files between makes count old mid before these became at = record {
+  count = became.lengths these at.count;
+  owns = became.owned (length before) at.owns;
+  outputs = renamed told before mid between.names files.names (makes these) (sym became.names) (became.outputs before these at);
 }
 
 pub became_then : (told : Bool) (files : FilesState) (first second both : List (List ℕ) → List (List ℕ)) (one two count : ℕ) (old mid new : List Slot) (between next : FilesState)
     → Became told files first one old between mid → Became told between second two mid next new → ((these : List (List ℕ)) → second (first these) ≡ both these) → count ≡ max one two → Became told files both count old next new
 became_then told files first second both one two count old mid new between next before after same most = record {
   ready = after.ready;
-  opened = let here : between.opened ≡ max files.opened one = before.opened in let there : next.opened ≡ max between.opened two = after.opened in omega arith;
+  opened = let here : length between.outputs ≡ max (length files.outputs) one = before.opened in let there : length next.outputs ≡ max (length between.outputs) two = after.opened in omega arith;
   names = after.names ∙ before.names;
   lengths = λ these is. ap length (sym (same these)) ∙ after.lengths (first these) (before.lengths these is);
-  outputs = λ start these is at. subst (λ those. OutputsAt told start (open_part files.names those) new) (same these)
-      (renamed told start new files.names between.names (second (first these)) before.names
-      (after.outputs start (first these) (before.lengths these is) (renamed told start mid between.names files.names (first these) (sym before.names) (before.outputs start these is at))));
+  outputs = λ start these at. subst (λ those. OutputsAt told start (open_part files.names those) new) (same these)
+      (renamed told start new files.names between.names (second (first these)) before.names (after.outputs start (first these) (stand_then told files between first one old mid start these before at)));
+  owned = λ from owns. after.owned from (before.owned from owns);
   sound = stay_later old mid new before.sound after.sound;
 }
 
-open_stop : (told : Bool) (start now : List Slot) (names others : Naming) (low high : List (List ℕ)) (why : Fault) → from_start others ≡ from_start names → StoppedBetween told start (open_part others low) (open_part others high) why now
-    → StoppedBetween told start (open_part names low) (open_part names high) why now
-open_stop told start now names others low high why same stop =
-    subst (λ those. StoppedBetween told start (only_files (filed those 0 (map (share Open) low))) (only_files (filed those 0 (map (share Open) high))) why now) same stop
+-- A fault of a later step, on the way from what was there at first to all that was to be: the files before its place have all by
+-- then, and those after it what they had.
+pub halted_wider : (told : Bool) (start now : List Slot) (names others : Naming) (these low high all : List (List ℕ)) (place : ℕ) (why : Fault) → from_start others ≡ from_start names → HaltedAt told start others low high place why now
+    → AllBegin these low → AllBegin high all → drop (suc place) low ≡ drop (suc place) these → take place high ≡ take place all → HaltedAt told start names these all place why now
+halted_wider told start now names others these low high all place why same stop above below behind before = record {
+  part = stop.part;
+  above = all_trans these low stop.part above stop.above;
+  below = all_trans stop.part high all stop.below below;
+  done = stop.done ∙ before;
+  untouched = stop.untouched ∙ behind;
+  reached = stop.reached;
+  outputs = renamed told start stop.reached names others stop.part same stop.outputs;
+  marks = marks_by (IsDue others stop.part high) (IsDue names stop.part all) why stop.reached now
+      (λ name due. (due.0 ∙ ap (λ those. name_of those (length stop.part)) same, (let more = length_begin high all below in let less : length stop.part < length high = due.1 in omega arith))) stop.marks;
+  from = stop.from;
+}
 
-pub stops_then : (told : Bool) (files : FilesState) (first second all : List (List ℕ) → List (List ℕ)) (one : ℕ) (old mid new : List Slot) (between : FilesState) (why : Fault)
-    → Became told files first one old between mid → StopsShort told between second mid new why → ((these : List (List ℕ)) → AllBegin these (first these)) → ((these : List (List ℕ)) → AllBegin (second (first these)) (all these))
-    → StopsShort told files all old new why
-stops_then told files first second all one old mid new between why before stops low high start these is at =
-    stopped_between told start (open_part files.names these) (open_part files.names (first these)) (open_part files.names (second (first these))) (open_part files.names (all these)) why new
-    (open_begins files.names _ _ (low these))
-    (open_stop told start new files.names between.names (first these) (second (first these)) why before.names
-    (stops start (first these) (before.lengths these is) (renamed told start mid between.names files.names (first these) (sym before.names) (before.outputs start these is at))))
-    (open_begins files.names _ _ (high these))
+pub halts_then : (told : Bool) (files : FilesState) (first second all : List (List ℕ) → List (List ℕ)) (one place : ℕ) (old mid new : List Slot) (between : FilesState) (why : Fault) → Became told files first one old between mid → StopsAt told between second place mid new why
+    → ((these : List (List ℕ)) → AllBegin these (first these)) → ((these : List (List ℕ)) → AllBegin (second (first these)) (all these)) → ((these : List (List ℕ)) → drop (suc place) (first these) ≡ drop (suc place) these)
+    → ((these : List (List ℕ)) → length these ≡ length files.outputs → take place (second (first these)) ≡ take place (all these)) → StopsAt told files all place old new why
+halts_then told files first second all one place old mid new between why before stops low high behind done start these at =
+    halted_wider told start new files.names between.names these (first these) (second (first these)) (all these) place why before.names
+    (stops start (first these) (stand_then told files between first one old mid start these before at)) (low these) (high these) (behind these) (done these at.count)
 
-pub stops_wider : (told : Bool) (files : FilesState) (makes all : List (List ℕ) → List (List ℕ)) (old new : List Slot) (why : Fault) → StopsShort told files makes old new why → ((these : List (List ℕ)) → AllBegin (makes these) (all these))
-    → StopsShort told files all old new why
-stops_wider told files makes all old new why stops high start these is at =
-    stopped_between told start (open_part files.names these) (open_part files.names these) (open_part files.names (makes these)) (open_part files.names (all these)) why new
-    (part_begins_itself (open_part files.names these)) (stops start these is at) (open_begins files.names _ _ (high these))
+-- and so it is in order
+pub stops_in_order : (told : Bool) (files : FilesState) (makes : List (List ℕ) → List (List ℕ)) (place : ℕ) (old new : List Slot) (why : Fault) → StopsAt told files makes place old new why → StopsShort told files makes old new why
+stops_in_order told files makes place old new why stops before these at =
+    let stop = stops before these at in
+    record {
+      part = open_part files.names stop.part;
+      above = open_begins files.names these stop.part stop.above;
+      below = open_begins files.names stop.part (makes these) stop.below;
+      place = place;
+      order = record { done = take_open place files.names stop.part (makes these) stop.done; untouched = drop_open (suc place) files.names stop.part these stop.untouched };
+      reached = stop.reached;
+      outputs = stop.outputs;
+      marks = marks_by (IsDue files.names stop.part (makes these)) (IsNext (open_part files.names stop.part) (open_part files.names (makes these))) why stop.reached new (next_due files.names stop.part (makes these)) stop.marks;
+      from = subst (IsAt why (length before) place) (sym (open_length files.names stop.part)) stop.from;
+    }

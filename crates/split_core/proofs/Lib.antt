@@ -5,12 +5,13 @@ pub mod PartsLemmas
 pub mod TurnLemmas
 pub mod TakenLemmas
 pub mod PassLemmas
-pub mod PartSplitterLemmas
+pub mod PartStageLemmas
 pub mod AheadLemmas
 pub mod DealLemmas
 pub mod FileSteps
 pub mod FilesLemmas
 pub mod RoundLemmas
-pub mod SplitterLemmas
+pub mod WaysLemmas
 pub mod SectionLemmas
 pub mod PlaceLemmas
+pub mod WaitingLemmas

@@ -7,20 +7,21 @@ use Rattle.ports_core.specs.Slot.{Slot, Rose, slot_at, changed_at, opened, unope
 use Rattle.ports_core.specs.declared.slot.Mode.TheVariants.{Fresh}
 use Rattle.ports_core.specs.declared.slot.State.TheVariants as state
 use Rattle.ports_core.specs.Write.{BrokeAfter}
-use Rattle.ports_core.specs.Part.{File, Part, OutputsAt, Begins, IsNext, Marks, StoppedBetween}
+use Rattle.ports_core.specs.Part.{File, Part, OutputsAt, Begins, IsNext, Marks, IsAt, AllClosed, InTurn, StoppedInTurn}
 use Rattle.ports_core.specs.declared.fault.Fault.{Fault}
 use Rattle.ports_core.specs.declared.fault.Fault.TheVariants.{Memory, Write, Read, Open, Suffixes, NoMatch, Range, Usage, Failed, TooLong}
-use Rattle.ports_core.proofs.PartLemmas.{begins_itself, begins_more, take_begins_behind, part_trans, stopped_here, stopped_between, sound_at, broken_at, part_begins_itself}
+use Rattle.ports_core.proofs.PartLemmas.{begins_itself, begins_more, take_begins_behind, part_trans, turn_between, turn_last, turn_next, outputs_count, sound_at, broken_at, part_begins_itself}
 use Rattle.ports_core.proofs.FileLemmas.{file_more, last_changes, gets, ended, write_makes, close_makes}
 use Rattle.ports_core.proofs.WriteLemmas.{writable-written}
 use Rattle.ports_core.proofs.SlotLemmas.{length-changed_at}
 use Rattle.split_core.specs.Split.{Share, share, is_named, are_named, file_at, named, name_of}
-use Rattle.split_core.specs.ShareLaws.{SharesBegin, shares_themselves, shares_more, shares_behind, last_grows, part_begins, no_more}
-use Rattle.split_core.specs.Moves.{part_of, Moves, Halts, KeepsBroken, Breaks, OpensNone, WritesShort, broke}
+use Rattle.split_core.specs.ShareLaws.{AllShut, SharesBegin, shares_themselves, shares_more, shares_behind, last_grows, part_begins, no_more}
+use Rattle.split_core.specs.PartsState.{IsAtEnd, OwnsFile}
+use Rattle.split_core.specs.Moves.{part_of, Moves, Halts, KeepsBroken, KeepsFile, Breaks, OpensNone, WritesShort, broke}
 
 -- names
 
-named_before : (names : Naming) (place more : ℕ) → is_named names more ≡ true → place ≤ more → is_named names place ≡ true
+pub named_before : (names : Naming) (place more : ℕ) → is_named names more ≡ true → place ≤ more → is_named names place ≡ true
 named_before names place more is less = by (is_named names place) refl where
   by : (b : Bool) → is_named names place ≡ b → is_named names place ≡ true
   by true e = e
@@ -75,21 +76,68 @@ moves_by told names next low high old new is moves before at =
 
 pub halts_by : (told : Bool) (names next : Naming) (low high : List Share) (old new : List Slot) (fault : Fault) → next ≡ record names { drawn = next.drawn } → Halts told next low high old new fault → Halts told names low high old new fault
 halts_by told names next low high old new fault is halts before at =
-    subst (λ part. StoppedBetween told before part (part_of names high) fault new) (part_drawn names next low is)
-    (subst (λ part. StoppedBetween told before (part_of next low) part fault new) (part_drawn names next high is)
+    subst (λ part. StoppedInTurn told before part (part_of names high) fault new) (part_drawn names next low is)
+    (subst (λ part. StoppedInTurn told before (part_of next low) part fault new) (part_drawn names next high is)
     (halts before (subst (λ part. OutputsAt told before part old) (sym (part_drawn names next low is)) at)))
 
 pub halts_after : (told : Bool) (names : Naming) (low middle high : List Share) (old mid new : List Slot) (fault : Fault) → SharesBegin low middle → Moves told names low middle old mid → Halts told names middle high mid new fault → Halts told names low high old new fault
 halts_after told names low middle high old mid new fault begins moves halts before at =
-    stopped_between told before (part_of names low) (part_of names middle) (part_of names high) (part_of names high) fault new (part_begins names low middle begins) (halts before (moves before at)) (part_begins_itself _)
+    turn_between told before (part_of names low) (part_of names middle) (part_of names high) (part_of names high) fault new (part_begins names low middle begins) (halts before (moves before at)) (part_begins_itself _)
 
 pub halts_wider : (told : Bool) (names : Naming) (low middle high : List Share) (old new : List Slot) (fault : Fault) → Halts told names low middle old new fault → SharesBegin middle high → Halts told names low high old new fault
 halts_wider told names low middle high old new fault halts begins before at =
-    stopped_between told before (part_of names low) (part_of names low) (part_of names middle) (part_of names high) fault new (part_begins_itself _) (halts before at) (part_begins names middle high begins)
+    turn_between told before (part_of names low) (part_of names low) (part_of names middle) (part_of names high) fault new (part_begins_itself _) (halts before at) (part_begins names middle high begins)
 
--- a fault that marks nothing
-pub halts_here : (told : Bool) (names : Naming) (low high : List Share) (old new : List Slot) (fault : Fault) → SharesBegin low high → Marks (IsNext (part_of names low) (part_of names high)) fault old new → Halts told names low high old new fault
-halts_here told names low high old new fault begins marks before at = stopped_here told before (part_of names low) (part_of names high) fault old new at (part_begins names low high begins) marks
+-- the files of closed shares are closed, and there are as many where the next has a name
+
+shut_by : (has : Bool) (file : File) (files : List File) → file.state ≡ state.Closed → AllClosed files → AllClosed (cond has (file ∷ files) [])
+shut_by true file files is closed = (is, closed)
+shut_by false file files is closed = tt
+
+pub shut_files : (names : Naming) (place : ℕ) (shares : List Share) → AllShut shares → AllClosed (named names place shares)
+shut_files names place [] shut = tt
+shut_files names place (one ∷ shares) shut = shut_by (is_named names place) (file_at names place one) (named names (place + 1) shares) shut.0 (shut_files names (place + 1) shares shut.1)
+
+named_count : (names : Naming) (place : ℕ) (shares : List Share) → is_named names (place + length shares) ≡ true → length (named names place shares) ≡ length shares
+named_count names place [] is = refl
+named_count names place (one ∷ shares) is =
+    ap (λ has. length (cond has (file_at names place one ∷ named names (place + 1) shares) [])) here
+    ∙ ap suc (named_count names (place + 1) shares (subst (λ n. is_named names n ≡ true) (moved place (length shares)) is)) where
+      moved : (n m : ℕ) → n + suc m ≡ n + 1 + m
+      moved n m = omega arith
+
+      here : is_named names place ≡ true
+      here = named_before names place (place + suc (length shares)) is (omega arith)
+
+pub all_named : (names : Naming) (shares : List Share) → is_named names (length shares) ≡ true → length (named names 0 shares) ≡ length shares
+all_named names shares is = named_count names 0 shares (subst (λ n. is_named names n ≡ true) (none (length shares)) is) where
+  none : (n : ℕ) → n ≡ 0 + n
+  none n = omega arith
+
+pub last_turn : (names : Naming) (shares : List Share) (one : Share) → is_named names (length shares) ≡ true → AllShut shares → InTurn (named names 0 (shares ++ one ∷ [])) (length shares)
+last_turn names shares one is shut = subst (λ files. InTurn files (length shares)) (sym (named_last names shares one is)) (turn_last (named names 0 shares) (file_at names (length shares) one) (length shares) (all_named names shares is) (shut_files names 0 shares shut))
+
+-- the last slot is that of the last file
+pub last_from : (told : Bool) (names : Naming) (shares : List Share) (one : Share) (before old : List Slot) (slot : ℕ) → is_named names (length shares) ≡ true → suc slot ≡ length old → OutputsAt told before (part_of names (shares ++ one ∷ [])) old → slot ≡ length before + length shares
+last_from told names shares one before old slot is last at =
+    let count : length old ≡ length before + length (named names 0 (shares ++ one ∷ [])) = outputs_count told before (part_of names (shares ++ one ∷ [])) old at in
+    let files : length (named names 0 (shares ++ one ∷ [])) ≡ length (named names 0 shares) + 1 = ap length (named_last names shares one is) ∙ length-append (named names 0 shares) (file_at names (length shares) one ∷ []) in
+    let all : length (named names 0 shares) ≡ length shares = all_named names shares is in omega arith
+
+-- a fault that comes where the outputs are
+pub halts_here : (told : Bool) (names : Naming) (low high : List Share) (old new : List Slot) (fault : Fault) (place : ℕ) → SharesBegin low high → InTurn (named names 0 low) place → Marks (IsNext (part_of names low) (part_of names high)) fault old new
+    → ((before : List Slot) → OutputsAt told before (part_of names low) old → IsAt fault (length before) place (length (named names 0 low))) → Halts told names low high old new fault
+halts_here told names low high old new fault place begins turn marks from before at = record {
+  part = part_of names low;
+  above = part_begins_itself (part_of names low);
+  below = part_begins names low high begins;
+  place = place;
+  turn = turn;
+  reached = old;
+  outputs = at;
+  marks = marks;
+  from = from before at;
+}
 
 -- the file of the part that was begun is the last output
 
@@ -113,21 +161,27 @@ close_moves told names shares begun old new slot is last closed =
 within_last : (slot : ℕ) (old now : List Slot) → suc slot ≡ length old → length now ≡ length old → slot < length now
 within_last slot old now last same = omega (arith, last, same)
 
-pub write_halts : (told : Bool) (names : Naming) (shares : List Share) (begun bytes : List ℕ) (old new : List Slot) (slot : ℕ) (fault : Fault) → is_named names (length shares) ≡ true → suc slot ≡ length old → WritesShort told slot bytes old new fault
+pub write_halts : (told : Bool) (names : Naming) (shares : List Share) (begun bytes : List ℕ) (old new : List Slot) (slot : ℕ) (fault : Fault) → AllShut shares → is_named names (length shares) ≡ true → suc slot ≡ length old → WritesShort told slot bytes old new fault
     → Halts told names (shares ++ share state.Open begun ∷ []) (shares ++ share state.Open (begun ++ bytes) ∷ []) old new fault
-write_halts told names shares begun bytes old new slot _ is last (broke n cut) =
+write_halts told names shares begun bytes old new slot _ shut is last (broke n cut) =
     halts_after told names _ (shares ++ share state.Open (begun ++ take n bytes) ∷ []) _ old (with_written slot (told_of told (take n bytes)) old) new (Write slot)
     (last_grows shares [] (share state.Open begun) (share state.Open (begun ++ take n bytes)) (inl refl) (begins_more begun (take n bytes)))
     (write_moves told names shares begun (take n bytes) old _ slot is last refl)
-    (halts_here told names _ _ _ new (Write slot) (last_grows shares [] (share state.Open (begun ++ take n bytes)) (share state.Open (begun ++ bytes)) (inl refl) (take_begins_behind n begun bytes)) (within_last slot old (with_written slot (told_of told (take n bytes)) old) last (length-changed_at slot _ old), cut.slots))
+    (halts_here told names _ _ _ new (Write slot) (length shares) (last_grows shares [] (share state.Open (begun ++ take n bytes)) (share state.Open (begun ++ bytes)) (inl refl) (take_begins_behind n begun bytes))
+    (last_turn names shares (share state.Open (begun ++ take n bytes)) is shut)
+    (within_last slot old (with_written slot (told_of told (take n bytes)) old) last (length-changed_at slot _ old), cut.slots)
+    (λ before at. inr (last_from told names shares (share state.Open (begun ++ take n bytes)) before _ slot is (last ∙ sym (length-changed_at slot _ old)) at)))
 
-pub close_halts : (told : Bool) (names : Naming) (shares more : List Share) (begun : List ℕ) (old new : List Slot) (slot : ℕ) → is_named names (length shares) ≡ true → suc slot ≡ length old → new ≡ with_broken slot (changed_at slot closes old)
+pub close_halts : (told : Bool) (names : Naming) (shares more : List Share) (begun : List ℕ) (old new : List Slot) (slot : ℕ) → AllShut shares → is_named names (length shares) ≡ true → suc slot ≡ length old → new ≡ with_broken slot (changed_at slot closes old)
     → Halts told names (shares ++ share state.Open begun ∷ []) (shares ++ share state.Closed begun ∷ more) old new (Write slot)
-close_halts told names shares more begun old new slot is last closed =
+close_halts told names shares more begun old new slot shut is last closed =
     halts_after told names _ (shares ++ share state.Closed begun ∷ []) _ old (changed_at slot closes old) new (Write slot)
     (last_grows shares [] (share state.Open begun) (share state.Closed begun) (inl refl) (begins_itself begun))
     (close_moves told names shares begun old _ slot is last refl)
-    (halts_here told names _ _ _ new (Write slot) (last_grows shares more (share state.Closed begun) (share state.Closed begun) (inr refl) (begins_itself begun)) (within_last slot old (changed_at slot closes old) last (length-changed_at slot closes old), closed))
+    (halts_here told names _ _ _ new (Write slot) (length shares) (last_grows shares more (share state.Closed begun) (share state.Closed begun) (inr refl) (begins_itself begun))
+    (last_turn names shares (share state.Closed begun) is shut)
+    (within_last slot old (changed_at slot closes old) last (length-changed_at slot closes old), closed)
+    (λ before at. inr (last_from told names shares (share state.Closed begun) before _ slot is (last ∙ sym (length-changed_at slot closes old)) at)))
 
 pub open_moves : (told : Bool) (names : Naming) (shares : List Share) (old new : List Slot) → is_named names (length shares) ≡ true → names.drawn ≡ length shares → new ≡ old ++ opened (next_name names) Fresh ∷ []
     → Moves told names shares (shares ++ share state.Open [] ∷ []) old new
@@ -151,21 +205,18 @@ next_file names shares more one is drawn kept named_so = record {
   none : (n : ℕ) → 0 + n ≡ n
   none n = omega arith
 
-pub open_halts : (told : Bool) (names : Naming) (shares more : List Share) (one : Share) (old new : List Slot) (fault : Fault) → names.drawn ≡ length shares → OpensNone names old new fault → Halts told names shares (shares ++ one ∷ more) old new fault
-open_halts told names shares more one old new Memory drawn none = halts_here told names shares (shares ++ one ∷ more) old new Memory (shares_more shares (one ∷ more)) none.1
-open_halts told names shares more one old new (Open slot) drawn none =
-    halts_here told names shares (shares ++ one ∷ more) old new (Open slot) (shares_more shares (one ∷ more)) (none.0, (none.2.0, kept_name none.2.0 none.2.1, none.2.2)) where
-      kept_name : (kept : List ℕ) → (kept ≡ next_name names) ⊎ (kept ≡ []) → IsNext (part_of names shares) (part_of names (shares ++ one ∷ more)) kept ⊎ (kept ≡ [])
-      kept_name kept (inl same) = inl (next_file names shares more one (subst (λ n. is_named names n ≡ true) drawn none.1) drawn kept same)
-      kept_name kept (inr lost) = inr lost
-open_halts told names shares more one old new Suffixes drawn none = halts_here told names shares (shares ++ one ∷ more) old new Suffixes (shares_more shares (one ∷ more)) none.1
-open_halts told names shares more one old new (Write slot) drawn none = absurd none
-open_halts told names shares more one old new (Read slot) drawn none = absurd none
-open_halts told names shares more one old new (NoMatch operand repetition) drawn none = absurd none
-open_halts told names shares more one old new (Range operand repetition) drawn none = absurd none
-open_halts told names shares more one old new (Usage kind word) drawn none = absurd none
-open_halts told names shares more one old new Failed drawn none = absurd none
-open_halts told names shares more one old new TooLong drawn none = absurd none
+pub open_halts : (told : Bool) (names : Naming) (shares more : List Share) (one : Share) (old new : List Slot) (fault : Fault) → AllShut shares → names.drawn ≡ length shares → OpensNone names old new fault → Halts told names shares (shares ++ one ∷ more) old new fault
+open_halts told names shares more one old new Memory shut drawn none = halts_here told names shares (shares ++ one ∷ more) old new Memory _ (shares_more shares (one ∷ more)) (turn_next _ (shut_files names 0 shares shut)) none.1 (λ before at. tt)
+open_halts told names shares more one old new (Open slot) shut drawn none =
+    halts_here told names shares (shares ++ one ∷ more) old new (Open slot) _ (shares_more shares (one ∷ more)) (turn_next _ (shut_files names 0 shares shut)) (none.0, (next_name names, none.2.0, next_file names shares more one (subst (λ n. is_named names n ≡ true) drawn none.1) drawn (next_name names) refl, none.2.1, none.2.2)) (λ before at. refl)
+open_halts told names shares more one old new Suffixes shut drawn none = halts_here told names shares (shares ++ one ∷ more) old new Suffixes _ (shares_more shares (one ∷ more)) (turn_next _ (shut_files names 0 shares shut)) none.1 (λ before at. tt)
+open_halts told names shares more one old new (Write slot) shut drawn none = absurd none
+open_halts told names shares more one old new (Read slot) shut drawn none = absurd none
+open_halts told names shares more one old new (NoMatch operand repetition) shut drawn none = absurd none
+open_halts told names shares more one old new (Range operand repetition) shut drawn none = absurd none
+open_halts told names shares more one old new (Usage kind word) shut drawn none = absurd none
+open_halts told names shares more one old new Failed shut drawn none = absurd none
+open_halts told names shares more one old new TooLong shut drawn none = absurd none
 
 -- what was broken stays so
 
@@ -211,7 +262,7 @@ rose_later slot old mid new keeps rose = (keeps slot rose.0, rose.1)
 
 pub breaks_later : (old mid new : List Slot) (fault : Fault) → KeepsBroken old mid → Breaks mid new fault → Breaks old new fault
 breaks_later old mid new Memory keeps breaks = tt
-breaks_later old mid new (Write slot) keeps breaks = rose_later slot old mid new keeps breaks
+breaks_later old mid new (Write slot) keeps breaks = (breaks.0, rose_later slot old mid new keeps breaks.1)
 breaks_later old mid new (Open slot) keeps breaks = rose_later slot old mid new keeps breaks
 breaks_later old mid new Suffixes keeps breaks = tt
 breaks_later old mid new (Read slot) keeps breaks = absurd breaks
@@ -221,10 +272,13 @@ breaks_later old mid new (Usage kind word) keeps breaks = absurd breaks
 breaks_later old mid new Failed keeps breaks = absurd breaks
 breaks_later old mid new TooLong keeps breaks = absurd breaks
 
-pub write_breaks : (told : Bool) (slot : ℕ) (bytes : List ℕ) (old new : List Slot) (fault : Fault) → IsTrue (is_writable old slot) → WritesShort told slot bytes old new fault → Breaks old new fault
-write_breaks told slot bytes old new _ can (broke n cut) = (
-  sound_at slot old can,
-  ap (λ those. (slot_at those slot).is_broken) cut.slots ∙ broken_at slot (with_written slot (told_of told (take n bytes)) old) (writable-written old slot slot (told_of told (take n bytes)) ∙ can),
+pub write_breaks : (told : Bool) (slot : ℕ) (bytes : List ℕ) (old new : List Slot) (fault : Fault) → 2 ≤ slot → IsTrue (is_writable old slot) → WritesShort told slot bytes old new fault → Breaks old new fault
+write_breaks told slot bytes old new _ behind can (broke n cut) = (
+  behind,
+  (
+    sound_at slot old can,
+    ap (λ those. (slot_at those slot).is_broken) cut.slots ∙ broken_at slot (with_written slot (told_of told (take n bytes)) old) (writable-written old slot slot (told_of told (take n bytes)) ∙ can),
+  ),
 )
 
 pub close_breaks : (slot : ℕ) (old new : List Slot) → IsTrue (is_writable old slot) → slot < length old → new ≡ with_broken slot (changed_at slot closes old) → Rose slot old new
@@ -256,7 +310,71 @@ open_breaks names old new (Usage kind word) none = absurd none
 open_breaks names old new Failed none = absurd none
 open_breaks names old new TooLong none = absurd none
 
+-- where the file of the part that was begun stands
+
+at_end_so : (current : Option ℕ) (first : ℕ) (slots : List Slot) → OwnsFile current first slots → IsAtEnd current slots
+at_end_so None first slots owns = tt
+at_end_so (Some slot) first slots owns = owns.1
+
+owned_so : (current : Option ℕ) (slots : List Slot) → IsAtEnd current slots → OwnsFile current 0 slots
+owned_so None slots last = omega arith
+owned_so (Some slot) slots last = (omega arith, last)
+
+pub stays_last : (current next : Option ℕ) (old new : List Slot) → KeepsFile current old next new → IsAtEnd current old → IsAtEnd next new
+stays_last current next old new keeps last = at_end_so next 0 new (keeps 0 (owned_so current old last))
+
+pub owns_last : (current : Option ℕ) (first : ℕ) (slots : List Slot) → OwnsFile current first slots → IsAtEnd current slots
+owns_last current first slots owns = at_end_so current first slots owns
+
+pub owned_again : (one two three : Option ℕ) (old mid new : List Slot) → KeepsFile one old two mid → KeepsFile two mid three new → KeepsFile one old three new
+owned_again one two three old mid new before after first owns = after first (before first owns)
+
+-- there are as many outputs
+pub owned_same : (current : Option ℕ) (old new : List Slot) → length new ≡ length old → KeepsFile current old current new
+owned_same None old new same first owns = let above : first ≤ length old = owns in omega (arith, same)
+owned_same (Some slot) old new same first owns = (owns.0, owns.1 ∙ sym same)
+
+-- it ended
+pub owned_ended : (slot : ℕ) (old new : List Slot) → length new ≡ length old → KeepsFile (Some slot) old None new
+owned_ended slot old new same first owns = let above : first ≤ slot = owns.0 in let last : suc slot ≡ length old = owns.1 in omega (arith, same)
+
+-- it was opened
+pub owned_opened : (slot : ℕ) (one : Slot) (old new : List Slot) → slot ≡ length old → new ≡ old ++ one ∷ [] → KeepsFile None old (Some slot) new
+owned_opened slot one old new at is first owns =
+    let above : first ≤ length old = owns in
+    let size : length new ≡ length old + 1 = ap length is ∙ length-append old (one ∷ []) in (omega (arith, at), omega (arith, at))
+
+more_slots : (one : Slot) (old new : List Slot) (first : ℕ) → first ≤ length old → new ≡ old ++ one ∷ [] → first ≤ length new
+more_slots one old new first above is = let size : length new ≡ length old + 1 = ap length is ∙ length-append old (one ∷ []) in omega arith
+
+-- it could not be opened
+pub owned_unopened : (names : Naming) (old new : List Slot) (fault : Fault) → OpensNone names old new fault → KeepsFile None old None new
+owned_unopened names old new Memory none first owns = owned_same None old new (ap length none.1) first owns
+owned_unopened names old new (Open slot) none first owns = more_slots (unopened none.2.0) old new first owns none.2.2
+owned_unopened names old new Suffixes none first owns = owned_same None old new (ap length none.1) first owns
+owned_unopened names old new (Write slot) none first owns = absurd none
+owned_unopened names old new (Read slot) none first owns = absurd none
+owned_unopened names old new (NoMatch operand repetition) none first owns = absurd none
+owned_unopened names old new (Range operand repetition) none first owns = absurd none
+owned_unopened names old new (Usage kind word) none first owns = absurd none
+owned_unopened names old new Failed none first owns = absurd none
+owned_unopened names old new TooLong none first owns = absurd none
+
+pub written_size : (slot : ℕ) (bytes : List ℕ) (old new : List Slot) → new ≡ with_written slot bytes old → length new ≡ length old
+written_size slot bytes old new is = ap length is ∙ length-changed_at slot (adds bytes) old
+
+pub short_size : (told : Bool) (slot : ℕ) (bytes : List ℕ) (old new : List Slot) (f : Fault) → WritesShort told slot bytes old new f → length new ≡ length old
+short_size told slot bytes old new _ (broke n cut) = ap length cut.slots ∙ length-changed_at slot breaks _ ∙ length-changed_at slot (adds (told_of told (take n bytes))) old
+
+pub broken_size : (slot : ℕ) (old new : List Slot) → new ≡ with_broken slot (changed_at slot closes old) → length new ≡ length old
+broken_size slot old new is = ap length is ∙ length-changed_at slot breaks _ ∙ length-changed_at slot closes old
+
 -- which output is the last, and can be written
+
+pub writable_within : (place : ℕ) (slots : List Slot) → IsTrue (is_writable slots place) → place < length slots
+writable_within place [] can = absurd (false≢true can)
+writable_within zero (slot ∷ slots) can = omega arith
+writable_within (suc place) (slot ∷ slots) can = let rest = writable_within place slots can in omega (arith, rest)
 
 pub opened_last : (old new : List Slot) (slot : ℕ) (name : List ℕ) → slot ≡ length old → new ≡ old ++ opened name Fresh ∷ [] → suc slot ≡ length new
 opened_last old new slot name at is =

@@ -11,8 +11,8 @@ use Rattle.ports_core.specs.declared.fault.Fault.TheVariants as fault
 use Rattle.split_core.specs.Parts.{most, unless_empty}
 use Rattle.split_core.specs.Split.{Share, share, is_some, is_named, are_named}
 use Rattle.split_core.specs.ShareLaws.{SharesBegin, shares_themselves, shares_trans, shares_more, shares_behind, last_grows}
-use Rattle.split_core.specs.PartsState.{PartsState, IsReady, is_given}
-use Rattle.split_core.specs.Moves.{Moves, Halts, KeepsBroken, Breaks, OpensNone, WritesShort, Begun, begun_share, HasFile, there, made, HasNone, FindsFile, IsLast, Extended, Interrupted, EndsFile, none_there, closed, failed}
+use Rattle.split_core.specs.PartsState.{PartsState, IsReady, IsAtEnd, is_given}
+use Rattle.split_core.specs.Moves.{Moves, Halts, KeepsBroken, KeepsFile, Breaks, OpensNone, WritesShort, Begun, begun_share, HasFile, there, made, HasNone, FindsFile, IsLast, Extended, Interrupted, EndsFile, none_there, closed, failed}
 use Rattle.split_core.proofs.HeldLemmas.{written_both}
 use Rattle.split_core.proofs.MoveLemmas as move
 
@@ -33,7 +33,8 @@ pub record FileFacts (told : Bool) (parts : PartsState) (old mid : List Slot) (n
   pub grows : (shares : List Share) (begun : List ℕ) → Begun parts shares begun → SharesBegin (shares ++ begun_share begun) (shares ++ share state.Open begun ∷ [])
   pub moves : (shares : List Share) (begun : List ℕ) → Begun parts shares begun → Moves told parts.names (shares ++ begun_share begun) (shares ++ share state.Open begun ∷ []) old mid
   pub keeps : KeepsBroken old mid
-  pub last : suc slot ≡ length mid
+  pub last : IsAtEnd parts.current old → suc slot ≡ length mid
+  pub owned : KeepsFile parts.current old next.current mid
   pub behind : 2 ≤ slot
   pub writable : IsTrue (is_writable mid slot)
 
@@ -51,18 +52,19 @@ count_one (share ∷ shares) one = ap suc (count_one shares one)
 
 there_facts : (told : Bool) (parts : PartsState) (old : List Slot) (slot : ℕ) → parts.current ≡ Some slot → IsReady parts.current old → FileFacts told parts old old parts slot
 there_facts told parts old slot is ready =
-    let open_file : (suc slot ≡ length old) × is_closable old slot = subst (λ current. IsReady current old) is ready in
+    let open_file : is_closable old slot = subst (λ current. IsReady current old) is ready in
     record {
       same = ap (λ current. record parts { current = current }) is;
       names_same = refl;
-      last_part = λ shares begun has. record { drawn = has.drawn ∙ counted shares begun has; named = ap (are_named parts.names) (sym (counted shares begun has)) ∙ has.enough };
+      last_part = λ shares begun has. record { drawn = has.drawn ∙ counted shares begun has; named = ap (are_named parts.names) (sym (counted shares begun has)) ∙ has.enough; shut = has.shut };
       named = λ shares begun has. ap (are_named parts.names) (sym (counted shares begun has)) ∙ has.enough;
       grows = λ shares begun has. subst (λ more. SharesBegin (shares ++ more) (shares ++ share state.Open begun ∷ [])) (sym (one_share begun has.given)) (shares_themselves _);
       moves = λ shares begun has. subst (λ more. Moves told parts.names (shares ++ more) (shares ++ share state.Open begun ∷ []) old old) (sym (one_share begun has.given)) (move.moves_same told parts.names _ old old refl);
       keeps = move.keeps_same old old refl;
-      last = open_file.0;
-      behind = open_file.1.0;
-      writable = open_file.1.1;
+      last = λ at_end. subst (λ current. IsAtEnd current old) is at_end;
+      owned = move.owned_same parts.current old old refl;
+      behind = open_file.0;
+      writable = open_file.1;
     } where
       one_share : (begun : List ℕ) → is_given parts.current ≡ is_some begun → begun_share begun ≡ share state.Open begun ∷ []
       one_share begun given = some_share begun (sym given ∙ ap is_given is)
@@ -80,6 +82,7 @@ made_facts told parts old new next slot none ready at has next_is made_it =
       last_part = λ shares begun had. record {
         drawn = ap (λ (those : PartsState). those.names.drawn) next_is ∙ ap (λ n. n + 1) (drawn shares begun had) ∙ one_more (length shares);
         named = ap (λ (those : PartsState). is_named those.names (length shares)) next_is ∙ named_here shares begun had;
+        shut = had.shut;
       };
       named = named_here;
       grows = λ shares begun had. subst (λ those. SharesBegin (shares ++ begun_share those) (shares ++ share state.Open those ∷ [])) (sym (no_bytes begun had))
@@ -88,7 +91,8 @@ made_facts told parts old new next slot none ready at has next_is made_it =
           (subst (λ low. Moves told parts.names low (shares ++ share state.Open [] ∷ []) old new) (sym (append-nil shares))
           (move.open_moves told parts.names shares old new (named_here shares begun had) (drawn shares begun had) made_it));
       keeps = move.keeps_open (opened (next_name parts.names) Fresh) old new made_it;
-      last = move.opened_last old new slot (next_name parts.names) at made_it;
+      last = λ at_end. move.opened_last old new slot (next_name parts.names) at made_it;
+      owned = subst (λ current. KeepsFile current old next.current new) (sym none) (subst (λ current. KeepsFile None old current new) (sym (ap (λ (those : PartsState). those.current) next_is)) (move.owned_opened slot (opened (next_name parts.names) Fresh) old new at made_it));
       behind = omega (arith, at, streams);
       writable = move.opened_writable old new slot (next_name parts.names) at made_it;
     } where
@@ -120,11 +124,12 @@ extended told parts bytes old mid wet new found next slot facts one other is = r
   same = is ∙ ap (λ (those : PartsState). record those { waiting = [] }) facts.same ∙ ap (λ (names : Naming). record parts { names = names; waiting = []; current = Some slot }) (sym (ap (λ (those : PartsState). those.names) is));
   names_same = ap (λ (those : PartsState). those.names) is ∙ facts.names_same ∙ ap (λ n. record parts.names { drawn = n }) (sym (ap (λ (those : PartsState). those.names.drawn) is));
   drawn = λ shares begun has. subst (λ (names : Naming). IsLast (record next { names = names }) shares) (sym (ap (λ (those : PartsState). those.names) is))
-      (let there : IsLast found shares = facts.last_part shares begun has in record { drawn = there.drawn; named = there.named });
-  moves = λ shares begun has. move.moves_again told parts.names _ (shares ++ share state.Open begun ∷ []) _ old mid new (facts.moves shares begun has)
-      (move.write_moves told parts.names shares begun (parts.waiting ++ bytes) mid new slot (facts.named shares begun has) facts.last both);
+      (let there : IsLast found shares = facts.last_part shares begun has in record { drawn = there.drawn; named = there.named; shut = there.shut });
+  moves = λ shares begun has at_end. move.moves_again told parts.names _ (shares ++ share state.Open begun ∷ []) _ old mid new (facts.moves shares begun has)
+      (move.write_moves told parts.names shares begun (parts.waiting ++ bytes) mid new slot (facts.named shares begun has) (facts.last at_end) both);
   keeps = move.keeps_again old mid new facts.keeps (move.keeps_write slot _ mid new both);
-  ready = (move.written_last mid new slot _ facts.last both, (facts.behind, move.written_writable mid new slot _ facts.writable both));
+  owned = move.owned_again parts.current found.current next.current old mid new facts.owned (subst (λ current. KeepsFile found.current mid current new) (sym (ap (λ (those : PartsState). those.current) is)) (move.owned_same found.current mid new (move.written_size slot _ mid new both)));
+  ready = (facts.behind, move.written_writable mid new slot _ facts.writable both);
 } where
   both : new ≡ with_written slot (told_of told (parts.waiting ++ bytes)) mid
   both = written_both told slot parts.waiting bytes mid wet new one other
@@ -136,11 +141,12 @@ pub held_short : (told : Bool) (parts : PartsState) (bytes : List ℕ) (old mid 
 held_short told parts bytes old mid new found next slot f facts short held is = record {
   limit_same = ap (λ (those : PartsState). those.limit) is ∙ ap (λ (those : PartsState). those.limit) facts.same;
   names_same = ap (λ (those : PartsState). those.names) is ∙ facts.names_same ∙ ap (λ n. record parts.names { drawn = n }) (sym (ap (λ (those : PartsState). those.names.drawn) is));
-  halts = λ shares begun has. move.halts_after told parts.names _ (shares ++ share state.Open begun ∷ []) _ old mid new f (facts.grows shares begun has) (facts.moves shares begun has)
+  halts = λ shares begun has at_end. move.halts_after told parts.names _ (shares ++ share state.Open begun ∷ []) _ old mid new f (facts.grows shares begun has) (facts.moves shares begun has)
       (move.halts_wider told parts.names _ (shares ++ share state.Open (begun ++ parts.waiting) ∷ []) _ mid new f
-      (move.write_halts told parts.names shares begun parts.waiting mid new slot f (facts.named shares begun has) facts.last short)
+      (move.write_halts told parts.names shares begun parts.waiting mid new slot f has.shut (facts.named shares begun has) (facts.last at_end) short)
       (last_grows shares [] (share state.Open (begun ++ parts.waiting)) (share state.Open (begun ++ (parts.waiting ++ bytes))) (inl refl) (bytes, sym (all_behind begun parts.waiting bytes))));
-  breaks = move.breaks_later old mid new f facts.keeps (move.write_breaks told slot parts.waiting mid new f facts.writable short);
+  breaks = move.breaks_later old mid new f facts.keeps (move.write_breaks told slot parts.waiting mid new f facts.behind facts.writable short);
+  owned = move.owned_again parts.current found.current next.current old mid new facts.owned (subst (λ current. KeepsFile found.current mid current new) (sym (ap (λ (those : PartsState). those.current) is)) (move.owned_same found.current mid new (move.short_size told slot parts.waiting mid new f short)));
   short = λ is_short. absurd (move.no_suffixes told slot parts.waiting mid new f short is_short);
 }
 
@@ -151,14 +157,15 @@ pub bytes_short : (told : Bool) (parts : PartsState) (bytes : List ℕ) (old mid
 bytes_short told parts bytes old mid wet new found next slot f facts one short held is = record {
   limit_same = ap (λ (those : PartsState). those.limit) is ∙ ap (λ (those : PartsState). those.limit) facts.same;
   names_same = ap (λ (those : PartsState). those.names) is ∙ facts.names_same ∙ ap (λ n. record parts.names { drawn = n }) (sym (ap (λ (those : PartsState). those.names.drawn) is));
-  halts = λ shares begun has. move.halts_after told parts.names _ (shares ++ share state.Open begun ∷ []) _ old mid new f (facts.grows shares begun has) (facts.moves shares begun has)
+  halts = λ shares begun has at_end. move.halts_after told parts.names _ (shares ++ share state.Open begun ∷ []) _ old mid new f (facts.grows shares begun has) (facts.moves shares begun has)
       (move.halts_after told parts.names _ (shares ++ share state.Open (begun ++ parts.waiting) ∷ []) _ mid wet new f
       (last_grows shares [] (share state.Open begun) (share state.Open (begun ++ parts.waiting)) (inl refl) (parts.waiting, refl))
-      (move.write_moves told parts.names shares begun parts.waiting mid wet slot (facts.named shares begun has) facts.last one)
+      (move.write_moves told parts.names shares begun parts.waiting mid wet slot (facts.named shares begun has) (facts.last at_end) one)
       (subst (λ those. Halts told parts.names (shares ++ share state.Open (begun ++ parts.waiting) ∷ []) (shares ++ share state.Open those ∷ []) wet new f) (all_behind begun parts.waiting bytes)
-      (move.write_halts told parts.names shares (begun ++ parts.waiting) bytes wet new slot f (facts.named shares begun has) (move.written_last mid wet slot _ facts.last one) short)));
+      (move.write_halts told parts.names shares (begun ++ parts.waiting) bytes wet new slot f has.shut (facts.named shares begun has) (move.written_last mid wet slot _ (facts.last at_end) one) short)));
   breaks = move.breaks_later old wet new f (move.keeps_again old mid wet facts.keeps (move.keeps_write slot _ mid wet one))
-      (move.write_breaks told slot bytes wet new f (move.written_writable mid wet slot _ facts.writable one) short);
+      (move.write_breaks told slot bytes wet new f facts.behind (move.written_writable mid wet slot _ facts.writable one) short);
+  owned = move.owned_again parts.current found.current next.current old mid new facts.owned (subst (λ current. KeepsFile found.current mid current new) (sym (ap (λ (those : PartsState). those.current) is)) (move.owned_same found.current mid new (move.short_size told slot bytes wet new f short ∙ move.written_size slot _ mid wet one)));
   short = λ is_short. absurd (move.no_suffixes told slot bytes wet new f short is_short);
 }
 
@@ -168,10 +175,11 @@ pub no_file : (told : Bool) (parts : PartsState) (bytes : List ℕ) (old new : L
 no_file told parts bytes old new next f none = record {
   limit_same = ap (λ (those : PartsState). those.limit) none.same;
   names_same = none.names_same;
-  halts = λ shares begun has. let no_bytes : begun ≡ [] = none_begun begun (sym has.given ∙ ap is_given none.none) in
+  halts = λ shares begun has at_end. let no_bytes : begun ≡ [] = none_begun begun (sym has.given ∙ ap is_given none.none) in
       subst (λ those. Halts told parts.names those (shares ++ share state.Open (begun ++ (parts.waiting ++ bytes)) ∷ []) old new f) (sym (ap (λ those. shares ++ begun_share those) no_bytes ∙ append-nil shares))
-      (move.open_halts told parts.names shares [] (share state.Open (begun ++ (parts.waiting ++ bytes))) old new f
+      (move.open_halts told parts.names shares [] (share state.Open (begun ++ (parts.waiting ++ bytes))) old new f has.shut
       (has.drawn ∙ ap (λ those. length (shares ++ begun_share those)) no_bytes ∙ ap length (append-nil shares)) none.opens);
   breaks = move.open_breaks parts.names old new f none.opens;
+  owned = subst (λ current. KeepsFile current old next.current new) (sym none.none) (subst (λ current. KeepsFile None old current new) (sym (ap (λ (those : PartsState). those.current) none.same ∙ none.none)) (move.owned_unopened parts.names old new f none.opens));
   short = λ is. let why : (has_next parts.names ≡ false) × (new ≡ old) = subst (OpensNone parts.names old new) is none.opens in (none.none, why.0, why.1);
 }

@@ -8,13 +8,14 @@ use Rattle.ports_core.specs.declared.slot.State.TheVariants as file_state
 use Rattle.ports_core.specs.declared.fault.Fault.{Fault}
 use Rattle.ports_core.specs.declared.fault.Fault.TheVariants as fault
 use Rattle.ports_core.proofs.PartLemmas.{begins_itself}
+use Rattle.ports_core.proofs.SlotLemmas.{length-changed_at}
 use Rattle.split_core.specs.declared.cut.Limit.{Limit}
 use Rattle.split_core.specs.Parts.{cut_up, parts, unless_empty, settled_rest, waiting_rest}
 use Rattle.split_core.specs.CutLaws.{settled_then_waiting, settled_some}
 use Rattle.split_core.specs.Split.{Share, share, is_some, is_named, are_named, settled_parts}
-use Rattle.split_core.specs.ShareLaws.{SharesBegin, last_grows, settled_grow, whole_parts}
-use Rattle.split_core.specs.PartsState.{PartsState, Stands, IsReady, is_given}
-use Rattle.split_core.specs.Moves.{Moves, Halts, Breaks, WritesShort, begun_share, Took, Stopped, RunsShort, Finishes}
+use Rattle.split_core.specs.ShareLaws.{shut_map, SharesBegin, last_grows, settled_grow, whole_parts}
+use Rattle.split_core.specs.PartsState.{PartsState, Stands, IsReady, IsAtEnd, is_given}
+use Rattle.split_core.specs.Moves.{Moves, Halts, KeepsFile, Breaks, WritesShort, begun_share, Took, Stopped, RunsShort, Finishes}
 use Rattle.split_core.proofs.MoveLemmas as move
 use Rattle.split_core.proofs.PartsLemmas.{count_one, some_share}
 use Rattle.split_core.proofs.TakenLemmas.{are_named_drawn}
@@ -24,8 +25,9 @@ took_none told parts slots ready = record {
   limit_same = refl;
   names_same = refl;
   stands = λ x stands. subst (Stands parts) (sym (append-nil x)) stands;
-  moves = λ x stands. subst (λ all. Moves told parts.names (settled_parts parts.limit x) (settled_parts parts.limit all) slots slots) (sym (append-nil x)) (move.moves_same told parts.names _ slots slots refl);
+  moves = λ x stands at_end. subst (λ all. Moves told parts.names (settled_parts parts.limit x) (settled_parts parts.limit all) slots slots) (sym (append-nil x)) (move.moves_same told parts.names _ slots slots refl);
   keeps = move.keeps_same slots slots refl;
+  owned = move.owned_same parts.current slots slots refl;
   ready = ready;
 }
 
@@ -53,9 +55,10 @@ took_again told state mid next first more old wet new one other = record {
   limit_same = other.limit_same ∙ one.limit_same;
   names_same = names_again state.names mid.names next.names one.names_same other.names_same;
   stands = λ x stands. subst (Stands next) (append_assoc x first more) (other.stands (x ++ first) (one.stands x stands));
-  moves = λ x stands. move.moves_again told state.names _ (settled_parts state.limit (x ++ first)) _ old wet new (one.moves x stands)
-      (moves_from told state mid x first more wet new one.limit_same one.names_same (other.moves (x ++ first) (one.stands x stands)));
+  moves = λ x stands at_end. move.moves_again told state.names _ (settled_parts state.limit (x ++ first)) _ old wet new (one.moves x stands at_end)
+      (moves_from told state mid x first more wet new one.limit_same one.names_same (other.moves (x ++ first) (one.stands x stands) (move.stays_last state.current mid.current old wet one.owned at_end)));
   keeps = move.keeps_again old wet new one.keeps other.keeps;
+  owned = move.owned_again state.current mid.current next.current old wet new one.owned other.owned;
   ready = other.ready;
 }
 
@@ -63,15 +66,16 @@ pub stopped_again : (told : Bool) (state mid next : PartsState) (first more : Li
 stopped_again told state mid next first more old wet new f one other = record {
   limit_same = other.limit_same ∙ one.limit_same;
   names_same = names_again state.names mid.names next.names one.names_same other.names_same;
-  halts = λ x stands. move.halts_after told state.names _ (settled_parts state.limit (x ++ first)) _ old wet new f (settled_grow state.limit x first) (one.moves x stands)
-      (halts_from told state mid x first more wet new f one.limit_same one.names_same (other.halts (x ++ first) (one.stands x stands)));
+  halts = λ x stands at_end. move.halts_after told state.names _ (settled_parts state.limit (x ++ first)) _ old wet new f (settled_grow state.limit x first) (one.moves x stands at_end)
+      (halts_from told state mid x first more wet new f one.limit_same one.names_same (other.halts (x ++ first) (one.stands x stands) (move.stays_last state.current mid.current old wet one.owned at_end)));
   breaks = move.breaks_later old wet new f one.keeps other.breaks;
+  owned = move.owned_again state.current mid.current next.current old wet new one.owned other.owned;
   short = λ is_short x stands.
       let ran = other.short is_short (x ++ first) (one.stands x stands) in (
         subst (λ all. are_named state.names (length (parts state.limit all)) ≡ false) (append_assoc x first more)
             (sym (are_named_drawn state.names mid.names _ one.names_same) ∙ ap (λ (those : Limit). are_named mid.names (length (parts those ((x ++ first) ++ more)))) (sym one.limit_same) ∙ ran.0),
-        move.moves_again told state.names _ (settled_parts state.limit (x ++ first)) _ old wet new (one.moves x stands)
-            (moves_from told state mid x first more wet new one.limit_same one.names_same ran.1),
+        λ at_end. move.moves_again told state.names _ (settled_parts state.limit (x ++ first)) _ old wet new (one.moves x stands at_end)
+            (moves_from told state mid x first more wet new one.limit_same one.names_same (ran.1 (move.stays_last state.current mid.current old wet one.owned at_end))),
       );
 }
 
@@ -125,7 +129,7 @@ module _ (told : Bool) (state : PartsState) (old : List Slot) (ready : IsReady s
     by (byte ∷ rest) some = absurd (some_long (begun_bytes x) empty (some (omega arith)))
 
   pub finishes_none : state.current ≡ None → Finishes told state old old (Ok tt)
-  finishes_none none x stands =
+  finishes_none none x stands at_end =
       let rest = no_rest x stands none in
       move.moves_same_by told state.names _ _ old old
       (ap (λ those. full_shares x ++ begun_share those) (no_begun x rest) ∙ ap (λ those. full_shares x ++ map (share file_state.Closed) (unless_empty those)) (sym rest) ∙ sym (whole_is x)) refl where
@@ -157,52 +161,62 @@ module _ (told : Bool) (state : PartsState) (old : List Slot) (ready : IsReady s
     some_rest [] waits rest some same = absurd (false≢true some)
     some_rest (byte ∷ begun) waits rest some same = sym (ap is_some same)
 
-  open_slot : (slot : ℕ) → state.current ≡ Some slot → (suc slot ≡ length old) × is_closable old slot
+  open_slot : (slot : ℕ) → state.current ≡ Some slot → is_closable old slot
   open_slot slot is = subst (λ current. IsReady current old) is ready
 
-  moved : (x : List ℕ) (slot : ℕ) (wet : List Slot) → Stands state x → state.current ≡ Some slot → wet ≡ with_written slot (told_of told state.waiting) old → Moves told state.names (settled_parts state.limit x) (full_shares x ++ share file_state.Open (rest_bytes x) ∷ []) old wet
-  moved x slot wet stands is wrote =
+  last_slot : (slot : ℕ) → state.current ≡ Some slot → IsAtEnd state.current old → suc slot ≡ length old
+  last_slot slot is at_end = subst (λ current. IsAtEnd current old) is at_end
+
+  moved : (x : List ℕ) (slot : ℕ) (wet : List Slot) → Stands state x → IsAtEnd state.current old → state.current ≡ Some slot → wet ≡ with_written slot (told_of told state.waiting) old → Moves told state.names (settled_parts state.limit x) (full_shares x ++ share file_state.Open (rest_bytes x) ∷ []) old wet
+  moved x slot wet stands at_end is wrote =
       subst (λ low. Moves told state.names low (full_shares x ++ share file_state.Open (rest_bytes x) ∷ []) old wet) (sym (low_is x slot stands is))
       (subst (λ rest. Moves told state.names (full_shares x ++ share file_state.Open (begun_bytes x) ∷ []) (full_shares x ++ share file_state.Open rest ∷ []) old wet) (rest_is x stands)
-      (move.write_moves told state.names (full_shares x) (begun_bytes x) state.waiting old wet slot (named_here x slot stands is) (open_slot slot is).0 wrote))
+      (move.write_moves told state.names (full_shares x) (begun_bytes x) state.waiting old wet slot (named_here x slot stands is) (last_slot slot is at_end) wrote))
 
   low_begins : (x : List ℕ) (slot : ℕ) → Stands state x → state.current ≡ Some slot → SharesBegin (settled_parts state.limit x) (full_shares x ++ share file_state.Open (rest_bytes x) ∷ [])
   low_begins x slot stands is = subst (λ low. SharesBegin low (full_shares x ++ share file_state.Open (rest_bytes x) ∷ [])) (sym (low_is x slot stands is))
       (last_grows (full_shares x) [] (share file_state.Open (begun_bytes x)) (share file_state.Open (rest_bytes x)) (inl refl) (state.waiting, sym (rest_is x stands)))
 
   pub close_can : (slot : ℕ) (bytes : List ℕ) (wet : List Slot) → state.current ≡ Some slot → wet ≡ with_written slot bytes old → (2 ≤ slot) × IsTrue (is_writable wet slot)
-  close_can slot bytes wet is wrote = ((open_slot slot is).1.0, move.written_writable old wet slot bytes (open_slot slot is).1.1 wrote)
+  close_can slot bytes wet is wrote = ((open_slot slot is).0, move.written_writable old wet slot bytes (open_slot slot is).1 wrote)
 
   pub held_breaks : (slot : ℕ) (new : List Slot) (f : Fault) → state.current ≡ Some slot → WritesShort told slot state.waiting old new f → Finishes told state old new (Err f)
   held_breaks slot new f is short = (
-    slot_of slot new f short (move.write_breaks told slot state.waiting old new f (open_slot slot is).1.1 short),
-    λ x stands. move.halts_wider told state.names _ (full_shares x ++ share file_state.Open (rest_bytes x) ∷ []) _ old new f
+    slot_of slot new f short (move.write_breaks told slot state.waiting old new f (open_slot slot is).0 (open_slot slot is).1 short),
+    λ x stands at_end. move.halts_wider told state.names _ (full_shares x ++ share file_state.Open (rest_bytes x) ∷ []) _ old new f
         (subst (λ low. Halts told state.names low (full_shares x ++ share file_state.Open (rest_bytes x) ∷ []) old new f) (sym (low_is x slot stands is))
         (subst (λ rest. Halts told state.names (full_shares x ++ share file_state.Open (begun_bytes x) ∷ []) (full_shares x ++ share file_state.Open rest ∷ []) old new f) (rest_is x stands)
-        (move.write_halts told state.names (full_shares x) (begun_bytes x) state.waiting old new slot f (named_here x slot stands is) (open_slot slot is).0 short)))
+        (move.write_halts told state.names (full_shares x) (begun_bytes x) state.waiting old new slot f (shut_map (cut_up state.limit x).full) (named_here x slot stands is) (last_slot slot is at_end) short)))
         (subst (SharesBegin (full_shares x ++ share file_state.Open (rest_bytes x) ∷ [])) (sym (high_is x slot stands is))
         (last_grows (full_shares x) [] (share file_state.Open (rest_bytes x)) (share file_state.Closed (rest_bytes x)) (inl refl) (begins_itself (rest_bytes x)))),
   ) where
-    slot_of : (slot : ℕ) (new : List Slot) (f : Fault) → WritesShort told slot state.waiting old new f → Breaks old new f → (at : ℕ) × (f ≡ fault.Write at) × Rose at old new
-    slot_of slot new _ (Rattle.split_core.specs.Moves.broke n cut) breaks = (slot, refl, breaks)
+    slot_of : (slot : ℕ) (new : List Slot) (f : Fault) → WritesShort told slot state.waiting old new f → Breaks old new f → (at : ℕ) × (f ≡ fault.Write at) × (2 ≤ at) × Rose at old new
+    slot_of slot new _ (Rattle.split_core.specs.Moves.broke n cut) breaks = (slot, refl, breaks.0, breaks.1)
 
   pub close_ends : (slot : ℕ) (wet new : List Slot) (result : Result (Unit {0}) Fault) → state.current ≡ Some slot → wet ≡ with_written slot (told_of told state.waiting) old → OnOk result (new ≡ changed_at slot closes wet)
       → IfErr result (λ f. (f ≡ fault.Write slot) × (new ≡ with_broken slot (changed_at slot closes wet))) → Finishes told state old new result
-  close_ends slot wet new (Ok done) is wrote ok err = λ x stands.
-      move.moves_again told state.names _ (full_shares x ++ share file_state.Open (rest_bytes x) ∷ []) _ old wet new (moved x slot wet stands is wrote)
+  close_ends slot wet new (Ok done) is wrote ok err = λ x stands at_end.
+      move.moves_again told state.names _ (full_shares x ++ share file_state.Open (rest_bytes x) ∷ []) _ old wet new (moved x slot wet stands at_end is wrote)
       (subst (λ high. Moves told state.names (full_shares x ++ share file_state.Open (rest_bytes x) ∷ []) high wet new) (sym (high_is x slot stands is))
-      (move.close_moves told state.names (full_shares x) (rest_bytes x) wet new slot (named_here x slot stands is) (move.written_last old wet slot _ (open_slot slot is).0 wrote) ok))
+      (move.close_moves told state.names (full_shares x) (rest_bytes x) wet new slot (named_here x slot stands is) (move.written_last old wet slot _ (last_slot slot is at_end) wrote) ok))
   close_ends slot wet new (Err f) is wrote ok err = (
     (
       slot,
       err.0,
+      (open_slot slot is).0,
       move.rose_later slot old wet new (move.keeps_write slot _ old wet wrote)
-          (move.close_breaks slot wet new (move.written_writable old wet slot _ (open_slot slot is).1.1 wrote) (last_within (move.written_last old wet slot _ (open_slot slot is).0 wrote)) err.1),
+          (move.close_breaks slot wet new (move.written_writable old wet slot _ (open_slot slot is).1 wrote) (move.writable_within slot wet (move.written_writable old wet slot _ (open_slot slot is).1 wrote)) err.1),
     ),
-    λ x stands. subst (λ those. Halts told state.names (settled_parts state.limit x) (whole_parts state.limit x) old new those) (sym err.0)
-        (move.halts_after told state.names _ (full_shares x ++ share file_state.Open (rest_bytes x) ∷ []) _ old wet new (fault.Write slot) (low_begins x slot stands is) (moved x slot wet stands is wrote)
+    λ x stands at_end. subst (λ those. Halts told state.names (settled_parts state.limit x) (whole_parts state.limit x) old new those) (sym err.0)
+        (move.halts_after told state.names _ (full_shares x ++ share file_state.Open (rest_bytes x) ∷ []) _ old wet new (fault.Write slot) (low_begins x slot stands is) (moved x slot wet stands at_end is wrote)
         (subst (λ high. Halts told state.names (full_shares x ++ share file_state.Open (rest_bytes x) ∷ []) high wet new (fault.Write slot)) (sym (high_is x slot stands is))
-        (move.close_halts told state.names (full_shares x) [] (rest_bytes x) wet new slot (named_here x slot stands is) (move.written_last old wet slot _ (open_slot slot is).0 wrote) err.1))),
-  ) where
-    last_within : suc slot ≡ length wet → slot < length wet
-    last_within last = omega (arith, last)
+        (move.close_halts told state.names (full_shares x) [] (rest_bytes x) wet new slot (shut_map (cut_up state.limit x).full) (named_here x slot stands is) (move.written_last old wet slot _ (last_slot slot is at_end) wrote) err.1))),
+  )
+
+-- its file ended
+pub end_owned : (state : PartsState) (slot : ℕ) (old wet new : List Slot) (result : Result (Unit {0}) Fault) → state.current ≡ Some slot → length wet ≡ length old → OnOk result (new ≡ changed_at slot closes wet)
+    → IfErr result (λ f. (f ≡ fault.Write slot) × (new ≡ with_broken slot (changed_at slot closes wet))) → KeepsFile state.current old None new
+end_owned state slot old wet new result is size ok err = subst (λ current. KeepsFile current old None new) (sym is) (move.owned_ended slot old new (closed_size result ok err ∙ size)) where
+  closed_size : (result : Result (Unit {0}) Fault) → OnOk result (new ≡ changed_at slot closes wet) → IfErr result (λ f. (f ≡ fault.Write slot) × (new ≡ with_broken slot (changed_at slot closes wet))) → length new ≡ length wet
+  closed_size (Ok done) ok err = ap length ok ∙ length-changed_at slot closes wet
+  closed_size (Err f) ok err = move.broken_size slot wet new err.1

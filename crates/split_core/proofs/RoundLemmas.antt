@@ -1,34 +1,38 @@
--- Lemmas on dealing lines in turn, as an engine.
-use Rattle.std.proofs.Common.{◌≡◌, ℕ, ◌+◌, ◌%◌, ◌<◌, ◌≤◌, zero, suc, min, max, Bool, true, false, not, ◌||◌, nat_lt, cond, List, [], ◌∷◌, ◌++◌, length, map, take, inl, inr, refl, sym, ◌∙◌, ap, subst, arith, length-append, Ok, Err, Result, OnOk, IfErr}
+-- Lemmas on dealing lines in turn, as a stage.
+use Rattle.std.proofs.Common.{◌≡◌, ℕ, ◌+◌, ◌%◌, ◌<◌, ◌≤◌, zero, suc, min, max, Bool, true, false, not, ◌||◌, nat_lt, cond, List, [], ◌∷◌, ◌++◌, length, map, take, drop, Some, None, inl, inr, refl, sym, ◌∙◌, ap, subst, arith, length-append, Ok, Err, Result, OnOk, IfErr}
 use Rattle.std.proofs.Math.Nat.{mod-add-mod, mod-eq_of_lt, mod-mod, mod-le}
-use Rattle.std.specs.List.{range_with_len}
+use Rattle.std.proofs.Math.Path.{fun_ext}
+use Rattle.std.proofs.Math.Seq.{drop-length}
+use Rattle.std.specs.List.{filter, range_with_len}
 use Rattle.std.proofs.lemmas.Bool.{cases_lt, false≢true}
 use Rattle.std.proofs.lemmas.Bool.Decides.{nat_tests}
 use Rattle.std.proofs.lemmas.List.{append-nil, length-map}
 use Rattle.std.proofs.lemmas.List.FromFn.{length-map-range_with_len, take-map-range_with_len}
-use Rattle.seg_core.specs.Line.{lines_of, newlines, line_count}
+use Rattle.seg_core.specs.Line.{joined, lines_of, newlines, line_count}
 use Rattle.seg_core.proofs.Newlines.{newlines-append}
 use Rattle.seg_core.proofs.LineCounts.{line_count-some}
 use Rattle.seg_core.proofs.EndLines.{line_count_near}
 use Rattle.ports_core.specs.Name.{Naming, name_count}
 use Rattle.ports_core.specs.Slot.{Slot}
-use Rattle.ports_core.specs.Part.{OutputsAt, StoppedBetween, nothing}
-use Rattle.ports_core.specs.Engine.{TakesIn, PutsOut, CutsOff, Finishes, EndsShort, IsCaused, SameWork, at_end}
+use Rattle.ports_core.specs.Part.{File, OutputsAt, StoppedBetween, nothing}
+use Rattle.ports_core.specs.Work.{Work}
+use Rattle.ports_core.specs.Engine.{TakesIn, PutsOut, CutsOff, Finishes, EndsShort, EndsWith, EndsThere, StandsAt, IsMet, KeepsOwn, is_verdict, cut}
 use Rattle.ports_core.specs.declared.fault.Fault.{Fault}
 use Rattle.ports_core.specs.declared.fault.Fault.TheVariants as fault
 use Rattle.ports_core.specs.declared.slot.State.{State}
 use Rattle.ports_core.specs.declared.slot.State.TheVariants.{Open, Closed}
 use Rattle.ports_core.proofs.PartLemmas.{stopped_here}
-use Rattle.split_core.specs.Parts.{dealt}
-use Rattle.split_core.specs.Split.{Share, share, named, is_named, are_named, file_at, only_files, dealt_files, settled_by, whole_by, is_short}
+use Rattle.ports_core.proofs.FileLemmas.{slots_counted}
+use Rattle.split_core.specs.Parts.{dealt, round_robin}
+use Rattle.split_core.specs.Split.{Plan, Share, share, named, is_named, are_named, from_start, file_at, only_files, dealt_files, settled_by, whole_by, is_short, is_some, split_means, split_work, bytes_in, waiting}
 use Rattle.split_core.specs.Dealt.{dealt_piece, dealt_first, reached_by}
 use Rattle.split_core.specs.FilesState.{FilesState}
 use Rattle.split_core.specs.RoundState.{RoundState}
-use Rattle.split_core.specs.Round.{round_plan, from_start, plan_of, settled, whole, is_complete, means, opened_by, Holds}
-use Rattle.split_core.specs.Sharing.{added, filled, filed, open_part, closing_part, Makes, Became, StopsShort, HaveClosed, ClosesShort, CannotClose, IsOfFiles}
+use Rattle.split_core.specs.Round.{round_plan, plan_of, round_work, work, opened_by, Holds, AreReady, OwnsFiles, Owns}
+use Rattle.split_core.specs.Sharing.{added, filled, filed, open_part, closing_part, StandAt, KeepsFiles, Makes, Became, StopsShort, HaveClosed, ClosesShort, CannotClose, IsOfFiles}
 use Rattle.split_core.specs.DealLaws.{share_of, dealt_append, dealt_same, dealt_none, dealt_files_are, share_none, line_count-append, opened_by-most}
-use Rattle.split_core.specs.RoundLaws.{grows}
 use Rattle.split_core.proofs.FilesLemmas.{closed_all, added_begin, open_begins}
+use Rattle.split_core.proofs.PlaceLemmas.{all_dealt}
 
 -- Names
 
@@ -68,7 +72,7 @@ all_filed names count place (one ∷ shares) are few =
 abbrev pub files_of : Bool → ℕ → List ℕ → List (List ℕ)
 files_of elide n x = map (share_of n x) (range_with_len 0 (opened_by elide n x))
 
-length-files_of : (elide : Bool) (n : ℕ) (x : List ℕ) → length (files_of elide n x) ≡ opened_by elide n x
+pub length-files_of : (elide : Bool) (n : ℕ) (x : List ℕ) → length (files_of elide n x) ≡ opened_by elide n x
 length-files_of elide n x = length-map-range_with_len (share_of n x) 0 (opened_by elide n x)
 
 filed_are : (state : State) (names : Naming) (elide : Bool) (n : ℕ) (x : List ℕ) → are_named names n ≡ true
@@ -163,45 +167,63 @@ first_gathered n start reached piece gathered is reached_is =
     ∙ take-map-range_with_len (λ file. dealt n file start (lines_of piece)) 0 n (reached_by n start piece) (omega arith)
 
 pub no_room : (told : Bool) (files : FilesState) (more : List (List ℕ)) (slots : List Slot) → StopsShort told files (λ these. added these more) slots slots fault.Memory
-no_room told files more slots before these long at =
-    stopped_here told before (open_part files.names these) (open_part files.names (added these more)) fault.Memory slots slots at (open_begins files.names these _ (added_begin these more)) refl
+no_room told files more slots before these at =
+    stopped_here told before (open_part files.names these) (open_part files.names (added these more)) fault.Memory slots slots at.outputs (open_begins files.names these _ (added_begin these more)) refl tt
 
--- The engine's clauses
+pub became_dealt : (told : Bool) (files next : FilesState) (n start : ℕ) (piece : List ℕ) (more : List (List ℕ)) (old new : List Slot) → more ≡ dealt_first n start piece → Became told files (λ these. added these more) (length more) old next new
+    → Became told files (λ these. added these (dealt_first n start piece)) (reached_by n start piece) old next new
+became_dealt told files next n start piece more old new is became =
+    subst (λ count. Became told files (λ these. added these (dealt_first n start piece)) count old next new) (length-map-range_with_len (λ file. dealt n file start (lines_of piece)) 0 (reached_by n start piece))
+    (subst (λ those. Became told files (λ these. added these those) (length those) old next new) is became)
 
-pub same_work : (old new : RoundState) → new.count ≡ old.count → new.elide ≡ old.elide → from_start new.files.names ≡ from_start old.files.names → SameWork settled whole is_complete means old new
-same_work old new count elide names = record { settled_same = λ x. ap (λ plan. settled_by plan x) same; whole_same = λ x. ap (λ plan. whole_by plan x) same; complete_same = λ x. refl; means_same = refl } where
+-- What a piece leaves
+
+pub same_work : (old new : RoundState) → new.count ≡ old.count → new.elide ≡ old.elide → from_start new.files.names ≡ from_start old.files.names → work new ≡ work old
+same_work old new count elide names = ap round_work same where
   same : plan_of new ≡ plan_of old
   same = ap (λ n. round_plan n new.elide (from_start new.files.names)) count ∙ ap (λ those. round_plan old.count those (from_start new.files.names)) elide ∙ ap (λ those. round_plan old.count old.elide those) names
 
--- what a piece makes of the files, where the engine can have been fed x
-made_is : (round : RoundState) (x piece : List ℕ) → Holds round x → open_part round.files.names (added (files_of round.elide round.count x) (dealt_first round.count round.next piece)) ≡ settled round (x ++ piece)
+-- what a piece makes of the files, where the stage can have been fed x
+made_is : (round : RoundState) (x piece : List ℕ) → Holds round x → open_part round.files.names (added (files_of round.elide round.count x) (dealt_first round.count round.next piece)) ≡ (work round).settled (x ++ piece)
 made_is round x piece holds =
     ap (λ next. open_part round.files.names (added (files_of round.elide round.count x) (dealt_first round.count next piece))) holds.next
     ∙ ap (open_part round.files.names) (files_after round.elide round.count x piece holds.some)
     ∙ sym (settled_is round.files.names round.elide round.count (x ++ piece) holds.named)
 
-counted : (round : RoundState) (x : List ℕ) → Holds round x → length (files_of round.elide round.count x) ≡ round.files.opened
-counted round x holds = length-files_of round.elide round.count x ∙ sym holds.opened
+-- where the stage stands, its files do
+stand_at : (told : Bool) (round : RoundState) (before : List Slot) (x : List ℕ) (now : List Slot) → StandsAt Holds Owns round told before x ((work round).settled x) now → StandAt told round.files before (files_of round.elide round.count x) now
+stand_at told round before x now at = record {
+  count = length-files_of round.elide round.count x ∙ sym at.holds.opened;
+  owns = at.owns;
+  outputs = subst (λ part. OutputsAt told before part now) (settled_is round.files.names round.elide round.count x at.holds.named) at.outputs;
+}
 
-pub puts_out : (told : Bool) (round : RoundState) (piece : List ℕ) (old new : List Slot) → Makes told round.files (λ these. added these (dealt_first round.count round.next piece)) old new → PutsOut Holds settled round piece told old new
-puts_out told round piece old new makes before x holds at =
-    subst (λ part. OutputsAt told before part new) (made_is round x piece holds)
-    (makes before (files_of round.elide round.count x) (counted round x holds) (subst (λ part. OutputsAt told before part old) (settled_is round.files.names round.elide round.count x holds.named) at))
+pub puts_out : (told : Bool) (round : RoundState) (piece : List ℕ) (old new : List Slot) → Makes told round.files (λ these. added these (dealt_first round.count round.next piece)) old new → PutsOut Holds Owns work round piece told old new
+puts_out told round piece old new makes before x at =
+    subst (λ part. OutputsAt told before part new) (made_is round x piece at.holds) (makes before (files_of round.elide round.count x) (stand_at told round before x old at))
 
-pub cuts_off : (told : Bool) (round : RoundState) (piece : List ℕ) (old new : List Slot) (why : Fault) → StopsShort told round.files (λ these. added these (dealt_first round.count round.next piece)) old new why → CutsOff Holds settled round piece told old new why
-cuts_off told round piece old new why stops before x holds at =
-    subst (λ high. StoppedBetween told before (settled round x) high why new) (made_is round x piece holds)
-    (subst (λ low. StoppedBetween told before low (open_part round.files.names (added (files_of round.elide round.count x) (dealt_first round.count round.next piece))) why new) (sym (settled_is round.files.names round.elide round.count x holds.named))
-    (stops before (files_of round.elide round.count x) (counted round x holds) (subst (λ part. OutputsAt told before part old) (settled_is round.files.names round.elide round.count x holds.named) at)))
+no_verdict : (old new : List Slot) (why : Fault) → IsOfFiles old new why → is_verdict why ≡ false
+no_verdict old new fault.Memory is = refl
+no_verdict old new (fault.Write slot) is = refl
+no_verdict old new (fault.Open slot) is = refl
+no_verdict old new (fault.Read slot) is = absurd is
+no_verdict old new fault.Suffixes is = absurd is
+no_verdict old new (fault.NoMatch operand repetition) is = absurd is
+no_verdict old new (fault.Range operand repetition) is = absurd is
+no_verdict old new (fault.Usage kind word) is = absurd is
+no_verdict old new fault.Failed is = absurd is
+no_verdict old new fault.TooLong is = absurd is
 
-pub too_long : (told : Bool) (round : RoundState) (piece : List ℕ) (old : List Slot) → CutsOff Holds settled round piece told old old fault.TooLong
-too_long told round piece old before x holds at = stopped_here told before (settled round x) (settled round (x ++ piece)) fault.TooLong old old at (grows round x piece) refl
+pub cuts_off : (told : Bool) (round : RoundState) (piece : List ℕ) (old new : List Slot) (why : Fault) → IsOfFiles old new why → StopsShort told round.files (λ these. added these (dealt_first round.count round.next piece)) old new why → CutsOff Holds Owns work round piece told old new why
+cuts_off told round piece old new why is stops before x at =
+    cut (no_verdict old new why is)
+    (subst (λ high. StoppedBetween told before ((work round).settled x) high why new) (made_is round x piece at.holds)
+    (subst (λ low. StoppedBetween told before low (open_part round.files.names (added (files_of round.elide round.count x) (dealt_first round.count round.next piece))) why new) (sym (settled_is round.files.names round.elide round.count x at.holds.named))
+    (stops before (files_of round.elide round.count x) (stand_at told round before x old at))))
 
-pub takes_in : (old new : RoundState) (piece : List ℕ) → new.is_over ≡ old.is_over → new.count ≡ old.count → new.elide ≡ old.elide → from_start new.files.names ≡ from_start old.files.names → new.fed ≡ old.fed + length piece
-    → new.next ≡ (old.next + newlines piece) % old.count → new.files.opened ≡ max old.files.opened (reached_by old.count old.next piece) → TakesIn Holds piece old new
-takes_in old new piece over count elide names fed next opened x holds = record {
-  live = over ∙ holds.live;
-  fed = fed ∙ ap (λ n. n + length piece) holds.fed ∙ sym (length-append x piece);
+pub takes_in : (old new : RoundState) (piece : List ℕ) → new.count ≡ old.count → new.elide ≡ old.elide → from_start new.files.names ≡ from_start old.files.names → new.next ≡ (old.next + newlines piece) % old.count
+    → length new.files.outputs ≡ max (length old.files.outputs) (reached_by old.count old.next piece) → TakesIn Holds piece old new
+takes_in old new piece count elide names next opened x holds = record {
   some = let some : 0 < old.count = holds.some in omega arith;
   named = named_same old.files.names new.files.names new.count names (ap (are_named old.files.names) count ∙ holds.named);
   next = next ∙ ap (λ place. (place + newlines piece) % old.count) holds.next ∙ mod-add-mod (newlines x) old.count (newlines piece) ∙ ap (λ lines. lines % old.count) (sym (newlines-append x piece))
@@ -211,53 +233,77 @@ takes_in old new piece over count elide names fed next opened x holds = record {
       ∙ sym (ap (λ (those : Bool). opened_by those new.count (x ++ piece)) elide ∙ ap (λ n. opened_by old.elide n (x ++ piece)) count);
 }
 
-pub caused : (NeedsName : Type 0) (round : RoundState) (is_over : Bool) (fed size : ℕ) (old new : List Slot) (why : Fault) → is_over ≡ false → IsOfFiles old new why → IsCaused (means round) NeedsName is_over fed size old new why
-caused NeedsName round is_over fed size old new fault.Memory live is = (refl, live)
-caused NeedsName round is_over fed size old new (fault.Write slot) live is = (live, (λ alone. absurd (false≢true (sym alone))), is)
-caused NeedsName round is_over fed size old new (fault.Open slot) live is = (live, refl, is)
-caused NeedsName round is_over fed size old new (fault.Read slot) live is = is
-caused NeedsName round is_over fed size old new fault.Suffixes live is = absurd is
-caused NeedsName round is_over fed size old new (fault.NoMatch operand repetition) live is = is
-caused NeedsName round is_over fed size old new (fault.Range operand repetition) live is = is
-caused NeedsName round is_over fed size old new (fault.Usage kind word) live is = is
-caused NeedsName round is_over fed size old new fault.Failed live is = absurd is
-caused NeedsName round is_over fed size old new fault.TooLong live is = absurd is
+pub caused : (round : RoundState) (piece : List ℕ) (old new : List Slot) (why : Fault) → IsOfFiles old new why → IsMet (work round).means (work round).means.feeding (true ≡ true) (EndsWith Holds work round piece) old new why
+caused round piece old new fault.Memory is = (refl, refl)
+caused round piece old new (fault.Write slot) is = (λ none. absurd (let behind : 2 ≤ slot = is.0 in omega (arith, none)), λ alone. absurd (false≢true (sym alone)), is.1)
+caused round piece old new (fault.Open slot) is = (refl, is)
+caused round piece old new (fault.Read slot) is = absurd is
+caused round piece old new fault.Suffixes is = absurd is
+caused round piece old new (fault.NoMatch operand repetition) is = absurd is
+caused round piece old new (fault.Range operand repetition) is = absurd is
+caused round piece old new (fault.Usage kind word) is = absurd is
+caused round piece old new fault.Failed is = absurd is
+caused round piece old new fault.TooLong is = absurd is
 
--- Passing a piece on
+-- by the result of dealing it out
 
-pub became_dealt : (told : Bool) (files next : FilesState) (n start : ℕ) (piece : List ℕ) (more : List (List ℕ)) (old new : List Slot) → more ≡ dealt_first n start piece → Became told files (λ these. added these more) (length more) old next new
-    → Became told files (λ these. added these (dealt_first n start piece)) (reached_by n start piece) old next new
-became_dealt told files next n start piece more old new is became =
-    subst (λ count. Became told files (λ these. added these (dealt_first n start piece)) count old next new) (length-map-range_with_len (λ file. dealt n file start (lines_of piece)) 0 (reached_by n start piece))
-    (subst (λ those. Became told files (λ these. added these those) (length those) old next new) is became)
+module _ (told : Bool) (old new : RoundState) (piece : List ℕ) (before after : List Slot) where
+  pub dealt_holds : (result : Result (Unit {0}) Fault) → new.count ≡ old.count → new.elide ≡ old.elide → from_start new.files.names ≡ from_start old.files.names → OnOk result (new.next ≡ (old.next + newlines piece) % old.count)
+      → OnOk result (Became told old.files (λ these. added these (dealt_first old.count old.next piece)) (reached_by old.count old.next piece) before new.files after) → OnOk result (TakesIn Holds piece old new)
+  dealt_holds (Ok u) count elide names next became = takes_in old new piece count elide names next became.opened
+  dealt_holds (Err why) count elide names next became = tt
+
+  pub dealt_outputs : (result : Result (Unit {0}) Fault) → OnOk result (Became told old.files (λ these. added these (dealt_first old.count old.next piece)) (reached_by old.count old.next piece) before new.files after) → OnOk result (PutsOut Holds Owns work old piece told before after)
+  dealt_outputs (Ok u) became = puts_out told old piece before after became.outputs
+  dealt_outputs (Err why) became = tt
+
+  pub dealt_ready : (result : Result (Unit {0}) Fault) → OnOk result (Became told old.files (λ these. added these (dealt_first old.count old.next piece)) (reached_by old.count old.next piece) before new.files after) → OnOk result (AreReady new.files after)
+  dealt_ready (Ok u) became = became.ready
+  dealt_ready (Err why) became = tt
+
+  pub dealt_short : (result : Result (Unit {0}) Fault) → IfErr result (IsOfFiles before after) → IfErr result (StopsShort told old.files (λ these. added these (dealt_first old.count old.next piece)) before after)
+      → IfErr result (CutsOff Holds Owns work old piece told before after)
+  dealt_short (Ok u) is stops = tt
+  dealt_short (Err why) is stops = cuts_off told old piece before after why is stops
+
+  pub dealt_met : (result : Result (Unit {0}) Fault) → IfErr result (IsOfFiles before after) → IfErr result (IsMet (work old).means (work old).means.feeding (true ≡ true) (EndsWith Holds work old piece) before after)
+  dealt_met (Ok u) is = tt
+  dealt_met (Err why) is = caused old piece before after why is
 
 -- The end
 
-pub finishes : (told : Bool) (round : RoundState) (old new : List Slot) → HaveClosed told round.files round.files.opened old new → Finishes Holds settled whole round told old new
-finishes told round old new closed before x holds at =
-    subst (λ part. OutputsAt told before part new) (ap (λ count. closing_part round.files.names count (files_of round.elide round.count x)) holds.opened ∙ sym (whole_is round.files.names round.elide round.count x holds.named))
-    (closed before (files_of round.elide round.count x) (counted round x holds) (subst (λ part. OutputsAt told before part old) (settled_is round.files.names round.elide round.count x holds.named) at))
+closed_part : (round : RoundState) (x : List ℕ) → Holds round x → closing_part round.files.names (length round.files.outputs) (files_of round.elide round.count x) ≡ (work round).whole x
+closed_part round x holds = ap (λ count. closing_part round.files.names count (files_of round.elide round.count x)) holds.opened ∙ sym (whole_is round.files.names round.elide round.count x holds.named)
 
-pub ends_short : (told : Bool) (round : RoundState) (old new : List Slot) (why : Fault) → ClosesShort told round.files round.files.opened old new why → EndsShort Holds settled whole round told old new why
-ends_short told round old new why stops before x holds at =
-    subst (λ high. StoppedBetween told before (settled round x) high why new) (ap (λ count. closing_part round.files.names count (files_of round.elide round.count x)) holds.opened ∙ sym (whole_is round.files.names round.elide round.count x holds.named))
-    (subst (λ low. StoppedBetween told before low (closing_part round.files.names round.files.opened (files_of round.elide round.count x)) why new) (sym (settled_is round.files.names round.elide round.count x holds.named))
-    (stops before (files_of round.elide round.count x) (counted round x holds) (subst (λ part. OutputsAt told before part old) (settled_is round.files.names round.elide round.count x holds.named) at)))
+module _ (told : Bool) (round : RoundState) (old new : List Slot) where
+  finishes : HaveClosed told round.files (length round.files.outputs) old new → Finishes Holds Owns work round told old new
+  finishes closed before x at =
+      (refl, subst (λ part. OutputsAt told before part new) (closed_part round x at.holds) (closed before (files_of round.elide round.count x) (stand_at told round before x old at)))
 
--- by the result of closing the files
+  ends_short : (why : Fault) → CannotClose old new why → ClosesShort told round.files (length round.files.outputs) old new why → EndsShort Holds Owns work round told old new why
+  ends_short why is stops before x at =
+      cut (ap is_verdict is.1)
+      (subst (λ high. StoppedBetween told before ((work round).settled x) high why new) (closed_part round x at.holds)
+      (subst (λ low. StoppedBetween told before low (closing_part round.files.names (length round.files.outputs) (files_of round.elide round.count x)) why new) (sym (settled_is round.files.names round.elide round.count x at.holds.named))
+      (stops before (files_of round.elide round.count x) (stand_at told round before x old at))))
 
-pub ended : (told : Bool) (round : RoundState) (files : FilesState) (old new : List Slot) (result : Result (Unit {0}) Fault) → files ≡ round.files → OnOk result (HaveClosed told files files.opened old new) → OnOk result (Finishes Holds settled whole round told old new)
-ended told round files old new (Ok u) same closed = finishes told round old new (subst (λ those. HaveClosed told those those.opened old new) same closed)
-ended told round files old new (Err why) same closed = tt
+  end_met : (why : Fault) → CannotClose old new why → IsMet (work round).means (work round).means.closing (Unit {0}) (EndsThere Holds work round) old new why
+  end_met why is = subst (λ those. IsMet (work round).means (work round).means.closing (Unit {0}) (EndsThere Holds work round) old new those) (sym is.1)
+      (λ none. absurd (let behind : 2 ≤ is.0 = is.2 in omega (arith, none)), λ alone. absurd (false≢true (sym alone)), is.3)
 
-pub ended_short : (told : Bool) (round : RoundState) (files : FilesState) (old new : List Slot) (result : Result (Unit {0}) Fault) → files ≡ round.files → IfErr result (ClosesShort told files files.opened old new) → IfErr result (EndsShort Holds settled whole round told old new)
-ended_short told round files old new (Ok u) same stops = tt
-ended_short told round files old new (Err why) same stops = ends_short told round old new why (subst (λ those. ClosesShort told those those.opened old new why) same stops)
+  -- by the result of closing the files
 
-pub end_caused : (round : RoundState) (is_over : Bool) (fed : ℕ) (old new : List Slot) (result : Result (Unit {0}) Fault) → is_over ≡ false → IfErr result (CannotClose old new) → IfErr result (IsCaused (at_end (means round)) ⊥ is_over fed 0 old new)
-end_caused round is_over fed old new (Ok u) live failed = tt
-end_caused round is_over fed old new (Err why) live (slot, is, rose) =
-    subst (IsCaused (at_end (means round)) ⊥ is_over fed 0 old new) (sym is) (live, (λ alone. absurd (false≢true (sym alone))), rose)
+  pub ended : (files : FilesState) (result : Result (Unit {0}) Fault) → files ≡ round.files → OnOk result (HaveClosed told files (length files.outputs) old new) → OnOk result (Finishes Holds Owns work round told old new)
+  ended files (Ok u) same closed = finishes (subst (λ those. HaveClosed told those (length those.outputs) old new) same closed)
+  ended files (Err why) same closed = tt
+
+  pub ended_short : (files : FilesState) (result : Result (Unit {0}) Fault) → files ≡ round.files → IfErr result (CannotClose old new) → IfErr result (ClosesShort told files (length files.outputs) old new) → IfErr result (EndsShort Holds Owns work round told old new)
+  ended_short files (Ok u) same is stops = tt
+  ended_short files (Err why) same is stops = ends_short why is (subst (λ those. ClosesShort told those (length those.outputs) old new why) same stops)
+
+  pub ended_met : (result : Result (Unit {0}) Fault) → IfErr result (CannotClose old new) → IfErr result (IsMet (work round).means (work round).means.closing (Unit {0}) (EndsThere Holds work round) old new)
+  ended_met (Ok u) is = tt
+  ended_met (Err why) is = end_met why is
 
 -- The start
 
@@ -270,14 +316,74 @@ at_start names elide n count fresh are is =
     ap (λ k. open_part names (filled k [])) is ∙ ap (open_part names) (sym (none_dealt n 0 (opened_by elide n []))) ∙ sym (settled_is names elide n [] are)
     ∙ ap (λ drawn. settled_by (round_plan n elide (record names { drawn = drawn })) []) (sym fresh)
 
-pub opens_all : (told elide : Bool) (names : Naming) (n count : ℕ) (files next : FilesState) (old new : List Slot) → files ≡ record { names = names; first = 0; opened = 0 } → names.drawn ≡ 0 → are_named names n ≡ true → count ≡ opened_by elide n []
+-- no file is open yet, and the next will be the next output
+abbrev pub no_files : Naming → FilesState
+no_files names = record { names = names; outputs = [] }
+
+none_owned : (names : Naming) (slots : List Slot) → OwnsFiles (no_files names) (length slots) slots
+none_owned names slots = record { stand = λ place within. absurd (omega (arith, within)); last = λ same. omega arith }
+
+none_stand : (told : Bool) (names : Naming) (before slots : List Slot) → OutputsAt told before nothing slots → StandAt told (no_files names) before [] slots
+none_stand told names before slots at = record {
+  count = refl;
+  owns = subst (λ n. OwnsFiles (no_files names) n slots) (let all : length slots ≡ length before + 0 = slots_counted told before nothing slots at in omega arith) (none_owned names slots);
+  outputs = at;
+}
+
+pub opens_all : (told elide : Bool) (names : Naming) (n count : ℕ) (files next : FilesState) (old new : List Slot) → files ≡ no_files names → names.drawn ≡ 0 → are_named names n ≡ true → count ≡ opened_by elide n []
     → Became told files (filled count) count old next new → (before : List Slot) → OutputsAt told before nothing old → OutputsAt told before (settled_by (round_plan n elide names) []) new
 opens_all told elide names n count files next old new is fresh are counted became before at =
     subst (λ part. OutputsAt told before part new) (at_start names elide n count fresh are counted)
-    ((subst (λ (those : FilesState). Makes told those (filled count) old new) is became.outputs) before [] refl at)
+    ((subst (λ (those : FilesState). Makes told those (filled count) old new) is became.outputs) before [] (none_stand told names before old at))
 
-pub opens_short : (told elide : Bool) (names : Naming) (n count : ℕ) (files : FilesState) (old new : List Slot) (why : Fault) → files ≡ record { names = names; first = 0; opened = 0 } → names.drawn ≡ 0 → are_named names n ≡ true → count ≡ opened_by elide n []
+pub opens_short : (told elide : Bool) (names : Naming) (n count : ℕ) (files : FilesState) (old new : List Slot) (why : Fault) → files ≡ no_files names → names.drawn ≡ 0 → are_named names n ≡ true → count ≡ opened_by elide n []
     → StopsShort told files (filled count) old new why → (before : List Slot) → OutputsAt told before nothing old → StoppedBetween told before nothing (settled_by (round_plan n elide names) []) why new
 opens_short told elide names n count files old new why is fresh are counted stops before at =
     subst (λ high. StoppedBetween told before nothing high why new) (at_start names elide n count fresh are counted)
-    ((subst (λ (those : FilesState). StopsShort told those (filled count) old new why) is stops) before [] refl at)
+    ((subst (λ (those : FilesState). StopsShort told those (filled count) old new why) is stops) before [] (none_stand told names before old at))
+
+pub opens_own : (told : Bool) (names : Naming) (count : ℕ) (files next : FilesState) (old new : List Slot) → files ≡ no_files names → Became told files (filled count) count old next new → OwnsFiles next (length old) new
+opens_own told names count files next old new is became = became.owned (length old) (subst (λ (those : FilesState). OwnsFiles those (length old) old) (sym is) (none_owned names old))
+
+-- where all files have names, it is what was asked
+pub does_all : (names others : Naming) (elide : Bool) (n : ℕ) → names.drawn ≡ 0 → are_named names n ≡ true → from_start others ≡ from_start names → round_work (round_plan n elide (from_start others)) ≡ split_work (round_plan n elide names)
+does_all names others elide n fresh are same =
+    ap (λ those. round_work (round_plan n elide those)) (same ∙ ap (λ drawn. record names { drawn = drawn }) (sym fresh))
+    ∙ ap work_by never where
+      never : ◌≡◌ {A = List ℕ → Bool} (λ x. false) (is_short (round_plan n elide names))
+      never = fun_ext (λ x. never_short names elide n x are)
+
+      work_by : (List ℕ → Bool) → Work
+      work_by short = record {
+        settled = settled_by (round_plan n elide names);
+        whole = whole_by (round_plan n elide names);
+        is_complete = short;
+        verdict = λ x. cond (short x) (Some fault.Suffixes) None;
+        clears = false;
+        means = split_means;
+      }
+
+-- nothing waits
+
+joined_some : (these : List (List ℕ)) → joined (filter is_some these) ≡ joined these
+joined_some [] = refl
+joined_some ([] ∷ these) = joined_some these
+joined_some ((byte ∷ bytes) ∷ these) = ap (λ rest. (byte ∷ bytes) ++ rest) (joined_some these)
+
+joined_files : (elide : Bool) (n : ℕ) (x : List ℕ) → joined (dealt_files elide n x) ≡ joined (round_robin n x)
+joined_files true n x = joined_some (round_robin n x)
+joined_files false n x = refl
+
+bytes_filed : (names : Naming) (place : ℕ) (these : List (List ℕ)) → map (λ (file : File). file.bytes) (filed names place (map (share Open) these)) ≡ these
+bytes_filed names place [] = refl
+bytes_filed names place (bytes ∷ these) = ap (λ rest. bytes ∷ rest) (bytes_filed names (place + 1) these)
+
+pub none_waits : (round : RoundState) (x : List ℕ) → Holds round x → 0 ≡ length (waiting (work round) x)
+none_waits round x holds = sym (ap length (ap (λ count. drop count x) all ∙ drop-length x)) where
+  files : List (List ℕ)
+  files = files_of round.elide round.count x
+
+  all : length (bytes_in ((work round).settled x)) ≡ length x
+  all = ap (λ part. length (bytes_in part)) (settled_is round.files.names round.elide round.count x holds.named)
+      ∙ ap (λ those. length (joined those)) (bytes_filed (from_start round.files.names) 0 (files_of round.elide round.count x) ∙ sym (dealt_files_are round.elide round.count x))
+      ∙ ap length (joined_files round.elide round.count x) ∙ all_dealt round.count x holds.some

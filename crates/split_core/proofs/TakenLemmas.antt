@@ -4,6 +4,8 @@ use Rattle.std.proofs.lemmas.List.{append-nil, map-append, length-map, take-appe
 use Rattle.std.proofs.lemmas.Bool.{false≢true}
 use Rattle.ports_core.specs.Name.{Naming, has_next}
 use Rattle.ports_core.specs.Slot.{Slot}
+use Rattle.ports_core.specs.Part.{InTurn}
+use Rattle.ports_core.proofs.PartLemmas.{turn_next}
 use Rattle.ports_core.specs.declared.slot.State.TheVariants as file_state
 use Rattle.ports_core.specs.declared.fault.Fault.{Fault}
 use Rattle.ports_core.specs.declared.fault.Fault.TheVariants as fault
@@ -13,10 +15,10 @@ use Rattle.split_core.specs.declared.step.Step.TheVariants.{Goes, Ends, Begins, 
 use Rattle.split_core.specs.Parts.{CutUp, most, cut_up, parts, unless_empty, settled_rest, waiting_rest}
 use Rattle.split_core.specs.CutLaws.{cut_so, cut_on, cut_none, cut_two, settled_then_waiting, settled_some}
 use Rattle.split_core.specs.Split.{Share, share, is_some, is_named, are_named, named, settled_parts}
-use Rattle.split_core.specs.ShareLaws.{SharesBegin, shares_themselves, shares_trans, last_grows, settled_on, parts_on, parts_some, begun_grows, are_named_more, settled_grow, named_short}
+use Rattle.split_core.specs.ShareLaws.{AllShut, shut_map, SharesBegin, shares_themselves, shares_trans, last_grows, settled_on, parts_on, parts_some, begun_grows, are_named_more, settled_grow, named_short}
 use Rattle.split_core.specs.Step.{IsSettled, IsTurned, IsHeld, Leads}
-use Rattle.split_core.specs.PartsState.{PartsState, HasLine, Lacks, Stands, IsReady, is_given}
-use Rattle.split_core.specs.Moves.{part_of, Moves, Halts, KeepsBroken, Begun, begun_share, IsLast, Extended, Interrupted, Turned, TurnsNot, Took, Stopped, RunsShort, Steps}
+use Rattle.split_core.specs.PartsState.{PartsState, HasLine, Lacks, Stands, IsReady, IsAtEnd, is_given}
+use Rattle.split_core.specs.Moves.{part_of, Moves, Halts, KeepsBroken, KeepsFile, Begun, begun_share, IsLast, Extended, Interrupted, Turned, TurnsNot, Took, Stopped, RunsShort, Steps}
 use Rattle.split_core.proofs.MoveLemmas as move
 use Rattle.split_core.proofs.PartsLemmas.{count_one, some_share}
 
@@ -34,7 +36,7 @@ abbrev begun_of : PartsState → List ℕ → List ℕ
 begun_of parts x = settled_rest parts.limit (rest_of parts x)
 
 begun_so : (parts : PartsState) (x : List ℕ) → Stands parts x → Begun parts (full_of parts x) (begun_of parts x)
-begun_so parts x stands = record { drawn = stands.drawn; enough = stands.enough; given = stands.opened }
+begun_so parts x stands = record { drawn = stands.drawn; enough = stands.enough; given = stands.opened; shut = shut_map (cut_up parts.limit x).full }
 
 -- what is begun, what waits and more are together what is left and more
 all_of : (parts : PartsState) (x more : List ℕ) → Stands parts x → begun_of parts x ++ (parts.waiting ++ more) ≡ rest_of parts x ++ more
@@ -102,14 +104,14 @@ taken_some piece bytes some within = let all : length (take bytes piece) ≡ byt
 -- names that ran out before the part behind so many full ones
 
 short_by : (told : Bool) (parts : PartsState) (x piece taken behind : List ℕ) (full : List (List ℕ)) (rest : List ℕ) (old new : List Slot) → taken ++ behind ≡ piece → cut_up parts.limit (x ++ taken) ≡ cut_so full rest → 0 < length (rest ++ behind)
-    → is_named parts.names (length full) ≡ false → Moves told parts.names (settled_parts parts.limit x) (map (share file_state.Closed) full) old new
-    → (are_named parts.names (length (Rattle.split_core.specs.Parts.parts parts.limit (x ++ piece))) ≡ false) × Moves told parts.names (settled_parts parts.limit x) (settled_parts parts.limit (x ++ piece)) old new
+    → is_named parts.names (length full) ≡ false → (IsAtEnd parts.current old → Moves told parts.names (settled_parts parts.limit x) (map (share file_state.Closed) full) old new)
+    → (are_named parts.names (length (Rattle.split_core.specs.Parts.parts parts.limit (x ++ piece))) ≡ false) × (IsAtEnd parts.current old → Moves told parts.names (settled_parts parts.limit x) (settled_parts parts.limit (x ++ piece)) old new)
 short_by told state x piece taken behind full rest old new split is some none moves = (
   subst (λ all. are_named state.names (length (parts state.limit all)) ≡ false) whole nameless,
-  λ before at. subst (λ files. Rattle.ports_core.specs.Part.OutputsAt told before (record { out = []; files = files }) new)
+  λ at_end before at. subst (λ files. Rattle.ports_core.specs.Part.OutputsAt told before (record { out = []; files = files }) new)
       (sym (ap (λ all. named state.names 0 (settled_parts state.limit all)) (sym whole) ∙ ap (named state.names 0) shares
       ∙ named_short state.names 0 (map (share file_state.Closed) full) (settled_parts state.limit (rest ++ behind)) (subst (λ n. is_named state.names n ≡ false) count none)))
-      (moves before at),
+      (moves at_end before at),
 ) where
   whole : (x ++ taken) ++ behind ≡ x ++ piece
   whole = append_assoc x taken behind ∙ ap (λ those. x ++ those) split
@@ -146,12 +148,13 @@ goes_on told parts found next piece bytes left slot has_line old new some within
           stands_at those (x ++ taken) _ (rest_of parts x ++ taken) (cut_by parts x taken [] (rest_of parts x ++ taken) (cut_none parts.limit (rest_of parts x ++ taken) settled.short))
           (last.drawn ∙ sym count) (ap (are_named found.names) count ∙ last.named) settled.lacks (sym settled.waits)
           (sym (ap is_some settled.settled ∙ some_all (rest_of parts x) taken (taken_some piece bytes some within)));
-      moves = λ x stands.
+      moves = λ x stands at_end.
           let settled : IsSettled parts.limit (rest_of parts x ++ taken) left has_line = leads (rest_of parts x) stands.lacks in
           subst (λ high. Moves told parts.names (settled_parts parts.limit x) high old new)
           (ap (λ begun. full_of parts x ++ share file_state.Open begun ∷ []) (all_of parts x taken stands) ∙ sym (shares_go parts x taken left has_line (taken_some piece bytes some within) settled))
-          (extends.moves (full_of parts x) (begun_of parts x) (begun_so parts x stands));
+          (extends.moves (full_of parts x) (begun_of parts x) (begun_so parts x stands) at_end);
       keeps = extends.keeps;
+      owned = subst (λ current. KeepsFile parts.current old current new) (ap (λ (one : PartsState). one.current) extends.same) extends.owned;
       ready = extends.ready;
     }) where
       taken : List ℕ
@@ -201,14 +204,15 @@ begins_next told parts next piece bytes old new leads turns = record {
       (drawn.0 ∙ ap (λ waits. length (full_of parts x ++ share file_state.Closed (begun_of parts x) ∷ begun_share (waits ++ take bytes piece))) stands.waits)
       (are_named_drawn parts.names next.names _ turns.names_same ∙ sym (ap (λ waits. are_named parts.names (length (full_of parts x ++ share file_state.Closed (begun_of parts x) ∷ begun_share (waits ++ take bytes piece)))) stands.waits) ∙ drawn.1)
       (turns.given ∙ ap (λ waits. is_some (waits ++ take bytes piece)) stands.waits);
-  moves = λ x stands.
+  moves = λ x stands at_end.
       let led = leads (rest_of parts x) stands.lacks in
       subst (λ low. Moves told parts.names low (settled_parts parts.limit (x ++ take bytes piece)) old new) (sym (low_is x led.0))
       (subst (λ high. Moves told parts.names (full_of parts x ++ share file_state.Open (begun_of parts x) ∷ []) high old new)
       (ap (λ waits. full_of parts x ++ share file_state.Closed (begun_of parts x) ∷ begun_share (waits ++ take bytes piece)) stands.waits
       ∙ sym (shares_turn parts x (take bytes piece) (begun_of parts x) (waiting_rest parts.limit (rest_of parts x) ++ take bytes piece) led.1))
-      (turns.moves (full_of parts x) (begun_of parts x) (last_of x stands led.0) (stands.opened ∙ led.0)));
+      (turns.moves (full_of parts x) (begun_of parts x) (last_of x stands led.0) (stands.opened ∙ led.0) at_end));
   keeps = turns.keeps;
+  owned = turns.owned;
   ready = turns.ready;
 } where
   low_is : (x : List ℕ) → is_some (begun_of parts x) ≡ true → settled_parts parts.limit x ≡ full_of parts x ++ share file_state.Open (begun_of parts x) ∷ []
@@ -217,7 +221,7 @@ begins_next told parts next piece bytes old new leads turns = record {
   last_of : (x : List ℕ) → Stands parts x → is_some (begun_of parts x) ≡ true → IsLast parts (full_of parts x)
   last_of x stands some =
       let count = ap length (low_is x some) ∙ count_last (full_of parts x) (share file_state.Open (begun_of parts x)) in
-      record { drawn = stands.drawn ∙ count; named = sym (ap (are_named parts.names) count) ∙ stands.enough }
+      record { drawn = stands.drawn ∙ count; named = sym (ap (are_named parts.names) count) ∙ stands.enough; shut = shut_map (cut_up parts.limit x).full }
 
 -- these bytes are the last of the part
 
@@ -235,17 +239,18 @@ ends_part told parts mid next piece behind end bytes slot old wet new leads is e
       (drawn.0 ∙ ap (λ those. length (full_of parts x ++ share file_state.Closed (rest_of parts x ++ take end piece) ∷ begun_share those)) all_behind)
       (are_named_drawn mid.names next.names _ turns.names_same ∙ sym (ap (λ those. are_named mid.names (length (full_of parts x ++ share file_state.Closed (rest_of parts x ++ take end piece) ∷ begun_share those))) all_behind) ∙ drawn.1)
       (turns.given ∙ ap is_some all_behind);
-  moves = λ x stands.
+  moves = λ x stands at_end.
       let led = leads (rest_of parts x) stands.lacks in
       let last : IsLast mid (full_of parts x) = extends.drawn (full_of parts x) (begun_of parts x) (begun_so parts x stands) in
       move.moves_again told parts.names _ (full_of parts x ++ share file_state.Open (rest_of parts x ++ take end piece) ∷ []) _ old wet new
       (subst (λ begun. Moves told parts.names (settled_parts parts.limit x) (full_of parts x ++ share file_state.Open begun ∷ []) old wet) (all_of parts x (take end piece) stands)
-      (extends.moves (full_of parts x) (begun_of parts x) (begun_so parts x stands)))
+      (extends.moves (full_of parts x) (begun_of parts x) (begun_so parts x stands) at_end))
       (subst (λ high. Moves told parts.names (full_of parts x ++ share file_state.Open (rest_of parts x ++ take end piece) ∷ []) high wet new)
       (ap (λ those. full_of parts x ++ share file_state.Closed (rest_of parts x ++ take end piece) ∷ begun_share those) all_behind
       ∙ sym (shares_turn parts x (take bytes piece) (rest_of parts x ++ take end piece) (drop end (take bytes piece)) led))
-      (move.moves_by told parts.names mid.names _ _ wet new extends.names_same (turns.moves (full_of parts x) (rest_of parts x ++ take end piece) last given)));
+      (move.moves_by told parts.names mid.names _ _ wet new extends.names_same (turns.moves (full_of parts x) (rest_of parts x ++ take end piece) last given (move.stays_last parts.current mid.current old wet extends.owned at_end))));
   keeps = move.keeps_again old wet new extends.keeps turns.keeps;
+  owned = move.owned_again parts.current mid.current next.current old wet new extends.owned turns.owned;
   ready = turns.ready;
 } where
   given : is_given mid.current ≡ true
@@ -272,10 +277,11 @@ waits_on told parts next piece old new n leads ready count is same =
           (cut_by parts x piece [] (rest_of parts x ++ piece) (cut_none parts.limit (rest_of parts x ++ piece) held.short))
           (stands.drawn ∙ ap length (sym shares)) (ap (λ those. are_named parts.names (length those)) shares ∙ stands.enough) held.lacks
           (ap (λ waits. waits ++ piece) stands.waits ∙ sym held.waits) (stands.opened ∙ ap is_some (sym held.settled));
-      moves = λ x stands.
+      moves = λ x stands at_end.
           let held : IsHeld parts.limit (rest_of parts x) piece parts.left parts.has_line = leads (rest_of parts x) stands.lacks in
           subst (λ high. Moves told parts.names (settled_parts parts.limit x) high old new) (sym (shares_wait parts x piece parts.left parts.has_line held)) (move.moves_same told parts.names _ old new same);
       keeps = move.keeps_same old new same;
+      owned = move.owned_same parts.current old new (ap length same);
       ready = subst (IsReady parts.current) (sym same) ready;
     })) where
       take_whole : (xs : List ℕ) → take (length xs) xs ≡ xs
@@ -284,13 +290,23 @@ waits_on told parts next piece old new n leads ready count is same =
 
 -- a fault
 
+-- what came in is out in turn
+turn_by : (names : Naming) (shares : List Share) (begun : List ℕ) → AllShut shares → are_named names (length (shares ++ begun_share begun)) ≡ true → (place : ℕ) × InTurn (named names 0 (shares ++ begun_share begun)) place
+turn_by names shares [] shut enough = (_, subst (λ those. InTurn (named names 0 those) (length (named names 0 shares))) (sym (append-nil shares)) (turn_next _ (move.shut_files names 0 shares shut)))
+turn_by names shares (byte ∷ begun) shut enough =
+    (_, move.last_turn names shares (share file_state.Open (byte ∷ begun)) (sym (ap (are_named names) (count_one shares (share file_state.Open (byte ∷ begun)))) ∙ enough) shut)
+
+here_turn : (parts : PartsState) (x : List ℕ) → Stands parts x → (place : ℕ) × InTurn (named parts.names 0 (settled_parts parts.limit x)) place
+here_turn parts x stands = turn_by parts.names (full_of parts x) (begun_of parts x) (shut_map (cut_up parts.limit x).full) stands.enough
+
 pub no_room : (told : Bool) (parts next : PartsState) (piece : List ℕ) (old new : List Slot) (f : Fault) → f ≡ fault.Memory → next ≡ parts → new ≡ old → Stopped told parts piece old new next f
 no_room told parts next piece old new f is same slots =
     subst (λ those. Stopped told parts piece old new next those) (sym is) (record {
       limit_same = ap (λ (those : PartsState). those.limit) same;
       names_same = ap (λ (those : PartsState). those.names) same ∙ ap (λ n. record parts.names { drawn = n }) (sym (ap (λ (those : PartsState). those.names.drawn) same));
-      halts = λ x stands. move.halts_here told parts.names _ _ old new fault.Memory (settled_grow parts.limit x piece) slots;
+      halts = λ x stands at_end. move.halts_here told parts.names _ _ old new fault.Memory _ (settled_grow parts.limit x piece) (here_turn parts x stands).1 slots (λ before at. tt);
       breaks = tt;
+      owned = subst (λ current. KeepsFile parts.current old current new) (sym (ap (λ (those : PartsState). those.current) same)) (move.owned_same parts.current old new (ap length slots));
       short = λ is_short. absurd (not_short is_short);
     }) where
       not_short : fault.Memory ≡ fault.Suffixes → ⊥
@@ -309,11 +325,11 @@ no_room told parts next piece old new f is same slots =
 
 -- no file for the part that was begun: nothing of it is out
 short_begun : (told : Bool) (parts : PartsState) (x piece : List ℕ) (old new : List Slot) → 0 < length piece → Stands parts x → (parts.current ≡ None) × (has_next parts.names ≡ false) × (new ≡ old)
-    → (are_named parts.names (length (Rattle.split_core.specs.Parts.parts parts.limit (x ++ piece))) ≡ false) × Moves told parts.names (settled_parts parts.limit x) (settled_parts parts.limit (x ++ piece)) old new
+    → (are_named parts.names (length (Rattle.split_core.specs.Parts.parts parts.limit (x ++ piece))) ≡ false) × (IsAtEnd parts.current old → Moves told parts.names (settled_parts parts.limit x) (settled_parts parts.limit (x ++ piece)) old new)
 short_begun told state x piece old new some stands why =
     short_by told state x piece [] piece (cut_up state.limit x).full (rest_of state x) old new refl (ap (cut_up state.limit) (append-nil x))
     (let size : length (rest_of state x ++ piece) ≡ length (rest_of state x) + length piece = length-append (rest_of state x) piece in omega arith)
-    (ap (is_named state.names) (sym count) ∙ why.1) (move.moves_same_by told state.names _ _ old new low why.2) where
+    (ap (is_named state.names) (sym count) ∙ why.1) (λ at_end. move.moves_same_by told state.names _ _ old new low why.2) where
       low : settled_parts state.limit x ≡ map (share file_state.Closed) (cut_up state.limit x).full
       low = ap (λ begun. full_of state x ++ begun_share begun) (none_of (begun_of state x) (sym stands.opened ∙ ap is_given why.0)) ∙ append-nil (full_of state x) where
         none_of : (begun : List ℕ) → is_some begun ≡ false → begun ≡ []
@@ -329,11 +345,12 @@ pub extend_stopped : (told : Bool) (parts next : PartsState) (piece taken : List
 extend_stopped told parts next piece taken old new f some below cut = record {
   limit_same = cut.limit_same;
   names_same = cut.names_same;
-  halts = λ x stands. move.halts_wider told parts.names _ (full_of parts x ++ share file_state.Open (rest_of parts x ++ taken) ∷ []) _ old new f
+  halts = λ x stands at_end. move.halts_wider told parts.names _ (full_of parts x ++ share file_state.Open (rest_of parts x ++ taken) ∷ []) _ old new f
       (subst (λ begun. Halts told parts.names (settled_parts parts.limit x) (full_of parts x ++ share file_state.Open begun ∷ []) old new f) (all_of parts x taken stands)
-      (cut.halts (full_of parts x) (begun_of parts x) (begun_so parts x stands)))
+      (cut.halts (full_of parts x) (begun_of parts x) (begun_so parts x stands) at_end))
       (below x stands);
   breaks = cut.breaks;
+  owned = cut.owned;
   short = λ is_short x stands. short_begun told parts x piece old new some stands (cut.short is_short);
 }
 
@@ -353,14 +370,14 @@ below_ends parts piece end bytes leads x stands =
 
 -- names ran out at the next part
 short_next : (told : Bool) (parts : PartsState) (x piece first behind : List ℕ) (bytes : ℕ) (old new : List Slot) → IsTurned parts.limit (rest_of parts x ++ take bytes piece) first behind → is_some behind ≡ true
-    → is_named parts.names (suc (length (full_of parts x))) ≡ false → Moves told parts.names (settled_parts parts.limit x) (full_of parts x ++ share file_state.Closed first ∷ []) old new
-    → (are_named parts.names (length (Rattle.split_core.specs.Parts.parts parts.limit (x ++ piece))) ≡ false) × Moves told parts.names (settled_parts parts.limit x) (settled_parts parts.limit (x ++ piece)) old new
+    → is_named parts.names (suc (length (full_of parts x))) ≡ false → (IsAtEnd parts.current old → Moves told parts.names (settled_parts parts.limit x) (full_of parts x ++ share file_state.Closed first ∷ []) old new)
+    → (are_named parts.names (length (Rattle.split_core.specs.Parts.parts parts.limit (x ++ piece))) ≡ false) × (IsAtEnd parts.current old → Moves told parts.names (settled_parts parts.limit x) (settled_parts parts.limit (x ++ piece)) old new)
 short_next told state x piece first behind bytes old new led some none moves =
     short_by told state x piece (take bytes piece) (drop bytes piece) ((cut_up state.limit x).full ++ first ∷ []) behind old new (take-append-drop bytes piece)
     (cut_by state x (take bytes piece) (first ∷ []) behind (cut_two state.limit (rest_of state x ++ take bytes piece) first behind led.full led.first_is led.both led.begun.short))
     (some_more behind (drop bytes piece) some)
     (ap (is_named state.names) count ∙ none)
-    (subst (λ high. Moves told state.names (settled_parts state.limit x) high old new) (sym (map-append (share file_state.Closed) (cut_up state.limit x).full (first ∷ []))) moves) where
+    (λ at_end. subst (λ high. Moves told state.names (settled_parts state.limit x) high old new) (sym (map-append (share file_state.Closed) (cut_up state.limit x).full (first ∷ []))) (moves at_end)) where
       some_more : (xs ys : List ℕ) → is_some xs ≡ true → 0 < length (xs ++ ys)
       some_more [] ys is = absurd (false≢true is)
       some_more (y ∷ xs) ys is = omega arith
@@ -374,20 +391,21 @@ pub begins_stopped : (told : Bool) (parts next : PartsState) (piece : List ℕ) 
 begins_stopped told parts next piece bytes old new f leads cut = record {
   limit_same = cut.limit_same;
   names_same = cut.names_same;
-  halts = λ x stands.
+  halts = λ x stands at_end.
       let led = leads (rest_of parts x) stands.lacks in
       move.halts_wider told parts.names _ (full_of parts x ++ share file_state.Closed (begun_of parts x) ∷ begun_share (waiting_rest parts.limit (rest_of parts x) ++ take bytes piece)) _ old new f
       (subst (λ low. Halts told parts.names low (full_of parts x ++ share file_state.Closed (begun_of parts x) ∷ begun_share (waiting_rest parts.limit (rest_of parts x) ++ take bytes piece)) old new f) (sym (low_is x led.0))
       (subst (λ waits. Halts told parts.names (full_of parts x ++ share file_state.Open (begun_of parts x) ∷ []) (full_of parts x ++ share file_state.Closed (begun_of parts x) ∷ begun_share (waits ++ take bytes piece)) old new f) stands.waits
-      (cut.halts (full_of parts x) (begun_of parts x) (last_of x stands led.0) (stands.opened ∙ led.0))))
+      (cut.halts (full_of parts x) (begun_of parts x) (last_of x stands led.0) (stands.opened ∙ led.0) at_end)))
       (turned_below parts piece _ _ bytes x led.1);
   breaks = cut.breaks;
+  owned = cut.owned;
   short = λ is_short x stands.
       let led = leads (rest_of parts x) stands.lacks in
       let why = cut.short is_short in
       let ran = why.1 (full_of parts x) (begun_of parts x) (last_of x stands led.0) (stands.opened ∙ led.0) in
       short_next told parts x piece (begun_of parts x) (waiting_rest parts.limit (rest_of parts x) ++ take bytes piece) bytes old new led.1 (sym (ap (λ waits. is_some (waits ++ take bytes piece)) stands.waits) ∙ why.0) ran.0
-      (subst (λ low. Moves told parts.names low (full_of parts x ++ share file_state.Closed (begun_of parts x) ∷ []) old new) (sym (low_is x led.0)) ran.1);
+      (λ at_end. subst (λ low. Moves told parts.names low (full_of parts x ++ share file_state.Closed (begun_of parts x) ∷ []) old new) (sym (low_is x led.0)) (ran.1 at_end));
 } where
   low_is : (x : List ℕ) → is_some (begun_of parts x) ≡ true → settled_parts parts.limit x ≡ full_of parts x ++ share file_state.Open (begun_of parts x) ∷ []
   low_is x some = ap (λ more. full_of parts x ++ more) (some_share (begun_of parts x) some)
@@ -395,23 +413,24 @@ begins_stopped told parts next piece bytes old new f leads cut = record {
   last_of : (x : List ℕ) → Stands parts x → is_some (begun_of parts x) ≡ true → IsLast parts (full_of parts x)
   last_of x stands some =
       let count = ap length (low_is x some) ∙ count_last (full_of parts x) (share file_state.Open (begun_of parts x)) in
-      record { drawn = stands.drawn ∙ count; named = sym (ap (are_named parts.names) count) ∙ stands.enough }
+      record { drawn = stands.drawn ∙ count; named = sym (ap (are_named parts.names) count) ∙ stands.enough; shut = shut_map (cut_up parts.limit x).full }
 
 pub ends_stopped : (told : Bool) (parts mid next : PartsState) (piece behind : List ℕ) (end bytes slot : ℕ) (old wet new : List Slot) (f : Fault) → LeadsOn parts piece (Ends end bytes) → behind ≡ drop end (take bytes piece)
     → Extended told parts (take end piece) old wet mid slot → TurnsNot told mid behind wet new next f → Stopped told parts piece old new next f
 ends_stopped told parts mid next piece behind end bytes slot old wet new f leads is extends cut = record {
   limit_same = cut.limit_same ∙ ap (λ (those : PartsState). those.limit) extends.same;
   names_same = names_drawn parts.names mid.names next.names extends.names_same cut.names_same;
-  halts = λ x stands.
+  halts = λ x stands at_end.
       let led = leads (rest_of parts x) stands.lacks in
       let last : IsLast mid (full_of parts x) = extends.drawn (full_of parts x) (begun_of parts x) (begun_so parts x stands) in
       move.halts_after told parts.names _ (full_of parts x ++ share file_state.Open (rest_of parts x ++ take end piece) ∷ []) _ old wet new f
-      (shares_grow x stands) (moved x stands)
+      (shares_grow x stands) (moved x stands at_end)
       (move.halts_wider told parts.names _ (full_of parts x ++ share file_state.Closed (rest_of parts x ++ take end piece) ∷ begun_share (drop end (take bytes piece))) _ wet new f
       (subst (λ those. Halts told parts.names (full_of parts x ++ share file_state.Open (rest_of parts x ++ take end piece) ∷ []) (full_of parts x ++ share file_state.Closed (rest_of parts x ++ take end piece) ∷ begun_share those) wet new f) all_behind
-      (move.halts_by told parts.names mid.names _ _ wet new f extends.names_same (cut.halts (full_of parts x) (rest_of parts x ++ take end piece) last given)))
+      (move.halts_by told parts.names mid.names _ _ wet new f extends.names_same (cut.halts (full_of parts x) (rest_of parts x ++ take end piece) last given (move.stays_last parts.current mid.current old wet extends.owned at_end))))
       (turned_below parts piece _ _ bytes x led));
   breaks = move.breaks_later old wet new f extends.keeps cut.breaks;
+  owned = move.owned_again parts.current mid.current next.current old wet new extends.owned cut.owned;
   short = λ is_short x stands.
       let led = leads (rest_of parts x) stands.lacks in
       let last : IsLast mid (full_of parts x) = extends.drawn (full_of parts x) (begun_of parts x) (begun_so parts x stands) in
@@ -419,8 +438,8 @@ ends_stopped told parts mid next piece behind end bytes slot old wet new f leads
       let ran = why.1 (full_of parts x) (rest_of parts x ++ take end piece) last given in
       short_next told parts x piece (rest_of parts x ++ take end piece) (drop end (take bytes piece)) bytes old new led (sym (ap is_some all_behind) ∙ why.0)
       (sym (is_named_drawn parts.names mid.names _ extends.names_same) ∙ ran.0)
-      (move.moves_again told parts.names _ (full_of parts x ++ share file_state.Open (rest_of parts x ++ take end piece) ∷ []) _ old wet new (moved x stands)
-      (move.moves_by told parts.names mid.names _ _ wet new extends.names_same ran.1));
+      (λ at_end. move.moves_again told parts.names _ (full_of parts x ++ share file_state.Open (rest_of parts x ++ take end piece) ∷ []) _ old wet new (moved x stands at_end)
+      (move.moves_by told parts.names mid.names _ _ wet new extends.names_same (ran.1 (move.stays_last parts.current mid.current old wet extends.owned at_end))));
 } where
   given : is_given mid.current ≡ true
   given = ap (λ (those : PartsState). is_given those.current) extends.same
@@ -428,9 +447,9 @@ ends_stopped told parts mid next piece behind end bytes slot old wet new f leads
   all_behind : mid.waiting ++ behind ≡ drop end (take bytes piece)
   all_behind = ap (λ (those : PartsState). those.waiting ++ behind) extends.same ∙ is
 
-  moved : (x : List ℕ) → Stands parts x → Moves told parts.names (settled_parts parts.limit x) (full_of parts x ++ share file_state.Open (rest_of parts x ++ take end piece) ∷ []) old wet
-  moved x stands = subst (λ begun. Moves told parts.names (settled_parts parts.limit x) (full_of parts x ++ share file_state.Open begun ∷ []) old wet) (all_of parts x (take end piece) stands)
-      (extends.moves (full_of parts x) (begun_of parts x) (begun_so parts x stands))
+  moved : (x : List ℕ) → Stands parts x → IsAtEnd parts.current old → Moves told parts.names (settled_parts parts.limit x) (full_of parts x ++ share file_state.Open (rest_of parts x ++ take end piece) ∷ []) old wet
+  moved x stands at_end = subst (λ begun. Moves told parts.names (settled_parts parts.limit x) (full_of parts x ++ share file_state.Open begun ∷ []) old wet) (all_of parts x (take end piece) stands)
+      (extends.moves (full_of parts x) (begun_of parts x) (begun_so parts x stands) at_end)
 
   shares_grow : (x : List ℕ) → Stands parts x → SharesBegin (settled_parts parts.limit x) (full_of parts x ++ share file_state.Open (rest_of parts x ++ take end piece) ∷ [])
   shares_grow x stands = begun_grows (full_of parts x) (begun_of parts x) (rest_of parts x ++ take end piece) (parts.waiting ++ take end piece, sym (all_of parts x (take end piece) stands))

@@ -11,11 +11,11 @@ use Rattle.ports_core.proofs.SlotLemmas.{length-changed_at}
 use Rattle.ports_core.proofs.PartLemmas.{begins_itself}
 use Rattle.split_core.specs.Parts.{most}
 use Rattle.split_core.specs.Split.{Share, share, is_some, is_named, are_named}
-use Rattle.split_core.specs.ShareLaws.{SharesBegin, last_grows}
+use Rattle.split_core.specs.ShareLaws.{shut_more, SharesBegin, last_grows}
 use Rattle.seg_core.specs.Window.{ByteWindowState}
 use Rattle.split_core.specs.declared.cut.Limit.{Limit}
-use Rattle.split_core.specs.PartsState.{PartsState, Fits, IsReady, is_given}
-use Rattle.split_core.specs.Moves.{Moves, Halts, KeepsBroken, Begun, begun_share, IsLast, Extended, Interrupted, EndsFile, none_there, closed, failed, Turned, TurnsNot}
+use Rattle.split_core.specs.PartsState.{PartsState, Fits, IsReady, IsAtEnd, is_given}
+use Rattle.split_core.specs.Moves.{Moves, Halts, KeepsBroken, KeepsFile, Begun, begun_share, IsLast, Extended, Interrupted, EndsFile, none_there, closed, failed, Turned, TurnsNot}
 use Rattle.split_core.proofs.MoveLemmas as move
 use Rattle.split_core.proofs.PartsLemmas.{count_one, some_share}
 
@@ -25,22 +25,29 @@ pub record ClosedFacts (told : Bool) (parts : PartsState) (old mid : List Slot) 
   pub same : next ≡ record parts { current = None }
   pub streams : 2 ≤ length mid
   pub keeps : KeepsBroken old mid
-  pub moves : (shares : List Share) (begun : List ℕ) → IsLast parts shares → is_given parts.current ≡ true → Moves told parts.names (shares ++ share state.Open begun ∷ []) (shares ++ share state.Closed begun ∷ []) old mid
+  pub owned : KeepsFile parts.current old next.current mid
+  pub moves : (shares : List Share) (begun : List ℕ) → IsLast parts shares → is_given parts.current ≡ true → IsAtEnd parts.current old → Moves told parts.names (shares ++ share state.Open begun ∷ []) (shares ++ share state.Closed begun ∷ []) old mid
+
+-- its file ended
+file_ended : (parts next : PartsState) (slot : ℕ) (old mid : List Slot) → parts.current ≡ Some slot → next.current ≡ None → length mid ≡ length old → KeepsFile parts.current old next.current mid
+file_ended parts next slot old mid is none size = subst (λ current. KeepsFile current old next.current mid) (sym is) (subst (λ current. KeepsFile (Some slot) old current mid) (sym none) (move.owned_ended slot old mid size))
 
 pub closed_facts : (told : Bool) (parts : PartsState) (old mid : List Slot) (next : PartsState) → IsReady parts.current old → EndsFile parts old mid next (Ok tt) → ClosedFacts told parts old mid next
 closed_facts told parts old mid next ready (none_there none next_is same) = record {
   same = next_is ∙ ap (λ current. record parts { current = current }) none;
   streams = subst (λ slots. 2 ≤ length slots) (sym same) (subst (λ current. IsReady current old) none ready);
   keeps = move.keeps_same old mid same;
-  moves = λ shares begun last given. absurd (false≢true (sym (ap is_given none) ∙ given));
+  owned = subst (λ current. KeepsFile parts.current old current mid) (sym (ap (λ (those : PartsState). those.current) next_is)) (move.owned_same parts.current old mid (ap length same));
+  moves = λ shares begun last given at_end. absurd (false≢true (sym (ap is_given none) ∙ given));
 }
 closed_facts told parts old mid next ready (closed slot is next_is changed) =
-    let open_file : (suc slot ≡ length old) × is_closable old slot = subst (λ current. IsReady current old) is ready in
+    let open_file : is_closable old slot = subst (λ current. IsReady current old) is ready in
     record {
       same = next_is;
-      streams = let size : length mid ≡ length old = ap length changed ∙ length-changed_at slot closes old in let last : suc slot ≡ length old = open_file.0 in let behind : 2 ≤ slot = open_file.1.0 in omega arith;
+      streams = let size : length mid ≡ length old = ap length changed ∙ length-changed_at slot closes old in let within : slot < length old = move.writable_within slot old open_file.1 in let behind : 2 ≤ slot = open_file.0 in omega arith;
       keeps = move.keeps_close slot old mid changed;
-      moves = λ shares begun last given. move.close_moves told parts.names shares begun old mid slot last.named open_file.0 changed;
+      owned = file_ended parts next slot old mid is (ap (λ (those : PartsState). those.current) next_is) (ap length changed ∙ length-changed_at slot closes old);
+      moves = λ shares begun last given at_end. move.close_moves told parts.names shares begun old mid slot last.named (subst (λ current. IsAtEnd current old) is at_end) changed;
     }
 
 no_write : (slot : ℕ) → fault.Write slot ≡ fault.Suffixes → ⊥
@@ -59,12 +66,13 @@ no_write slot is = false≢true (sym (ap is_write is)) where
 
 pub turns_not_closed : (told : Bool) (parts : PartsState) (bytes : List ℕ) (old new : List Slot) (next : PartsState) (f : Fault) → IsReady parts.current old → EndsFile parts old new next (Err f) → TurnsNot told parts bytes old new next f
 turns_not_closed told parts bytes old new next _ ready (failed slot is next_is changed) =
-    let open_file : (suc slot ≡ length old) × is_closable old slot = subst (λ current. IsReady current old) is ready in
+    let open_file : is_closable old slot = subst (λ current. IsReady current old) is ready in
     record {
       limit_same = ap (λ (those : PartsState). those.limit) next_is;
       names_same = ap (λ (those : PartsState). those.names) next_is ∙ ap (λ n. record parts.names { drawn = n }) (sym (ap (λ (those : PartsState). those.names.drawn) next_is));
-      halts = λ shares begun last given. move.close_halts told parts.names shares (begun_share (parts.waiting ++ bytes)) begun old new slot last.named open_file.0 changed;
-      breaks = move.close_breaks slot old new open_file.1.1 (let last : suc slot ≡ length old = open_file.0 in omega arith) changed;
+      halts = λ shares begun last given at_end. move.close_halts told parts.names shares (begun_share (parts.waiting ++ bytes)) begun old new slot last.shut last.named (subst (λ current. IsAtEnd current old) is at_end) changed;
+      breaks = (open_file.0, move.close_breaks slot old new open_file.1 (move.writable_within slot old open_file.1) changed);
+      owned = file_ended parts next slot old new is (ap (λ (those : PartsState). those.current) next_is) (move.broken_size slot old new changed);
       short = λ is_short. absurd (no_write slot is_short);
     }
 
@@ -83,13 +91,14 @@ turned_alone told parts bytes old new mid next left facts no_bytes none_wait lef
           ∙ ap (λ (names : Naming). record parts { names = names; left = most parts.limit - length (parts.waiting ++ bytes); has_line = false; waiting = []; current = None }) (sym (ap (λ (those : PartsState). those.names) whole))
           ∙ ap (λ current. record parts { names = next.names; left = most parts.limit - length (parts.waiting ++ bytes); has_line = false; waiting = []; current = current }) (sym (ap (λ (those : PartsState). those.current) whole));
       names_same = ap (λ (those : PartsState). those.names) whole ∙ ap (λ n. record parts.names { drawn = n }) (sym (ap (λ (those : PartsState). those.names.drawn) whole));
-      moves = λ shares begun last given. subst (λ more. Moves told parts.names (shares ++ share state.Open begun ∷ []) (shares ++ share state.Closed begun ∷ more) old new) (sym (no_share (parts.waiting ++ bytes) none)) (facts.moves shares begun last given);
+      moves = λ shares begun last given at_end. subst (λ more. Moves told parts.names (shares ++ share state.Open begun ∷ []) (shares ++ share state.Closed begun ∷ more) old new) (sym (no_share (parts.waiting ++ bytes) none)) (facts.moves shares begun last given at_end);
       drawn = λ shares begun last given.
           let count : length (shares ++ share state.Closed begun ∷ begun_share (parts.waiting ++ bytes)) ≡ suc (length shares)
           = ap (λ more. length (shares ++ share state.Closed begun ∷ more)) (no_share (parts.waiting ++ bytes) none) ∙ count_one shares (share state.Closed begun) in
           (ap (λ (those : PartsState). those.names.drawn) whole ∙ last.drawn ∙ sym count, ap (are_named parts.names) count ∙ last.named);
       given = ap (λ (those : PartsState). is_given those.current) whole ∙ ap is_some (sym none);
       keeps = facts.keeps;
+      owned = subst (λ current. KeepsFile parts.current old current new) (sym (ap (λ (those : PartsState). those.current) is)) facts.owned;
       ready = subst (λ current. IsReady current new) (sym (ap (λ (those : PartsState). those.current) whole)) facts.streams;
     }
 
@@ -100,6 +109,7 @@ next_begun parts mid shares begun names none last = record {
   drawn = ap (λ (those : Naming). those.drawn) names ∙ last.drawn ∙ sym count;
   enough = ap (λ (those : Naming). are_named those (length ((shares ++ share state.Closed begun ∷ []) ++ []))) names ∙ ap (are_named parts.names) count ∙ last.named;
   given = ap is_given none;
+  shut = shut_more shares (share state.Closed begun) last.shut refl;
 } where
   count : length ((shares ++ share state.Closed begun ∷ []) ++ []) ≡ suc (length shares)
   count = ap length (append-nil (shares ++ share state.Closed begun ∷ [])) ∙ count_one shares (share state.Closed begun)
@@ -131,6 +141,12 @@ module _ (told : Bool) (parts : PartsState) (bytes : List ℕ) (old wet : List S
   drawn_so : (names_of next_names : Naming) → names_of ≡ parts.names → next_names ≡ record names_of { drawn = next_names.drawn } → next_names ≡ record parts.names { drawn = next_names.drawn }
   drawn_so names_of next_names same drawn = drawn ∙ ap (λ (those : Naming). record those { drawn = next_names.drawn }) same
 
+  shut_owned : KeepsFile parts.current old mid.current wet
+  shut_owned = subst (λ current. KeepsFile parts.current old current wet) (sym (ap (λ (those : PartsState). those.current) is)) facts.owned
+
+  none_last : IsAtEnd mid.current wet
+  none_last = subst (λ current. IsAtEnd current wet) (sym none) tt
+
   pub ready_next : IsReady mid.current wet
   ready_next = subst (λ current. IsReady current wet) (sym none) facts.streams
 
@@ -147,11 +163,11 @@ module _ (told : Bool) (parts : PartsState) (bytes : List ℕ) (old wet : List S
         same = made ∙ ap (λ n. record parts { names = next.names; left = n; has_line = false; waiting = []; current = Some slot }) left_is
             ∙ ap (λ current. record parts { names = next.names; left = most parts.limit - length (parts.waiting ++ bytes); has_line = false; waiting = []; current = current }) (sym (ap (λ (those : PartsState). those.current) made));
         names_same = drawn_so mid.names next.names names extends.names_same;
-        moves = λ shares begun last given. move.moves_again told parts.names _ (shares ++ share state.Closed begun ∷ []) _ old wet new (facts.moves shares begun last given)
+        moves = λ shares begun last given at_end. move.moves_again told parts.names _ (shares ++ share state.Closed begun ∷ []) _ old wet new (facts.moves shares begun last given at_end)
             (subst (λ low. Moves told parts.names low (shares ++ share state.Closed begun ∷ begun_share (parts.waiting ++ bytes)) wet new) (low_is shares begun)
             (subst (λ high. Moves told parts.names ((shares ++ share state.Closed begun ∷ []) ++ begun_share []) high wet new) (high_is shares begun)
             (subst (λ (those : Naming). Moves told those ((shares ++ share state.Closed begun ∷ []) ++ begun_share []) ((shares ++ share state.Closed begun ∷ []) ++ share state.Open ([] ++ (mid.waiting ++ bytes)) ∷ []) wet new) names
-            (extends.moves (shares ++ share state.Closed begun ∷ []) [] (begun_next shares begun last)))));
+            (extends.moves (shares ++ share state.Closed begun ∷ []) [] (begun_next shares begun last) none_last))));
         drawn = λ shares begun last given.
             let there : IsLast next (shares ++ share state.Closed begun ∷ []) = extends.drawn (shares ++ share state.Closed begun ∷ []) [] (begun_next shares begun last) in
             let count : suc (length (shares ++ share state.Closed begun ∷ [])) ≡ length (shares ++ share state.Closed begun ∷ begun_share (parts.waiting ++ bytes))
@@ -159,6 +175,7 @@ module _ (told : Bool) (parts : PartsState) (bytes : List ℕ) (old wet : List S
             (there.drawn ∙ count, ap (are_named parts.names) (sym count) ∙ sym (ap (λ (those : Naming). is_named those (length (shares ++ share state.Closed begun ∷ []))) (drawn_so mid.names next.names names extends.names_same)) ∙ there.named);
         given = ap (λ (those : PartsState). is_given those.current) made ∙ sym (some_bytes parts.waiting bytes some);
         keeps = move.keeps_again old wet new facts.keeps extends.keeps;
+        owned = move.owned_again parts.current mid.current next.current old wet new shut_owned extends.owned;
         ready = subst (λ current. IsReady current new) (sym (ap (λ (those : PartsState). those.current) made)) extends.ready;
       }
 
@@ -166,19 +183,20 @@ module _ (told : Bool) (parts : PartsState) (bytes : List ℕ) (old wet : List S
   turns_not new next f cut = record {
     limit_same = cut.limit_same ∙ ap (λ (those : PartsState). those.limit) whole;
     names_same = drawn_so mid.names next.names names cut.names_same;
-    halts = λ shares begun last given. move.halts_after told parts.names _ (shares ++ share state.Closed begun ∷ []) _ old wet new f
-        (last_grows shares [] (share state.Open begun) (share state.Closed begun) (inl refl) (begins_itself begun)) (facts.moves shares begun last given)
+    halts = λ shares begun last given at_end. move.halts_after told parts.names _ (shares ++ share state.Closed begun ∷ []) _ old wet new f
+        (last_grows shares [] (share state.Open begun) (share state.Closed begun) (inl refl) (begins_itself begun)) (facts.moves shares begun last given at_end)
         (subst (λ low. Halts told parts.names low (shares ++ share state.Closed begun ∷ begun_share (parts.waiting ++ bytes)) wet new f) (low_is shares begun)
         (subst (λ high. Halts told parts.names ((shares ++ share state.Closed begun ∷ []) ++ begun_share []) high wet new f) (high_is shares begun)
         (subst (λ (those : Naming). Halts told those ((shares ++ share state.Closed begun ∷ []) ++ begun_share []) ((shares ++ share state.Closed begun ∷ []) ++ share state.Open ([] ++ (mid.waiting ++ bytes)) ∷ []) wet new f) names
-        (cut.halts (shares ++ share state.Closed begun ∷ []) [] (begun_next shares begun last)))));
+        (cut.halts (shares ++ share state.Closed begun ∷ []) [] (begun_next shares begun last) none_last))));
     breaks = move.breaks_later old wet new f facts.keeps cut.breaks;
+    owned = move.owned_again parts.current mid.current next.current old wet new shut_owned cut.owned;
     short = λ is_short. (
       some_bytes parts.waiting bytes some,
       λ shares begun last given.
           let why = cut.short is_short in (
             ap (is_named parts.names) (sym last.drawn) ∙ sym (ap (λ (those : Naming). is_named those those.drawn) names) ∙ why.1,
-            move.moves_again told parts.names _ (shares ++ share state.Closed begun ∷ []) _ old wet new (facts.moves shares begun last given) (move.moves_same told parts.names _ wet new why.2),
+            λ at_end. move.moves_again told parts.names _ (shares ++ share state.Closed begun ∷ []) _ old wet new (facts.moves shares begun last given at_end) (move.moves_same told parts.names _ wet new why.2),
           ),
     );
   }

@@ -18,5 +18,5 @@ pub mod ShareLaws
 pub mod Sharing
 pub mod Split
 pub mod Splitter
-pub mod SplitterLaws
 pub mod Step
+pub mod Ways

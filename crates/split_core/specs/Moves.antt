@@ -5,13 +5,13 @@ use Rattle.ports_core.specs.Slot.{Slot, Rose, slot_at, opened, unopened, closes,
 use Rattle.ports_core.specs.declared.slot.Mode.TheVariants.{Fresh}
 use Rattle.ports_core.specs.declared.slot.State.TheVariants as state
 use Rattle.ports_core.specs.Write.{BrokeAfter}
-use Rattle.ports_core.specs.Part.{Part, OutputsAt, StoppedBetween}
+use Rattle.ports_core.specs.Part.{Part, OutputsAt, StoppedInTurn}
 use Rattle.ports_core.specs.declared.fault.Fault.{Fault}
 use Rattle.ports_core.specs.declared.fault.Fault.TheVariants.{Memory, Write, Read, Open, Suffixes, NoMatch, Range, Usage, Failed, TooLong}
 use Rattle.split_core.specs.Parts.{most, parts, unless_empty}
 use Rattle.split_core.specs.Split.{Share, share, is_some, is_named, named, are_named, only_files, settled_parts}
-use Rattle.split_core.specs.ShareLaws.{whole_parts}
-use Rattle.split_core.specs.PartsState.{PartsState, Stands, IsReady, is_given}
+use Rattle.split_core.specs.ShareLaws.{AllShut, whole_parts}
+use Rattle.split_core.specs.PartsState.{PartsState, Stands, IsReady, IsAtEnd, OwnsFile, is_given}
 
 -- the part that these shares make
 abbrev pub part_of : Naming → List Share → Part
@@ -23,16 +23,20 @@ Moves told names low high old new = (before : List Slot) → OutputsAt told befo
 
 -- a fault stopped them between
 abbrev pub Halts : Bool → Naming → List Share → List Share → List Slot → List Slot → Fault → Type 0
-Halts told names low high old new fault = (before : List Slot) → OutputsAt told before (part_of names low) old → StoppedBetween told before (part_of names low) (part_of names high) fault new
+Halts told names low high old new fault = (before : List Slot) → OutputsAt told before (part_of names low) old → StoppedInTurn told before (part_of names low) (part_of names high) fault new
 
 -- no output is sound again that was broken
 abbrev pub KeepsBroken : List Slot → List Slot → Type 0
 KeepsBroken old new = (place : ℕ) → (slot_at new place).is_broken ≡ false → (slot_at old place).is_broken ≡ false
 
--- the faults of files: a slot broke in the call where the fault names one
+-- the file of the part that was begun stays the last of the outputs from a place on
+abbrev pub KeepsFile : Option ℕ → List Slot → Option ℕ → List Slot → Type 0
+KeepsFile current old next new = (first : ℕ) → OwnsFile current first old → OwnsFile next first new
+
+-- the faults of files: a slot broke in the call where the fault names one, and none of the streams by a write
 abbrev pub Breaks : List Slot → List Slot → Fault → Type 0
 Breaks old new Memory = Unit {0}
-Breaks old new (Write slot) = Rose slot old new
+Breaks old new (Write slot) = (2 ≤ slot) × Rose slot old new
 Breaks old new (Open slot) = Rose slot old new
 Breaks old new Suffixes = Unit {0}
 Breaks old new (Read slot) = ⊥
@@ -64,21 +68,23 @@ pub record Took (told : Bool) (parts : PartsState) (bytes : List ℕ) (old new :
   pub limit_same : next.limit ≡ parts.limit
   pub names_same : next.names ≡ record parts.names { drawn = next.names.drawn }
   pub stands : (x : List ℕ) → Stands parts x → Stands next (x ++ bytes)
-  pub moves : (x : List ℕ) → Stands parts x → Moves told parts.names (settled_parts parts.limit x) (settled_parts parts.limit (x ++ bytes)) old new
+  pub moves : (x : List ℕ) → Stands parts x → IsAtEnd parts.current old → Moves told parts.names (settled_parts parts.limit x) (settled_parts parts.limit (x ++ bytes)) old new
   pub keeps : KeepsBroken old new
+  pub owned : KeepsFile parts.current old next.current new
   pub ready : IsReady next.current new
 
 -- where names ran out: the input needs more, and what has a name is out
 abbrev pub RunsShort : Bool → PartsState → List ℕ → List Slot → List Slot → Type 0
 RunsShort told state bytes old new = (x : List ℕ) → Stands state x
-    → (are_named state.names (length (parts state.limit (x ++ bytes))) ≡ false) × Moves told state.names (settled_parts state.limit x) (settled_parts state.limit (x ++ bytes)) old new
+    → (are_named state.names (length (parts state.limit (x ++ bytes))) ≡ false) × (IsAtEnd state.current old → Moves told state.names (settled_parts state.limit x) (settled_parts state.limit (x ++ bytes)) old new)
 
 -- a fault came among these bytes
 pub record Stopped (told : Bool) (parts : PartsState) (bytes : List ℕ) (old new : List Slot) (next : PartsState) (fault : Fault) : Type 0 where
   pub limit_same : next.limit ≡ parts.limit
   pub names_same : next.names ≡ record parts.names { drawn = next.names.drawn }
-  pub halts : (x : List ℕ) → Stands parts x → Halts told parts.names (settled_parts parts.limit x) (settled_parts parts.limit (x ++ bytes)) old new fault
+  pub halts : (x : List ℕ) → Stands parts x → IsAtEnd parts.current old → Halts told parts.names (settled_parts parts.limit x) (settled_parts parts.limit (x ++ bytes)) old new fault
   pub breaks : Breaks old new fault
+  pub owned : KeepsFile parts.current old next.current new
   pub short : fault ≡ Suffixes → RunsShort told parts bytes old new
 
 -- a stretch of the piece was taken in, or a fault came
@@ -100,6 +106,7 @@ pub record Begun (parts : PartsState) (shares : List Share) (begun : List ℕ) :
   pub drawn : parts.names.drawn ≡ length (shares ++ begun_share begun)
   pub enough : are_named parts.names (length (shares ++ begun_share begun)) ≡ true
   pub given : is_given parts.current ≡ is_some begun
+  pub shut : AllShut shares
 
 -- the file of the part that was begun: it was there, or it was opened now
 pub data HasFile (parts : PartsState) (old new : List Slot) (next : PartsState) (slot : ℕ) : Type 0 where
@@ -122,22 +129,25 @@ FindsFile parts old new next (Err fault) = HasNone parts old new next fault
 pub record IsLast (parts : PartsState) (shares : List Share) : Type 0 where
   pub drawn : parts.names.drawn ≡ suc (length shares)
   pub named : is_named parts.names (length shares) ≡ true
+  pub shut : AllShut shares
 
 -- what waits and these bytes went to the part that was begun
 pub record Extended (told : Bool) (parts : PartsState) (bytes : List ℕ) (old new : List Slot) (next : PartsState) (slot : ℕ) : Type 0 where
   pub same : next ≡ record parts { names = next.names; waiting = []; current = Some slot }
   pub names_same : next.names ≡ record parts.names { drawn = next.names.drawn }
   pub drawn : (shares : List Share) (begun : List ℕ) → Begun parts shares begun → IsLast next shares
-  pub moves : (shares : List Share) (begun : List ℕ) → Begun parts shares begun → Moves told parts.names (shares ++ begun_share begun) (shares ++ share state.Open (begun ++ (parts.waiting ++ bytes)) ∷ []) old new
+  pub moves : (shares : List Share) (begun : List ℕ) → Begun parts shares begun → IsAtEnd parts.current old → Moves told parts.names (shares ++ begun_share begun) (shares ++ share state.Open (begun ++ (parts.waiting ++ bytes)) ∷ []) old new
   pub keeps : KeepsBroken old new
+  pub owned : KeepsFile parts.current old next.current new
   pub ready : IsReady (Some slot) new
 
 -- a fault came among them
 pub record Interrupted (told : Bool) (parts : PartsState) (bytes : List ℕ) (old new : List Slot) (next : PartsState) (fault : Fault) : Type 0 where
   pub limit_same : next.limit ≡ parts.limit
   pub names_same : next.names ≡ record parts.names { drawn = next.names.drawn }
-  pub halts : (shares : List Share) (begun : List ℕ) → Begun parts shares begun → Halts told parts.names (shares ++ begun_share begun) (shares ++ share state.Open (begun ++ (parts.waiting ++ bytes)) ∷ []) old new fault
+  pub halts : (shares : List Share) (begun : List ℕ) → Begun parts shares begun → IsAtEnd parts.current old → Halts told parts.names (shares ++ begun_share begun) (shares ++ share state.Open (begun ++ (parts.waiting ++ bytes)) ∷ []) old new fault
   pub breaks : Breaks old new fault
+  pub owned : KeepsFile parts.current old next.current new
   pub short : fault ≡ Suffixes → (parts.current ≡ None) × (has_next parts.names ≡ false) × (new ≡ old)
 
 abbrev pub Extends : Bool → PartsState → List ℕ → List Slot → List Slot → PartsState → Result ℕ Fault → Type 0
@@ -154,23 +164,25 @@ pub data EndsFile (parts : PartsState) (old new : List Slot) (next : PartsState)
 pub record Turned (told : Bool) (parts : PartsState) (bytes : List ℕ) (old new : List Slot) (next : PartsState) : Type 0 where
   pub same : next ≡ record parts { names = next.names; left = most parts.limit - length (parts.waiting ++ bytes); has_line = false; waiting = []; current = next.current }
   pub names_same : next.names ≡ record parts.names { drawn = next.names.drawn }
-  pub moves : (shares : List Share) (begun : List ℕ) → IsLast parts shares → is_given parts.current ≡ true
+  pub moves : (shares : List Share) (begun : List ℕ) → IsLast parts shares → is_given parts.current ≡ true → IsAtEnd parts.current old
       → Moves told parts.names (shares ++ share state.Open begun ∷ []) (shares ++ share state.Closed begun ∷ begun_share (parts.waiting ++ bytes)) old new
   pub drawn : (shares : List Share) (begun : List ℕ) → IsLast parts shares → is_given parts.current ≡ true
       → (next.names.drawn ≡ length (shares ++ share state.Closed begun ∷ begun_share (parts.waiting ++ bytes))) × (are_named parts.names (length (shares ++ share state.Closed begun ∷ begun_share (parts.waiting ++ bytes))) ≡ true)
   pub given : is_given next.current ≡ is_some (parts.waiting ++ bytes)
   pub keeps : KeepsBroken old new
+  pub owned : KeepsFile parts.current old next.current new
   pub ready : IsReady next.current new
 
 -- a fault came meanwhile
 pub record TurnsNot (told : Bool) (parts : PartsState) (bytes : List ℕ) (old new : List Slot) (next : PartsState) (fault : Fault) : Type 0 where
   pub limit_same : next.limit ≡ parts.limit
   pub names_same : next.names ≡ record parts.names { drawn = next.names.drawn }
-  pub halts : (shares : List Share) (begun : List ℕ) → IsLast parts shares → is_given parts.current ≡ true
+  pub halts : (shares : List Share) (begun : List ℕ) → IsLast parts shares → is_given parts.current ≡ true → IsAtEnd parts.current old
       → Halts told parts.names (shares ++ share state.Open begun ∷ []) (shares ++ share state.Closed begun ∷ begun_share (parts.waiting ++ bytes)) old new fault
   pub breaks : Breaks old new fault
+  pub owned : KeepsFile parts.current old next.current new
   pub short : fault ≡ Suffixes → (is_some (parts.waiting ++ bytes) ≡ true) × ((shares : List Share) (begun : List ℕ) → IsLast parts shares → is_given parts.current ≡ true
-      → (is_named parts.names (suc (length shares)) ≡ false) × Moves told parts.names (shares ++ share state.Open begun ∷ []) (shares ++ share state.Closed begun ∷ []) old new)
+      → (is_named parts.names (suc (length shares)) ≡ false) × (IsAtEnd parts.current old → Moves told parts.names (shares ++ share state.Open begun ∷ []) (shares ++ share state.Closed begun ∷ []) old new))
 
 abbrev pub Turns : Bool → PartsState → List ℕ → List Slot → List Slot → PartsState → Result (Unit {0}) Fault → Type 0
 Turns told parts bytes old new next (Ok done) = Turned told parts bytes old new next
@@ -178,6 +190,6 @@ Turns told parts bytes old new next (Err fault) = TurnsNot told parts bytes old 
 
 -- the input ended, and all of it is out; or a file broke meanwhile
 abbrev pub Finishes : Bool → PartsState → List Slot → List Slot → Result (Unit {0}) Fault → Type 0
-Finishes told parts old new (Ok done) = (x : List ℕ) → Stands parts x → Moves told parts.names (settled_parts parts.limit x) (whole_parts parts.limit x) old new
-Finishes told parts old new (Err fault) = ((slot : ℕ) × (fault ≡ Write slot) × Rose slot old new)
-    × ((x : List ℕ) → Stands parts x → Halts told parts.names (settled_parts parts.limit x) (whole_parts parts.limit x) old new fault)
+Finishes told parts old new (Ok done) = (x : List ℕ) → Stands parts x → IsAtEnd parts.current old → Moves told parts.names (settled_parts parts.limit x) (whole_parts parts.limit x) old new
+Finishes told parts old new (Err fault) = ((slot : ℕ) × (fault ≡ Write slot) × (2 ≤ slot) × Rose slot old new)
+    × ((x : List ℕ) → Stands parts x → IsAtEnd parts.current old → Halts told parts.names (settled_parts parts.limit x) (whole_parts parts.limit x) old new fault)

@@ -1,39 +1,32 @@
--- What contracts see of the engine that cuts off one part after another, and what it puts out.
-use Rattle.std.specs.Prelude.{◌≡◌, ℕ, Bool, true, false, not, List, length, map}
+-- What contracts see of the stage that cuts off one part after another, and what it makes of its input.
+use Rattle.std.specs.Prelude.{ℕ, Bool, true, false, not, List, length, map, Some, None, if◌then◌else◌}
 use Rattle.ports_core.specs.Slot.{Slot}
-use Rattle.ports_core.specs.Part.{Part}
-use Rattle.ports_core.specs.Engine.{Means}
+use Rattle.ports_core.specs.Name.{Naming}
+use Rattle.ports_core.specs.Work.{Work}
+use Rattle.ports_core.specs.declared.fault.Fault.TheVariants.{Suffixes}
 use Rattle.ports_core.specs.declared.slot.State.TheVariants.{Closed}
+use Rattle.split_core.specs.declared.cut.Limit.{Limit}
 use Rattle.split_core.specs.Parts.{parts}
-use Rattle.split_core.specs.Split.{share, named, are_named, only_files, settled_parts}
-use Rattle.split_core.specs.PartsState.{PartsState, Stands, IsReady}
+use Rattle.split_core.specs.Split.{share, named, are_named, from_start, only_files, settled_parts, split_means}
+use Rattle.split_core.specs.PartsState.{PartsState, IsReady, OwnsFile}
 
-pub record PartState : Type 0 where
-  pub parts : PartsState
-  -- how many bytes came in
-  pub fed : ℕ
-  -- a fault came, or the end
-  pub is_over : Bool
+-- what `split` makes of an input by this limit, whatever else it is asked
+abbrev pub parts_work : Limit → Naming → Work
+parts_work limit names = record {
+  settled = λ x. only_files (named names 0 (settled_parts limit x));
+  whole = λ x. only_files (named names 0 (map (share Closed) (parts limit x)));
+  is_complete = λ x. not (are_named names (length (map (share Closed) (parts limit x))));
+  verdict = λ x. if not (are_named names (length (map (share Closed) (parts limit x)))) then Some Suffixes else None;
+  clears = false;
+  means = split_means;
+}
 
--- what must be out once x came in, and at the end
-abbrev pub settled : PartState → List ℕ → Part
-settled engine x = only_files (named engine.parts.names 0 (settled_parts engine.parts.limit x))
+-- how many names were drawn is no matter
+abbrev pub work : PartsState → Work
+work state = parts_work state.limit (from_start state.names)
 
-abbrev pub whole : PartState → List ℕ → Part
-whole engine x = only_files (named engine.parts.names 0 (map (share Closed) (parts engine.parts.limit x)))
+abbrev pub Ready : PartsState → List Slot → Type 0
+Ready state slots = IsReady state.current slots
 
--- there are more parts than names
-abbrev pub is_complete : PartState → List ℕ → Bool
-is_complete engine x = not (are_named engine.parts.names (length (parts engine.parts.limit x)))
-
-abbrev pub means : PartState → Means
-means engine = record { memory = true; files = true; names = true }
-
--- the engine can have been fed x
-pub record Holds (engine : PartState) (x : List ℕ) : Type 0 where
-  pub live : engine.is_over ≡ false
-  pub fed : engine.fed ≡ length x
-  pub stands : Stands engine.parts x
-
-abbrev pub Ready : PartState → List Slot → Type 0
-Ready engine slots = IsReady engine.parts.current slots
+abbrev pub Owns : PartsState → ℕ → List Slot → Type 0
+Owns state first slots = OwnsFile state.current first slots

@@ -1,11 +1,10 @@
--- Lines dealt in turn, as an engine does it: GNU coreutils manual, split, `-n r/N`.
-use Rattle.std.specs.Prelude.{◌≡◌, ℕ, ◌+◌, ◌%◌, ◌<◌, ◌≤◌, Bool, true, false, List, length, min, if◌then◌else◌, IsTrue}
+-- Lines dealt in turn, as a stage does it: GNU coreutils manual, split, `-n r/N`.
+use Rattle.std.specs.Prelude.{◌≡◌, ℕ, ◌+◌, ◌%◌, ◌<◌, ◌≤◌, Bool, true, false, List, length, min, slice_index_or, if◌then◌else◌}
 use Rattle.seg_core.specs.Line.{newlines, line_count}
 use Rattle.ports_core.specs.Name.{Naming}
-use Rattle.ports_core.specs.Slot.{Slot, is_writable}
-use Rattle.ports_core.specs.Part.{Part}
-use Rattle.ports_core.specs.Engine.{Means}
-use Rattle.split_core.specs.Split.{Plan, are_named, settled_by, whole_by}
+use Rattle.ports_core.specs.Slot.{Slot, is_closable}
+use Rattle.ports_core.specs.Work.{Work, always_well}
+use Rattle.split_core.specs.Split.{Plan, are_named, from_start, settled_by, whole_by, split_means}
 use Rattle.split_core.specs.FilesState.{FilesState}
 use Rattle.split_core.specs.RoundState.{RoundState}
 use Rattle.split_core.specs.declared.cut.Cut.TheVariants.{Round}
@@ -13,48 +12,55 @@ use Rattle.split_core.specs.declared.cut.Cut.TheVariants.{Round}
 abbrev pub round_plan : ℕ → Bool → Naming → Plan
 round_plan count elide names = record { cut = Round count; elide = elide; names = names }
 
--- the names as they were before any was drawn
-abbrev pub from_start : Naming → Naming
-from_start names = record names { drawn = 0 }
-
--- what the engine was asked for
+-- what the stage was asked for
 abbrev pub plan_of : RoundState → Plan
 plan_of round = round_plan round.count round.elide (from_start round.files.names)
 
-abbrev pub settled : RoundState → List ℕ → Part
-settled round x = settled_by (plan_of round) x
+-- what `split` makes of an input so, where all files have names
+abbrev pub round_work : Plan → Work
+round_work plan = record {
+  settled = settled_by plan;
+  whole = whole_by plan;
+  is_complete = λ x. false;
+  verdict = always_well;
+  clears = false;
+  means = split_means;
+}
 
-abbrev pub whole : RoundState → List ℕ → Part
-whole round x = whole_by (plan_of round) x
-
--- there is always more that can come, and each file has a name
-abbrev pub is_complete : RoundState → List ℕ → Bool
-is_complete round x = false
-
--- it takes memory for the lines of a piece, and where files are left out for names; no name is lacking
-abbrev pub means : RoundState → Means
-means round = record { memory = true; files = true; names = false }
+abbrev pub work : RoundState → Work
+work round = round_work (plan_of round)
 
 -- so many files are open once x came in: all of them, or those that have a line
 abbrev pub opened_by : Bool → ℕ → List ℕ → ℕ
 opened_by elide n x = if elide then min n (line_count x) else n
 
--- the engine can have been fed x
+-- the stage can have been fed x
 pub record Holds (round : RoundState) (x : List ℕ) : Type 0 where
-  pub live : round.is_over ≡ false
-  pub fed : round.fed ≡ length x
   pub some : 0 < round.count
   pub named : are_named round.files.names round.count ≡ true
   pub next : round.next ≡ newlines x % round.count
-  pub opened : round.files.opened ≡ opened_by round.elide round.count x
+  pub opened : length round.files.outputs ≡ opened_by round.elide round.count x
 
--- the files that are open are the last outputs, each can be written and closed, and the next name is that of the next file
+-- the output of the file at a place
+abbrev pub output_at : FilesState → ℕ → ℕ
+output_at files place = slice_index_or files.outputs place 0
+
+-- the streams are there, each file that is open has an output of its own that can be written and closed, and the next name is that
+-- of the next file
 pub record AreReady (files : FilesState) (slots : List Slot) : Type 0 where
   pub streams : 2 ≤ length slots
-  pub drawn : files.names.drawn ≡ files.opened
-  pub last : 0 < files.opened → files.first + files.opened ≡ length slots
-  pub behind : 0 < files.opened → 2 ≤ files.first
-  pub writable : (place : ℕ) → place < files.opened → IsTrue (is_writable slots (files.first + place))
+  pub drawn : files.names.drawn ≡ length files.outputs
+  pub apart : (place other : ℕ) → place < other → other < length files.outputs → output_at files place < output_at files other
+  pub closable : (place : ℕ) → place < length files.outputs → is_closable slots (output_at files place)
 
 abbrev pub Ready : RoundState → List Slot → Type 0
 Ready round slots = AreReady round.files slots
+
+-- the files that are open stand in order from this place on, and as long as each name that was drawn is that of one, they are the
+-- last outputs
+pub record OwnsFiles (files : FilesState) (first : ℕ) (slots : List Slot) : Type 0 where
+  pub stand : (place : ℕ) → place < length files.outputs → output_at files place ≡ first + place
+  pub last : files.names.drawn ≡ length files.outputs → first + length files.outputs ≡ length slots
+
+abbrev pub Owns : RoundState → ℕ → List Slot → Type 0
+Owns round first slots = OwnsFiles round.files first slots

@@ -1,24 +1,17 @@
--- The laws of dealing lines in turn, as an engine.
+-- The laws of the work of dealing lines in turn.
 use Rattle.std.proofs.Common.{◌≡◌, ℕ, ◌+◌, ◌≤◌, zero, suc, List, [], ◌∷◌, ◌++◌, length, map, Bool, true, false, cond, inl, refl, sym, subst, arith}
 use Rattle.std.specs.List.{range_with_len}
 use Rattle.std.proofs.lemmas.Bool.{false≢true}
 use Rattle.ports_core.specs.Name.{Naming}
 use Rattle.ports_core.specs.Part.{File, IsBeginning, FilesBegin, Begins}
-use Rattle.ports_core.specs.Engine.{IsComplete}
+use Rattle.ports_core.specs.Work.{IsLawful}
 use Rattle.ports_core.specs.declared.slot.State.{State}
 use Rattle.ports_core.specs.declared.slot.State.TheVariants.{Open, Closed}
 use Rattle.ports_core.proofs.PartLemmas.{begins_itself, nothing_begins}
 use Rattle.split_core.specs.Split.{share, named, is_named, file_at, dealt_files}
-use Rattle.split_core.specs.RoundState.{RoundState}
-use Rattle.split_core.specs.Round.{settled, whole, is_complete, from_start, opened_by, Holds}
+use Rattle.split_core.specs.Round.{round_plan, round_work, opened_by}
 use Rattle.split_core.specs.Sharing.{AllBegin}
 use Rattle.split_core.specs.DealLaws.{share_of, dealt_append, dealt_files_are, opened_by-grows}
-
-pub live : (round : RoundState) (x : List ℕ) → Holds round x → round.is_over ≡ false
-live round x holds = holds.live
-
-pub counts : (round : RoundState) (x : List ℕ) → Holds round x → round.fed ≡ length x
-counts round x holds = holds.fed
 
 begin_step : (is : Bool) (file high : File) (files wholes : List File) → file.name ≡ high.name → file.mode ≡ high.mode → file.is_broken ≡ high.is_broken → file.state ≡ Open → IsBeginning file.bytes high.bytes → FilesBegin files wholes
     → FilesBegin (cond is (file ∷ files) []) (cond is (high ∷ wholes) [])
@@ -48,17 +41,9 @@ dealt_begin elide n x y =
     (subst (λ these. AllBegin these (map (share_of n (x ++ y)) (range_with_len 0 (opened_by elide n (x ++ y))))) (sym (dealt_files_are elide n x))
     (maps_begin (share_of n x) (share_of n (x ++ y)) 0 (opened_by elide n x) (opened_by elide n (x ++ y)) (opened_by-grows elide n x y) (λ file. (_, dealt_append n file 0 x y))))
 
-pub grows : (round : RoundState) (x y : List ℕ) → Begins (settled round x) (settled round (x ++ y))
-grows round x y = record {
-  out = nothing_begins [];
-  files = named_begin (from_start round.files.names) 0 Open _ _ (dealt_begin round.elide round.count x y);
+pub lawful : (count : ℕ) (elide : Bool) (names : Naming) → IsLawful (round_work (round_plan count elide names))
+lawful count elide names = record {
+  grows = λ x y. record { out = nothing_begins []; files = named_begin names 0 Open _ _ (dealt_begin elide count x y) };
+  ends = λ x. record { out = nothing_begins []; files = named_begin names 0 Closed _ _ (all_begin_themselves (dealt_files elide count x)) };
+  stays = λ x y never. absurd (false≢true never);
 }
-
-pub ends : (round : RoundState) (x : List ℕ) → Begins (settled round x) (whole round x)
-ends round x = record {
-  out = nothing_begins [];
-  files = named_begin (from_start round.files.names) 0 Closed _ _ (all_begin_themselves (dealt_files round.elide round.count x));
-}
-
-pub stays : (round : RoundState) (x y : List ℕ) → is_complete round x ≡ true → IsComplete settled whole is_complete round x y
-stays round x y never = absurd (false≢true never)

@@ -1,4 +1,4 @@
--- What contracts see of an engine that deals lines in turn.
+-- What contracts see of a stage that deals lines in turn.
 use Rattle.std.specs.Prelude.{ℕ, Bool}
 use Rattle.split_core.specs.FilesState.{FilesState}
 
@@ -11,7 +11,3 @@ pub record RoundState : Type 0 where
   pub files : FilesState
   -- the place of the file that the next byte goes to
   pub next : ℕ
-  -- how many bytes came in
-  pub fed : ℕ
-  -- a fault came, or the end
-  pub is_over : Bool

@@ -10,7 +10,7 @@ use Rattle.ports_core.specs.Name.{Naming}
 use Rattle.ports_core.specs.Part.{File, IsBeginning, FilesBegin, Begins}
 use Rattle.ports_core.specs.declared.slot.State.{State}
 use Rattle.ports_core.specs.declared.slot.State.TheVariants.{Open, Closed}
-use Rattle.ports_core.proofs.PartLemmas.{begins_itself, begins_more, begins_trans, state_trans}
+use Rattle.ports_core.proofs.PartLemmas.{begins_itself, begins_more, begins_trans, kept_trans}
 use Rattle.split_core.specs.declared.cut.Limit.{Limit}
 use Rattle.split_core.specs.declared.cut.Limit.TheVariants.{Lines, Bytes, LineBytes}
 use Rattle.split_core.specs.Parts.{whole_lines, most, measure, is_full, first_part, behind_first, cut_up, unless_empty, parts, settled_rest}
@@ -21,7 +21,7 @@ use Rattle.split_core.specs.CutLaws.{short_some, full_some, whole_of_lines, whol
 abbrev pub SharesBegin : List Share → List Share → Type 0
 SharesBegin [] wholes = Unit {0}
 SharesBegin (share ∷ shares) [] = ⊥
-SharesBegin (share ∷ shares) (whole ∷ wholes) = ((share.state ≡ Open) ⊎ (share.state ≡ whole.state)) × IsBeginning share.bytes whole.bytes × SharesBegin shares wholes
+SharesBegin (share ∷ shares) (whole ∷ wholes) = ((share.state ≡ Open) ⊎ (share ≡ whole)) × IsBeginning share.bytes whole.bytes × SharesBegin shares wholes
 
 pub shares_themselves : (shares : List Share) → SharesBegin shares shares
 shares_themselves [] = tt
@@ -31,7 +31,7 @@ pub shares_trans : (low middle high : List Share) → SharesBegin low middle →
 shares_trans [] middle high first second = tt
 shares_trans (share ∷ low) [] high first second = absurd first
 shares_trans (share ∷ low) (mid ∷ middle) [] first second = absurd second
-shares_trans (share ∷ low) (mid ∷ middle) (whole ∷ high) first second = (state_trans _ _ _ first.0 second.0, begins_trans _ _ _ first.1 second.1, shares_trans low middle high first.2 second.2)
+shares_trans (share ∷ low) (mid ∷ middle) (whole ∷ high) first second = (kept_trans (λ (those : Share). those.state) share mid whole first.0 second.0, begins_trans _ _ _ first.1 second.1, shares_trans low middle high first.2 second.2)
 
 -- what begins behind the same
 pub shares_behind : (front low high : List Share) → SharesBegin low high → SharesBegin (front ++ low) (front ++ high)
@@ -43,13 +43,17 @@ shares_more [] more = tt
 shares_more (share ∷ shares) more = (inr refl, begins_itself share.bytes, shares_more shares more)
 
 -- the last one grew
-pub last_grows : (front more : List Share) (one other : Share) → (one.state ≡ Open) ⊎ (one.state ≡ other.state) → IsBeginning one.bytes other.bytes → SharesBegin (front ++ one ∷ []) (front ++ other ∷ more)
+pub last_grows : (front more : List Share) (one other : Share) → (one.state ≡ Open) ⊎ (one ≡ other) → IsBeginning one.bytes other.bytes → SharesBegin (front ++ one ∷ []) (front ++ other ∷ more)
 last_grows front more one other kept begins = shares_behind front (one ∷ []) (other ∷ more) (kept, begins, tt)
 
 -- the files of shares that begin others begin the files of those
 
-files_by : (names : Naming) (has : Bool) (place : ℕ) (one other : Share) (low high : List File) → (one.state ≡ Open) ⊎ (one.state ≡ other.state) → IsBeginning one.bytes other.bytes → FilesBegin low high → FilesBegin (cond has (file_at names place one ∷ low) []) (cond has (file_at names place other ∷ high) [])
-files_by names true place one other low high kept first rest = (refl, refl, refl, kept, first, rest)
+pub kept_file : (names : Naming) (place : ℕ) (one other : Share) → (one.state ≡ Open) ⊎ (one ≡ other) → ((file_at names place one).state ≡ Open) ⊎ (file_at names place one ≡ file_at names place other)
+kept_file names place one other (inl is) = inl is
+kept_file names place one other (inr same) = inr (ap (file_at names place) same)
+
+files_by : (names : Naming) (has : Bool) (place : ℕ) (one other : Share) (low high : List File) → (one.state ≡ Open) ⊎ (one ≡ other) → IsBeginning one.bytes other.bytes → FilesBegin low high → FilesBegin (cond has (file_at names place one ∷ low) []) (cond has (file_at names place other ∷ high) [])
+files_by names true place one other low high kept first rest = (refl, refl, refl, kept_file names place one other kept, first, rest)
 files_by names false place one other low high kept first rest = tt
 
 pub files_begin : (names : Naming) (place : ℕ) (low high : List Share) → SharesBegin low high → FilesBegin (named names place low) (named names place high)
@@ -188,6 +192,20 @@ settled_end limit x =
         none_of : {n : ℕ} → 0 ≡ suc n → ⊥
         none_of e = omega (arith, e)
       closes (byte ∷ low) (first ∷ high) begins = (inl refl, begins, tt)
+
+-- closed shares
+
+abbrev pub AllShut : List Share → Type 0
+AllShut [] = Unit {0}
+AllShut (share ∷ shares) = (share.state ≡ Closed) × AllShut shares
+
+pub shut_map : (bytes : List (List ℕ)) → AllShut (map (share Closed) bytes)
+shut_map [] = tt
+shut_map (one ∷ bytes) = (refl, shut_map bytes)
+
+pub shut_more : (shares : List Share) (one : Share) → AllShut shares → one.state ≡ Closed → AllShut (shares ++ one ∷ [])
+shut_more [] one shut is = (is, tt)
+shut_more (share ∷ shares) one shut is = (shut.0, shut_more shares one shut.1 is)
 
 -- as many files are written as the text has parts
 

@@ -1,13 +1,14 @@
 //! Laws of the definitions, with no code: each stands on the contract of a function whose body is empty.
 ghost use Rattle.std.specs.Prelude.{◌≡◌, ◌<◌, ◌≤◌, ◌+◌, ◌*◌, ◌++◌, ℕ, List, [], true, get_or, length, map, take, drop, All, false};
+ghost use Rattle.ports_core.specs.Guard.{GuardState, HoldsIn};
 ghost use Rattle.ports_core.specs.declared.slot.State.TheVariants.{Closed};
 ghost use Rattle.seg_core.specs.Line.{joined, line_count, lines_of, newlines};
 ghost use Rattle.split_core.specs.declared.cut.Limit.TheVariants.{Bytes, LineBytes, Lines};
 ghost use Rattle.split_core.specs.Parts.{cut_up, dealt, most, parts, round_robin, settled_rest, waiting_rest};
 ghost use Rattle.split_core.specs.Sections.{AreLineByteParts, byte_parts, line_parts};
-ghost use Rattle.split_core.specs.Splitter.{Holds, is_complete};
-ghost use Rattle.split_core.specs.declared.splitter.Splitter.{Splitter};
 ghost use Rattle.split_core.specs.Split.{Share, dealt_files, settled_parts, share};
+ghost use Rattle.split_core.specs.Ways.{Holds, work};
+ghost use Rattle.split_core.specs.declared.ways.Ways.{Ways};
 
 use crate::Limit;
 
@@ -58,7 +59,7 @@ pub fn lines_are_dealt()
     ensures elided { (n : ℕ) (x : List ℕ) → dealt_files true n x ≡ take (line_count x) (round_robin n x) }
 {}
 
-/// An engine that has answered no fault has named all files that its input needs: names that ran out are always told.
+/// An engine that has returned no fault has named all files that its input needs: names that ran out are always told.
 pub fn all_files_have_names()
-    ensures { (engine : Splitter) (x : List ℕ) → Holds engine x → is_complete engine x ≡ false }
+    ensures { (engine : GuardState Ways) (x : List ℕ) → HoldsIn Holds engine x → (work engine.stage).is_complete x ≡ false }
 {}

@@ -9,7 +9,7 @@ mod gathered;
 mod laws;
 #[cfg(test)]
 mod part_plain;
-mod part_splitter;
+mod part_stage;
 #[cfg(test)]
 mod part_tests;
 mod parts;
@@ -21,6 +21,7 @@ mod round_splitter;
 mod round_tests;
 mod splitter;
 mod step;
+mod ways;
 
 pub use cut::{Cut, Limit};
 pub use laws::{

@@ -1,7 +1,7 @@
 //! Cutting into parts that follow one another: what each file has got on rows that no clause shows, and each short text, cut into
 //! pieces in each way, beside the plain program.
 ghost use Rattle.std.specs.Prelude.{◌≡◌, ◌≤◌, false, length, IfOk};
-ghost use Rattle.split_core.specs.Splitter.{Ready, is_over};
+ghost use Rattle.split_core.specs.Ways.{Ready};
 
 use crate::part_plain::plain_parts;
 use crate::{Cut, Limit, Splitter};
@@ -230,7 +230,7 @@ fn takes_nothing_behind_the_end(rt: HostRuntime) -> Result<(), Fail> {
 /// A splitter whose files have the names xaa, xab and so on.
 fn open(alloc: Global, limit: Limit, outs: &mut MemOut) -> Result<Splitter, Fault>
     requires { 2 ≤ length outs.old }
-    ensures { IfOk result (λ splitter. Ready splitter outs.new) }
+    ensures { IfOk result (λ splitter. Ready splitter.stage outs.new) }
 {
     if limit.most() == 0 {
         return Err(Fault::Failed);
@@ -244,15 +244,15 @@ fn open(alloc: Global, limit: Limit, outs: &mut MemOut) -> Result<Splitter, Faul
 }
 
 fn feed(splitter: &mut Splitter, outs: &mut MemOut, piece: &[u8]) -> Result<(), Fault>
-    requires { is_over splitter.old ≡ false → Ready splitter.old outs.old }
-    ensures { is_over splitter.new ≡ false → Ready splitter.new outs.new }
+    requires { splitter.old.is_over ≡ false → Ready splitter.old.stage outs.old }
+    ensures { splitter.new.is_over ≡ false → Ready splitter.new.stage outs.new }
 {
     splitter.feed(piece, outs)
 }
 
 fn close(splitter: &mut Splitter, outs: &mut MemOut) -> Result<(), Fault>
-    requires { is_over splitter.old ≡ false → Ready splitter.old outs.old }
-    ensures { is_over splitter.new ≡ false → Ready splitter.new outs.new }
+    requires { splitter.old.is_over ≡ false → Ready splitter.old.stage outs.old }
+    ensures { splitter.new.is_over ≡ false → Ready splitter.new.stage outs.new }
 {
     splitter.close(outs)
 }
@@ -402,8 +402,8 @@ fn feed_cut(
     cuts: u32,
     files: &[&[u8]],
 ) -> Result<bool, Fault>
-    requires { is_over splitter.old ≡ false → Ready splitter.old outs.old }
-    ensures { is_over splitter.new ≡ false → Ready splitter.new outs.new }
+    requires { splitter.old.is_over ≡ false → Ready splitter.old.stage outs.old }
+    ensures { splitter.new.is_over ≡ false → Ready splitter.new.stage outs.new }
 {
     let mut cuts = cuts;
     let mut start = 0;

@@ -1,8 +1,10 @@
 //! Parts of an input that follow one another, each in a file of its own.
-ghost use Rattle.std.specs.Prelude.{◌≡◌, ◌+◌, ◌-◌, ◌++◌, ◌<◌, ◌≤◌, [], Some, None, false, length, IfOk, IfErr, OnOk};
-ghost use Rattle.split_core.specs.Moves.{EndsFile, Extends, FindsFile, Finishes, Passes, Steps, Turns};
+ghost use Rattle.std.specs.Prelude.{◌≡◌, ◌+◌, ◌-◌, ◌++◌, ◌<◌, ◌≤◌, List, ℕ, [], Some, None, false, length, IfOk, IfErr, OnOk};
+ghost use Rattle.split_core.specs.Moves.{EndsFile, Extends, FindsFile, Finishes, KeepsFile, Passes, Steps, Turns};
+ghost use Rattle.split_core.specs.PartState.{parts_work, work};
 ghost use Rattle.split_core.specs.Parts.{most};
-ghost use Rattle.split_core.specs.PartsState.{IsReady};
+ghost use Rattle.split_core.specs.PartsState.{IsReady, Stands};
+ghost use Rattle.split_core.specs.Split.{from_start, waiting};
 
 use crate::Limit;
 use crate::files::{open_next, write_bytes, write_held};
@@ -15,7 +17,7 @@ use std::marker::Model;
 /// The part that was begun, and the names of the files to come. A file is opened with the first byte of its part, and closed
 /// before the next.
 #[derive(Drop)]
-pub(crate) struct Parts {
+pub struct Parts {
     names: Names,
     limit: Limit,
     /// How many lines or bytes the part still takes.
@@ -39,14 +41,17 @@ impl Model for Parts {
 }
 
 impl Parts {
-    /// No byte came in yet. The number of the limit is at least 1.
+    /// No byte came in yet. The number of the limit is at least 1, and no name was drawn.
     ///
     /// # Errors
     ///
     /// `Memory` where there is no room for what waits.
     pub(crate) fn open(alloc: Global, limit: Limit, names: Names) -> Result<Parts, Fault>
-        requires { 0 < most limit }
-        ensures ok { IfOk result (λ parts. parts ≡ record { limit = limit; names = names; left = most limit; has_line = false; waiting = []; current = None }) }
+        requires some { 0 < most limit }
+        requires fresh { names.drawn ≡ 0 }
+        ensures holds { IfOk result (λ parts. Stands parts []) }
+        ensures does { IfOk result (λ parts. work parts ≡ parts_work limit names) }
+        ensures current { IfOk result (λ parts. parts.current ≡ None) }
         ensures err { IfErr result (λ fault. fault ≡ Fault.Memory) }
     {
         match ByteWindow::new(alloc, limit.most() - 1) {
@@ -64,7 +69,7 @@ impl Parts {
 
     /// How many bytes wait.
     pub(crate) fn held(&self) -> u64
-        ensures { result ≡ length self.now.waiting }
+        ensures { (x : List ℕ) → Stands self.now x → result ≡ length (waiting (work self.now) x) }
     {
         self.waiting.len()
     }
@@ -206,7 +211,7 @@ impl Parts {
     ///
     /// `Write` where a file broke, `Open` where the next can't be opened, `Memory` where there is no room for what waits or for a
     /// name, `Suffixes` where no name is left for the next file.
-    pub(crate) fn pass<O: Outs>(&mut self, piece: &[u8], outs: &mut O) -> Result<(), Fault>
+    pub(crate) fn take_in<O: Outs>(&mut self, piece: &[u8], outs: &mut O) -> Result<(), Fault>
         requires { IsReady self.old.current (O.slots outs.old) }
         ensures { Passes O.told self.old piece.now (O.slots outs.old) (O.slots outs.new) self.new result }
     {
@@ -225,9 +230,11 @@ impl Parts {
     /// # Errors
     ///
     /// `Write` where its file broke.
-    pub(crate) fn finish<O: Outs>(&mut self, outs: &mut O) -> Result<(), Fault>
+    pub(crate) fn end<O: Outs>(&mut self, outs: &mut O) -> Result<(), Fault>
         requires { IsReady self.old.current (O.slots outs.old) }
-        ensures { Finishes O.told self.old (O.slots outs.old) (O.slots outs.new) result }
+        ensures same { work self.new ≡ work self.old }
+        ensures ends { Finishes O.told self.old (O.slots outs.old) (O.slots outs.new) result }
+        ensures owns { KeepsFile self.old.current (O.slots outs.old) self.new.current (O.slots outs.new) }
     {
         let Some(slot) = self.current else {
             return Ok(());

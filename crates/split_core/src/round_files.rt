@@ -1,42 +1,39 @@
-ghost use Rattle.std.specs.Prelude.{◌≡◌, ◌+◌, ◌≤◌, ◌<◌, ◌++◌, ◌∷◌, [], true, max, length, IsTrue, IfErr, OnOk, OnErr, if◌then◌else◌, ◌==◌};
+ghost use Rattle.std.specs.Prelude.{◌≡◌, ◌+◌, ◌≤◌, ◌<◌, ◌++◌, ◌∷◌, [], true, length, vec_len, vec_capacity, IsTrue, IfErr, OnOk};
 ghost use Rattle.ports_core.specs.Name.{has_next, next_name};
 ghost use Rattle.ports_core.specs.Slot.{changed_at, opened};
-ghost use Rattle.split_core.specs.Split.{are_named, is_named};
-ghost use Rattle.split_core.specs.Round.{AreReady, from_start};
-ghost use Rattle.split_core.specs.Sharing.{Became, CannotClose, CannotOpen, ClosesShort, FailsToFollow, HaveClosed, IsOfFiles, StopsShort, added, filled, with_opened};
+ghost use Rattle.split_core.specs.Round.{AreReady};
+ghost use Rattle.split_core.specs.Sharing.{Became, CannotClose, CannotOpen, ClosesShort, FailsToFollow, HaveClosed, IsOfFiles, KeepsFiles, StopsAt, StopsShort, added, filled, with_opened};
+ghost use Rattle.split_core.specs.Split.{are_named, from_start, is_named};
 
 use crate::gathered::Gathered;
 use ports_core::{Fault, Mode, Names, Outs, write_whole};
+use std::alloc::{AllocError, Global};
 use std::marker::Model;
 
-/// The files that lines are dealt to, in the order of their names. Those that are open are the last outputs.
+/// The files that lines are dealt to, in the order of their names.
 #[derive(Drop)]
 pub(crate) struct RoundFiles {
     names: Names,
-    /// The first one's output, once it is open.
-    first: usize,
-    opened: usize,
+    /// The outputs of those that are open.
+    outputs: Vec<usize>,
 }
 
 impl Model for RoundFiles {
-    ghost use Rattle.std.specs.Prelude.{◌+◌, ◌≤◌, ◌^◌};
     ghost use Rattle.split_core.specs.FilesState.{FilesState};
 
     ghost Value = { FilesState };
 
-    ghost view = { λ f. record { names = f.names; first = f.first; opened = f.opened } };
-
-    ghost invariant = { λ f. f.first + f.opened ≤ 2 ^ 64 };
+    ghost view = { λ f. record { names = f.names; outputs = f.outputs.items } };
 }
 
 impl RoundFiles {
-    pub(crate) fn new(names: Names) -> RoundFiles
-        ensures { result ≡ record { names = names; first = 0; opened = 0 } }
+    /// It takes no memory yet.
+    pub(crate) fn new(alloc: Global, names: Names) -> RoundFiles
+        ensures { result ≡ record { names = names; outputs = [] } }
     {
         RoundFiles {
             names,
-            first: 0,
-            opened: 0,
+            outputs: Vec::new(alloc),
         }
     }
 
@@ -47,7 +44,7 @@ impl RoundFiles {
     /// `Open` where one can't be opened, `Memory` where there is no room for a name.
     pub(crate) fn open_first<O: Outs>(&mut self, count: usize, outs: &mut O) -> Result<(), Fault>
         requires ready { AreReady self.old (O.slots outs.old) }
-        requires none { self.old.opened ≡ 0 }
+        requires none { self.old.outputs ≡ [] }
         requires named { are_named self.old.names count ≡ true }
         ensures became { OnOk result (Became O.told self.old (filled count) count (O.slots outs.old) self.new (O.slots outs.new)) }
         ensures cut { IfErr result (StopsShort O.told self.old (filled count) (O.slots outs.old) (O.slots outs.new)) }
@@ -79,6 +76,7 @@ impl RoundFiles {
         ensures cut { IfErr result (StopsShort O.told self.old (λ these. added these gathered.now) (O.slots outs.old) (O.slots outs.new)) }
         ensures caused { IfErr result (IsOfFiles (O.slots outs.old) (O.slots outs.new)) }
         ensures names { from_start self.new.names ≡ from_start self.old.names }
+        ensures owned { KeepsFiles self.old (O.slots outs.old) self.new (O.slots outs.new) }
     {
         for place in 0..gathered.len() {
             match self.send(place, gathered[place].bytes(), outs) {
@@ -93,16 +91,17 @@ impl RoundFiles {
     ///
     /// # Errors
     ///
-    /// `Write` where a close failed: those behind it stay open.
+    /// `Write` where a close failed: those after it stay open.
     pub(crate) fn close<O: Outs>(&mut self, outs: &mut O) -> Result<(), Fault>
         requires ready { AreReady self.old (O.slots outs.old) }
         ensures same { self.new ≡ self.old }
-        ensures closed { OnOk result (HaveClosed O.told self.old self.old.opened (O.slots outs.old) (O.slots outs.new)) }
-        ensures cut { IfErr result (ClosesShort O.told self.old self.old.opened (O.slots outs.old) (O.slots outs.new)) }
+        ensures closed { OnOk result (HaveClosed O.told self.old (length self.old.outputs) (O.slots outs.old) (O.slots outs.new)) }
+        ensures cut { IfErr result (ClosesShort O.told self.old (length self.old.outputs) (O.slots outs.old) (O.slots outs.new)) }
         ensures caused { IfErr result (CannotClose (O.slots outs.old) (O.slots outs.new)) }
+        ensures owned { KeepsFiles self.old (O.slots outs.old) self.new (O.slots outs.new) }
     {
-        for place in 0..self.opened {
-            match outs.close(self.first + place) {
+        for place in 0..self.outputs.len() {
+            match outs.close(self.outputs[place]) {
                 Ok(()) => {}
                 Err(fault) => return Err(fault),
             }
@@ -113,18 +112,19 @@ impl RoundFiles {
     /// Writes to one file, which is opened if it is the next one.
     fn send<O: Outs>(&mut self, place: usize, bytes: &[u8], outs: &mut O) -> Result<(), Fault>
         requires ready { AreReady self.old (O.slots outs.old) }
-        requires near { place ≤ self.old.opened }
+        requires near { place ≤ length self.old.outputs }
         requires named { is_named self.old.names place ≡ true }
         ensures became { OnOk result (Became O.told self.old (λ these. changed_at place (λ had. had ++ bytes.now) (filled (place + 1) these)) (place + 1) (O.slots outs.old) self.new (O.slots outs.new)) }
-        ensures cut { IfErr result (StopsShort O.told self.old (λ these. changed_at place (λ had. had ++ bytes.now) (filled (place + 1) these)) (O.slots outs.old) (O.slots outs.new)) }
+        ensures cut { IfErr result (StopsAt O.told self.old (λ these. changed_at place (λ had. had ++ bytes.now) (filled (place + 1) these)) place (O.slots outs.old) (O.slots outs.new)) }
         ensures caused { IfErr result (IsOfFiles (O.slots outs.old) (O.slots outs.new)) }
         ensures names { from_start self.new.names ≡ from_start self.old.names }
+        ensures owned { KeepsFiles self.old (O.slots outs.old) self.new (O.slots outs.new) }
     {
         match self.reach(place, outs) {
             Ok(()) => {}
             Err(fault) => return Err(fault),
         }
-        let slot = self.first + place;
+        let slot = self.outputs[place];
         match write_whole(outs, slot, bytes) {
             Ok(()) => {}
             Err(_) => return Err(Fault::Write(slot)),
@@ -135,14 +135,15 @@ impl RoundFiles {
     /// Opens the file at a place, if it isn't open, which must be the next one then.
     fn reach<O: Outs>(&mut self, place: usize, outs: &mut O) -> Result<(), Fault>
         requires ready { AreReady self.old (O.slots outs.old) }
-        requires near { place ≤ self.old.opened }
+        requires near { place ≤ length self.old.outputs }
         requires named { is_named self.old.names place ≡ true }
         ensures became { OnOk result (Became O.told self.old (filled (place + 1)) (place + 1) (O.slots outs.old) self.new (O.slots outs.new)) }
-        ensures cut { IfErr result (StopsShort O.told self.old (filled (place + 1)) (O.slots outs.old) (O.slots outs.new)) }
+        ensures cut { IfErr result (StopsAt O.told self.old (filled (place + 1)) place (O.slots outs.old) (O.slots outs.new)) }
         ensures caused { IfErr result (CannotOpen (O.slots outs.old) (O.slots outs.new)) }
         ensures names { from_start self.new.names ≡ from_start self.old.names }
+        ensures owned { KeepsFiles self.old (O.slots outs.old) self.new (O.slots outs.new) }
     {
-        if place < self.opened {
+        if place < self.outputs.len() {
             return Ok(());
         }
         self.open_next(outs)
@@ -153,9 +154,13 @@ impl RoundFiles {
         requires named { IsTrue (has_next self.old.names) }
         ensures files { OnOk result (self.new ≡ with_opened (length (O.slots outs.old)) self.old) }
         ensures slots { OnOk result (O.slots outs.new ≡ O.slots outs.old ++ opened (next_name self.old.names) Mode.Fresh ∷ []) }
-        ensures fails { IfErr result (FailsToFollow (O.slots outs.old) (next_name self.old.names) (O.slots outs.new)) }
+        ensures fails { IfErr result (FailsToFollow self.old (O.slots outs.old) self.new (O.slots outs.new)) }
         ensures names { from_start self.new.names ≡ from_start self.old.names }
     {
+        match self.outputs.reserve(1) {
+            Ok(()) => {}
+            Err(AllocError) => return Err(Fault::Memory),
+        }
         let name = match self.names.next() {
             Ok(Some(name)) => name,
             Ok(None) => return Err(Fault::Suffixes),
@@ -165,15 +170,18 @@ impl RoundFiles {
             Ok(slot) => slot,
             Err(fault) => return Err(fault),
         };
-        self.first = first_of(self.opened, self.first, slot);
-        self.opened += 1;
+        put(&mut self.outputs, slot);
         Ok(())
     }
 }
 
-/// The first file's output, where one more was opened: it is the first one if none was.
-fn first_of(opened: usize, first: usize, slot: usize) -> usize
-    ensures { result ≡ (if opened == 0 then slot else first) }
+/// Puts an output behind the others, for which there is room.
+fn put(outputs: &mut Vec<usize>, slot: usize)
+    requires { vec_len outputs.old < vec_capacity outputs.old }
+    ensures { outputs.new.items ≡ outputs.old.items ++ slot ∷ [] }
 {
-    if opened == 0 { slot } else { first }
+    match outputs.push(slot) {
+        Ok(()) => {}
+        Err(_) => unreachable!(),
+    }
 }

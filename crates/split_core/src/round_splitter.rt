@@ -1,16 +1,16 @@
-ghost use Rattle.std.specs.Prelude.{◌≡◌, ℕ, ◌+◌, ◌%◌, ◌^◌, ◌<◌, ◌≤◌, List, [], ◌⊎◌, true, false, length, IfOk, IfErr, OnOk};
+ghost use Rattle.std.specs.Prelude.{◌≡◌, ℕ, ◌+◌, ◌%◌, ◌<◌, ◌≤◌, List, [], true, length, IfOk, IfErr, OnOk};
 ghost use Rattle.seg_core.specs.Line.{newlines};
-ghost use Rattle.ports_core.specs.Slot.{Slot, Rose};
+ghost use Rattle.ports_core.specs.Slot.{Slot};
 ghost use Rattle.ports_core.specs.Part.{OutputsAt, StoppedBetween, nothing};
-ghost use Rattle.split_core.specs.Split.{are_named, is_short, settled_by, whole_by};
 ghost use Rattle.split_core.specs.Dealt.{dealt_first, reached_by};
-ghost use Rattle.split_core.specs.Round.{AreReady, Holds, Ready, from_start, is_complete, means, opened_by, round_plan, settled, whole};
-ghost use Rattle.split_core.specs.RoundLaws.{counts, ends, grows, live, stays};
-ghost use Rattle.split_core.specs.Sharing.{Became, CannotOpen, IsOfFiles, StopsShort, added};
+ghost use Rattle.split_core.specs.Round.{AreReady, Holds, Owns, Ready, opened_by, round_plan, work};
+ghost use Rattle.split_core.specs.RoundLaws.{lawful};
+ghost use Rattle.split_core.specs.Sharing.{Became, CannotOpen, IsOfFiles, KeepsFiles, StopsShort, added};
+ghost use Rattle.split_core.specs.Split.{are_named, from_start, settled_by, split_work};
 
 use crate::deal::Deal;
 use crate::round_files::RoundFiles;
-use ports_core::{Engine, Fault, Names, Outs, fed_with};
+use ports_core::{Fault, Names, Outs, Stage};
 use std::alloc::{AllocError, Global};
 use std::marker::Model;
 
@@ -22,20 +22,18 @@ pub struct RoundSplitter {
     files: RoundFiles,
     /// Files are opened at their first byte, and not all at the start.
     elide: bool,
-    fed: u64,
-    is_over: bool,
 }
 
 impl Model for RoundSplitter {
-    ghost use Rattle.std.specs.Prelude.{◌≡◌, ◌<◌, ◌^◌, true, length};
+    ghost use Rattle.std.specs.Prelude.{◌≡◌, true, length};
     ghost use Rattle.split_core.specs.Split.{are_named};
     ghost use Rattle.split_core.specs.RoundState.{RoundState};
 
     ghost Value = { RoundState };
 
-    ghost view = { λ r. record { count = length r.deal.gathered; elide = r.elide; files = r.files; next = r.deal.next; fed = r.fed; is_over = r.is_over } };
+    ghost view = { λ r. record { count = length r.deal.gathered; elide = r.elide; files = r.files; next = r.deal.next } };
 
-    ghost invariant = { λ r. (r.fed < 2 ^ 63) × (are_named r.files.names (length r.deal.gathered) ≡ true) };
+    ghost invariant = { λ r. are_named r.files.names (length r.deal.gathered) ≡ true };
 }
 
 impl RoundSplitter {
@@ -56,12 +54,10 @@ impl RoundSplitter {
         requires fresh { names.drawn ≡ 0 }
         requires enough { are_named names count ≡ true }
         requires streams { 2 ≤ length (O.slots outs.old) }
-        ensures holds { IfOk result (λ engine. Holds engine []) }
-        ensures bound { IfOk result (λ engine. engine.fed < 2 ^ 63) }
-        ensures settles { IfOk result (λ engine. (x : List ℕ) → settled engine x ≡ settled_by (round_plan count elide names) x) }
-        ensures ends { IfOk result (λ engine. (x : List ℕ) → whole engine x ≡ whole_by (round_plan count elide names) x) }
-        ensures short { IfOk result (λ engine. (x : List ℕ) → is_complete engine x ≡ is_short (round_plan count elide names) x) }
-        ensures ready { IfOk result (λ engine. Ready engine (O.slots outs.new)) }
+        ensures holds { IfOk result (λ round. Holds round []) }
+        ensures does { IfOk result (λ round. work round ≡ split_work (round_plan count elide names)) }
+        ensures ready { IfOk result (λ round. Ready round (O.slots outs.new)) }
+        ensures owns { IfOk result (λ round. Owns round (length (O.slots outs.old)) (O.slots outs.new)) }
         ensures outputs { OnOk result ((before : List Slot) → OutputsAt O.told before nothing (O.slots outs.old) → OutputsAt O.told before (settled_by (round_plan count elide names) []) (O.slots outs.new)) }
         ensures cut { IfErr result (λ fault. (before : List Slot) → OutputsAt O.told before nothing (O.slots outs.old) → StoppedBetween O.told before nothing (settled_by (round_plan count elide names) []) fault (O.slots outs.new)) }
         ensures refused { IfErr result (CannotOpen (O.slots outs.old) (O.slots outs.new)) }
@@ -70,77 +66,45 @@ impl RoundSplitter {
             Ok(deal) => deal,
             Err(AllocError) => return Err(Fault::Memory),
         };
-        let mut files = RoundFiles::new(names);
+        let mut files = RoundFiles::new(alloc, names);
         match files.open_first(opened_at_start(count, elide), outs) {
             Ok(()) => {}
             Err(fault) => return Err(fault),
         }
-        Ok(RoundSplitter {
-            deal,
-            files,
-            elide,
-            fed: 0,
-            is_over: false,
-        })
+        Ok(RoundSplitter { deal, files, elide })
     }
 }
 
-impl Engine for RoundSplitter {
+impl Stage for RoundSplitter {
     ghost Holds = { Holds };
 
-    ghost settled = { settled };
+    ghost work = { work };
 
-    ghost whole = { whole };
+    ghost held = { λ round. 0 };
 
-    ghost is_complete = { is_complete };
-
-    ghost fed = { λ round. round.fed };
-
-    ghost is_over = { λ round. round.is_over };
-
-    ghost means = { means };
+    ghost may_lack = { λ round piece. true };
 
     ghost Ready = { Ready };
 
-    fn feed<O: Outs>(&mut self, piece: &[u8], outs: &mut O) -> Result<(), Fault> {
-        if self.is_over {
-            return Err(Fault::Failed);
-        }
-        let Some(fed) = fed_with(self.fed, piece.len()) else {
-            self.is_over = true;
-            return Err(Fault::TooLong);
-        };
-        self.fed = fed;
-        match pass(&mut self.deal, &mut self.files, piece, outs) {
-            Ok(()) => Ok(()),
-            Err(fault) => {
-                self.is_over = true;
-                Err(fault)
-            }
-        }
+    ghost Owns = { Owns };
+
+    fn pass<O: Outs>(&mut self, piece: &[u8], outs: &mut O) -> Result<(), Fault> {
+        deal_out(&mut self.deal, &mut self.files, piece, outs)
     }
 
-    fn close<O: Outs>(&mut self, outs: &mut O) -> Result<(), Fault> {
-        if self.is_over {
-            return Err(Fault::Failed);
-        }
-        self.is_over = true;
+    fn finish<O: Outs>(&mut self, outs: &mut O) -> Result<(), Fault> {
         self.files.close(outs)
     }
 
-    fn done(&self) -> bool {
+    fn clear<O: Outs>(&mut self, outs: &mut O) {
+        let _ = outs;
+    }
+
+    fn is_done(&self) -> bool {
         false
     }
 
-    ghost live = { live };
-
-    ghost counts = { counts };
-
-    ghost grows = { grows };
-
-    ghost ends = { ends };
-
-    ghost stays = { stays };
+    ghost lawful = { λ round. lawful round.count round.elide (from_start round.files.names) };
 }
 
 /// How many files are opened before any byte came in.
@@ -156,7 +120,7 @@ fn opened_at_start(count: u64, elide: bool) -> usize
 ///
 /// `Memory` where there is no room for the piece, and nothing of it is written, or for a name; `Write` where an output
 /// broke, `Open` where a file can't be opened.
-fn pass<O: Outs>(
+fn deal_out<O: Outs>(
     deal: &mut Deal,
     files: &mut RoundFiles,
     piece: &[u8],
@@ -170,6 +134,7 @@ fn pass<O: Outs>(
     ensures became { OnOk result (Became O.told files.old (λ these. added these (dealt_first (length deal.old.gathered) deal.old.next piece.now)) (reached_by (length deal.old.gathered) deal.old.next piece.now) (O.slots outs.old) files.new (O.slots outs.new)) }
     ensures cut { IfErr result (StopsShort O.told files.old (λ these. added these (dealt_first (length deal.old.gathered) deal.old.next piece.now)) (O.slots outs.old) (O.slots outs.new)) }
     ensures caused { IfErr result (IsOfFiles (O.slots outs.old) (O.slots outs.new)) }
+    ensures owned { KeepsFiles files.old (O.slots outs.old) files.new (O.slots outs.new) }
 {
     let reached = match deal.gather(piece) {
         Ok(reached) => reached,

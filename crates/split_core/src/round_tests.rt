@@ -1,10 +1,10 @@
 //! Lines dealt in turn: rows of the table, and the engine beside the plain program on each short text, cut into pieces in
 //! each way.
 ghost use Rattle.std.specs.Prelude.{◌≡◌, ◌<◌, ◌≤◌, false, length, IfOk, OnOk};
-ghost use Rattle.split_core.specs.Round.{Ready};
+ghost use Rattle.split_core.specs.Ways.{Ready};
 
 use crate::round_plain::plain;
-use crate::round_splitter::RoundSplitter;
+use crate::{Cut, Splitter};
 use ports_core::{Alphabet, Engine, Fault, MemOut, Names, Outs};
 use std::alloc::{AllocError, Global};
 use std::process::Abort;
@@ -226,31 +226,31 @@ fn has_name(outs: &MemOut, slot: usize) -> bool {
     }
 }
 
-fn start(alloc: Global, count: u64, elide: bool, outs: &mut MemOut) -> Result<RoundSplitter, Fault>
+fn start(alloc: Global, count: u64, elide: bool, outs: &mut MemOut) -> Result<Splitter, Fault>
     requires some { 0 < count }
     requires streams { 2 ≤ length outs.old }
-    ensures ready { IfOk result (λ engine. Ready engine outs.new) }
+    ensures ready { IfOk result (λ engine. Ready engine.stage outs.new) }
 {
     let names = Names::new(alloc, "x", Alphabet::Letters, 2, true)?;
-    RoundSplitter::open(alloc, count, names, elide, outs)
+    Splitter::open(alloc, Cut::Round(count), names, elide, outs)
 }
 
-fn feed(engine: &mut RoundSplitter, outs: &mut MemOut, piece: &[u8]) -> Result<(), Fault>
-    requires { Ready engine.old outs.old }
-    ensures { OnOk result (Ready engine.new outs.new) }
+fn feed(engine: &mut Splitter, outs: &mut MemOut, piece: &[u8]) -> Result<(), Fault>
+    requires { Ready engine.old.stage outs.old }
+    ensures { OnOk result (Ready engine.new.stage outs.new) }
 {
     engine.feed(piece, outs)
 }
 
 /// Feeds a text in pieces: one ends behind each byte whose bit in `cuts` is set.
 fn feed_in_pieces(
-    engine: &mut RoundSplitter,
+    engine: &mut Splitter,
     outs: &mut MemOut,
     text: &[u8],
     cuts: u32,
 ) -> Result<(), Fault>
-    requires { Ready engine.old outs.old }
-    ensures { OnOk result (Ready engine.new outs.new) }
+    requires { Ready engine.old.stage outs.old }
+    ensures { OnOk result (Ready engine.new.stage outs.new) }
 {
     let mut cuts = cuts;
     let mut start = 0;

@@ -1,26 +1,33 @@
 //! One engine for all ways to cut.
-ghost use Rattle.std.specs.Prelude.{◌≡◌, ◌^◌, ◌<◌, ◌≤◌, [], List, length, IfOk, IfErr, OnOk};
-ghost use Rattle.ports_core.specs.Slot.{Slot};
+ghost use Rattle.std.specs.Prelude.{◌≡◌, ◌^◌, ◌<◌, ◌≤◌, [], List, ℕ, false, length, IfOk, IfErr, OnOk};
+ghost use Rattle.ports_core.specs.Guard.{GuardState, HoldsIn};
 ghost use Rattle.ports_core.specs.Part.{OutputsAt, StoppedBetween, nothing};
+ghost use Rattle.ports_core.specs.Slot.{Slot};
 ghost use Rattle.split_core.specs.Sharing.{CannotOpen};
-ghost use Rattle.split_core.specs.Split.{settled_by};
-ghost use Rattle.split_core.specs.Splitter.{DoesPlan, HasNames, Holds, IsPositive, Ready, fed, is_complete, is_over, means, settled, waiting, whole};
-ghost use Rattle.split_core.specs.SplitterLaws.{counts, ends, grows, live, stays};
+ghost use Rattle.split_core.specs.Split.{settled_by, split_work, waiting};
+ghost use Rattle.split_core.specs.Splitter.{HasNames, IsPositive};
+ghost use Rattle.split_core.specs.Ways.{Holds, Owns, Ready, lawful, may_lack, work};
+ghost use Rattle.split_core.specs.declared.ways.Ways.{Ways};
 
-use crate::part_splitter::PartSplitter;
+use crate::parts::Parts;
 use crate::round_splitter::RoundSplitter;
+use crate::ways::Ways;
 use crate::{Cut, Limit};
-use ports_core::{Engine, Fault, Names, Outs};
+use ports_core::{Engine, Fault, Guarded, Names, Outs};
 use std::alloc::Global;
+use std::marker::Model;
 
 /// Cuts its input into files (POSIX.1-2017, XCU split; `-C` and `-n r/N` are GNU's). A file is opened with its first byte, and
 /// closed before the next is opened; where lines are dealt, all files are open at once.
 #[derive(Drop)]
-pub enum Splitter {
-    /// Parts that follow one another.
-    Parts(PartSplitter),
-    /// Lines dealt in turn.
-    Round(RoundSplitter),
+pub struct Splitter {
+    engine: Guarded<Ways>,
+}
+
+impl Model for Splitter {
+    ghost Value = { GuardState Ways };
+
+    ghost view = { λ s. s.engine };
 }
 
 impl Splitter {
@@ -41,10 +48,11 @@ impl Splitter {
         requires fresh { names.drawn ≡ 0 }
         requires enough { HasNames cut names }
         requires streams { 2 ≤ length (O.slots outs.old) }
-        ensures holds { IfOk result (λ engine. Holds engine []) }
-        ensures bound { IfOk result (λ engine. fed engine < 2 ^ 63) }
-        ensures does { IfOk result (DoesPlan (record { cut = cut; elide = elide; names = names })) }
-        ensures ready { IfOk result (λ engine. Ready engine (O.slots outs.new)) }
+        ensures holds { IfOk result (λ engine. HoldsIn Holds engine []) }
+        ensures bound { IfOk result (λ engine. engine.fed < 2 ^ 63) }
+        ensures does { IfOk result (λ engine. work engine.stage ≡ split_work (record { cut = cut; elide = elide; names = names })) }
+        ensures ready { IfOk result (λ engine. Ready engine.stage (O.slots outs.new)) }
+        ensures owns { IfOk result (λ engine. Owns engine.stage (length (O.slots outs.old)) (O.slots outs.new)) }
         ensures outputs { OnOk result ((before : List Slot) → OutputsAt O.told before nothing (O.slots outs.old) → OutputsAt O.told before (settled_by (record { cut = cut; elide = elide; names = names }) []) (O.slots outs.new)) }
         ensures cut { IfErr result (λ fault. (before : List Slot) → OutputsAt O.told before nothing (O.slots outs.old) → StoppedBetween O.told before nothing (settled_by (record { cut = cut; elide = elide; names = names }) []) fault (O.slots outs.new)) }
         ensures refused { IfErr result (CannotOpen (O.slots outs.old) (O.slots outs.new)) }
@@ -55,73 +63,69 @@ impl Splitter {
             Cut::LineBytes(most) => Limit::LineBytes(most),
             Cut::Round(count) => {
                 return match RoundSplitter::open(alloc, count, names, elide, outs) {
-                    Ok(engine) => Ok(Splitter::Round(engine)),
+                    Ok(round) => Ok(Splitter::new(Ways::Round(round))),
                     Err(fault) => Err(fault),
                 };
             }
         };
-        match PartSplitter::open(alloc, limit, names) {
-            Ok(engine) => Ok(Splitter::Parts(engine)),
+        match Parts::open(alloc, limit, names) {
+            Ok(parts) => Ok(Splitter::new(Ways::Parts(parts))),
             Err(fault) => Err(fault),
         }
     }
 
-    /// How many bytes wait, and so aren't out.
-    pub fn held(&self) -> u64
-        ensures { result ≡ length (waiting self.now) }
+    /// An engine that cuts in this way, and was fed nothing.
+    fn new(way: Ways) -> Splitter
+        ensures { result ≡ record { stage = way; fed = 0; is_over = false } }
     {
-        match self {
-            Splitter::Parts(engine) => engine.held(),
-            Splitter::Round(_) => 0,
+        Splitter {
+            engine: Guarded::new(way),
         }
+    }
+
+    /// How many bytes wait: those that came in and that no file has yet.
+    pub fn held(&self) -> u64
+        ensures { (x : List ℕ) → HoldsIn Holds self.now x → result ≡ length (waiting (work self.now.stage) x) }
+    {
+        self.engine.stage().held()
     }
 }
 
 impl Engine for Splitter {
-    ghost Holds = { Holds };
+    ghost Holds = { HoldsIn Holds };
 
-    ghost settled = { settled };
+    ghost work = { λ splitter. work splitter.stage };
 
-    ghost whole = { whole };
+    ghost fed = { λ splitter. splitter.fed };
 
-    ghost is_complete = { is_complete };
+    ghost is_over = { λ splitter. splitter.is_over };
 
-    ghost fed = { fed };
+    ghost may_lack = { λ splitter. may_lack splitter.stage };
 
-    ghost is_over = { is_over };
+    ghost Ready = { λ splitter. Ready splitter.stage };
 
-    ghost means = { means };
-
-    ghost Ready = { Ready };
+    ghost Owns = { λ splitter. Owns splitter.stage };
 
     fn feed<O: Outs>(&mut self, piece: &[u8], outs: &mut O) -> Result<(), Fault> {
-        match self {
-            Splitter::Parts(engine) => engine.feed(piece, outs),
-            Splitter::Round(engine) => engine.feed(piece, outs),
-        }
+        self.engine.feed(piece, outs)
     }
 
     fn close<O: Outs>(&mut self, outs: &mut O) -> Result<(), Fault> {
-        match self {
-            Splitter::Parts(engine) => engine.close(outs),
-            Splitter::Round(engine) => engine.close(outs),
-        }
+        self.engine.close(outs)
     }
 
+    fn abandon<O: Outs>(&mut self, outs: &mut O) {
+        self.engine.abandon(outs);
+    }
+
+    /// Always false: an input that needs more files than there are names is a fault.
     fn done(&self) -> bool {
-        match self {
-            Splitter::Parts(engine) => engine.done(),
-            Splitter::Round(engine) => engine.done(),
-        }
+        self.engine.done()
     }
 
-    ghost live = { live };
+    ghost live = { λ splitter x holds. holds.live };
 
-    ghost counts = { counts };
+    ghost counts = { λ splitter x holds. holds.count };
 
-    ghost grows = { grows };
-
-    ghost ends = { ends };
-
-    ghost stays = { stays };
+    ghost lawful = { λ splitter. lawful splitter.stage };
 }

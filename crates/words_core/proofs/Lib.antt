@@ -1,2 +1,4 @@
+pub mod ChoiceLemmas
 pub mod LimitLemmas
+pub mod OperandLemmas
 pub mod SpellingLemmas

@@ -1,6 +1,6 @@
--- Whatever words spell, the ways to split are within their limits, and files that lines are dealt to have names.
-use Rattle.std.proofs.Common.{◌≡◌, refl, ℕ, ◌+◌, ◌==◌, ◌≤◌, Bool, true, false, arith, rules, tests, List, [], ◌∷◌, ◌++◌, Option, Some, None, Result, Ok, Err, IfOk, subst, if◌then◌else◌}
-use Rattle.std.specs.Prelude.{⊤}
+-- Whatever words spell, sizes, counts of files and widths are within their limits, and files that lines are dealt to have names.
+use Rattle.std.proofs.Common.{◌≡◌, refl, sym, ℕ, ◌+◌, ◌==◌, ◌≤◌, Bool, true, false, arith, rules, tests, List, [], ◌∷◌, ◌++◌, Option, Some, None, Result, Ok, Err, IfOk, subst, if◌then◌else◌}
+use Rattle.std.specs.Prelude.{⊤, nat_lt}
 use Rattle.std.proofs.lemmas.Bool.Decides.{nat_tests}
 use Rattle.seg_core.specs.Count.{count_of, digits_of, is_number}
 use Rattle.seg_core.specs.declared.count.Count.{Count}
@@ -10,43 +10,47 @@ use Rattle.ports_core.specs.declared.fault.UsageKind.{UsageKind}
 use Rattle.ports_core.specs.declared.fault.UsageKind.TheVariants.{Zero}
 use Rattle.ports_core.specs.declared.alphabet.Alphabet.{Alphabet}
 use Rattle.ports_core.specs.declared.alphabet.Alphabet.TheVariants.{Letters, Digits, Hex}
+use Rattle.ports_core.specs.declared.tool.Tool.{Tool}
+use Rattle.ports_core.specs.declared.tool.Tool.TheVariants as tool
 use Rattle.ports_core.specs.Name.{name_count}
 use Rattle.split_core.specs.declared.cut.Cut.{Cut}
 use Rattle.split_core.specs.declared.cut.Cut.TheVariants as cut
-use Rattle.words_core.specs.declared.options.Choice.{Choice}
-use Rattle.words_core.specs.declared.options.Choice.TheVariants.{Bare, Valued}
-use Rattle.words_core.specs.declared.options.SizeUnit.{SizeUnit}
-use Rattle.words_core.specs.declared.options.SizeUnit.TheVariants.{Lines, Bytes, LineBytes}
-use Rattle.words_core.specs.declared.options.ValueKind.{ValueKind}
-use Rattle.words_core.specs.declared.options.ValueKind.TheVariants as kind
-use Rattle.words_core.specs.declared.item.Item.{Item}
-use Rattle.words_core.specs.declared.item.Item.TheVariants.{Chosen, Counted, Split, Width}
-use Rattle.words_core.specs.declared.split_words.Suffix.{Suffix}
-use Rattle.words_core.specs.declared.split_words.Files.{Files}
+use Rattle.words_core.specs.declared.table.Choice.{Choice}
+use Rattle.words_core.specs.declared.table.Choice.TheVariants as choice
+use Rattle.words_core.specs.declared.table.Kind.{Kind}
+use Rattle.words_core.specs.declared.table.Kind.TheVariants as kind
+use Rattle.words_core.specs.declared.table.Takes.{Takes}
+use Rattle.words_core.specs.declared.table.Takes.TheVariants as takes
 use Rattle.words_core.specs.declared.spelling.State.{State}
 use Rattle.words_core.specs.declared.spelling.State.TheVariants.{First, Reading, Awaiting, OnlyOperands}
-use Rattle.words_core.specs.Options.{beside}
-use Rattle.words_core.specs.Item.{not_zero, some, some_amount, up_to, counted, size_in, round_in, cut_by, as_item, item_of}
-use Rattle.words_core.specs.Spelling.{Meaning, before, given, valued, attached, lettered, cluster, value_in, named, dashed, mixed, foremost, meaning_of, behind, onward, spelled, operands_of}
-use Rattle.words_core.specs.SplitAsked.{SplitAsked}
-use Rattle.words_core.specs.SplitWords.{AreNamed, IsInLimits, names_all, least_width, way_of, only_way, last_alphabet, last_width, suffix_for, files_at, then_check, asked_of, split_asked}
+use Rattle.words_core.specs.declared.split_words.SplitOptions.{SplitOptions}
+use Rattle.words_core.specs.declared.split_words.Suffix.{Suffix}
+use Rattle.words_core.specs.declared.settings.Settings.{Settings}
+use Rattle.words_core.specs.Table.{OptionRow, ToolRow, option_named}
+use Rattle.words_core.specs.Value.{Meant, Nothing, Counted, Size, Files, Width, Text, not_zero, some, some_amount, up_to, counted, size_in, round_in, as_value, value_in}
+use Rattle.words_core.specs.Given.{Given, GivenOption, GivenOperand, bare, joined}
+use Rattle.words_core.specs.Spelling.{Meaning, Reads, before, said, valued, attached, by_letter, lettered, option_lettered, cluster, after_equals, by_name, named, dashed, mixed, foremost, meaning_of, behind, onward, spelled, start_of, given_by}
+use Rattle.words_core.specs.SplitWords.{AreNamed, CanSplit, IsInLimits, IsWidth, names_all, least_width, free, dealt, way_of, sized, way_in, second_way, with_width, split_by, split_after, split_options, no_options, suffix_for, files_in, then_check, asked_of, split_asked}
+use Rattle.words_core.specs.Words.{CanRun, settings_for}
 
--- an item, and items, within their limits
+-- a value, and all of them, within their limits
 
-abbrev pub IsSound : Item → Type 0
-IsSound (Split cut option) = IsInLimits cut
-IsSound item = ⊤
+abbrev pub IsSound : Meant → Type 0
+IsSound (Size size) = 1 ≤ size
+IsSound (Files files) = (1 ≤ files) × (files ≤ 65535)
+IsSound (Width width) = width ≤ 255
+IsSound value = ⊤
 
-abbrev pub AreSound : List Item → Type 0
+abbrev pub AreSound : List GivenOption → Type 0
 AreSound [] = ⊤
-AreSound (item ∷ items) = IsSound item × AreSound items
+AreSound (option ∷ options) = IsSound option.value × AreSound options
 
 abbrev pub MeansSound : Result Meaning Fault → Type 0
-MeansSound meant = IfOk meant (λ meaning. AreSound meaning.items)
+MeansSound meant = IfOk meant (λ meaning. AreSound meaning.given.options)
 
-sound-append : (front items : List Item) → AreSound front → AreSound items → AreSound (front ++ items)
-sound-append [] items first rest = rest
-sound-append (item ∷ front) items first rest = (first.0, sound-append front items first.1 rest)
+sound-append : (front options : List GivenOption) → AreSound front → AreSound options → AreSound (front ++ options)
+sound-append [] options first rest = rest
+sound-append (option ∷ front) options first rest = (first.0, sound-append front options first.1 rest)
 
 either : {A : Type 0} (P : A → Type 0) (test : Bool) (one other : A) → P one → P other → P (if test then one else other)
 either P true one other first second = first
@@ -84,117 +88,154 @@ size_in-limits : (text : List ℕ) → IfOk (size_in text) (λ n. (1 ≤ n) × �
 size_in-limits [] = some_amount-limits (counted (count_of []))
 size_in-limits (byte ∷ text) = either (λ r. IfOk r (λ n. (1 ≤ n) × ⊤)) (byte == 45) _ _ tt (some_amount-limits (counted (count_of (byte ∷ text))))
 
-cut_by-limits : (unit : SizeUnit) (size : ℕ) → 1 ≤ size → IsInLimits (cut_by unit size)
-cut_by-limits Lines size some = some
-cut_by-limits Bytes size some = some
-cut_by-limits LineBytes size some = some
-
-as_item-sound : {A : Type 0} (P : A → Type 0) (make : A → Item) (value : Result A UsageKind) → IfOk value P → ((v : A) → P v → IsSound (make v)) → IfOk (as_item make value) IsSound
-as_item-sound P make (Ok value) is sound = sound value is
-as_item-sound P make (Err fault) is sound = tt
+as_value-sound : {A : Type 0} (P : A → Type 0) (make : A → Meant) (value : Result A UsageKind) → IfOk value P → ((v : A) → P v → IsSound (make v)) → IfOk (as_value make value) IsSound
+as_value-sound P make (Ok value) is sound = sound value is
+as_value-sound P make (Err fault) is sound = tt
 
 anything : {A : Type 0} (value : Result A UsageKind) → IfOk value (λ _. ⊤)
 anything (Ok value) = tt
 anything (Err fault) = tt
 
-item-sound : (kind : ValueKind) (option : ℕ) (text : List ℕ) → IfOk (item_of kind option text) IsSound
-item-sound (kind.Amount unit) option text = as_item-sound (λ _. ⊤) (λ count. Counted unit count) (counted (count_of text)) (anything (counted (count_of text))) (λ count is. tt)
-item-sound (kind.Size unit) option text = as_item-sound (λ n. (1 ≤ n) × ⊤) (λ size. Split (cut_by unit size) option) (size_in text) (size_in-limits text) (λ size is. cut_by-limits unit size is.0)
-item-sound kind.Round option text = as_item-sound (λ n. (1 ≤ n) × (n ≤ 65535)) (λ files. Split (cut.Round files) option) (round_in text) (round_in-limits text) (λ files is. is)
-item-sound kind.Width option text = as_item-sound (λ _. ⊤) (λ width. Width width) (up_to 255 (digits_of text)) (anything (up_to 255 (digits_of text))) (λ width is. tt)
+value-sound : (kind : Kind) (text : List ℕ) → IfOk (value_in kind text) IsSound
+value-sound kind.Count text = as_value-sound (λ _. ⊤) (λ count. Counted count) (counted (count_of text)) (anything (counted (count_of text))) (λ count is. tt)
+value-sound kind.Size text = as_value-sound (λ n. (1 ≤ n) × ⊤) (λ size. Size size) (size_in text) (size_in-limits text) (λ size is. is.0)
+value-sound kind.Round text = as_value-sound (λ n. (1 ≤ n) × (n ≤ 65535)) (λ files. Files files) (round_in text) (round_in-limits text) (λ files is. is)
+value-sound kind.Width text = as_value-sound (λ n. n ≤ 255) (λ width. Width width) (up_to 255 (digits_of text)) (up_to-limit 255 (digits_of text)) (λ width is. is)
+value-sound kind.Text text = tt
 
 -- one word
 
-given-sound : (place : ℕ) (item : Result Item UsageKind) → IfOk item IsSound → MeansSound (given place item)
-given-sound place (Ok item) is = (is, tt)
-given-sound place (Err fault) is = tt
+said-sound : (choice : Choice) (option place : ℕ) (value : Result Meant UsageKind) → IfOk value IsSound → MeansSound (said choice option place value)
+said-sound choice option place (Ok value) is = (is, tt)
+said-sound choice option place (Err fault) is = tt
 
-valued-sound : (kind : ValueKind) (option place : ℕ) (text : List ℕ) → MeansSound (valued kind option place text)
-valued-sound kind option place text = given-sound place (item_of kind option text) (item-sound kind option text)
+valued-sound : (choice : Choice) (kind : Kind) (option place : ℕ) (text : List ℕ) → MeansSound (valued choice kind option place text)
+valued-sound choice kind option place text = said-sound choice option place (value_in kind text) (value-sound kind text)
 
-before-sound : (items : List Item) (meant : Result Meaning Fault) → AreSound items → MeansSound meant → MeansSound (before items meant)
-before-sound items (Ok meaning) first rest = sound-append items meaning.items first rest
-before-sound items (Err fault) first rest = tt
+before-sound : (front : Given) (meant : Result Meaning Fault) → AreSound front.options → MeansSound meant → MeansSound (before front meant)
+before-sound front (Ok meaning) first rest = sound-append front.options meaning.given.options first rest
+before-sound front (Err fault) first rest = tt
 
-attached-sound : (kind : ValueKind) (place : ℕ) (text : List ℕ) → MeansSound (attached kind place text)
-attached-sound kind place [] = tt
-attached-sound kind place (byte ∷ text) = valued-sound kind place place (byte ∷ text)
+attached-sound : (choice : Choice) (kind : Kind) (place : ℕ) (text : List ℕ) → MeansSound (attached choice kind place text)
+attached-sound choice kind place [] = tt
+attached-sound choice kind place (byte ∷ text) = valued-sound choice kind place place (byte ∷ text)
 
-lettered-sound : (place : ℕ) (rest : List ℕ) (others : Result Meaning Fault) (choice : Option Choice) → MeansSound others → MeansSound (lettered place rest others choice)
+by_letter-sound : (place : ℕ) (rest : List ℕ) (others : Result Meaning Fault) (choice : Choice) (takes : Takes) → MeansSound others → MeansSound (by_letter place rest others choice takes)
+by_letter-sound place rest others choice takes.Nothing is = before-sound (bare choice place) others (tt, tt) is
+by_letter-sound place rest others choice (takes.Value kind) is = attached-sound choice kind place rest
+by_letter-sound place rest others choice (takes.Optional kind) is = before-sound (bare choice place) others (tt, tt) is
+
+lettered-sound : (place : ℕ) (rest : List ℕ) (others : Result Meaning Fault) (option : Option (Choice × Takes)) → MeansSound others → MeansSound (lettered place rest others option)
 lettered-sound place rest others None is = tt
-lettered-sound place rest others (Some (Bare flag)) is = before-sound (Chosen flag ∷ []) others (tt, tt) is
-lettered-sound place rest others (Some (Valued kind)) is = attached-sound kind place rest
+lettered-sound place rest others (Some option) is = by_letter-sound place rest others option.0 option.1 is
 
-cluster-sound : (rows : List (List ℕ × Choice)) (place : ℕ) (letters : List ℕ) → MeansSound (cluster rows place letters)
+cluster-sound : (rows : List OptionRow) (place : ℕ) (letters : List ℕ) → MeansSound (cluster rows place letters)
 cluster-sound rows place [] = tt
-cluster-sound rows place (letter ∷ rest) = lettered-sound place rest (cluster rows place rest) (beside rows (45 ∷ letter ∷ [])) (cluster-sound rows place rest)
+cluster-sound rows place (letter ∷ rest) = lettered-sound place rest (cluster rows place rest) (option_lettered rows letter) (cluster-sound rows place rest)
 
-named-sound : (place : ℕ) (value : Option (List ℕ)) (choice : Option Choice) → MeansSound (named place value choice)
+by_name-sound : (place : ℕ) (choice : Choice) (takes : Takes) (value : Option (List ℕ)) → MeansSound (by_name place choice takes value)
+by_name-sound place choice takes.Nothing None = (tt, tt)
+by_name-sound place choice takes.Nothing (Some text) = tt
+by_name-sound place choice (takes.Value kind) None = tt
+by_name-sound place choice (takes.Value kind) (Some text) = valued-sound choice kind place place text
+by_name-sound place choice (takes.Optional kind) None = (tt, tt)
+by_name-sound place choice (takes.Optional kind) (Some text) = valued-sound choice kind place place text
+
+named-sound : (place : ℕ) (value : Option (List ℕ)) (option : Option (Choice × Takes)) → MeansSound (named place value option)
 named-sound place value None = tt
-named-sound place None (Some (Bare flag)) = (tt, tt)
-named-sound place (Some text) (Some (Bare flag)) = tt
-named-sound place None (Some (Valued kind)) = tt
-named-sound place (Some text) (Some (Valued kind)) = valued-sound kind place place text
+named-sound place value (Some option) = by_name-sound place option.0 option.1 value
 
-dashed-sound : (rows : List (List ℕ × Choice)) (place : ℕ) (rest : List ℕ) → MeansSound (dashed rows place rest)
+dashed-sound : (rows : List OptionRow) (place : ℕ) (rest : List ℕ) → MeansSound (dashed rows place rest)
 dashed-sound rows place [] = tt
-dashed-sound rows place (byte ∷ rest) = named-sound place (value_in (45 ∷ 45 ∷ byte ∷ rest)) _
+dashed-sound rows place (byte ∷ rest) = named-sound place (after_equals (45 ∷ 45 ∷ byte ∷ rest)) _
 
-mixed-sound : (rows : List (List ℕ × Choice)) (place : ℕ) (word : List ℕ) → MeansSound (mixed rows place word)
-mixed-sound rows place [] = (tt, tt)
-mixed-sound rows place (byte ∷ []) = (tt, tt)
+mixed-sound : (rows : List OptionRow) (place : ℕ) (word : List ℕ) → MeansSound (mixed rows place word)
+mixed-sound rows place [] = tt
+mixed-sound rows place (byte ∷ []) = tt
 mixed-sound rows place (byte ∷ next ∷ rest) =
-    either MeansSound (byte == 45) _ _ (either MeansSound (next == 45) _ _ (dashed-sound rows place rest) (cluster-sound rows place (next ∷ rest))) (tt, tt)
+    either MeansSound (byte == 45) _ _ (either MeansSound (next == 45) _ _ (dashed-sound rows place rest) (cluster-sound rows place (next ∷ rest))) tt
 
-foremost-sound : (rows : List (List ℕ × Choice)) (kind : ValueKind) (place : ℕ) (word : List ℕ) → MeansSound (foremost rows kind place word)
-foremost-sound rows kind place [] = (tt, tt)
-foremost-sound rows kind place (byte ∷ text) =
-    either MeansSound (byte == 45) _ _ (either MeansSound (is_number text) _ _ (valued-sound kind place place text) (mixed-sound rows place (byte ∷ text))) (mixed-sound rows place (byte ∷ text))
+foremost-sound : (rows : List OptionRow) (choice : Choice) (kind : Kind) (place : ℕ) (word : List ℕ) → MeansSound (foremost rows choice kind place word)
+foremost-sound rows choice kind place [] = tt
+foremost-sound rows choice kind place (byte ∷ text) =
+    either MeansSound (byte == 45) _ _ (either MeansSound (is_number text) _ _ (valued-sound choice kind place place text) (mixed-sound rows place (byte ∷ text))) (mixed-sound rows place (byte ∷ text))
 
-meaning-sound : (rows : List (List ℕ × Choice)) (state : State) (place : ℕ) (word : List ℕ) → MeansSound (meaning_of rows state place word)
-meaning-sound rows (First kind) place word = foremost-sound rows kind place word
+meaning-sound : (rows : List OptionRow) (state : State) (place : ℕ) (word : List ℕ) → MeansSound (meaning_of rows state place word)
+meaning-sound rows (First choice kind) place word = foremost-sound rows choice kind place word
 meaning-sound rows Reading place word = mixed-sound rows place word
-meaning-sound rows (Awaiting kind option) place word = valued-sound kind option place word
-meaning-sound rows OnlyOperands place word = (tt, tt)
+meaning-sound rows (Awaiting choice kind option) place word = valued-sound choice kind option place word
+meaning-sound rows OnlyOperands place word = tt
 
 -- all words
 
-behind-sound : (items : List Item) (rest : Result (List Item) Fault) → AreSound items → IfOk rest AreSound → IfOk (behind items rest) AreSound
-behind-sound items (Ok more) first second = sound-append items more first second
-behind-sound items (Err fault) first second = tt
+abbrev GivesSound : Result Given Fault → Type 0
+GivesSound given = IfOk given (λ given. AreSound given.options)
 
-onward-sound : (rest : State → Result (List Item) Fault) (meant : Result Meaning Fault) → MeansSound meant → ((next : State) → IfOk (rest next) AreSound) → IfOk (onward rest meant) AreSound
-onward-sound rest (Ok meaning) is more = behind-sound meaning.items (rest meaning.next) is (more meaning.next)
+behind-sound : (front : Given) (rest : Result Given Fault) → AreSound front.options → GivesSound rest → GivesSound (behind front rest)
+behind-sound front (Ok more) first second = sound-append front.options more.options first second
+behind-sound front (Err fault) first second = tt
+
+onward-sound : (rest : State → Result Given Fault) (meant : Result Meaning Fault) → MeansSound meant → ((next : State) → GivesSound (rest next)) → GivesSound (onward rest meant)
+onward-sound rest (Ok meaning) is more = behind-sound meaning.given (rest meaning.next) is (more meaning.next)
 onward-sound rest (Err fault) is more = tt
 
-spelled-sound : (rows : List (List ℕ × Choice)) (words : List (List ℕ)) (place : ℕ) (state : State) → IfOk (spelled rows words place state) AreSound
-spelled-sound rows [] place (First kind) = tt
+spelled-sound : (rows : List OptionRow) (words : List (List ℕ)) (place : ℕ) (state : State) → GivesSound (spelled rows words place state)
+spelled-sound rows [] place (First choice kind) = tt
 spelled-sound rows [] place Reading = tt
-spelled-sound rows [] place (Awaiting kind option) = tt
+spelled-sound rows [] place (Awaiting choice kind option) = tt
 spelled-sound rows [] place OnlyOperands = tt
 spelled-sound rows (word ∷ words) place state = onward-sound (spelled rows words (place + 1)) (meaning_of rows state place word) (meaning-sound rows state place word) (λ next. spelled-sound rows words (place + 1) next)
 
--- the line as a whole
+-- what the options of `split` ask for
 
-only_way-limits : (first : Option Cut) (items : List Item) → IsInLimits (way_of first) → AreSound items → IfOk (only_way first items) IsInLimits
-only_way-limits first [] is sound = is
-only_way-limits None (Split cut option ∷ items) is sound = only_way-limits (Some cut) items sound.0 sound.1
-only_way-limits (Some first) (Split cut option ∷ items) is sound = tt
-only_way-limits first (item ∷ items) is sound = only_way-limits first items is sound.1
+abbrev IsAskedSoundly : SplitOptions → Type 0
+IsAskedSoundly asked = IsInLimits (way_of asked.cut) × (asked.width ≤ 255)
+
+sized-limits : (choice : Choice) (size : ℕ) → 1 ≤ size → IsInLimits (sized choice size)
+sized-limits choice.Bytes size some = some
+sized-limits choice.LineBytes size some = some
+sized-limits choice size some = some
+
+way_in-limits : (choice : Choice) (value : Meant) → IsSound value → IsInLimits (way_in choice value)
+way_in-limits choice (Size size) is = sized-limits choice size is
+way_in-limits choice (Files files) is = is
+way_in-limits choice Nothing is = omega arith
+way_in-limits choice (Counted count) is = omega arith
+way_in-limits choice (Width width) is = omega arith
+way_in-limits choice (Text text) is = omega arith
+
+second_way-sound : (asked : SplitOptions) (cut : Cut) (word : ℕ) (first : Option Cut) → IsAskedSoundly asked → IsInLimits cut → IfOk (second_way asked cut word first) IsAskedSoundly
+second_way-sound asked cut word None sound is = (is, sound.1)
+second_way-sound asked cut word (Some first) sound is = tt
+
+with_width-sound : (asked : SplitOptions) (value : Meant) → IsAskedSoundly asked → IsSound value → IsAskedSoundly (with_width asked value)
+with_width-sound asked (Width width) sound is = (sound.0, is)
+with_width-sound asked Nothing sound is = sound
+with_width-sound asked (Counted count) sound is = sound
+with_width-sound asked (Size size) sound is = sound
+with_width-sound asked (Files files) sound is = sound
+with_width-sound asked (Text text) sound is = sound
+
+split_by-sound : (asked : SplitOptions) (choice : Choice) (value : Meant) (word : ℕ) → IsAskedSoundly asked → IsSound value → IfOk (split_by asked choice value word) IsAskedSoundly
+split_by-sound asked choice.Lines value word sound is = second_way-sound asked (way_in choice.Lines value) word asked.cut sound (way_in-limits choice.Lines value is)
+split_by-sound asked choice.Bytes value word sound is = second_way-sound asked (way_in choice.Bytes value) word asked.cut sound (way_in-limits choice.Bytes value is)
+split_by-sound asked choice.LineBytes value word sound is = second_way-sound asked (way_in choice.LineBytes value) word asked.cut sound (way_in-limits choice.LineBytes value is)
+split_by-sound asked choice.Files value word sound is = second_way-sound asked (way_in choice.Files value) word asked.cut sound (way_in-limits choice.Files value is)
+split_by-sound asked choice.SuffixLength value word sound is = with_width-sound asked value sound is
+split_by-sound asked choice.NumericSuffixes value word sound is = sound
+split_by-sound asked choice.HexSuffixes value word sound is = sound
+split_by-sound asked choice.ElideEmptyFiles value word sound is = sound
+split_by-sound asked choice.Quiet value word sound is = sound
+split_by-sound asked choice.Verbose value word sound is = sound
 
 then_check-kept : {A B : Type 0} (P : A → Type 0) (Q : B → Type 0) (first : Result A Fault) (next : A → Result B Fault) → IfOk first P → ((value : A) → P value → IfOk (next value) Q) → IfOk (then_check first next) Q
 then_check-kept P Q (Ok value) next is goes = goes value is
 then_check-kept P Q (Err fault) next is goes = tt
 
-made-limits : (items : List Item) (cut : Cut) (suffix : Result Suffix Fault) (files : Result Files Fault) → IsInLimits cut
-    → IfOk (then_check suffix (λ s. then_check files (λ f. Ok (asked_of items cut s f)))) (λ asked. IsInLimits asked.cut)
-made-limits items cut (Ok suffix) (Ok files) is = is
-made-limits items cut (Ok suffix) (Err fault) is = tt
-made-limits items cut (Err fault) files is = tt
-
-pub asked-limits : (items : List Item) → AreSound items → IfOk (split_asked items) (λ asked. IsInLimits asked.cut)
-asked-limits items sound = then_check-kept IsInLimits (λ asked. IsInLimits asked.cut) (only_way None items) _ (only_way-limits None items (omega arith) sound) (λ cut is.
-    made-limits items cut (suffix_for cut (last_alphabet Letters items) (last_width 0 items)) (files_at (operands_of items)) is)
+split_options-sound : (options : List GivenOption) (asked : SplitOptions) → IsAskedSoundly asked → AreSound options → IfOk (split_options options asked) IsAskedSoundly
+split_options-sound [] asked sound are = sound
+split_options-sound (option ∷ options) asked sound are =
+    then_check-kept IsAskedSoundly IsAskedSoundly (split_after asked option) (split_options options) (split_by-sound asked option.choice option.value option.word sound are.0) (λ next is. split_options-sound options next is are.1)
 
 -- the files that lines are dealt to
 
@@ -225,20 +266,68 @@ suffix-named (cut.Round files) alphabet width is =
     let P : Result Suffix Fault → Type 0 = λ r. IfOk r (λ suffix. files ≤ name_count alphabet suffix.width) in
     either P (width == 0) _ _ (least-enough alphabet files is.1) (where_true P (names_all alphabet files width) _ _ (enough alphabet files width) tt)
 
-made-named : (items : List Item) (cut : Cut) (suffix : Result Suffix Fault) (files : Result Files Fault) → IfOk suffix (λ s. AreNamed cut (last_alphabet Letters items) s.width)
-    → IfOk (then_check suffix (λ s. then_check files (λ f. Ok (asked_of items cut s f)))) (λ asked. AreNamed asked.cut asked.alphabet asked.width)
-made-named items cut (Ok suffix) (Ok files) is = is
-made-named items cut (Ok suffix) (Err fault) is = tt
-made-named items cut (Err fault) files is = tt
+-- the width of suffixes
 
-pub asked-named : (items : List Item) → AreSound items → IfOk (split_asked items) (λ asked. AreNamed asked.cut asked.alphabet asked.width)
-asked-named items sound = then_check-kept IsInLimits (λ asked. AreNamed asked.cut asked.alphabet asked.width) (only_way None items) _ (only_way-limits None items (omega arith) sound) (λ cut is.
-    made-named items cut (suffix_for cut (last_alphabet Letters items) (last_width 0 items)) (files_at (operands_of items)) (suffix-named cut (last_alphabet Letters items) (last_width 0 items) is))
+few : (number : ℕ) → 1 ≤ number → number ≤ 255 → IsWidth number
+few number some most = (some, most)
 
--- what is so of all that sound items ask for is so of what was read of words
-pub read-sound : (Q : SplitAsked → Type 0) → ((items : List Item) → AreSound items → IfOk (split_asked items) Q)
-    → (rows : List (List ℕ × Choice)) (words : List (List ℕ)) (place : ℕ) (state : State) (items : List Item) (result : Result SplitAsked Fault)
-    → spelled rows words place state ≡ Ok items → IfOk result (λ asked. split_asked items ≡ Ok asked) → IfOk result Q
-read-sound Q always rows words place state items (Ok asked) spells is =
-    subst (λ r. IfOk r Q) is (always items (subst (λ r. IfOk r AreSound) spells (spelled-sound rows words place state)))
-read-sound Q always rows words place state items (Err fault) spells is = tt
+least-few : (alphabet : Alphabet) (files : ℕ) → IsWidth (least_width alphabet files)
+least-few alphabet files =
+    either IsWidth (names_all alphabet files 2) _ _ (few 2 (omega arith) (omega arith))
+    (either IsWidth (names_all alphabet files 3) _ _ (few 3 (omega arith) (omega arith))
+    (either IsWidth (names_all alphabet files 4) _ _ (few 4 (omega arith) (omega arith)) (few 5 (omega arith) (omega arith))))
+
+unless_none : (P : Suffix → Type 0) (width : ℕ) (test : Bool) (one other : Suffix) → (width == 0) ≡ test → P one → (1 ≤ width → P other) → P (if test then one else other)
+unless_none P width true one other is first second = first
+unless_none P width false one other is first second = second (grind (arith, nat_tests))
+
+free-width : (width : ℕ) → width ≤ 255 → IsWidth (free width).width
+free-width width most = unless_none (λ suffix. IsWidth suffix.width) width (width == 0) _ _ refl (few 2 (omega arith) (omega arith)) (λ some. few width some most)
+
+unless_no_width : (P : Result Suffix Fault → Type 0) (width : ℕ) (test : Bool) (one other : Result Suffix Fault) → (width == 0) ≡ test → P one → (1 ≤ width → P other) → P (if test then one else other)
+unless_no_width P width true one other is first second = first
+unless_no_width P width false one other is first second = second (grind (arith, nat_tests))
+
+dealt-width : (alphabet : Alphabet) (files width : ℕ) → width ≤ 255 → IfOk (dealt alphabet files width) (λ suffix. IsWidth suffix.width)
+dealt-width alphabet files width most =
+    let P : Result Suffix Fault → Type 0 = λ r. IfOk r (λ suffix. IsWidth suffix.width) in
+    unless_no_width P width (width == 0) _ _ refl (least-few alphabet files) (λ some. either P (names_all alphabet files width) _ _ (few width some most) tt)
+
+suffix-width : (cut : Cut) (alphabet : Alphabet) (width : ℕ) → width ≤ 255 → IfOk (suffix_for cut alphabet width) (λ suffix. IsWidth suffix.width)
+suffix-width (cut.Lines size) alphabet width most = free-width width most
+suffix-width (cut.Bytes size) alphabet width most = free-width width most
+suffix-width (cut.LineBytes size) alphabet width most = free-width width most
+suffix-width (cut.Round files) alphabet width most = dealt-width alphabet files width most
+
+-- the line as a whole
+
+both : {A : Type 0} (P Q : A → Type 0) (result : Result A Fault) → IfOk result P → IfOk result Q → IfOk result (λ value. P value × Q value)
+both P Q (Ok value) one other = (one, other)
+both P Q (Err fault) one other = tt
+
+all_files : (files : Result (List ℕ × List ℕ) Fault) → IfOk files (λ _. ⊤)
+all_files (Ok files) = tt
+all_files (Err fault) = tt
+
+asked-can : (given : Given) → AreSound given.options → IfOk (split_asked given) CanSplit
+asked-can given sound =
+    then_check-kept IsAskedSoundly CanSplit (split_options given.options no_options) _ (split_options-sound given.options no_options (omega arith, omega arith) sound) (λ asked is.
+    then_check-kept (λ suffix. AreNamed (way_of asked.cut) asked.alphabet suffix.width × IsWidth suffix.width) CanSplit (suffix_for (way_of asked.cut) asked.alphabet asked.width) _
+    (both (λ suffix. AreNamed (way_of asked.cut) asked.alphabet suffix.width) (λ suffix. IsWidth suffix.width) (suffix_for (way_of asked.cut) asked.alphabet asked.width)
+    (suffix-named (way_of asked.cut) asked.alphabet asked.width is.0) (suffix-width (way_of asked.cut) asked.alphabet asked.width is.1)) (λ suffix those.
+    then_check-kept (λ _. ⊤) CanSplit (files_in given.operands) _ (all_files (files_in given.operands)) (λ files _.
+    record { cut = is.0; width = those.1; named = those.0 })))
+
+settled-can : (which : Tool) (given : Given) → AreSound given.options → IfOk (settings_for which given) CanRun
+settled-can tool.Head given sound = tt
+settled-can tool.Tail given sound = tt
+settled-can tool.Split given sound = then_check-kept CanSplit CanRun (split_asked given) _ (asked-can given sound) (λ asked is. is)
+settled-can tool.Csplit given sound = tt
+settled-can tool.Tee given sound = tt
+settled-can tool.Cutters given sound = tt
+
+-- what was read of words can be done
+pub read-can : (row : ToolRow) (words : List (List ℕ)) (given : Given) (which : Tool) (result : Result Settings Fault) → given_by row words ≡ Ok given → Reads (settings_for which given) result → IfOk result CanRun
+read-can row words given which (Ok settings) gives is =
+    subst (λ r. IfOk r CanRun) is (settled-can which given (subst GivesSound gives (spelled-sound row.options words 1 (start_of row.number))))
+read-can row words given which (Err fault) gives is = tt

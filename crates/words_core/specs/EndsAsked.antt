@@ -8,5 +8,5 @@ pub record EndsAsked : Type 0 where
   pub unit : Counted
   pub count : Count
   pub headers : Headers
-  -- the places of the operands among the words
-  pub operands : List ℕ
+  -- the names of the inputs
+  pub names : List (List ℕ)

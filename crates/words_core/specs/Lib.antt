@@ -1,7 +1,10 @@
 pub mod EndsAsked
-pub mod Item
-pub mod Options
+pub mod EndsWords
+pub mod Given
+pub mod Laws
 pub mod Spelling
 pub mod SplitAsked
 pub mod SplitWords
+pub mod Table
+pub mod Value
 pub mod Words

@@ -1,149 +1,160 @@
--- What the words behind a tool's name spell: options with their values, and operands. What a word means depends on what
--- the words before it left. 45 is a hyphen, 61 `=`.
-use Rattle.std.specs.Prelude.{◌≡◌, ℕ, ◌+◌, ◌==◌, Bool, List, [], ◌∷◌, ◌++◌, length, ◌⊎◌, Option, Some, None, Result, Ok, Err, if◌then◌else◌}
+-- What the words after a tool's name spell: options with their values, and operands. What a word means depends on what the words
+-- before it left. 45 is a hyphen, 61 `=`.
+use Rattle.std.specs.Prelude.{◌≡◌, ℕ, ◌+◌, ◌==◌, nat_lt, Bool, List, [], ◌∷◌, length, ◌⊎◌, Option, Some, None, Result, Ok, Err, if◌then◌else◌}
 use Rattle.std.specs.List.{before_first, after_first, position_or_len}
 use Rattle.seg_core.specs.Count.{is_number}
 use Rattle.ports_core.specs.declared.fault.Fault.{Fault}
 use Rattle.ports_core.specs.declared.fault.Fault.TheVariants.{Usage, Memory}
 use Rattle.ports_core.specs.declared.fault.UsageKind.{UsageKind}
 use Rattle.ports_core.specs.declared.fault.UsageKind.TheVariants.{UnknownOption, MissingValue, UnexpectedValue}
-use Rattle.words_core.specs.declared.options.Choice.{Choice}
-use Rattle.words_core.specs.declared.options.Choice.TheVariants.{Bare, Valued}
-use Rattle.words_core.specs.declared.options.Flag.{Flag}
-use Rattle.words_core.specs.declared.options.ValueKind.{ValueKind}
-use Rattle.words_core.specs.declared.item.Item.{Item}
-use Rattle.words_core.specs.declared.item.Item.TheVariants.{Chosen, Operand}
+use Rattle.words_core.specs.declared.table.Choice.{Choice}
+use Rattle.words_core.specs.declared.table.Kind.{Kind}
+use Rattle.words_core.specs.declared.table.Takes.{Takes}
+use Rattle.words_core.specs.declared.table.Takes.TheVariants as takes
 use Rattle.words_core.specs.declared.spelling.State.{State}
 use Rattle.words_core.specs.declared.spelling.State.TheVariants.{First, Reading, Awaiting, OnlyOperands}
-use Rattle.words_core.specs.Item.{item_of}
-use Rattle.words_core.specs.Options.{beside}
+use Rattle.words_core.specs.Table.{OptionRow, ToolRow, option_named}
+use Rattle.words_core.specs.Value.{Meant, value_in}
+use Rattle.words_core.specs.Given.{Given, nothing, bare, one_option, one_operand, joined}
 
--- what a word, or some of its letters, spells, and what it leaves to the next word
+-- what a word, or some of its letters, gives, and what it leaves to the next word
 pub record Meaning : Type 0 where
-  pub items : List Item
+  pub given : Given
   pub next : State
 
-abbrev pub one : Item → Result Meaning Fault
-one item = Ok (record { items = item ∷ []; next = Reading })
+-- options and operands may come next
+abbrev pub reading : Given → Result Meaning Fault
+reading given = Ok (record { given = given; next = Reading })
 
-abbrev pub awaiting : ValueKind → ℕ → Result Meaning Fault
-awaiting kind place = Ok (record { items = []; next = Awaiting kind place })
+abbrev pub awaiting : Choice → Kind → ℕ → Result Meaning Fault
+awaiting choice kind place = Ok (record { given = nothing; next = Awaiting choice kind place })
 
-abbrev pub before : List Item → Result Meaning Fault → Result Meaning Fault
-before items (Ok meaning) = Ok (record { items = items ++ meaning.items; next = meaning.next })
-before items (Err fault) = Err fault
+abbrev pub before : Given → Result Meaning Fault → Result Meaning Fault
+before first (Ok meaning) = Ok (record { given = joined first meaning.given; next = meaning.next })
+before first (Err fault) = Err fault
 
 -- an option and its value, each in the word at its place
-abbrev pub given : ℕ → Result Item UsageKind → Result Meaning Fault
-given place (Ok item) = one item
-given place (Err fault) = Err (Usage fault place)
+abbrev pub said : Choice → ℕ → ℕ → Result Meant UsageKind → Result Meaning Fault
+said choice option place (Ok value) = reading (one_option choice value option)
+said choice option place (Err fault) = Err (Usage fault place)
 
-abbrev pub valued : ValueKind → ℕ → ℕ → List ℕ → Result Meaning Fault
-valued kind option place text = given place (item_of kind option text)
+abbrev pub valued : Choice → Kind → ℕ → ℕ → List ℕ → Result Meaning Fault
+valued choice kind option place text = said choice option place (value_in kind text)
 
 -- A cluster: letters, each an option. The value of one that takes one is the rest of the word, or the next word.
 
-abbrev pub attached : ValueKind → ℕ → List ℕ → Result Meaning Fault
-attached kind place [] = awaiting kind place
-attached kind place (byte ∷ bytes) = valued kind place place (byte ∷ bytes)
+-- the first letter of a text and what follows it; letters are ASCII
+abbrev pub first_letter : List ℕ → Option (ℕ × List ℕ)
+first_letter [] = None
+first_letter (byte ∷ bytes) = if nat_lt byte 128 then Some (byte, bytes) else None
 
-abbrev pub lettered : ℕ → List ℕ → Result Meaning Fault → Option Choice → Result Meaning Fault
+abbrev pub option_lettered : List OptionRow → ℕ → Option (Choice × Takes)
+option_lettered rows letter = if nat_lt letter 128 then option_named rows (45 ∷ letter ∷ []) else None
+
+abbrev pub attached : Choice → Kind → ℕ → List ℕ → Result Meaning Fault
+attached choice kind place [] = awaiting choice kind place
+attached choice kind place (byte ∷ bytes) = valued choice kind place place (byte ∷ bytes)
+
+abbrev pub by_letter : ℕ → List ℕ → Result Meaning Fault → Choice → Takes → Result Meaning Fault
+by_letter place rest others choice takes.Nothing = before (bare choice place) others
+by_letter place rest others choice (takes.Value kind) = attached choice kind place rest
+by_letter place rest others choice (takes.Optional kind) = before (bare choice place) others
+
+abbrev pub lettered : ℕ → List ℕ → Result Meaning Fault → Option (Choice × Takes) → Result Meaning Fault
 lettered place rest others None = Err (Usage UnknownOption place)
-lettered place rest others (Some (Bare flag)) = before (Chosen flag ∷ []) others
-lettered place rest others (Some (Valued kind)) = attached kind place rest
+lettered place rest others (Some option) = by_letter place rest others option.0 option.1
 
-abbrev pub cluster : List (List ℕ × Choice) → ℕ → List ℕ → Result Meaning Fault
-cluster rows place [] = Ok (record { items = []; next = Reading })
-cluster rows place (letter ∷ rest) = lettered place rest (cluster rows place rest) (beside rows (45 ∷ letter ∷ []))
+abbrev pub cluster : List OptionRow → ℕ → List ℕ → Result Meaning Fault
+cluster rows place [] = reading nothing
+cluster rows place (letter ∷ rest) = lettered place rest (cluster rows place rest) (option_lettered rows letter)
 
 -- A long option: its name ends at the first `=`, and its value is what follows there, or the next word.
 
 abbrev pub is_equals : ℕ → Bool
 is_equals byte = byte == 61
 
-abbrev pub value_in : List ℕ → Option (List ℕ)
-value_in word = if position_or_len is_equals word == length word then None else Some (after_first is_equals word)
+abbrev pub after_equals : List ℕ → Option (List ℕ)
+after_equals word = if position_or_len is_equals word == length word then None else Some (after_first is_equals word)
 
-abbrev pub long_flag : Flag → ℕ → Option (List ℕ) → Result Meaning Fault
-long_flag flag place None = one (Chosen flag)
-long_flag flag place (Some text) = Err (Usage UnexpectedValue place)
+abbrev pub by_name : ℕ → Choice → Takes → Option (List ℕ) → Result Meaning Fault
+by_name place choice takes.Nothing None = reading (bare choice place)
+by_name place choice takes.Nothing (Some text) = Err (Usage UnexpectedValue place)
+by_name place choice (takes.Value kind) None = awaiting choice kind place
+by_name place choice (takes.Value kind) (Some text) = valued choice kind place place text
+by_name place choice (takes.Optional kind) None = reading (bare choice place)
+by_name place choice (takes.Optional kind) (Some text) = valued choice kind place place text
 
-abbrev pub long_value : ValueKind → ℕ → Option (List ℕ) → Result Meaning Fault
-long_value kind place None = awaiting kind place
-long_value kind place (Some text) = valued kind place place text
-
-abbrev pub named : ℕ → Option (List ℕ) → Option Choice → Result Meaning Fault
+abbrev pub named : ℕ → Option (List ℕ) → Option (Choice × Takes) → Result Meaning Fault
 named place value None = Err (Usage UnknownOption place)
-named place value (Some (Bare flag)) = long_flag flag place value
-named place value (Some (Valued kind)) = long_value kind place value
+named place value (Some option) = by_name place option.0 option.1 value
 
-abbrev pub long : List (List ℕ × Choice) → ℕ → List ℕ → Result Meaning Fault
-long rows place word = named place (value_in word) (beside rows (before_first is_equals word))
+abbrev pub long : List OptionRow → ℕ → List ℕ → Result Meaning Fault
+long rows place word = named place (after_equals word) (option_named rows (before_first is_equals word))
 
 -- A word where options and operands may stand: `--` ends the options, and a hyphen alone is an operand.
 
-abbrev pub dashed : List (List ℕ × Choice) → ℕ → List ℕ → Result Meaning Fault
-dashed rows place [] = Ok (record { items = []; next = OnlyOperands })
+abbrev pub dashed : List OptionRow → ℕ → List ℕ → Result Meaning Fault
+dashed rows place [] = Ok (record { given = nothing; next = OnlyOperands })
 dashed rows place (byte ∷ bytes) = long rows place (45 ∷ 45 ∷ byte ∷ bytes)
 
-abbrev pub mixed : List (List ℕ × Choice) → ℕ → List ℕ → Result Meaning Fault
-mixed rows place [] = one (Operand place)
-mixed rows place (byte ∷ []) = one (Operand place)
+abbrev pub mixed : List OptionRow → ℕ → List ℕ → Result Meaning Fault
+mixed rows place [] = reading (one_operand [] place)
+mixed rows place (byte ∷ []) = reading (one_operand (byte ∷ []) place)
 mixed rows place (byte ∷ next ∷ rest) =
     if byte == 45
     then (if next == 45 then dashed rows place rest else cluster rows place (next ∷ rest))
-    else one (Operand place)
+    else reading (one_operand (byte ∷ next ∷ rest) place)
 
--- the first word may be a hyphen and digits, which are the value of an option of this kind then
-abbrev pub numbered : ValueKind → ℕ → List ℕ → Result Meaning Fault → Result Meaning Fault
-numbered kind place text else_wise = if is_number text then valued kind place place text else else_wise
+-- the first word may be a hyphen and digits, which are the value of this option then
+abbrev pub numbered : Choice → Kind → ℕ → List ℕ → Result Meaning Fault → Result Meaning Fault
+numbered choice kind place text else_wise = if is_number text then valued choice kind place place text else else_wise
 
-abbrev pub foremost : List (List ℕ × Choice) → ValueKind → ℕ → List ℕ → Result Meaning Fault
-foremost rows kind place [] = mixed rows place []
-foremost rows kind place (byte ∷ text) = if byte == 45 then numbered kind place text (mixed rows place (byte ∷ text)) else mixed rows place (byte ∷ text)
+abbrev pub foremost : List OptionRow → Choice → Kind → ℕ → List ℕ → Result Meaning Fault
+foremost rows choice kind place [] = mixed rows place []
+foremost rows choice kind place (byte ∷ text) =
+    if byte == 45 then numbered choice kind place text (mixed rows place (byte ∷ text)) else mixed rows place (byte ∷ text)
 
 -- a word at this place; one that an option awaits is its value, whatever it begins with
-abbrev pub meaning_of : List (List ℕ × Choice) → State → ℕ → List ℕ → Result Meaning Fault
-meaning_of rows (First kind) place word = foremost rows kind place word
+abbrev pub meaning_of : List OptionRow → State → ℕ → List ℕ → Result Meaning Fault
+meaning_of rows (First choice kind) place word = foremost rows choice kind place word
 meaning_of rows Reading place word = mixed rows place word
-meaning_of rows (Awaiting kind option) place word = valued kind option place word
-meaning_of rows OnlyOperands place word = Ok (record { items = Operand place ∷ []; next = OnlyOperands })
+meaning_of rows (Awaiting choice kind option) place word = valued choice kind option place word
+meaning_of rows OnlyOperands place word = Ok (record { given = one_operand word place; next = OnlyOperands })
 
 -- all words from a place on, or the first fault from left to right
 
-abbrev pub ended : State → Result (List Item) Fault
-ended (First kind) = Ok []
-ended Reading = Ok []
-ended (Awaiting kind option) = Err (Usage MissingValue option)
-ended OnlyOperands = Ok []
+abbrev pub ended : State → Result Given Fault
+ended (First choice kind) = Ok nothing
+ended Reading = Ok nothing
+ended (Awaiting choice kind option) = Err (Usage MissingValue option)
+ended OnlyOperands = Ok nothing
 
-abbrev pub behind : List Item → Result (List Item) Fault → Result (List Item) Fault
-behind items (Ok more) = Ok (items ++ more)
-behind items (Err fault) = Err fault
+abbrev pub behind : Given → Result Given Fault → Result Given Fault
+behind first (Ok more) = Ok (joined first more)
+behind first (Err fault) = Err fault
 
-abbrev pub onward : (State → Result (List Item) Fault) → Result Meaning Fault → Result (List Item) Fault
-onward rest (Ok meaning) = behind meaning.items (rest meaning.next)
+abbrev pub onward : (State → Result Given Fault) → Result Meaning Fault → Result Given Fault
+onward rest (Ok meaning) = behind meaning.given (rest meaning.next)
 onward rest (Err fault) = Err fault
 
-abbrev pub spelled : List (List ℕ × Choice) → List (List ℕ) → ℕ → State → Result (List Item) Fault
+abbrev pub spelled : List OptionRow → List (List ℕ) → ℕ → State → Result Given Fault
 spelled rows [] place state = ended state
 spelled rows (word ∷ words) place state = onward (spelled rows words (place + 1)) (meaning_of rows state place word)
 
--- the places of the operands
-abbrev pub operands_of : List Item → List ℕ
-operands_of [] = []
-operands_of (Operand place ∷ items) = place ∷ operands_of items
-operands_of (item ∷ items) = operands_of items
+-- the words after a tool's name; they are counted from 1
+abbrev pub start_of : Option (Choice × Kind) → State
+start_of None = Reading
+start_of (Some number) = First number.0 number.1
 
--- a call read what was meant onto the items before; or memory was refused
-abbrev pub Adds : Result Meaning Fault → List Item → List Item → Result State Fault → Type 0
-Adds meant old new (Ok next) = before old meant ≡ Ok (record { items = new; next = next })
+abbrev pub given_by : ToolRow → List (List ℕ) → Result Given Fault
+given_by tool words = spelled tool.options words 1 (start_of tool.number)
+
+-- a call read what was meant onto what was given before; or memory was refused
+abbrev pub Adds : Result Meaning Fault → Given → Given → Result State Fault → Type 0
+Adds meant old new (Ok next) = before old meant ≡ Ok (record { given = new; next = next })
 Adds meant old new (Err fault) = (fault ≡ Memory) ⊎ (before old meant ≡ Err fault)
 
--- these are the items that were meant; and why there are none: memory was refused, or this is the fault that was meant
-
-abbrev pub Gives : Result (List Item) Fault → List Item → Type 0
-Gives meant items = meant ≡ Ok items
-
-abbrev pub Refuses : Result (List Item) Fault → Fault → Type 0
-Refuses meant fault = (fault ≡ Memory) ⊎ (meant ≡ Err fault)
+-- What a call returns is what was meant; or memory was refused.
+abbrev pub Reads : {A : Type 0} → Result A Fault → Result A Fault → Type 0
+Reads meant (Ok value) = meant ≡ Ok value
+Reads meant (Err fault) = (fault ≡ Memory) ⊎ (meant ≡ Err fault)

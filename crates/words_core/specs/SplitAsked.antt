@@ -1,5 +1,5 @@
 -- What words ask of `split`.
-use Rattle.std.specs.Prelude.{ℕ, Bool, Option}
+use Rattle.std.specs.Prelude.{ℕ, Bool, List}
 use Rattle.split_core.specs.declared.cut.Cut.{Cut}
 use Rattle.ports_core.specs.declared.alphabet.Alphabet.{Alphabet}
 
@@ -10,6 +10,6 @@ pub record SplitAsked : Type 0 where
   pub width : ℕ
   pub auto : Bool
   pub elide : Bool
-  -- the places of the operands among the words
-  pub input : Option ℕ
-  pub prefix : Option ℕ
+  -- the name of the input, and what the names of the files begin with
+  pub input : List ℕ
+  pub prefix : List ℕ

@@ -1,5 +1,5 @@
--- What the words behind `split` ask for, or what is wrong with them. They are counted from 1.
-use Rattle.std.specs.Prelude.{◌≡◌, ℕ, ◌==◌, ◌≤◌, nat_le, Bool, true, false, List, [], ◌∷◌, Option, Some, None, Result, Ok, Err, if◌then◌else◌, ⊤}
+-- What options and operands ask of `split`, or what is wrong with them.
+use Rattle.std.specs.Prelude.{◌≡◌, ℕ, ◌==◌, ◌≤◌, nat_le, Bool, true, false, List, [], ◌∷◌, codes, Option, Some, None, Result, Ok, Err, if◌then◌else◌, ⊤}
 use Rattle.ports_core.specs.Name.{name_count}
 use Rattle.ports_core.specs.declared.alphabet.Alphabet.{Alphabet}
 use Rattle.ports_core.specs.declared.alphabet.Alphabet.TheVariants.{Letters, Digits as Decimal, Hex as Hexadecimal}
@@ -8,53 +8,70 @@ use Rattle.ports_core.specs.declared.fault.Fault.TheVariants.{Usage}
 use Rattle.ports_core.specs.declared.fault.UsageKind.TheVariants.{TwoWays, SuffixTooShort, ExtraOperand}
 use Rattle.split_core.specs.declared.cut.Cut.{Cut}
 use Rattle.split_core.specs.declared.cut.Cut.TheVariants.{Lines, Bytes, LineBytes, Round}
-use Rattle.words_core.specs.declared.options.Flag.{Flag}
-use Rattle.words_core.specs.declared.options.Flag.TheVariants.{Numeric, Hex, Elide}
-use Rattle.words_core.specs.declared.options.SizeUnit.TheVariants as unit
-use Rattle.words_core.specs.declared.options.ValueKind.TheVariants.{Size}
-use Rattle.words_core.specs.declared.item.Item.{Item}
-use Rattle.words_core.specs.declared.item.Item.TheVariants.{Chosen, Split, Width}
-use Rattle.words_core.specs.declared.spelling.State.TheVariants.{First}
+use Rattle.words_core.specs.declared.table.Choice.{Choice}
+use Rattle.words_core.specs.declared.table.Choice.TheVariants as choice
+use Rattle.words_core.specs.declared.split_words.SplitOptions.{SplitOptions}
 use Rattle.words_core.specs.declared.split_words.Suffix.{Suffix}
-use Rattle.words_core.specs.declared.split_words.Files.{Files}
+use Rattle.words_core.specs.Value.{Meant, Size, Files, Width}
+use Rattle.words_core.specs.Given.{Given, GivenOption, GivenOperand}
 use Rattle.words_core.specs.SplitAsked.{SplitAsked}
-use Rattle.words_core.specs.Options.{split_options}
-use Rattle.words_core.specs.Spelling.{spelled, operands_of}
 
--- The way to split: a second one is refused, told by its option. Where there is none, files have 1,000 lines.
+-- one check, and those after it where nothing is wrong so far
+abbrev pub then_check : {A B : Type 0} → Result A Fault → (A → Result B Fault) → Result B Fault
+then_check (Ok value) next = next value
+then_check (Err fault) next = Err fault
 
+-- without options: letters, and no way to split, no width
+abbrev pub no_options : SplitOptions
+no_options = record { cut = None; alphabet = Letters; width = 0; elide = false }
+
+-- With one more option: the last one for the alphabet decides, and so does the last one for the width. A second way to split is
+-- refused, and told by its word.
+
+abbrev pub sized : Choice → ℕ → Cut
+sized choice.Bytes size = Bytes size
+sized choice.LineBytes size = LineBytes size
+sized choice size = Lines size
+
+abbrev pub way_in : Choice → Meant → Cut
+way_in choice (Size size) = sized choice size
+way_in choice (Files files) = Round files
+way_in choice value = Lines 1000
+
+abbrev pub second_way : SplitOptions → Cut → ℕ → Option Cut → Result SplitOptions Fault
+second_way asked cut word None = Ok (record asked { cut = Some cut })
+second_way asked cut word (Some first) = Err (Usage TwoWays word)
+
+abbrev pub one_way : SplitOptions → Cut → ℕ → Result SplitOptions Fault
+one_way asked cut word = second_way asked cut word asked.cut
+
+abbrev pub with_width : SplitOptions → Meant → SplitOptions
+with_width asked (Width width) = record asked { width = width }
+with_width asked value = asked
+
+abbrev pub split_by : SplitOptions → Choice → Meant → ℕ → Result SplitOptions Fault
+split_by asked choice.Lines value word = one_way asked (way_in choice.Lines value) word
+split_by asked choice.Bytes value word = one_way asked (way_in choice.Bytes value) word
+split_by asked choice.LineBytes value word = one_way asked (way_in choice.LineBytes value) word
+split_by asked choice.Files value word = one_way asked (way_in choice.Files value) word
+split_by asked choice.SuffixLength value word = Ok (with_width asked value)
+split_by asked choice.NumericSuffixes value word = Ok (record asked { alphabet = Decimal })
+split_by asked choice.HexSuffixes value word = Ok (record asked { alphabet = Hexadecimal })
+split_by asked choice.ElideEmptyFiles value word = Ok (record asked { elide = true })
+split_by asked choice.Quiet value word = Ok asked
+split_by asked choice.Verbose value word = Ok asked
+
+abbrev pub split_after : SplitOptions → GivenOption → Result SplitOptions Fault
+split_after asked option = split_by asked option.choice option.value option.word
+
+abbrev pub split_options : List GivenOption → SplitOptions → Result SplitOptions Fault
+split_options [] asked = Ok asked
+split_options (option ∷ options) asked = then_check (split_after asked option) (split_options options)
+
+-- the way to split; files have 1,000 lines where none is given
 abbrev pub way_of : Option Cut → Cut
 way_of None = Lines 1000
 way_of (Some cut) = cut
-
-abbrev pub only_way : Option Cut → List Item → Result Cut Fault
-only_way first [] = Ok (way_of first)
-only_way None (Split cut option ∷ items) = only_way (Some cut) items
-only_way (Some first) (Split cut option ∷ items) = Err (Usage TwoWays option)
-only_way first (item ∷ items) = only_way first items
-
--- the characters that the last option for them asks for; where there is none, these
-abbrev pub asks_alphabet : Alphabet → Flag → Alphabet
-asks_alphabet default Numeric = Decimal
-asks_alphabet default Hex = Hexadecimal
-asks_alphabet default flag = default
-
-abbrev pub last_alphabet : Alphabet → List Item → Alphabet
-last_alphabet default [] = default
-last_alphabet default (Chosen flag ∷ items) = last_alphabet (asks_alphabet default flag) items
-last_alphabet default (item ∷ items) = last_alphabet default items
-
--- the last width
-abbrev pub last_width : ℕ → List Item → ℕ
-last_width default [] = default
-last_width default (Width width ∷ items) = last_width width items
-last_width default (item ∷ items) = last_width default items
-
--- whether empty files are left out
-abbrev pub elides : List Item → Bool
-elides [] = false
-elides (Chosen Elide ∷ items) = true
-elides (item ∷ items) = elides items
 
 -- The suffixes. A width of 0 is as none. With a width they have that; without one they widen from 2 characters on. Where lines
 -- are dealt to files they never widen: the width must name all files, and without one it is the least from 2 on that does.
@@ -84,40 +101,31 @@ abbrev pub suffix_for : Cut → Alphabet → ℕ → Result Suffix Fault
 suffix_for (Round files) alphabet width = dealt alphabet files width
 suffix_for cut alphabet width = Ok (free width)
 
--- the operands: the input, and the prefix of the names
-abbrev pub files_at : List ℕ → Result Files Fault
-files_at [] = Ok (record { input = None; prefix = None })
-files_at (input ∷ []) = Ok (record { input = Some input; prefix = None })
-files_at (input ∷ prefix ∷ []) = Ok (record { input = Some input; prefix = Some prefix })
-files_at (input ∷ prefix ∷ extra ∷ more) = Err (Usage ExtraOperand extra)
+-- the operands: the name of the input, and what the names of files begin with
+abbrev pub files_in : List GivenOperand → Result (List ℕ × List ℕ) Fault
+files_in [] = Ok (codes "-", codes "x")
+files_in (input ∷ []) = Ok (input.text, codes "x")
+files_in (input ∷ prefix ∷ []) = Ok (input.text, prefix.text)
+files_in (input ∷ prefix ∷ extra ∷ more) = Err (Usage ExtraOperand extra.word)
 
--- one check, and those behind it where nothing is wrong so far
-abbrev pub then_check : {A B : Type 0} → Result A Fault → (A → Result B Fault) → Result B Fault
-then_check (Ok value) next = next value
-then_check (Err fault) next = Err fault
-
-abbrev pub asked_of : List Item → Cut → Suffix → Files → SplitAsked
-asked_of items cut suffix files = record {
-  cut = cut;
-  alphabet = last_alphabet Letters items;
+abbrev pub asked_of : SplitOptions → Suffix → (List ℕ × List ℕ) → SplitAsked
+asked_of asked suffix files = record {
+  cut = way_of asked.cut;
+  alphabet = asked.alphabet;
   width = suffix.width;
   auto = suffix.auto;
-  elide = elides items;
-  input = files.input;
-  prefix = files.prefix;
+  elide = asked.elide;
+  input = files.0;
+  prefix = files.1;
 }
 
 -- the line as a whole: first its ways to split, then the suffixes, then the operands
-abbrev pub split_asked : List Item → Result SplitAsked Fault
-split_asked items =
-    then_check (only_way None items) (λ cut.
-    then_check (suffix_for cut (last_alphabet Letters items) (last_width 0 items)) (λ suffix.
-    then_check (files_at (operands_of items)) (λ files.
-    Ok (asked_of items cut suffix files))))
-
--- faults of single words come before all of these; a first word of a hyphen and digits is a size in lines
-abbrev pub split_settings_of : List (List ℕ) → Result SplitAsked Fault
-split_settings_of words = then_check (spelled split_options words 1 (First (Size unit.Lines))) split_asked
+abbrev pub split_asked : Given → Result SplitAsked Fault
+split_asked given =
+    then_check (split_options given.options no_options) (λ asked.
+    then_check (suffix_for (way_of asked.cut) asked.alphabet asked.width) (λ suffix.
+    then_check (files_in given.operands) (λ files.
+    Ok (asked_of asked suffix files))))
 
 -- A file has at least one line or byte, and lines are dealt to 1 to 65,535 files; a suffix has 1 to 255 characters.
 
@@ -140,9 +148,3 @@ pub record CanSplit (asked : SplitAsked) : Type 0 where
   pub cut : IsInLimits asked.cut
   pub width : IsWidth asked.width
   pub named : AreNamed asked.cut asked.alphabet asked.width
-
-abbrev pub SpellSplit : List (List ℕ) → SplitAsked → Type 0
-SpellSplit words asked = split_settings_of words ≡ Ok asked
-
-abbrev pub AreRefusedBySplit : List (List ℕ) → Fault → Type 0
-AreRefusedBySplit words fault = split_settings_of words ≡ Err fault

@@ -1,16 +1,22 @@
-//! The words of the command line: what they ask of each tool.
+//! The words of the command line: what they ask of each tool, or what is wrong with them (POSIX.1-2017, XBD 12).
 #![tactic(auto)]
 
-mod item;
-mod options;
+mod ends_words;
+mod laws;
 mod settings;
+mod spelled;
 mod spelling;
-mod split_settings;
+#[cfg(test)]
+mod spelling_tests;
 #[cfg(test)]
 mod split_tests;
 mod split_words;
+mod table;
+mod value;
 mod words;
 
-pub use settings::{EndsSettings, Headers, Settings};
-pub use split_settings::SplitSettings;
+pub use laws::{
+    last_of_ends_decides, last_of_split_decides, one_way_at_most, operands_follow_the_end,
+};
+pub use settings::{EndsSettings, Headers, Settings, SplitSettings};
 pub use words::{find_tool, read_words};

@@ -1,37 +1,40 @@
-ghost use Rattle.std.specs.Prelude.{List};
+//! What a list of words asks for.
+ghost use Rattle.std.specs.Prelude.{List, map};
 ghost use Rattle.words_core.specs.EndsAsked.{EndsAsked};
+ghost use Rattle.words_core.specs.SplitAsked.{SplitAsked};
 
-use crate::split_settings::SplitSettings;
 use ends_core::Unit;
+use ports_core::Alphabet;
 use seg_core::count::Count;
+use split_core::Cut;
 use std::marker::Model;
 
-/// What a list of words asks for.
+/// What a list of words asks for. Names are the words themselves.
 #[derive(Drop)]
-pub enum Settings {
+pub enum Settings<'a> {
     /// The first part of each input.
-    Head(EndsSettings),
+    Head(EndsSettings<'a>),
     /// The last part of each input.
-    Tail(EndsSettings),
+    Tail(EndsSettings<'a>),
     /// The input cut into files.
-    Split(SplitSettings),
+    Split(SplitSettings<'a>),
 }
 
 /// What `head` or `tail` is to put out of its inputs.
 #[derive(Drop)]
-pub struct EndsSettings {
+pub struct EndsSettings<'a> {
     pub unit: Unit,
     /// How many lines or bytes, and from which side.
     pub count: Count,
     pub headers: Headers,
-    /// The places of the operands among the words. Where there is none, standard input is read.
-    pub operands: Vec<usize>,
+    /// The names of the inputs, at least one; `-` is standard input.
+    pub names: Vec<&'a str>,
 }
 
-impl Model for EndsSettings {
+impl<'a> Model for EndsSettings<'a> {
     ghost Value = { EndsAsked };
 
-    ghost view = { λ s. record { unit = s.unit; count = s.count; headers = s.headers; operands = s.operands.items } };
+    ghost view = { λ s. record { unit = s.unit; count = s.count; headers = s.headers; names = map (λ name. name.now) s.names.items } };
 }
 
 /// When a header with its name goes before an input.
@@ -41,4 +44,28 @@ pub enum Headers {
     ForSeveral,
     Never,
     Always,
+}
+
+/// What `split` is to do with its input. The suffixes of its files' names have 1 to 255 characters.
+#[derive(Drop)]
+pub struct SplitSettings<'a> {
+    pub cut: Cut,
+    /// The characters of the suffixes.
+    pub alphabet: Alphabet,
+    /// How many characters a suffix has, or the first suffixes where they widen.
+    pub width: u32,
+    /// Whether suffixes widen.
+    pub auto: bool,
+    /// Whether files that stay empty are left out.
+    pub elide: bool,
+    /// The input's name; `-` is standard input.
+    pub input: &'a str,
+    /// What the files' names begin with.
+    pub prefix: &'a str,
+}
+
+impl<'a> Model for SplitSettings<'a> {
+    ghost Value = { SplitAsked };
+
+    ghost view = { λ s. record { cut = s.cut; alphabet = s.alphabet; width = s.width; auto = s.auto; elide = s.elide; input = s.input.now; prefix = s.prefix.now } };
 }

@@ -1,92 +1,114 @@
-//! What words spell: options with their values, and operands (POSIX.1-2017, XBD 12.2; long options are GNU's).
-ghost use Rattle.std.specs.Prelude.{◌≡◌, ◌++◌, [], ◌∷◌, map, option_map, IfOk, IfErr};
+//! How words are read to options and operands (POSIX.1-2017, XBD 12.2; long options are GNU's).
+ghost use Rattle.std.specs.Prelude.{◌≡◌, ◌∷◌, option_map, IfSome, map};
 ghost use Rattle.std.specs.List.{before_first};
 ghost use Rattle.seg_core.specs.Count.{is_number};
-ghost use Rattle.words_core.specs.Spelling.{Adds, Gives, Refuses, attached, cluster, foremost, is_equals, long, meaning_of, mixed, one, operands_of, spelled, value_in, valued};
+ghost use Rattle.words_core.specs.Spelling.{Adds, Reads, after_equals, attached, by_name, cluster, first_letter, foremost, given_by, is_equals, long, meaning_of, mixed, reading, spelled, valued};
+ghost use Rattle.words_core.specs.Given.{bare, one_operand};
+ghost use Rattle.words_core.specs.Table.{row_seen, tool_seen};
 
-use crate::item::{Item, read_item};
-use crate::options::{Choice, ValueKind, find_option};
+use crate::spelled::Spelled;
+use crate::table::{Choice, Kind, OptionRow, Takes, ToolRow, find_option};
+use crate::value::{Value, read_value};
 use ports_core::{Fault, UsageKind};
 use std::alloc::Global;
 
 /// What may stand in the next word.
 #[derive(Clone, Copy, Debug, PartialEq, Eq)]
 pub enum State {
-    /// What `Reading` takes, or a hyphen and digits, which are the value of an option of this kind.
-    First(ValueKind),
+    /// What `Reading` takes, or a hyphen and digits, which are the value of this option.
+    First(Choice, Kind),
     /// Options and operands.
     Reading,
-    /// The value of an option of this kind, which stands at this place.
-    Awaiting(ValueKind, usize),
+    /// The value of this option, which stands at this place.
+    Awaiting(Choice, Kind, usize),
     /// An operand, whatever it begins with.
     OnlyOperands,
 }
 
-/// Reads the words behind a tool's name, by the table of its options. The first stands at place 1.
+/// Reads the words after a tool's name.
 ///
 /// # Errors
 ///
-/// `Usage`: the first fault from left to right. `Memory` where there is no room for the items.
-pub fn read_items(
+/// `Usage`: the first fault from left to right. `Memory` where there is no room for what they spell.
+pub fn read_given<'a>(
     alloc: Global,
-    rows: &[(&[u8], Choice)],
-    start: State,
-    words: &[&str],
-) -> Result<Vec<Item>, Fault>
-    ensures ok { IfOk result (λ items. Gives (spelled (map (λ row. (row.0.now, row.1)) rows.now) (map (λ word. word.now) words.now) 1 start) items.items) }
-    ensures err { IfErr result (Refuses (spelled (map (λ row. (row.0.now, row.1)) rows.now) (map (λ word. word.now) words.now) 1 start)) }
+    tool: &ToolRow,
+    words: &[&'a str],
+) -> Result<Spelled<'a>, Fault>
+    ensures { Reads (given_by (tool_seen tool.now) (map (λ word. word.now) words.now)) result }
 {
-    let mut items = Vec::new(alloc);
+    let start = match tool.3 {
+        Some((choice, kind)) => State::First(choice, kind),
+        None => State::Reading,
+    };
+    read_items(alloc, tool.2, start, words)
+}
+
+/// Reads words by the table of a tool's options. The first stands at place 1.
+fn read_items<'a>(
+    alloc: Global,
+    rows: &[OptionRow],
+    start: State,
+    words: &[&'a str],
+) -> Result<Spelled<'a>, Fault>
+    ensures { Reads (spelled (map row_seen rows.now) (map (λ word. word.now) words.now) 1 start) result }
+{
+    let mut spelled = Spelled::new(alloc);
     let mut state = start;
     let mut place = 1;
     let mut left = words;
-    while let [word, behind @ ..] = left {
-        match read_word(rows, state, place, word, &mut items) {
+    while let [word, rest @ ..] = left {
+        match read_word(rows, state, place, word, &mut spelled) {
             Ok(next) => state = next,
             Err(fault) => return Err(fault),
         }
         place += 1;
-        left = behind;
+        left = rest;
     }
     match state {
-        State::Awaiting(_, option) => Err(Fault::Usage(UsageKind::MissingValue, option)),
-        State::First(_) | State::Reading | State::OnlyOperands => Ok(items),
+        State::Awaiting(_, _, option) => Err(Fault::Usage(UsageKind::MissingValue, option)),
+        State::First(_, _) | State::Reading | State::OnlyOperands => Ok(spelled),
     }
 }
 
-fn read_word(
-    rows: &[(&[u8], Choice)],
+fn read_word<'a>(
+    rows: &[OptionRow],
     state: State,
     place: usize,
-    word: &str,
-    items: &mut Vec<Item>,
+    word: &'a str,
+    spelled: &mut Spelled<'a>,
 ) -> Result<State, Fault>
-    ensures { Adds (meaning_of (map (λ row. (row.0.now, row.1)) rows.now) state place word.now) items.old.items items.new.items result }
+    ensures { Adds (meaning_of (map row_seen rows.now) state place word.now) spelled.old spelled.new result }
 {
     match state {
-        State::First(kind) => read_first(rows, kind, place, word, items),
-        State::Reading => read_mixed(rows, place, word, items),
-        State::Awaiting(kind, option) => read_value(kind, option, place, word.as_bytes(), items),
-        State::OnlyOperands => match add(Item::Operand(place), items) {
+        State::First(choice, kind) => read_first(rows, choice, kind, place, word, spelled),
+        State::Reading => read_mixed(rows, place, word, spelled),
+        State::Awaiting(choice, kind, option) => {
+            read_option(choice, kind, option, place, word, spelled)
+        }
+        State::OnlyOperands => match spelled.add_operand(word, place) {
             Ok(()) => Ok(State::OnlyOperands),
             Err(fault) => Err(fault),
         },
     }
 }
 
-/// The word behind the tool's name: a hyphen and digits are a value there.
-fn read_first(
-    rows: &[(&[u8], Choice)],
-    kind: ValueKind,
+/// The word after the tool's name: a hyphen and digits are a value there.
+fn read_first<'a>(
+    rows: &[OptionRow],
+    choice: Choice,
+    kind: Kind,
     place: usize,
-    word: &str,
-    items: &mut Vec<Item>,
+    word: &'a str,
+    spelled: &mut Spelled<'a>,
 ) -> Result<State, Fault>
-    ensures { Adds (foremost (map (λ row. (row.0.now, row.1)) rows.now) kind place word.now) items.old.items items.new.items result }
+    ensures { Adds (foremost (map row_seen rows.now) choice kind place word.now) spelled.old spelled.new result }
 {
-    match word.as_bytes() {
-        [b'-', digits @ ..] if is_number(digits) => read_value(kind, place, place, digits, items),
-        _ => read_mixed(rows, place, word, items),
+    match first_letter(word) {
+        Some((b'-', digits)) if is_number(digits.as_bytes()) => {
+            read_option(choice, kind, place, place, digits, spelled)
+        }
+        _ => read_mixed(rows, place, word, spelled),
     }
 }
 
@@ -97,212 +119,165 @@ fn is_number(text: &[u8]) -> bool
     !text.is_empty() && text.iter().all(|byte| byte.is_ascii_digit())
 }
 
-/// A word where options and operands may stand.
-fn read_mixed(
-    rows: &[(&[u8], Choice)],
-    place: usize,
-    word: &str,
-    items: &mut Vec<Item>,
-) -> Result<State, Fault>
-    ensures { Adds (mixed (map (λ row. (row.0.now, row.1)) rows.now) place word.now) items.old.items items.new.items result }
+/// The first character of a text and what follows it, where it is ASCII.
+fn first_letter(text: &str) -> Option<(u8, &str)>
+    ensures value { option_map (λ parts. (parts.0, parts.1.now)) result ≡ first_letter text.now }
+    ensures whole { IfSome result (λ parts. text.now ≡ parts.0 ∷ parts.1.now) }
 {
-    match word.as_bytes() {
-        [b'-'] => read_one(Item::Operand(place), items),
-        [b'-', b'-'] => Ok(State::OnlyOperands),
-        [b'-', b'-', ..] => read_long(rows, place, word, items),
-        [b'-', letters @ ..] => read_cluster(rows, place, letters, items),
-        _ => read_one(Item::Operand(place), items),
+    match text.as_bytes() {
+        [letter, ..] if letter.is_ascii() => Some((*letter, &text[1..])),
+        _ => None,
     }
 }
 
-/// A long option, with its value where it has one behind `=`.
-fn read_long(
-    rows: &[(&[u8], Choice)],
+/// A word where options and operands may stand.
+fn read_mixed<'a>(
+    rows: &[OptionRow],
     place: usize,
-    word: &str,
-    items: &mut Vec<Item>,
+    word: &'a str,
+    spelled: &mut Spelled<'a>,
 ) -> Result<State, Fault>
-    ensures { Adds (long (map (λ row. (row.0.now, row.1)) rows.now) place word.now) items.old.items items.new.items result }
+    ensures { Adds (mixed (map row_seen rows.now) place word.now) spelled.old spelled.new result }
+{
+    let Some((b'-', rest)) = first_letter(word) else {
+        return read_operand(place, word, spelled);
+    };
+    match rest.as_bytes() {
+        [] => read_operand(place, word, spelled),
+        [b'-'] => Ok(State::OnlyOperands),
+        [b'-', ..] => read_long(rows, place, word, spelled),
+        _ => read_cluster(rows, place, rest, spelled),
+    }
+}
+
+fn read_operand<'a>(place: usize, word: &'a str, spelled: &mut Spelled<'a>) -> Result<State, Fault>
+    ensures { Adds (reading (one_operand word.now place)) spelled.old spelled.new result }
+{
+    match spelled.add_operand(word, place) {
+        Ok(()) => Ok(State::Reading),
+        Err(fault) => Err(fault),
+    }
+}
+
+/// A long option, with its value where it has one after `=`.
+fn read_long<'a>(
+    rows: &[OptionRow],
+    place: usize,
+    word: &'a str,
+    spelled: &mut Spelled<'a>,
+) -> Result<State, Fault>
+    ensures { Adds (long (map row_seen rows.now) place word.now) spelled.old spelled.new result }
 {
     let (name, value) = split_value(word);
     match find_option(rows, name) {
         None => Err(Fault::Usage(UsageKind::UnknownOption, place)),
-        Some(Choice::Bare(flag)) => match value {
-            None => read_one(Item::Chosen(flag), items),
-            Some(_) => Err(Fault::Usage(UsageKind::UnexpectedValue, place)),
-        },
-        Some(Choice::Valued(kind)) => match value {
-            None => Ok(State::Awaiting(kind, place)),
-            Some(text) => read_value(kind, place, place, text, items),
-        },
+        Some((choice, takes)) => read_named(choice, takes, value, place, spelled),
     }
 }
 
-/// The name of a long option, and its value where it has one behind `=`.
-fn split_value(word: &str) -> (&[u8], Option<&[u8]>)
+/// The name of a long option, and its value where it has one after `=`.
+fn split_value(word: &str) -> (&[u8], Option<&str>)
     ensures name { result.0.now ≡ before_first is_equals word.now }
-    ensures value { option_map (λ text. text.now) result.1 ≡ value_in word.now }
+    ensures value { option_map (λ text. text.now) result.1 ≡ after_equals word.now }
 {
     match word.split_once('=') {
-        Some((name, value)) => (name.as_bytes(), Some(value.as_bytes())),
+        Some((name, value)) => (name.as_bytes(), Some(value)),
         None => (word.as_bytes(), None),
     }
 }
 
-/// The letters of a cluster.
-fn read_cluster(
-    rows: &[(&[u8], Choice)],
+/// An option that is given by its long name.
+fn read_named<'a>(
+    choice: Choice,
+    takes: Takes,
+    value: Option<&'a str>,
     place: usize,
-    letters: &[u8],
-    items: &mut Vec<Item>,
+    spelled: &mut Spelled<'a>,
 ) -> Result<State, Fault>
-    ensures { Adds (cluster (map (λ row. (row.0.now, row.1)) rows.now) place letters.now) items.old.items items.new.items result }
+    ensures { Adds (by_name place choice takes (option_map (λ text. text.now) value.entry)) spelled.old spelled.new result }
+{
+    match (takes, value) {
+        (Takes::Nothing | Takes::Optional(_), None) => read_bare(choice, place, spelled),
+        (Takes::Nothing, Some(_)) => Err(Fault::Usage(UsageKind::UnexpectedValue, place)),
+        (Takes::Value(kind), None) => Ok(State::Awaiting(choice, kind, place)),
+        (Takes::Value(kind) | Takes::Optional(kind), Some(text)) => {
+            read_option(choice, kind, place, place, text, spelled)
+        }
+    }
+}
+
+/// The letters of a cluster.
+fn read_cluster<'a>(
+    rows: &[OptionRow],
+    place: usize,
+    letters: &'a str,
+    spelled: &mut Spelled<'a>,
+) -> Result<State, Fault>
+    ensures { Adds (cluster (map row_seen rows.now) place letters.now) spelled.old spelled.new result }
 {
     let mut left = letters;
-    while let [letter, rest @ ..] = left {
-        match find_option(rows, &[b'-', *letter]) {
+    while !left.is_empty() {
+        let Some((letter, rest)) = first_letter(left) else {
+            return Err(Fault::Usage(UsageKind::UnknownOption, place));
+        };
+        match find_option(rows, &[b'-', letter]) {
             None => return Err(Fault::Usage(UsageKind::UnknownOption, place)),
-            Some(Choice::Valued(kind)) => return read_attached(kind, place, rest, items),
-            Some(Choice::Bare(flag)) => match add(Item::Chosen(flag), items) {
-                Ok(()) => left = rest,
-                Err(fault) => return Err(fault),
-            },
+            Some((choice, Takes::Value(kind))) => {
+                return read_attached(choice, kind, place, rest, spelled);
+            }
+            Some((choice, Takes::Nothing | Takes::Optional(_))) => {
+                match spelled.add_option(choice, Value::Nothing, place) {
+                    Ok(()) => left = rest,
+                    Err(fault) => return Err(fault),
+                }
+            }
         }
     }
     Ok(State::Reading)
 }
 
 /// What follows a letter that takes a value.
-fn read_attached(
-    kind: ValueKind,
+fn read_attached<'a>(
+    choice: Choice,
+    kind: Kind,
     place: usize,
-    rest: &[u8],
-    items: &mut Vec<Item>,
+    rest: &'a str,
+    spelled: &mut Spelled<'a>,
 ) -> Result<State, Fault>
-    ensures { Adds (attached kind place rest.now) items.old.items items.new.items result }
+    ensures { Adds (attached choice kind place rest.now) spelled.old spelled.new result }
 {
     if rest.is_empty() {
-        return Ok(State::Awaiting(kind, place));
+        return Ok(State::Awaiting(choice, kind, place));
     }
-    read_value(kind, place, place, rest, items)
+    read_option(choice, kind, place, place, rest, spelled)
 }
 
 /// The value in the word at `place` of an option in the word at the place `option`.
-fn read_value(
-    kind: ValueKind,
+fn read_option<'a>(
+    choice: Choice,
+    kind: Kind,
     option: usize,
     place: usize,
-    text: &[u8],
-    items: &mut Vec<Item>,
+    text: &'a str,
+    spelled: &mut Spelled<'a>,
 ) -> Result<State, Fault>
-    ensures { Adds (valued kind option place text.now) items.old.items items.new.items result }
+    ensures { Adds (valued choice kind option place text.now) spelled.old spelled.new result }
 {
-    match read_item(kind, option, text) {
-        Ok(item) => read_one(item, items),
+    match read_value(kind, text) {
+        Ok(value) => match spelled.add_option(choice, value, option) {
+            Ok(()) => Ok(State::Reading),
+            Err(fault) => Err(fault),
+        },
         Err(fault) => Err(Fault::Usage(fault, place)),
     }
 }
 
-fn read_one(item: Item, items: &mut Vec<Item>) -> Result<State, Fault>
-    ensures { Adds (one item) items.old.items items.new.items result }
+/// An option without a value.
+fn read_bare(choice: Choice, place: usize, spelled: &mut Spelled<'_>) -> Result<State, Fault>
+    ensures { Adds (reading (bare choice place)) spelled.old spelled.new result }
 {
-    match add(item, items) {
+    match spelled.add_option(choice, Value::Nothing, place) {
         Ok(()) => Ok(State::Reading),
         Err(fault) => Err(fault),
-    }
-}
-
-fn add(item: Item, items: &mut Vec<Item>) -> Result<(), Fault>
-    ensures ok { IfOk result (λ _. items.new.items ≡ items.old.items ++ item ∷ []) }
-    ensures err { IfErr result (λ fault. fault ≡ Fault.Memory) }
-{
-    match items.push(item) {
-        Ok(()) => Ok(()),
-        Err(_) => Err(Fault::Memory),
-    }
-}
-
-/// The places of the operands.
-///
-/// # Errors
-///
-/// `Memory` where there is no room for them.
-pub fn find_operands(alloc: Global, items: &[Item]) -> Result<Vec<usize>, Fault>
-    ensures ok { IfOk result (λ operands. operands.items ≡ operands_of items.now) }
-    ensures err { IfErr result (λ fault. fault ≡ Fault.Memory) }
-{
-    let mut operands = Vec::new(alloc);
-    let mut left = items;
-    while let [item, behind @ ..] = left {
-        match item {
-            Item::Operand(place) => match operands.push(*place) {
-                Ok(()) => {}
-                Err(_) => return Err(Fault::Memory),
-            },
-            Item::Chosen(_) | Item::Counted(_, _) | Item::Split(_, _) | Item::Width(_) => {}
-        }
-        left = behind;
-    }
-    Ok(operands)
-}
-
-#[cfg(test)]
-mod tests {
-    use super::*;
-    use crate::options::Flag;
-    use ends_core::Unit;
-    use seg_core::count::{Count, Sign};
-    use std::test::Fail;
-
-    const ROWS: [(&[u8], Choice); 4] = [
-        (b"-q", Choice::Bare(Flag::Quiet)),
-        (b"-v", Choice::Bare(Flag::Verbose)),
-        (b"--quiet", Choice::Bare(Flag::Quiet)),
-        (b"-n", Choice::Valued(ValueKind::Amount(Unit::Lines))),
-    ];
-
-    const fn lines(amount: u64) -> Item {
-        let sign = Sign::Plain;
-        Item::Counted(Unit::Lines, Count { sign, amount })
-    }
-
-    #[test]
-    fn reads_clusters(rt: HostRuntime) -> Result<(), Fail> {
-        let words = ["-qvn5", "-", "--quiet", "-vn", "7", "--", "-q"];
-        let items = read_items(rt.alloc(), &ROWS, State::Reading, &words)?;
-        assert_eq!(rt;
-            items.as_slice(),
-            [
-                Item::Chosen(Flag::Quiet),
-                Item::Chosen(Flag::Verbose),
-                lines(5),
-                Item::Operand(2),
-                Item::Chosen(Flag::Quiet),
-                Item::Chosen(Flag::Verbose),
-                lines(7),
-                Item::Operand(7),
-            ]
-            .as_slice()
-        );
-        Ok(())
-    }
-
-    #[test]
-    fn refuses_clusters(rt: HostRuntime) {
-        let unknown = Fault::Usage(UsageKind::UnknownOption, 2);
-        let missing = Fault::Usage(UsageKind::MissingValue, 2);
-        let unexpected = Fault::Usage(UsageKind::UnexpectedValue, 2);
-        for (word, fault) in [
-            ("-qx", unknown),
-            ("-q-", unknown),
-            ("-qn", missing),
-            ("--quiet=", unexpected),
-            ("--quiet=1", unexpected),
-        ] {
-            match read_items(rt.alloc(), &ROWS, State::Reading, &["-v", word]) {
-                Ok(_) => assert!(rt; false, "at {word}"),
-                Err(found) => assert_eq!(rt; found, fault, "at {word}"),
-            }
-        }
     }
 }

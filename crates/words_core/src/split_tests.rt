@@ -1,10 +1,23 @@
-//! What the words behind `split` ask for, of which no clause shows that there is memory for it.
-use crate::split_settings::SplitSettings;
-use crate::split_words::read_split;
+//! What the words after `split` ask for, of which no clause shows that there is memory for it.
+use crate::settings::SplitSettings;
+use crate::spelling::read_given;
+use crate::split_words::settle_split;
+use crate::table::{all_tools, find_row};
 use ports_core::{Alphabet, Fault, UsageKind};
 use split_core::Cut;
 use std::alloc::Global;
 use std::process::Abort;
+
+/// What the words after `split` ask for.
+fn read_split<'a>(alloc: Global, words: &[&'a str]) -> Result<SplitSettings<'a>, Fault> {
+    let Some(tool) = find_row(all_tools(), "split") else {
+        return Err(Fault::Usage(UsageKind::UnknownTool, 0));
+    };
+    match read_given(alloc, tool, words) {
+        Ok(spelled) => settle_split(&spelled),
+        Err(fault) => Err(fault),
+    }
+}
 
 /// What is asked of the names.
 #[derive(Clone, Copy, Debug, PartialEq, Eq)]
@@ -39,7 +52,7 @@ const fn widening(alphabet: Alphabet) -> Names {
 fn check(
     rt: &impl Abort,
     words: &[&str],
-    found: Result<SplitSettings, Fault>,
+    found: Result<SplitSettings<'_>, Fault>,
     cut: Cut,
     names: Names,
 ) {
@@ -185,16 +198,16 @@ fn reads_what_names_are_made_of(rt: HostRuntime) {
 
 #[test]
 fn reads_operands_and_empty_files(rt: HostRuntime) {
-    let rows: [(&[&str], bool, Option<usize>, Option<usize>); 9] = [
-        (&[], false, None, None),
-        (&["-"], false, Some(1), None),
-        (&["f"], false, Some(1), None),
-        (&["f", "p-"], false, Some(1), Some(2)),
-        (&["-l", "1", "f", "p-"], false, Some(3), Some(4)),
-        (&["f", "-l1", "-", "-e"], true, Some(1), Some(3)),
-        (&["-e"], true, None, None),
-        (&["--elide-empty-files", "-dx", "f"], true, Some(3), None),
-        (&["--", "-e", "-3"], false, Some(2), Some(3)),
+    let rows: [(&[&str], bool, &str, &str); 9] = [
+        (&[], false, "-", "x"),
+        (&["-"], false, "-", "x"),
+        (&["f"], false, "f", "x"),
+        (&["f", "p-"], false, "f", "p-"),
+        (&["-l", "1", "f", "p-"], false, "f", "p-"),
+        (&["f", "-l1", "-", "-e"], true, "f", "-"),
+        (&["-e"], true, "-", "x"),
+        (&["--elide-empty-files", "-dx", "f"], true, "f", "x"),
+        (&["--", "-e", "-3"], false, "-e", "-3"),
     ];
     for row in rows {
         match read_split(rt.alloc(), row.0) {

@@ -1,18 +1,111 @@
-//! The words behind `split`: POSIX.1-2017, XBD 12.2, XCU split; the options `-C`, `-n`, `-d`, `-x` and `-e` are GNU's.
-ghost use Rattle.std.specs.Prelude.{◌≡◌, ◌⊎◌, ℕ, ◌^◌, ◌<◌, ◌≤◌, map, IfOk, IfErr};
+//! What `split` is asked for: POSIX.1-2017, XCU split; `-C`, `-n`, `-d`, `-x` and `-e` are GNU's.
+ghost use Rattle.std.specs.Prelude.{◌≡◌, ℕ, ◌^◌, ◌<◌, ◌≤◌, map, None, IfOk, IfErr};
 ghost use Rattle.ports_core.specs.Name.{name_count, radix};
-ghost use Rattle.words_core.specs.SplitWords.{AreNamed, AreRefusedBySplit, IsInLimits, IsWidth, SpellSplit, asks_alphabet, dealt, elides, files_at, fixed, free, last_alphabet, last_width, least_width, names_all, only_way, split_asked, suffix_for};
+ghost use Rattle.words_core.specs.Given.{operand_seen, option_seen};
+ghost use Rattle.words_core.specs.SplitWords.{dealt, files_in, fixed, free, least_width, names_all, no_options, one_way, split_after, split_asked, split_options, suffix_for, way_in, with_width};
+ghost use Rattle.words_core.specs.Value.{seen};
 
-use crate::item::Item;
-use crate::options::{Flag, SizeUnit, ValueKind, split_options};
-use crate::spelling::{State, find_operands, read_items};
-use crate::split_settings::SplitSettings;
+use crate::settings::SplitSettings;
+use crate::spelled::{Chosen, Operand, Spelled};
+use crate::table::Choice;
+use crate::value::Value;
 use ports_core::{Alphabet, Fault, UsageKind};
 use split_core::Cut;
-use std::alloc::Global;
 
 /// How files are cut where no way is given.
 const THOUSAND_LINES: Cut = Cut::Lines(1000);
+
+/// The input where no operand names one: standard input.
+const STANDARD_INPUT: &str = "-";
+
+/// What the names of files begin with where no operand says so.
+const PREFIX: &str = "x";
+
+/// What options ask for.
+#[derive(Clone, Copy, Debug, PartialEq, Eq)]
+pub struct SplitOptions {
+    /// The way to split, where one is given.
+    pub cut: Option<Cut>,
+    pub alphabet: Alphabet,
+    /// The width of suffixes, 0 where none is given.
+    pub width: u8,
+    pub elide: bool,
+}
+
+/// What is asked for without options.
+const NO_OPTIONS: SplitOptions = SplitOptions {
+    cut: None,
+    alphabet: Alphabet::Letters,
+    width: 0,
+    elide: false,
+};
+
+impl SplitOptions {
+    /// The same, and what one more option asks for.
+    ///
+    /// # Errors
+    ///
+    /// `Usage` where it is a second way to split: the word in which it stands.
+    fn with(self, option: &Chosen<'_>) -> Result<Self, Fault>
+        ensures { result ≡ split_after self (option_seen option.now) }
+    {
+        match option.choice {
+            Choice::Lines | Choice::Bytes | Choice::LineBytes | Choice::Files => {
+                self.with_way(way_in(option.choice, option.value), option.word)
+            }
+            Choice::SuffixLength => Ok(self.with_width(option.value)),
+            Choice::NumericSuffixes => Ok(SplitOptions {
+                alphabet: Alphabet::Digits,
+                ..self
+            }),
+            Choice::HexSuffixes => Ok(SplitOptions {
+                alphabet: Alphabet::Hex,
+                ..self
+            }),
+            Choice::ElideEmptyFiles => Ok(SplitOptions {
+                elide: true,
+                ..self
+            }),
+            Choice::Quiet | Choice::Verbose => Ok(self),
+        }
+    }
+
+    fn with_way(self, cut: Cut, word: usize) -> Result<Self, Fault>
+        ensures { result ≡ one_way self cut word }
+    {
+        match self.cut {
+            None => Ok(SplitOptions {
+                cut: Some(cut),
+                ..self
+            }),
+            Some(_) => Err(Fault::Usage(UsageKind::TwoWays, word)),
+        }
+    }
+
+    fn with_width(self, value: Value<'_>) -> Self
+        ensures { result ≡ with_width self (seen value.entry) }
+    {
+        match value {
+            Value::Width(width) => SplitOptions { width, ..self },
+            _ => self,
+        }
+    }
+}
+
+/// The way to split that an option gives with its value.
+fn way_in(choice: Choice, value: Value<'_>) -> Cut
+    ensures { result ≡ way_in choice (seen value.entry) }
+{
+    match value {
+        Value::Size(size) => match choice {
+            Choice::Bytes => Cut::Bytes(size),
+            Choice::LineBytes => Cut::LineBytes(size),
+            _ => Cut::Lines(size),
+        },
+        Value::Files(files) => Cut::Round(files),
+        _ => THOUSAND_LINES,
+    }
+}
 
 /// What stands behind the prefix of a name.
 #[derive(Clone, Copy, Debug, PartialEq, Eq)]
@@ -23,155 +116,61 @@ pub struct Suffix {
     pub auto: bool,
 }
 
-/// The places of the operands.
-#[derive(Clone, Copy, Debug, PartialEq, Eq)]
-pub struct Files {
-    pub input: Option<usize>,
-    pub prefix: Option<usize>,
-}
-
-/// Reads what the words behind `split` ask for. The first stands at place 1.
+/// What words ask of `split`: the line as a whole.
 ///
 /// # Errors
 ///
-/// `Usage`: what is wrong, and with which word; the faults of single words come first, from left to right, then those of
-/// the line as a whole. `Memory` where there is no room for what they spell.
-pub fn read_split(alloc: Global, words: &[&str]) -> Result<SplitSettings, Fault>
-    ensures ok { IfOk result (SpellSplit (map (λ word. word.now) words.now)) }
-    ensures err { IfErr result (λ fault. (fault ≡ Fault.Memory) ⊎ AreRefusedBySplit (map (λ word. word.now) words.now) fault) }
-    ensures cut { IfOk result (λ settings. IsInLimits settings.cut) }
-    ensures width { IfOk result (λ settings. IsWidth settings.width) }
-    ensures named { IfOk result (λ settings. AreNamed settings.cut settings.alphabet settings.width) }
+/// `Usage`: what is wrong, and with which word.
+pub fn settle_split<'a>(spelled: &Spelled<'a>) -> Result<SplitSettings<'a>, Fault>
+    ensures { result ≡ split_asked spelled.now }
 {
-    let first = State::First(ValueKind::Size(SizeUnit::Lines));
-    match read_items(alloc, split_options(), first, words) {
-        Ok(items) => settle(alloc, &items),
-        Err(fault) => Err(fault),
-    }
-}
-
-/// Looks at the line as a whole.
-fn settle(alloc: Global, items: &[Item]) -> Result<SplitSettings, Fault>
-    ensures ok { IfOk result (λ settings. split_asked items.now ≡ Ok settings) }
-    ensures err { IfErr result (λ fault. (fault ≡ Fault.Memory) ⊎ (split_asked items.now ≡ Err fault)) }
-    ensures width { IfOk result (λ settings. IsWidth settings.width) }
-{
-    let cut = match choose_cut(items) {
-        Ok(cut) => cut,
+    let options = match choose_split(&spelled.options) {
+        Ok(options) => options,
         Err(fault) => return Err(fault),
     };
-    let alphabet = choose_alphabet(items);
-    let suffix = match choose_suffix(cut, alphabet, choose_width(items)) {
+    let cut = options.cut.unwrap_or(THOUSAND_LINES);
+    let suffix = match choose_suffix(cut, options.alphabet, options.width) {
         Ok(suffix) => suffix,
         Err(fault) => return Err(fault),
     };
-    let operands = match find_operands(alloc, items) {
-        Ok(operands) => operands,
-        Err(fault) => return Err(fault),
-    };
-    let files = match take_files(&operands) {
+    let (input, prefix) = match take_files(&spelled.operands) {
         Ok(files) => files,
         Err(fault) => return Err(fault),
     };
     Ok(SplitSettings {
         cut,
-        alphabet,
+        alphabet: options.alphabet,
         width: suffix.width,
         auto: suffix.auto,
-        elide: choose_elide(items),
-        input: files.input,
-        prefix: files.prefix,
+        elide: options.elide,
+        input,
+        prefix,
     })
 }
 
-/// The one way to split.
+/// What all options ask for.
 ///
 /// # Errors
 ///
-/// `Usage` where a second one is given: the word in which its option stands.
-fn choose_cut(items: &[Item]) -> Result<Cut, Fault>
-    ensures { result ≡ only_way None items.now }
+/// `Usage` where a second way to split is given: the word in which its option stands.
+fn choose_split(options: &[Chosen<'_>]) -> Result<SplitOptions, Fault>
+    ensures { result ≡ split_options (map option_seen options.now) no_options }
 {
-    let mut first = None;
-    let mut left = items;
-    while let [item, behind @ ..] = left {
-        match item {
-            Item::Split(cut, option) => match first {
-                None => first = Some(*cut),
-                Some(_) => return Err(Fault::Usage(UsageKind::TwoWays, *option)),
-            },
-            Item::Chosen(_) | Item::Counted(_, _) | Item::Width(_) | Item::Operand(_) => {}
+    let mut asked = NO_OPTIONS;
+    let mut left = options;
+    while let [option, rest @ ..] = left {
+        match asked.with(option) {
+            Ok(next) => asked = next,
+            Err(fault) => return Err(fault),
         }
-        left = behind;
+        left = rest;
     }
-    Ok(first.unwrap_or(THOUSAND_LINES))
-}
-
-/// What the last option for the characters of suffixes says.
-fn choose_alphabet(items: &[Item]) -> Alphabet
-    ensures { result ≡ last_alphabet Alphabet.Letters items.now }
-{
-    let mut alphabet = Alphabet::Letters;
-    let mut left = items;
-    while let [item, behind @ ..] = left {
-        match item {
-            Item::Chosen(flag) => alphabet = asked_alphabet(alphabet, *flag),
-            Item::Counted(_, _) | Item::Split(_, _) | Item::Width(_) | Item::Operand(_) => {}
-        }
-        left = behind;
-    }
-    alphabet
-}
-
-fn asked_alphabet(alphabet: Alphabet, flag: Flag) -> Alphabet
-    ensures { result ≡ asks_alphabet alphabet flag }
-{
-    match flag {
-        Flag::Numeric => Alphabet::Digits,
-        Flag::Hex => Alphabet::Hex,
-        Flag::Quiet | Flag::Verbose | Flag::Elide => alphabet,
-    }
-}
-
-/// The last width, 0 where none is given.
-fn choose_width(items: &[Item]) -> u8
-    ensures { result ≡ last_width 0 items.now }
-{
-    let mut width = 0;
-    let mut left = items;
-    while let [item, behind @ ..] = left {
-        match item {
-            Item::Width(found) => width = *found,
-            Item::Chosen(_) | Item::Counted(_, _) | Item::Split(_, _) | Item::Operand(_) => {}
-        }
-        left = behind;
-    }
-    width
-}
-
-/// Whether empty files are left out.
-fn choose_elide(items: &[Item]) -> bool
-    ensures { result ≡ elides items.now }
-{
-    let mut left = items;
-    while let [item, behind @ ..] = left {
-        match item {
-            Item::Chosen(Flag::Elide) => return true,
-            Item::Chosen(Flag::Quiet | Flag::Verbose | Flag::Numeric | Flag::Hex)
-            | Item::Counted(_, _)
-            | Item::Split(_, _)
-            | Item::Width(_)
-            | Item::Operand(_) => {}
-        }
-        left = behind;
-    }
-    false
+    Ok(asked)
 }
 
 /// The suffixes of files that are cut so, where this width is given, and none where it is 0.
 fn choose_suffix(cut: Cut, alphabet: Alphabet, width: u8) -> Result<Suffix, Fault>
-    ensures value { result ≡ suffix_for cut alphabet width }
-    ensures width { IfOk result (λ suffix. IsWidth suffix.width) }
+    ensures { result ≡ suffix_for cut alphabet width }
 {
     match cut {
         Cut::Round(files) => suffix_of_dealt(alphabet, files, width),
@@ -181,8 +180,7 @@ fn choose_suffix(cut: Cut, alphabet: Alphabet, width: u8) -> Result<Suffix, Faul
 
 /// Suffixes that widen where no width is given.
 fn free(width: u8) -> Suffix
-    ensures value { result ≡ free width }
-    ensures width { IsWidth result.width }
+    ensures { result ≡ free width }
 {
     if width == 0 {
         return Suffix {
@@ -195,8 +193,7 @@ fn free(width: u8) -> Suffix
 
 /// The suffixes of files that lines are dealt to.
 fn suffix_of_dealt(alphabet: Alphabet, files: u64, width: u8) -> Result<Suffix, Fault>
-    ensures value { result ≡ dealt alphabet files width }
-    ensures width { IfOk result (λ suffix. IsWidth suffix.width) }
+    ensures { result ≡ dealt alphabet files width }
 {
     let width = u32::from(width);
     if width == 0 {
@@ -214,7 +211,7 @@ fn fixed(width: u32) -> Suffix
     Suffix { width, auto: false }
 }
 
-/// The least width, from 2 on, that names so many files.
+/// The least width, from 2 on, that names this many files.
 fn least_width(alphabet: Alphabet, files: u64) -> u32
     ensures value { result ≡ least_width alphabet files }
     ensures some { 2 ≤ result }
@@ -233,7 +230,7 @@ fn least_width(alphabet: Alphabet, files: u64) -> u32
     }
 }
 
-/// Whether this width names so many files.
+/// Whether this width names this many files.
 fn names_all(alphabet: Alphabet, files: u64, width: u32) -> bool
     ensures { result ≡ names_all alphabet files width }
 {
@@ -251,19 +248,19 @@ fn radix(alphabet: Alphabet) -> u64
     }
 }
 
-/// The operands: the input and the prefix, each where it is given.
+/// The operands: the name of the input, and what the names of files begin with.
 ///
 /// # Errors
 ///
 /// `Usage` where there is a third one.
-fn take_files(operands: &[usize]) -> Result<Files, Fault>
-    ensures { result ≡ files_at operands.now }
+fn take_files<'a>(operands: &[Operand<'a>]) -> Result<(&'a str, &'a str), Fault>
+    ensures ok { IfOk result (λ names. files_in (map operand_seen operands.now) ≡ Ok (names.0.now, names.1.now)) }
+    ensures err { IfErr result (λ fault. files_in (map operand_seen operands.now) ≡ Err fault) }
 {
-    let (input, prefix) = match operands {
-        [] => (None, None),
-        [input] => (Some(*input), None),
-        [input, prefix] => (Some(*input), Some(*prefix)),
-        [_, _, extra, ..] => return Err(Fault::Usage(UsageKind::ExtraOperand, *extra)),
-    };
-    Ok(Files { input, prefix })
+    match operands {
+        [] => Ok((STANDARD_INPUT, PREFIX)),
+        [input] => Ok((input.text, PREFIX)),
+        [input, prefix] => Ok((input.text, prefix.text)),
+        [_, _, extra, ..] => Err(Fault::Usage(UsageKind::ExtraOperand, extra.word)),
+    }
 }

@@ -1,6 +1,5 @@
 use Rattle.std.proofs.Common.{◌≡◌, ◌≤◌, length, ◌++◌, ◌∙◌, [], true, false, sym, ap, refl, take, arith}
 use Rattle.std.proofs.lemmas.List.{append-nil}
-use Rattle.std.proofs.lemmas.Bool.{false≢true}
 use Rattle.ports_core.specs.Work.{Work}
 use Rattle.run_core.proofs.FeedingLemmas.{begins, nothing_read, keeps_itself, keeps_again, keeps_others, read_broken, broken_off, of_content, still_readable, read_more, read_failed, goes_on, stopped_feeding, read_to_end, ended, needed_none, needed_more, piece_within, asked_again, asked_at_end, broken_now, ends_sound, given_so, Laws}
 use Rattle.run_core.proofs.feeding.feed_input.Goals as goal

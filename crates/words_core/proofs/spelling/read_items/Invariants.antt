@@ -1,11 +1,12 @@
 use Rattle.std.proofs.Common.{◌≡◌, ◌+◌, map, length}
+use Rattle.words_core.specs.Table.{row_seen}
 use Rattle.words_core.specs.Spelling.{behind, spelled}
 use Rattle.words_core.proofs.spelling.read_items.Given as goal
 
 abbrev pub invariant-loop-left : goal.invariant-loop-left
 invariant-loop-left l = record {
-  spells : behind l.items.items (spelled (map (λ row. (row.0.now, row.1)) l.rows) (map (λ word. word.now) l.left) l.place l.state)
-      ≡ spelled (map (λ row. (row.0.now, row.1)) l.rows) (map (λ word. word.now) l.words) 1 l.fn.start;
+  spells : behind l.spelled (spelled (map row_seen l.rows) (map (λ word. word.now) l.left) l.place l.state)
+      ≡ spelled (map row_seen l.rows) (map (λ word. word.now) l.words) 1 l.fn.start;
   places : l.place + length l.left ≡ 1 + length l.words;
 }
 

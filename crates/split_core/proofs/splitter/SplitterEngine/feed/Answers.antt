@@ -1,11 +1,13 @@
-use Rattle.split_core.proofs.SplitterLemmas.{round_outputs, round_cut, parts_refused}
+use Rattle.std.proofs.Common.{◌≡◌, true, length, subst, IfErr}
+use Rattle.ports_core.specs.Guard.{GuardState, HoldsIn}
+use Rattle.ports_core.specs.Engine.{CutsOff, EndsWith, IsCaused, IsMet}
+use Rattle.split_core.specs.Ways.{Holds, Owns, may_lack, work}
+use Rattle.split_core.specs.declared.ways.Ways.{Ways}
 use Rattle.split_core.proofs.splitter.SplitterEngine.feed.Goals as goal
 
-pub returns-in-Parts-clause-refused : goal.returns-in-Parts-clause-refused
-returns-in-Parts-clause-refused g c = parts_refused g.O.Outs.told c.in-Parts.engine c.args.self.now c.args.piece.now _ _ c.feed.result c.in-Parts.is c.feed.ensures.refused
+pub returns-clause-cut : goal.returns-clause-cut
+returns-clause-cut g c = subst (λ (those : GuardState Ways). IfErr c.feed.result (CutsOff (HoldsIn Holds) (λ (guard : GuardState Ways). Owns guard.stage) (λ (guard : GuardState Ways). work guard.stage) those c.args.piece.now g.O.Outs.told (g.O.Outs.slots c.args.outs.now) (g.O.Outs.slots c.feed.new.outs))) c.self.view_is c.feed.ensures.cut
 
-pub returns-in-Round-clause-outputs : goal.returns-in-Round-clause-outputs
-returns-in-Round-clause-outputs g c = round_outputs g.O.Outs.told c.in-Round.engine c.args.self.now c.args.piece.now _ _ c.feed-in-Round.result c.in-Round.is c.feed-in-Round.ensures.outputs
-
-pub returns-in-Round-clause-cut : goal.returns-in-Round-clause-cut
-returns-in-Round-clause-cut g c = round_cut g.O.Outs.told c.in-Round.engine c.args.self.now c.args.piece.now _ _ c.feed-in-Round.result c.in-Round.is c.feed-in-Round.ensures.cut
+pub returns-clause-refused : goal.returns-clause-refused
+returns-clause-refused g c = subst (λ (those : GuardState Ways). IfErr c.feed.result (IsCaused (IsMet (work those.stage).means (work those.stage).means.feeding (may_lack those.stage c.args.piece.now ≡ true)
+    (EndsWith (HoldsIn Holds) (λ (guard : GuardState Ways). work guard.stage) those c.args.piece.now) (g.O.Outs.slots c.args.outs.now) (g.O.Outs.slots c.feed.new.outs)) those.is_over those.fed (length c.args.piece.now) (g.O.Outs.slots c.args.outs.now) (g.O.Outs.slots c.feed.new.outs))) c.self.view_is c.feed.ensures.refused

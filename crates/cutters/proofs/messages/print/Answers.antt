@@ -1,6 +1,0 @@
-use Rattle.std.proofs.Common.{◌∙◌, sym}
-use Rattle.cutters.proofs.MessageLemmas.{prints_on}
-use Rattle.cutters.proofs.messages.print.Goals as goal
-
-pub returns : goal.returns
-returns g c = prints_on _ _ _ _ c.write_whole.result (sym c.broken.ensures ∙ c.if-broken.false) c.write_whole.ensures.whole c.write_whole.ensures.cut

@@ -1,9 +1,0 @@
-use Rattle.std.proofs.Common.{◌≡◌, ◌∙◌, IfOk, subst}
-use Rattle.cutters.proofs.MessageLemmas.{says_on, says_memory_on}
-use Rattle.cutters.proofs.messages.print_message.Goals as goal
-
-pub returns-in-Ok : goal.returns-in-Ok
-returns-in-Ok g c text is = says_on _ _ text _ _ _ (c.deref.ensures.value ∙ subst (λ line. IfOk line (λ bytes. bytes.items ≡ text)) c.in-Ok.is is) c.print.ensures
-
-pub returns-in-Err : goal.returns-in-Err
-returns-in-Err g c text is = says_memory_on _ _ text _ _ _ c.memory_exhausted.ensures c.print-in-Err.ensures

@@ -1,0 +1,56 @@
+-- Lemmas on messages.
+use Rattle.std.proofs.Common.{◌≡◌, ℕ, Bool, true, false, not, ◌&&◌, IsTrue, List, [], ◌∷◌, ◌++◌, take, Result, Ok, Err, OnOk, IfErr, inl, inr, refl, sym, ◌∙◌, ap, subst}
+use Rattle.ports_core.specs.Slot.{Slot, is_open, slot_at, is_writable, with_written, with_broken, adds, breaks, told_of}
+use Rattle.ports_core.specs.Write.{BrokeAfter}
+use Rattle.ports_core.specs.Text.{message_of}
+use Rattle.ports_core.specs.declared.tool.Tool.{Tool}
+use Rattle.ports_core.specs.declared.whole.WriteCut.{WriteCut}
+use Rattle.ports_core.specs.declared.fault.Fault.TheVariants.{Memory}
+use Rattle.ports_core.specs.Message.{Prints, whole, cut, passed, PrintsOn, Says, SaysAll, SaysOn}
+
+open_and_sound : (slots : List Slot) → is_open (slot_at slots 1).state ≡ true → (slot_at slots 1).is_broken ≡ false → is_writable slots 1 ≡ true
+open_and_sound slots opened sound = ap (λ (b : Bool). b && not (slot_at slots 1).is_broken) opened ∙ ap not sound
+
+pub can_print : (slots : List Slot) (broken : Bool) → is_open (slot_at slots 1).state ≡ true → broken ≡ (slot_at slots 1).is_broken → broken ≡ false → IsTrue (is_writable slots 1)
+can_print slots broken opened tells sound = open_and_sound slots opened (sym tells ∙ sound)
+
+pub prints_on : (told : Bool) (text : List ℕ) (old new : List Slot) (result : Result (Unit {0}) WriteCut) → (slot_at old 1).is_broken ≡ false → OnOk result (new ≡ with_written 1 (told_of told text) old) → IfErr result (λ at. BrokeAfter told old new 1 text at.written) → PrintsOn told text old new
+prints_on told text old new (Ok u) sound out broke output error since is = (adds (told_of told text) error, whole (sym (ap (λ slots. (slot_at slots 1).is_broken) is) ∙ sound) refl, out ∙ ap (with_written 1 (told_of told text)) is)
+prints_on told text old new (Err at) sound out broke output error since is =
+    (breaks (adds (told_of told (take at.written text)) error), cut (sym (ap (λ slots. (slot_at slots 1).is_broken) is) ∙ sound) at.written broke.within refl, broke.slots ∙ ap (λ slots. with_broken 1 (with_written 1 (told_of told (take at.written text)) slots)) is)
+
+pub passes_on : (told : Bool) (text : List ℕ) (old : List Slot) (broken : Bool) → broken ≡ (slot_at old 1).is_broken → broken ≡ true → PrintsOn told text old old
+passes_on told text old broken tells is_broken output error since is =
+    (error, passed (sym (ap (λ slots. (slot_at slots 1).is_broken) is) ∙ sym tells ∙ is_broken) refl, is)
+
+pub says_on : (told : Bool) (tool : Tool) (text said : List ℕ) (old new : List Slot) → said ≡ text → PrintsOn told said old new → SaysOn told tool text old new
+says_on told tool text said old new is prints output error since shape =
+    let printed = prints output error since shape in
+    (printed.0, record { said = said; is = inl is; printed = printed.1 }, printed.2)
+
+pub says_memory_on : (told : Bool) (tool : Tool) (text said : List ℕ) (old new : List Slot) → said ≡ message_of tool Memory [] → PrintsOn told said old new → SaysOn told tool text old new
+says_memory_on told tool text said old new is prints output error since shape =
+    let printed = prints output error since shape in
+    (printed.0, record { said = said; is = inr is; printed = printed.1 }, printed.2)
+
+-- one text more behind others
+pub says_more : (told : Bool) (tool : Tool) (texts : List (List ℕ)) (text : List ℕ) (old mid new : Slot) → SaysAll told tool texts old mid → Says told tool text mid new → SaysAll told tool (texts ++ text ∷ []) old new
+says_more told tool [] text old mid new so_far says = (new, subst (λ slot. Says told tool text slot new) so_far says, refl)
+says_more told tool (first ∷ texts) text old mid new so_far says = (so_far.0, so_far.1, says_more told tool texts text so_far.0 mid new so_far.2 says)
+
+-- an output that is open stays open whatever is said on it
+printed_open : (told : Bool) (text : List ℕ) (old new : Slot) → Prints told text old new → new.state ≡ old.state
+printed_open told text old new (whole sound is) = ap (λ slot. slot.state) is
+printed_open told text old new (cut sound n within is) = ap (λ slot. slot.state) is
+printed_open told text old new (passed broken is) = ap (λ slot. slot.state) is
+
+pub said_state : (told : Bool) (tool : Tool) (text : List ℕ) (old new : Slot) → Says told tool text old new → new.state ≡ old.state
+said_state told tool text old new says = printed_open told says.said old new says.printed
+
+pub all_said_state : (told : Bool) (tool : Tool) (texts : List (List ℕ)) (old new : Slot) → SaysAll told tool texts old new → new.state ≡ old.state
+all_said_state told tool [] old new is = ap (λ slot. slot.state) is
+all_said_state told tool (text ∷ texts) old new says = all_said_state told tool texts says.0 new says.2 ∙ said_state told tool text old says.0 says.1
+
+pub says_behind : (told : Bool) (tool : Tool) (texts more : List (List ℕ)) (old mid new : Slot) → SaysAll told tool texts old mid → SaysAll told tool more mid new → SaysAll told tool (texts ++ more) old new
+says_behind told tool [] more old mid new so_far says = subst (λ slot. SaysAll told tool more slot new) so_far says
+says_behind told tool (first ∷ texts) more old mid new so_far says = (so_far.0, so_far.1, says_behind told tool texts more so_far.0 mid new so_far.2 says)

@@ -1,0 +1,303 @@
+-- Lemmas on outputs that a fault stopped, and on the message that tells it: standard error is the slot after the first, and what
+-- was opened comes after both.
+use Rattle.std.proofs.Common.{Option, ◌≡◌, ℕ, ◌<◌, ◌≤◌, zero, suc, drop, get_or, Bool, true, false, List, [], ◌∷◌, ◌++◌, length, codes, arith, length-append, inl, refl, sym, ◌∙◌, ap, subst, lit<}
+use Rattle.std.proofs.lemmas.List.{append-nil}
+use Rattle.std.proofs.lemmas.Bool.{false≢true}
+use Rattle.ports_core.specs.Slot.{Slot, is_open, slot_at, adds, breaks, told_of, unopened, with_broken}
+use Rattle.ports_core.specs.Part.{Part, OutputsAt, IsNext, Marks, StoppedBetween}
+use Rattle.ports_core.specs.Text.{message_of}
+use Rattle.ports_core.specs.declared.tool.Tool.{Tool}
+use Rattle.ports_core.specs.declared.fault.Fault.{Fault}
+use Rattle.ports_core.specs.declared.fault.Fault.TheVariants.{Memory, Write, Read, Open, Suffixes, NoMatch, Range, Usage, Failed, TooLong}
+use Rattle.ports_core.proofs.WriteLemmas.{told_of-nil}
+use Rattle.ports_core.specs.Source.{Content}
+use Rattle.ports_core.specs.Work.{Work}
+use Rattle.ports_core.specs.Swept.{Swept, SweptFrom, Cleared}
+use Rattle.run_core.specs.Feeding.{Stops}
+use Rattle.ports_core.specs.Message.{Prints, whole, cut, passed, Says, SaysOn, output_named}
+
+-- a line that tells a fault isn't empty: it ends with a newline
+
+end_some : (front rest : List ℕ) → 0 < length rest → 0 < length (front ++ rest)
+end_some front rest some = omega (arith, length-append front rest, some)
+
+pub message_some : (tool : Tool) (fault : Fault) (name : List ℕ) → 0 < length (message_of tool fault name)
+message_some tool fault name = end_some _ (codes "\n") (lit< tt)
+
+-- both streams are there, and standard error is open
+
+pub record HasError (slots : List Slot) : Type 0 where
+  pub output : Slot
+  pub error : Slot
+  pub since : List Slot
+  pub are : slots ≡ output ∷ error ∷ since
+  pub opened : is_open error.state ≡ true
+
+pub error_open : (slots : List Slot) → HasError slots → is_open (slot_at slots 1).state ≡ true
+error_open slots has = ap (λ those. is_open (slot_at those 1).state) has.are ∙ has.opened
+
+shape_of : (output error : Slot) (since slots : List Slot) → is_open error.state ≡ true → slots ≡ output ∷ error ∷ since → HasError slots
+shape_of output error since slots opened are = record { output = output; error = error; since = since; are = are; opened = opened }
+
+pub part_error : (told : Bool) (output error : Slot) (part : Part) (slots : List Slot) → is_open error.state ≡ true → OutputsAt told (output ∷ error ∷ []) part slots → HasError slots
+part_error told output error part slots opened at = shape_of (adds (told_of told part.out) output) error at.since slots opened at.slots
+
+marked_error : (IsName : List ℕ → Type 0) (fault : Fault) (output error : Slot) (since now : List Slot) → is_open error.state ≡ true → Marks IsName fault (output ∷ error ∷ since) now → HasError now
+marked_error IsName (Write zero) output error since now opened marks = shape_of (breaks output) error since now opened marks.1
+marked_error IsName (Write (suc zero)) output error since now opened marks = shape_of output (breaks error) since now opened marks.1
+marked_error IsName (Write (suc (suc place))) output error since now opened marks = shape_of output error (with_broken place since) now opened marks.1
+marked_error IsName (Open slot) output error since now opened marks = shape_of output error (since ++ unopened marks.1.1 ∷ []) now opened marks.1.4
+marked_error IsName Memory output error since now opened marks = shape_of output error since now opened marks
+marked_error IsName (Read slot) output error since now opened marks = shape_of output error since now opened marks
+marked_error IsName Suffixes output error since now opened marks = shape_of output error since now opened marks
+marked_error IsName (NoMatch operand repetition) output error since now opened marks = shape_of output error since now opened marks
+marked_error IsName (Range operand repetition) output error since now opened marks = shape_of output error since now opened marks
+marked_error IsName (Usage kind word) output error since now opened marks = shape_of output error since now opened marks
+marked_error IsName Failed output error since now opened marks = shape_of output error since now opened marks
+marked_error IsName TooLong output error since now opened marks = shape_of output error since now opened marks
+
+pub stop_error : (told : Bool) (output error : Slot) (low high : Part) (fault : Fault) (now : List Slot) → is_open error.state ≡ true → StoppedBetween told (output ∷ error ∷ []) low high fault now → HasError now
+stop_error told output error low high fault now opened stop =
+    marked_error (IsNext stop.part high) fault (adds (told_of told stop.part.out) output) error stop.outputs.since now opened
+    (subst (λ slots. Marks (IsNext stop.part high) fault slots now) stop.outputs.slots stop.marks)
+
+-- a message changes standard error, and no other output
+
+pub said_at : (told : Bool) (tool : Tool) (text : List ℕ) (output error : Slot) (part : Part) (old new : List Slot) → OutputsAt told (output ∷ error ∷ []) part old → SaysOn told tool text old new
+    → (after : Slot) × Says told tool text error after × OutputsAt told (output ∷ after ∷ []) part new
+said_at told tool text output error part old new at says =
+    let said = says (adds (told_of told part.out) output) error at.since at.slots in
+    (said.0, said.1, record { standard = lit< tt; since = at.since; slots = said.2; files = at.files })
+
+printed_named : (told : Bool) (text : List ℕ) (old new : Slot) → Prints told text old new → new.name ≡ old.name
+printed_named told text old new (whole sound is) = ap (λ slot. slot.name) is
+printed_named told text old new (cut sound n within is) = ap (λ slot. slot.name) is
+printed_named told text old new (passed broken is) = ap (λ slot. slot.name) is
+
+-- an output that broke before the text says nothing of it
+printed_broken : (told : Bool) (text : List ℕ) (error new : Slot) → Prints told text (breaks error) new → new ≡ breaks error
+printed_broken told text error new (whole sound is) = absurd (false≢true (sym sound))
+printed_broken told text error new (cut sound n within is) = absurd (false≢true (sym sound))
+printed_broken told text error new (passed broken is) = is
+
+-- it may as well have broken at the text's first byte
+prints_nothing : (told : Bool) (text : List ℕ) (error : Slot) (broken : Bool) → error.is_broken ≡ broken → 0 < length text → Prints told text error (breaks error)
+prints_nothing told text error true is some = passed is (ap (λ (b : Bool). record error { is_broken = b }) (sym is))
+prints_nothing told text error false is some =
+    cut is 0 some (ap (λ bytes. record error { written = bytes; is_broken = true }) (sym (ap (λ bytes. error.written ++ bytes) (told_of-nil told) ∙ append-nil error.written)))
+
+module _ (told : Bool) (tool : Tool) (text : List ℕ) (some : 0 < length text) where
+  -- what a fault left, with its message after it
+  abbrev pub ToldMark : (List ℕ → Type 0) → Fault → Slot → Slot → List Slot → List Slot → List Slot → Type 0
+  ToldMark IsName fault output error since mid new =
+      (after : Slot) × Says told tool text error after × Marks IsName fault (output ∷ after ∷ since) new × (output_named new fault ≡ output_named mid fault)
+
+  told_marked : (IsName : List ℕ → Type 0) (fault : Fault) (output error : Slot) (since mid new : List Slot) → Marks IsName fault (output ∷ error ∷ since) mid → SaysOn told tool text mid new → ToldMark IsName fault output error since mid new
+  told_marked IsName (Write zero) output error since mid new marks says =
+      let said = says (breaks output) error since marks.1 in
+      (said.0, said.1, (marks.0, said.2), ap (λ slots. (slot_at slots 0).name) said.2 ∙ sym (ap (λ slots. (slot_at slots 0).name) marks.1))
+  told_marked IsName (Write (suc zero)) output error since mid new marks says =
+      let said = says output (breaks error) since marks.1 in
+      let same : said.0 ≡ breaks error = printed_broken told said.1.said error said.0 said.1.printed in
+      let now : new ≡ output ∷ breaks error ∷ since = said.2 ∙ ap (λ slot. output ∷ slot ∷ since) same in
+      (breaks error, record { said = text; is = inl refl; printed = prints_nothing told text error error.is_broken refl some }, (marks.0, now), ap (λ slots. (slot_at slots 1).name) now ∙ sym (ap (λ slots. (slot_at slots 1).name) marks.1))
+  told_marked IsName (Write (suc (suc place))) output error since mid new marks says =
+      let said = says output error (with_broken place since) marks.1 in
+      (said.0, said.1, (marks.0, said.2), ap (λ slots. (slot_at slots (suc (suc place))).name) said.2 ∙ sym (ap (λ slots. (slot_at slots (suc (suc place))).name) marks.1))
+  told_marked IsName (Open slot) output error since mid new marks says =
+      let said = says output error (since ++ unopened marks.1.1 ∷ []) marks.1.4 in (
+        said.0,
+        said.1,
+        (marks.0, (marks.1.0, marks.1.1, marks.1.2, marks.1.3, said.2)),
+        ap (λ slots. (slot_at slots slot).name) said.2 ∙ ap (λ n. (slot_at (output ∷ said.0 ∷ (since ++ unopened marks.1.1 ∷ [])) n).name) marks.0
+            ∙ sym (ap (λ slots. (slot_at slots slot).name) marks.1.4 ∙ ap (λ n. (slot_at (output ∷ error ∷ (since ++ unopened marks.1.1 ∷ [])) n).name) marks.0),
+      )
+  told_marked IsName Memory output error since mid new marks says =
+      let said = says output error since marks in (said.0, said.1, said.2, refl)
+  told_marked IsName (Read slot) output error since mid new marks says =
+      let said = says output error since marks in (said.0, said.1, said.2, refl)
+  told_marked IsName Suffixes output error since mid new marks says =
+      let said = says output error since marks in (said.0, said.1, said.2, refl)
+  told_marked IsName (NoMatch operand repetition) output error since mid new marks says =
+      let said = says output error since marks in (said.0, said.1, said.2, refl)
+  told_marked IsName (Range operand repetition) output error since mid new marks says =
+      let said = says output error since marks in (said.0, said.1, said.2, refl)
+  told_marked IsName (Usage kind word) output error since mid new marks says =
+      let said = says output error since marks in (said.0, said.1, said.2, refl)
+  told_marked IsName Failed output error since mid new marks says =
+      let said = says output error since marks in (said.0, said.1, said.2, refl)
+  told_marked IsName TooLong output error since mid new marks says =
+      let said = says output error since marks in (said.0, said.1, said.2, refl)
+
+  pub stop_told : (output error : Slot) (low high : Part) (fault : Fault) (mid new : List Slot) → StoppedBetween told (output ∷ error ∷ []) low high fault mid → SaysOn told tool text mid new
+      → (after : Slot) × Says told tool text error after × StoppedBetween told (output ∷ after ∷ []) low high fault new × (output_named new fault ≡ output_named mid fault)
+  stop_told output error low high fault mid new stop says =
+      let first = adds (told_of told stop.part.out) output in
+      let marked = told_marked (IsNext stop.part high) fault first error stop.outputs.since mid new (subst (λ slots. Marks (IsNext stop.part high) fault slots mid) stop.outputs.slots stop.marks) says in (
+        marked.0,
+        marked.1,
+        record {
+          part = stop.part;
+          above = stop.above;
+          below = stop.below;
+          place = stop.place;
+          order = stop.order;
+          from = stop.from;
+          reached = first ∷ marked.0 ∷ stop.outputs.since;
+          outputs = record { standard = lit< tt; since = stop.outputs.since; slots = refl; files = stop.outputs.files };
+          marks = marked.2;
+        },
+        marked.3,
+      )
+
+-- an output that is broken stays so, whatever is said
+
+printed_broken_still : (told : Bool) (text : List ℕ) (old new : Slot) → Prints told text old new → old.is_broken ≡ true → new.is_broken ≡ true
+printed_broken_still told text old new (whole sound is) broken = absurd (false≢true (sym sound ∙ broken))
+printed_broken_still told text old new (cut sound n within is) broken = absurd (false≢true (sym sound ∙ broken))
+printed_broken_still told text old new (passed was is) broken = ap (λ (slot : Slot). slot.is_broken) is ∙ broken
+
+still_broken : (told : Bool) (tool : Tool) (text : List ℕ) (mid new : List Slot) (slot : ℕ) → HasError mid → SaysOn told tool text mid new → (slot_at mid slot).is_broken ≡ true → (slot_at new slot).is_broken ≡ true
+still_broken told tool text mid new zero has says broken =
+    let said = says has.output has.error has.since has.are in
+    ap (λ slots. (slot_at slots 0).is_broken) said.2 ∙ sym (ap (λ slots. (slot_at slots 0).is_broken) has.are) ∙ broken
+still_broken told tool text mid new (suc zero) has says broken =
+    let said = says has.output has.error has.since has.are in
+    ap (λ slots. (slot_at slots 1).is_broken) said.2 ∙ printed_broken_still told said.1.said has.error said.0 said.1.printed (sym (ap (λ slots. (slot_at slots 1).is_broken) has.are) ∙ broken)
+still_broken told tool text mid new (suc (suc place)) has says broken =
+    let said = says has.output has.error has.since has.are in
+    ap (λ slots. (slot_at slots (suc (suc place))).is_broken) said.2 ∙ sym (ap (λ slots. (slot_at slots (suc (suc place))).is_broken) has.are) ∙ broken
+
+-- what stopped a run did so after the message too
+pub stops_still : (told : Bool) (tool : Tool) (text : List ℕ) (work : Work) (most : ℕ) (content : Option Content) (mid new : List Slot) (fault : Fault) → HasError mid → SaysOn told tool text mid new → Stops work most content mid fault → Stops work most content new fault
+stops_still told tool text work most content mid new (Write slot) has says stops = (stops.0, still_broken told tool text mid new slot has says stops.1)
+stops_still told tool text work most content mid new Memory has says stops = stops
+stops_still told tool text work most content mid new (Open slot) has says stops = stops
+stops_still told tool text work most content mid new TooLong has says stops = stops
+stops_still told tool text work most content mid new (Read slot) has says stops = stops
+stops_still told tool text work most content mid new Suffixes has says stops = stops
+stops_still told tool text work most content mid new (NoMatch operand repetition) has says stops = stops
+stops_still told tool text work most content mid new (Range operand repetition) has says stops = stops
+stops_still told tool text work most content mid new (Usage kind word) has says stops = stops
+stops_still told tool text work most content mid new Failed has says stops = stops
+
+-- what is said after files were removed
+
+swept_streams : (output error after : Slot) (since now : List Slot) (first : ℕ) → 2 ≤ first → SweptFrom first (output ∷ error ∷ since) (output ∷ error ∷ now) → SweptFrom first (output ∷ after ∷ since) (output ∷ after ∷ now)
+swept_streams output error after since now first behind swept = record {
+  size = let same : suc (suc (length now)) ≡ suc (suc (length since)) = swept.size in ap (λ n. n) same;
+  before = same_before;
+  cleared = cleared_still;
+} where
+  same_before : (place : ℕ) → place < first → slot_at (output ∷ after ∷ now) place ≡ slot_at (output ∷ after ∷ since) place
+  same_before zero within = refl
+  same_before (suc zero) within = refl
+  same_before (suc (suc place)) within = swept.before (suc (suc place)) within
+
+  cleared_still : (place : ℕ) → first ≤ place → Cleared (slot_at (output ∷ after ∷ since) place) (slot_at (output ∷ after ∷ now) place)
+  cleared_still zero above = absurd (omega (arith, behind, above))
+  cleared_still (suc zero) above = absurd (omega (arith, behind, above))
+  cleared_still (suc (suc place)) above = swept.cleared (suc (suc place)) above
+
+-- outputs that were swept have the same streams
+streams_left : (output error : Slot) (since mid : List Slot) (first : ℕ) → 2 ≤ first → SweptFrom first (output ∷ error ∷ since) mid → (now : List Slot) × (mid ≡ output ∷ error ∷ now)
+streams_left output error since [] first behind swept = absurd (let none : 0 ≡ suc (suc (length since)) = swept.size in omega (arith, none))
+streams_left output error since (one ∷ []) first behind swept = absurd (let few : 1 ≡ suc (suc (length since)) = swept.size in omega (arith, few))
+streams_left output error since (one ∷ two ∷ now) first behind swept =
+    (now, ap (λ slot. slot ∷ two ∷ now) (swept.before 0 (omega (arith, behind))) ∙ ap (λ slot. output ∷ slot ∷ now) (swept.before 1 (omega (arith, behind))))
+
+module _ (told : Bool) (tool : Tool) (text : List ℕ) where
+  said_swept_by : (clears : Bool) (output error : Slot) (part : Part) (reached mid new : List Slot) (first : ℕ) → 2 ≤ first → OutputsAt told (output ∷ error ∷ []) part reached → Swept clears first reached mid → SaysOn told tool text mid new
+      → (after : Slot) × Says told tool text error after × ((now : List Slot) × OutputsAt told (output ∷ after ∷ []) part now × Swept clears first now new)
+  said_swept_by false output error part reached mid new first behind at same says =
+      let said = said_at told tool text output error part mid new (subst (OutputsAt told (output ∷ error ∷ []) part) (sym same) at) says in
+      (said.0, said.1, (new, said.2, refl))
+  said_swept_by true output error part reached mid new first behind at swept says =
+      let top = adds (told_of told part.out) output in
+      let first_swept = subst (λ slots. SweptFrom first slots mid) at.slots swept in
+      let left = streams_left top error at.since mid first behind first_swept in
+      let said = says top error left.0 left.1 in (
+        said.0,
+        said.1,
+        (
+          top ∷ said.0 ∷ at.since,
+          record { standard = lit< tt; since = at.since; slots = refl; files = at.files },
+          subst (λ slots. SweptFrom first (top ∷ said.0 ∷ at.since) slots) (sym said.2)
+              (swept_streams top error said.0 at.since left.0 first behind (subst (λ slots. SweptFrom first (top ∷ error ∷ at.since) slots) left.1 first_swept)),
+        ),
+      )
+
+  -- a message after the files were removed changes standard error alone
+  pub said_swept : (clears : Bool) (output error : Slot) (part : Part) (reached mid new : List Slot) (first : ℕ) → 2 ≤ first → OutputsAt told (output ∷ error ∷ []) part reached → Swept clears first reached mid → SaysOn told tool text mid new
+      → (after : Slot) × Says told tool text error after × ((now : List Slot) × OutputsAt told (output ∷ after ∷ []) part now × Swept clears first now new)
+  said_swept = said_swept_by
+
+  -- the same text said of outputs with the same streams
+  said_too : (output error after : Slot) (since reached : List Slot) → reached ≡ output ∷ error ∷ since → Says told tool text error after → SaysOn told tool text reached (output ∷ after ∷ since)
+  said_too output error after since reached are said top other rest is =
+      let same : output ∷ error ∷ since ≡ top ∷ other ∷ rest = sym are ∙ is in
+      (after, subst (λ from. Says told tool text from after) (second_same same) said, ap (λ slots. slots) (ap (λ slot. slot ∷ after ∷ since) (first_same same) ∙ ap (λ slots. top ∷ after ∷ slots) (rest_same same))) where
+        first_same : {a b c d : Slot} {xs ys : List Slot} → a ∷ b ∷ xs ≡ c ∷ d ∷ ys → a ≡ c
+        first_same {a = a} is = ap (λ slots. get_or slots 0 a) is
+
+        second_same : {a b c d : Slot} {xs ys : List Slot} → a ∷ b ∷ xs ≡ c ∷ d ∷ ys → b ≡ d
+        second_same {b = b} is = ap (λ slots. get_or slots 1 b) is
+
+        rest_same : {a b c d : Slot} {xs ys : List Slot} → a ∷ b ∷ xs ≡ c ∷ d ∷ ys → xs ≡ ys
+        rest_same is = ap (λ slots. drop 2 slots) is
+
+named_same : (fault : Fault) (output error after : Slot) (since : List Slot) → after.name ≡ error.name → output_named (output ∷ after ∷ since) fault ≡ output_named (output ∷ error ∷ since) fault
+named_same (Write zero) output error after since is = refl
+named_same (Write (suc zero)) output error after since is = is
+named_same (Write (suc (suc place))) output error after since is = refl
+named_same (Open zero) output error after since is = refl
+named_same (Open (suc zero)) output error after since is = is
+named_same (Open (suc (suc place))) output error after since is = refl
+named_same Memory output error after since is = refl
+named_same (Read slot) output error after since is = refl
+named_same Suffixes output error after since is = refl
+named_same (NoMatch operand repetition) output error after since is = refl
+named_same (Range operand repetition) output error after since is = refl
+named_same (Usage kind word) output error after since is = refl
+named_same Failed output error after since is = refl
+named_same TooLong output error after since is = refl
+
+-- what a fault left, once its files were removed and its message was said
+pub record ToldStop (told : Bool) (tool : Tool) (text : List ℕ) (work : Work) (most : ℕ) (content : Option Content) (output error : Slot) (low high : Part) (fault : Fault) (clears : Bool) (first : ℕ) (mid new : List Slot) : Type 0 where
+  pub after : Slot
+  pub says : Says told tool text error after
+  pub reached : List Slot
+  pub stop : StoppedBetween told (output ∷ after ∷ []) low high fault reached
+  pub why : Stops work most content reached fault
+  pub swept : Swept clears first reached new
+  pub named : output_named new fault ≡ output_named mid fault
+
+pub stop_swept : (told : Bool) (tool : Tool) (text : List ℕ) (work : Work) (most : ℕ) (content : Option Content) (clears : Bool) (output error : Slot) (low high : Part) (fault : Fault) (reached mid new : List Slot) (first : ℕ) → 0 < length text → 2 ≤ first → is_open error.state ≡ true
+    → StoppedBetween told (output ∷ error ∷ []) low high fault reached → Stops work most content reached fault → Swept clears first reached mid → SaysOn told tool text mid new → ToldStop told tool text work most content output error low high fault clears first mid new
+stop_swept told tool text work most content false output error low high fault reached mid new first some behind opened stop why same says =
+    let here = subst (λ slots. StoppedBetween told (output ∷ error ∷ []) low high fault slots) (sym same) stop in
+    let told_so = stop_told told tool text some output error low high fault mid new here says in record {
+      after = told_so.0;
+      says = told_so.1;
+      reached = new;
+      stop = told_so.2;
+      why = stops_still told tool text work most content mid new fault (stop_error told output error low high fault mid opened here) says (subst (λ slots. Stops work most content slots fault) (sym same) why);
+      swept = refl;
+      named = told_so.3;
+    }
+stop_swept told tool text work most content true output error low high fault reached mid new first some behind opened stop why swept says =
+    let has = stop_error told output error low high fault reached opened stop in
+    let first_swept = subst (λ slots. SweptFrom first slots mid) has.are swept in
+    let left = streams_left has.output has.error has.since mid first behind first_swept in
+    let said = says has.output has.error left.0 left.1 in
+    let now = has.output ∷ said.0 ∷ has.since in
+    let too = said_too told tool text has.output has.error said.0 has.since reached has.are said.1 in
+    let told_so = stop_told told tool text some output error low high fault reached now stop too in record {
+      after = told_so.0;
+      says = told_so.1;
+      reached = now;
+      stop = told_so.2;
+      why = stops_still told tool text work most content reached now fault has too why;
+      swept = subst (λ slots. SweptFrom first now slots) (sym said.2) (swept_streams has.output has.error said.0 has.since left.0 first behind (subst (λ slots. SweptFrom first (has.output ∷ has.error ∷ has.since) slots) left.1 first_swept));
+      named = ap (λ slots. output_named slots fault) said.2 ∙ named_same fault has.output has.error said.0 left.0 (printed_named told said.1.said has.error said.0 said.1.printed) ∙ sym (ap (λ slots. output_named slots fault) left.1);
+    }

@@ -1,0 +1,46 @@
+use Rattle.std.proofs.Common.{◌∙◌, refl}
+use Rattle.ports_core.specs.Source.{source_at}
+use Rattle.run_core.proofs.FeedingLemmas.{reads_none}
+use Rattle.run_core.proofs.NamesLemmas.{walk_begins, walk_streams, walk_readable, walk_goes_on_at, walk_stops_at, walk_ends, reads_on_at, untouched_at_first, untouched_on, untouched_by, none_left, some_left}
+use Rattle.run_core.proofs.inputs.take_names.Goals as goal
+
+pub loop-left-init : goal.loop-left-init
+loop-left-init g c = record {
+  walked = walk_begins _ _ _ _ _ _ _ c.requires.fresh c.requires.outputs c.requires.alone;
+  untouched = untouched_at_first _ _;
+  room = c.requires.room;
+  reads = λ told. let there = (source_at (g.I.Inputs.sources c.args.inputs.now) 0).left in reads_none _ _ there there refl;
+}
+
+pub take_name-requires-clause-some : goal.take_name-requires-clause-some
+take_name-requires-clause-some g c = c.loop-left.invariant.walked.some
+
+pub take_name-requires-clause-standard : goal.take_name-requires-clause-standard
+take_name-requires-clause-standard g c = walk_readable _ _ _ _ _ _ _ _ _ _ c.loop-left.invariant.walked
+
+pub take_name-requires-clause-outputs : goal.take_name-requires-clause-outputs
+take_name-requires-clause-outputs g c = walk_streams _ _ _ _ _ _ _ _ _ _ (some_left c.loop-left.left.now c.in-len1-up.len_at_least) c.loop-left.invariant.walked
+
+pub returns-in-Err-clause-took : goal.returns-in-Err-clause-took
+returns-in-Err-clause-took g c =
+    walk_stops_at _ _ _ _ _ _ _ _ c.loop-left.left.now c.loop-left.progress _ _ _ _ c.in-Err.fault c.loop-left.invariant.room c.in-len1-up.len_at_least c.loop-left.invariant.walked c.in-Err.ensures.took
+
+pub loop-left-preserved : goal.loop-left-preserved
+loop-left-preserved g c = record {
+  walked = walk_goes_on_at _ _ _ _ _ _ _ c.loop-left.left.now c.loop-left.progress c.in-Ok.next _ _ _ _ _ _ c.in-len1-up.len_at_least c.loop-left.invariant.walked c.in-Ok.ensures.took c.in-Ok.ensures.opens c.in-Ok.ensures.laid;
+  untouched = untouched_on _ _ c.loop-left.left.now _ _ _ c.in-len1-up.len_at_least c.loop-left.invariant.untouched c.in-Ok.ensures.untouched;
+  room = c.take_name.auto.buffer ∙ c.loop-left.invariant.room;
+  reads = λ told. reads_on_at (g.A.Adapter.task c.args.job.now.adapter.now).work.is_complete _ _ c.loop-left.progress.was_read (source_at (g.I.Inputs.sources c.args.inputs.now) 0).left _ _ c.loop-left.invariant.room c.loop-left.invariant.walked.standard (c.loop-left.invariant.reads told) (c.in-Ok.ensures.reads told);
+}
+
+pub returns-clause-took : goal.returns-clause-took
+returns-clause-took g c = walk_ends _ _ _ _ _ _ _ _ _ _ _ (none_left c.loop-left.left.now c.in_default.len_below) c.loop-left.invariant.walked
+
+pub returns-in-Err-clause-reads : goal.returns-in-Err-clause-reads
+returns-in-Err-clause-reads g c told = reads_on_at (g.A.Adapter.task c.args.job.now.adapter.now).work.is_complete _ _ c.loop-left.progress.was_read (source_at (g.I.Inputs.sources c.args.inputs.now) 0).left _ _ c.loop-left.invariant.room c.loop-left.invariant.walked.standard (c.loop-left.invariant.reads told) (c.in-Err.ensures.reads told)
+
+pub returns-in-Err-clause-untouched : goal.returns-in-Err-clause-untouched
+returns-in-Err-clause-untouched g c = untouched_by _ _ c.loop-left.left.now (g.I.Inputs.sources c.args.inputs.now) (g.I.Inputs.sources c.loop-left.inputs) (g.I.Inputs.sources c.take_name.new.inputs) c.in-len1-up.len_at_least c.loop-left.invariant.untouched c.in-Err.ensures.untouched
+
+pub returns-clause-untouched : goal.returns-clause-untouched
+returns-clause-untouched g c = c.loop-left.invariant.untouched.same

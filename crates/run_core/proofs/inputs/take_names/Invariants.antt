@@ -1,0 +1,20 @@
+use Rattle.std.proofs.Common.{◌≡◌, length, map, true}
+use Rattle.ports_core.specs.Source.{source_at}
+use Rattle.run_core.specs.Feeding.{ReadsFor}
+use Rattle.run_core.specs.RunEnds.{largest_piece}
+use Rattle.run_core.specs.RunSteps.{world_of}
+use Rattle.run_core.proofs.NamesLemmas.{Untouched, Walked}
+use Rattle.run_core.proofs.inputs.take_names.Given as goal
+
+abbrev pub invariant-loop-left : goal.invariant-loop-left
+invariant-loop-left g l = record {
+  walked : Walked g.I.Inputs.told g.O.Outs.told (g.A.Adapter.task l.job.adapter.now)
+      (world_of (g.I.Inputs.laid l.fn.inputs) (g.I.Inputs.sources l.fn.inputs)) (map (λ name. name.now) l.names) (map (λ name. name.now) l.left)
+      l.progress (g.I.Inputs.laid l.inputs) (g.I.Inputs.sources l.inputs) (g.O.Outs.slots l.outs);
+  untouched : Untouched (map (λ name. name.now) l.names) (map (λ name. name.now) l.left) (g.I.Inputs.sources l.fn.inputs) (g.I.Inputs.sources l.inputs);
+  room : length l.buffer ≡ largest_piece;
+  reads : g.I.Inputs.told ≡ true → ReadsFor (g.A.Adapter.task l.job.adapter.now).work.is_complete largest_piece (source_at (g.I.Inputs.sources l.fn.inputs) 0).left (source_at (g.I.Inputs.sources l.inputs) 0).left;
+}
+
+abbrev pub decreases-loop-left : goal.decreases-loop-left
+decreases-loop-left g l = length l.left

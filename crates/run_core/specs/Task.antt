@@ -1,0 +1,99 @@
+-- What a run makes of its inputs: one tool's work on each, one after another.
+use Rattle.std.specs.Prelude.{ℕ, ◌||◌, ◌&&◌, Bool, true, false, List, [], ◌∷◌, ◌++◌, Option, Some, None, if◌then◌else◌}
+use Rattle.ports_core.specs.Part.{Part, nothing, only_out}
+use Rattle.ports_core.specs.Source.{Content}
+use Rattle.ports_core.specs.Work.{Work}
+use Rattle.ports_core.specs.Text.{message_of, header_of}
+use Rattle.ports_core.specs.declared.tool.Tool.{Tool}
+use Rattle.ports_core.specs.declared.fault.Fault.{Fault}
+use Rattle.ports_core.specs.declared.fault.Fault.TheVariants.{Read, Open}
+use Rattle.run_core.specs.Feeding.{is_enough, made_of}
+use Rattle.run_core.specs.Input.{Input}
+
+-- what a run does with each of its inputs
+pub record Task : Type 0 where
+  pub tool : Tool
+  -- what it makes of one input
+  pub work : Work
+  -- what the message of a fault with which that work ends speaks of
+  pub subject : Fault → List ℕ
+  -- whether a header goes before each input
+  pub with_header : Bool
+
+-- what a run leaves where its outputs take all that they are given
+pub record Outcome : Type 0 where
+  -- standard output, and the files in order
+  pub part : Part
+  -- the texts on standard error, in order
+  pub messages : List (List ℕ)
+  -- a fault was met
+  pub failed : Bool
+  -- the files are removed in the end
+  pub sweeps : Bool
+
+abbrev pub status_of : Outcome → ℕ
+status_of outcome = if outcome.failed then 1 else 0
+
+abbrev pub no_outcome : Outcome
+no_outcome = record { part = nothing; messages = []; failed = false; sweeps = false }
+
+-- what is written after a part
+abbrev pub after_part : Part → Part → Part
+after_part first next = record { out = first.out ++ next.out; files = first.files ++ next.files }
+
+abbrev pub joined : Outcome → Outcome → Outcome
+joined first next = record {
+  part = after_part first.part next.part;
+  messages = first.messages ++ next.messages;
+  failed = first.failed || next.failed;
+  sweeps = first.sweeps || next.sweeps;
+}
+
+abbrev pub header_text : Bool → Bool → List ℕ → List ℕ
+header_text with_header is_first name = if with_header then header_of name is_first else []
+
+abbrev pub is_given : Option Fault → Bool
+is_given None = false
+is_given (Some fault) = true
+
+-- the message for the fault with which the work ends, if there is one
+abbrev pub verdict_messages : Task → Option Fault → List (List ℕ)
+verdict_messages task None = []
+verdict_messages task (Some fault) = message_of task.tool fault (task.subject fault) ∷ []
+
+-- the work ends with a fault of its own, or the input breaks off before it is done
+abbrev pub ends_badly : Work → Content → Bool
+ends_badly work content = if is_enough work content then is_given (work.verdict content.bytes) else true
+
+-- One input: a message where it can't be opened (its number stands in no message); else its header, what the tool makes of it, and a
+-- message for the fault with which its work ends, or where the input breaks off. After such a fault the files go if the work clears
+-- them.
+abbrev pub of_content : Task → Bool → List ℕ → Option Content → Outcome
+of_content task is_first name None = record { part = nothing; messages = message_of task.tool (Open 0) name ∷ []; failed = true; sweeps = false }
+of_content task is_first name (Some content) = record {
+  part = after_part (only_out (header_text task.with_header is_first name)) (made_of task.work content);
+  messages = if is_enough task.work content then verdict_messages task (task.work.verdict content.bytes) else message_of task.tool (Read 0) name ∷ [];
+  failed = ends_badly task.work content;
+  sweeps = task.work.clears && ends_badly task.work content;
+}
+
+abbrev pub of_input : Task → Bool → Input → Outcome
+of_input task is_first input = of_content task is_first input.name input.content
+
+abbrev pub is_missing : Option Content → Bool
+is_missing None = true
+is_missing (Some content) = false
+
+-- the inputs in order; the header of the first that can be opened is the first
+abbrev pub of_inputs : Task → Bool → List Input → Outcome
+of_inputs task is_first [] = no_outcome
+of_inputs task is_first (input ∷ inputs) = joined (of_input task is_first input) (of_inputs task (is_first && is_missing input.content) inputs)
+
+-- all inputs of a run
+abbrev pub made_by : Task → List Input → Outcome
+made_by task inputs = of_inputs task true inputs
+
+-- no header went before any of these
+abbrev pub are_missing : List Input → Bool
+are_missing [] = true
+are_missing (input ∷ inputs) = is_missing input.content && are_missing inputs

@@ -1,0 +1,40 @@
+ghost use Rattle.std.specs.Prelude.{◌≡◌, ◌≤◌, length, IfOk, IfErr, IsTrue};
+ghost use Rattle.ports_core.specs.Slot.{is_writable};
+ghost use Rattle.run_core.specs.Task.{Task};
+ghost use Rattle.run_core.specs.RunSteps.{Opens, OpensShort};
+
+use ports_core::{Engine, Fault, Outs, Tool};
+use std::alloc::Global;
+
+/// What a run knows of a tool that feeds each of its inputs to an engine of its own.
+pub trait Adapter {
+    /// The tool's engine.
+    type Driven: Engine + Drop;
+
+    /// What it does with its inputs.
+    ghost task: { Self → Task };
+
+    /// The tool, which speaks in its messages.
+    fn tool(&self) -> Tool
+        ensures { result ≡ (task self.now).tool };
+
+    /// Whether a header goes before each input.
+    fn with_header(&self) -> bool
+        ensures { result ≡ (task self.now).with_header };
+
+    /// The name in the message for a fault with which the work on an input ends.
+    fn subject<'a>(&'a self, verdict: &Fault) -> &'a str
+        ensures { result.now ≡ (task self.now).subject verdict.now };
+
+    /// Opens an engine for one input.
+    ///
+    /// # Errors
+    ///
+    /// `Memory` where there is no room for it, `Open` where one of its first files can't be opened. No file is left then, if
+    /// the work clears them.
+    fn open<O: Outs>(&self, alloc: Global, outs: &mut O) -> Result<Self::Driven, Fault>
+        requires streams { 2 ≤ length (O.slots outs.old) }
+        requires output { IsTrue (is_writable (O.slots outs.old) 0) }
+        ensures ok { IfOk result (Opens Self.Driven.Holds Self.Driven.Owns Self.Driven.work Self.Driven.Ready Self.Driven.fed (task self.now).work O.told (O.slots outs.old) (O.slots outs.new)) }
+        ensures err { IfErr result (OpensShort (task self.now).work O.told (O.slots outs.old) (O.slots outs.new)) };
+}

@@ -1,0 +1,320 @@
+//! The inputs of a run, one after another.
+ghost use Rattle.std.specs.Prelude.{◌≡◌, ◌<◌, ◌≤◌, ◌||◌, ℕ, List, Some, None, true, false, map, length, IfOk, IfErr, IfSome, OnOk, IsTrue};
+ghost use Rattle.ports_core.specs.Slot.{Slot, is_open, slot_at, is_writable, streams, told_of, with_written};
+ghost use Rattle.ports_core.specs.Source.{source_at, is_readable, IsFresh};
+ghost use Rattle.ports_core.specs.Part.{Part, OutputsAt};
+ghost use Rattle.ports_core.specs.Engine.{is_verdict};
+ghost use Rattle.run_core.specs.Feeding.{FedAs, ReadsFor};
+ghost use Rattle.run_core.specs.Input.{has_dash, is_dash};
+ghost use Rattle.run_core.specs.RunEnds.{EndsAs, RunsOver, streams_with, largest_piece};
+ghost use Rattle.run_core.specs.RunSteps.{HasStreams, HeaderFails, KeepsOther, OfName, OfSource, OpensOne, ReadsSource, ReadsStandard, TookAll, TookInput, standard_source, world_of};
+ghost use Rattle.run_core.specs.Task.{Task, header_text, of_content, of_input};
+
+use crate::adapter::Adapter;
+use crate::feeding::{Fed, feed_input, feed_nothing, is_verdict};
+use ports_core::{Fault, Inputs, Outs, header, say, tell, write_whole};
+use std::alloc::{AllocError, Global};
+
+/// How many bytes are read at once, at the most.
+const PIECE: usize = 65_536;
+
+/// The operand that stands for standard input.
+pub const STANDARD_INPUT: &str = "-";
+
+/// What all inputs of a run have in common.
+#[derive(Clone, Copy)]
+struct Job<'a, A: Adapter> {
+    alloc: Global,
+    adapter: &'a A,
+}
+
+/// How far a run over several inputs has come.
+#[derive(Clone, Copy)]
+pub struct Progress {
+    /// Standard input was among them.
+    was_read: bool,
+    /// No header was written.
+    is_first: bool,
+    /// A fault was told.
+    failed: bool,
+}
+
+/// A whole run of a tool over the inputs of these names: its status is 1 where a fault was met.
+pub fn run_inputs<A: Adapter, I: Inputs, O: Outs>(
+    alloc: Global,
+    adapter: &A,
+    names: &[&str],
+    inputs: &mut I,
+    outs: &mut O,
+) -> u8
+    requires fresh { IsFresh (I.sources inputs.old) }
+    requires outputs { O.slots outs.old ≡ streams }
+    requires alone { (A.task adapter.now).work.clears ≡ true → length (map (λ name. name.now) names.now) ≤ 1 }
+    ensures untouched { has_dash (map (λ name. name.now) names.now) ≡ false → source_at (I.sources inputs.new) 0 ≡ source_at (I.sources inputs.old) 0 }
+    ensures reads { I.told ≡ true → ReadsFor (A.task adapter.now).work.is_complete largest_piece (source_at (I.sources inputs.old) 0).left (source_at (I.sources inputs.new) 0).left }
+    ensures ends { RunsOver I.told (world_of (I.laid inputs.old) (I.sources inputs.old)) (map (λ name. name.now) names.now)
+        (λ found. EndsAs O.told (A.task adapter.now) found (O.slots outs.new) result) }
+{
+    let job = Job { alloc, adapter };
+    match take_inputs(&job, names, inputs, outs) {
+        Ok(failed) => u8::from(failed),
+        Err(fault) => {
+            tell(alloc, adapter.tool(), &fault, outs);
+            1
+        }
+    }
+}
+
+/// Does the tool's work on the inputs of these names, in order, and returns whether a fault was told.
+///
+/// # Errors
+///
+/// What stopped the run among them.
+fn take_inputs<A: Adapter, I: Inputs, O: Outs>(
+    job: &Job<'_, A>,
+    names: &[&str],
+    inputs: &mut I,
+    outs: &mut O,
+) -> Result<bool, Fault>
+    requires fresh { IsFresh (I.sources inputs.old) }
+    requires outputs { O.slots outs.old ≡ streams }
+    requires alone { (A.task job.now.adapter.now).work.clears ≡ true → length (map (λ name. name.now) names.now) ≤ 1 }
+    ensures took { RunsOver I.told (world_of (I.laid inputs.old) (I.sources inputs.old)) (map (λ name. name.now) names.now)
+        (λ found. TookAll O.told (A.task job.now.adapter.now) largest_piece found (O.slots outs.new) result) }
+    ensures untouched { has_dash (map (λ name. name.now) names.now) ≡ false → source_at (I.sources inputs.new) 0 ≡ source_at (I.sources inputs.old) 0 }
+    ensures reads { I.told ≡ true → ReadsFor (A.task job.now.adapter.now).work.is_complete largest_piece (source_at (I.sources inputs.old) 0).left (source_at (I.sources inputs.new) 0).left }
+{
+    let mut buffer = match vec![in job.alloc; 0u8; PIECE] {
+        Ok(buffer) => buffer,
+        Err(AllocError) => return Err(Fault::Memory),
+    };
+    take_names(job, names, &mut buffer, inputs, outs)
+}
+
+/// The same, by pieces of at most the buffer's length.
+///
+/// # Errors
+///
+/// What stopped the run among them.
+fn take_names<A: Adapter, I: Inputs, O: Outs>(
+    job: &Job<'_, A>,
+    names: &[&str],
+    buffer: &mut [u8],
+    inputs: &mut I,
+    outs: &mut O,
+) -> Result<bool, Fault>
+    requires room { length buffer.old ≡ largest_piece }
+    requires fresh { IsFresh (I.sources inputs.old) }
+    requires outputs { O.slots outs.old ≡ streams }
+    requires alone { (A.task job.now.adapter.now).work.clears ≡ true → length (map (λ name. name.now) names.now) ≤ 1 }
+    ensures took { RunsOver I.told (world_of (I.laid inputs.old) (I.sources inputs.old)) (map (λ name. name.now) names.now)
+        (λ found. TookAll O.told (A.task job.now.adapter.now) largest_piece found (O.slots outs.new) result) }
+    ensures untouched { has_dash (map (λ name. name.now) names.now) ≡ false → source_at (I.sources inputs.new) 0 ≡ source_at (I.sources inputs.old) 0 }
+    ensures reads { I.told ≡ true → ReadsFor (A.task job.now.adapter.now).work.is_complete largest_piece (source_at (I.sources inputs.old) 0).left (source_at (I.sources inputs.new) 0).left }
+{
+    let mut progress = Progress {
+        was_read: false,
+        is_first: true,
+        failed: false,
+    };
+    let mut left = names;
+    while let [name, rest @ ..] = left {
+        match take_name(job, name, progress, buffer, inputs, outs) {
+            Ok(next) => progress = next,
+            Err(fault) => return Err(fault),
+        }
+        left = rest;
+    }
+    Ok(progress.failed)
+}
+
+/// Does the tool's work on the input of this name, or says that it can't be opened or read.
+///
+/// # Errors
+///
+/// What stops the whole run.
+fn take_name<A: Adapter, I: Inputs, O: Outs>(
+    job: &Job<'_, A>,
+    name: &str,
+    progress: Progress,
+    buffer: &mut [u8],
+    inputs: &mut I,
+    outs: &mut O,
+) -> Result<Progress, Fault>
+    requires room { 0 < length buffer.old }
+    requires some { 0 < length (I.sources inputs.old) }
+    requires standard { progress.was_read ≡ false → IsTrue (is_readable (I.sources inputs.old) 0) }
+    requires outputs { HasStreams O.told (O.slots outs.old) }
+    ensures took { (so_far : Part) (error : Slot) → is_open error.state ≡ true → OutputsAt O.told (streams_with error) so_far (O.slots outs.old)
+        → OfName I.told (world_of (I.laid inputs.old) (I.sources inputs.old)) progress.was_read (length (I.sources inputs.old)) name.now
+        (λ input. TookInput O.told (A.task job.now.adapter.now) (length buffer.old) (of_input (A.task job.now.adapter.now) progress.is_first input) (header_text (A.task job.now.adapter.now).with_header progress.is_first input.name) input.content progress (progress.was_read || is_dash name.now) so_far error (length (O.slots outs.old)) (O.slots outs.new) result) }
+    ensures reads { I.told ≡ true → ReadsStandard (A.task job.now.adapter.now).work.is_complete (length buffer.old) progress.was_read (I.sources inputs.old) (I.sources inputs.new) }
+    ensures untouched { is_dash name.now ≡ false → source_at (I.sources inputs.new) 0 ≡ source_at (I.sources inputs.old) 0 }
+    ensures opens { OnOk result (OpensOne name.now (I.sources inputs.old) (I.sources inputs.new)) }
+    ensures laid { I.laid inputs.new ≡ I.laid inputs.old }
+{
+    if is_dash(name) {
+        let source = standard_source(progress.was_read);
+        let progress = Progress {
+            was_read: true,
+            ..progress
+        };
+        return take_input(
+            job,
+            "standard input",
+            source,
+            progress,
+            buffer,
+            inputs,
+            outs,
+        );
+    }
+    match inputs.open(name) {
+        Ok(slot) => take_input(job, name, Some(slot), progress, buffer, inputs, outs),
+        Err(Fault::Open(slot)) => {
+            say(
+                job.alloc,
+                job.adapter.tool(),
+                &Fault::Open(slot),
+                name,
+                outs,
+            );
+            Ok(Progress {
+                failed: true,
+                ..progress
+            })
+        }
+        Err(_) => Err(Fault::Memory),
+    }
+}
+
+/// Whether the operand stands for standard input.
+pub fn is_dash(name: &str) -> bool
+    ensures { result ≡ is_dash name.now }
+{
+    name == STANDARD_INPUT
+}
+
+/// Where a `-` reads from: from standard input the first time, and from nowhere again.
+fn standard_source(was_read: bool) -> Option<usize>
+    ensures { result ≡ standard_source was_read }
+{
+    if was_read { None } else { Some(0) }
+}
+
+/// Does the tool's work on an input that is open, with its header, and says with which fault it ended or that the input
+/// can't be read further. Without a source it is an empty input.
+///
+/// # Errors
+///
+/// What stops the whole run.
+fn take_input<A: Adapter, I: Inputs, O: Outs>(
+    job: &Job<'_, A>,
+    name: &str,
+    source: Option<usize>,
+    progress: Progress,
+    buffer: &mut [u8],
+    inputs: &mut I,
+    outs: &mut O,
+) -> Result<Progress, Fault>
+    requires room { 0 < length buffer.old }
+    requires input { IfSome source (λ slot. IsTrue (is_readable (I.sources inputs.old) slot)) }
+    requires outputs { HasStreams O.told (O.slots outs.old) }
+    ensures took { (so_far : Part) (error : Slot) → is_open error.state ≡ true → OutputsAt O.told (streams_with error) so_far (O.slots outs.old)
+        → OfSource I.told source (I.sources inputs.old)
+        (λ content. TookInput O.told (A.task job.now.adapter.now) (length buffer.old) (of_content (A.task job.now.adapter.now) progress.is_first name.now (Some content)) (header_text (A.task job.now.adapter.now).with_header progress.is_first name.now) (Some content) progress progress.was_read so_far error (length (O.slots outs.old)) (O.slots outs.new) result) }
+    ensures reads { I.told ≡ true → ReadsSource (A.task job.now.adapter.now).work.is_complete (length buffer.old) source (I.sources inputs.old) (I.sources inputs.new) }
+    ensures others { KeepsOther source (I.sources inputs.old) (I.sources inputs.new) }
+    ensures laid { I.laid inputs.new ≡ I.laid inputs.old }
+{
+    match put_header(job, name, progress.is_first, outs) {
+        Ok(()) => {}
+        Err(fault) => return Err(fault),
+    }
+    let after = Progress {
+        is_first: false,
+        ..progress
+    };
+    match feed_source(job, source, buffer, inputs, outs) {
+        Ok(Fed::Whole) => Ok(after),
+        Ok(Fed::Enough) => Ok(after),
+        Ok(Fed::Broken) => {
+            say(job.alloc, job.adapter.tool(), &Fault::Read(0), name, outs);
+            Ok(Progress {
+                failed: true,
+                ..after
+            })
+        }
+        Err(fault) => {
+            if !is_verdict(&fault) {
+                return Err(fault);
+            }
+            let subject = job.adapter.subject(&fault);
+            say(job.alloc, job.adapter.tool(), &fault, subject, outs);
+            Ok(Progress {
+                failed: true,
+                ..after
+            })
+        }
+    }
+}
+
+/// Writes the header of an input, where headers are written.
+///
+/// # Errors
+///
+/// `Memory` where there is no room for it, `Write(0)` where standard output broke.
+fn put_header<A: Adapter, O: Outs>(
+    job: &Job<'_, A>,
+    name: &str,
+    is_first: bool,
+    outs: &mut O,
+) -> Result<(), Fault>
+    requires { IsTrue (is_writable (O.slots outs.old) 0) }
+    ensures ok { OnOk result (O.slots outs.new ≡ with_written 0 (told_of O.told (header_text (A.task job.now.adapter.now).with_header is_first name.now)) (O.slots outs.old)) }
+    ensures err { IfErr result (HeaderFails O.told (header_text (A.task job.now.adapter.now).with_header is_first name.now) (O.slots outs.old) (O.slots outs.new)) }
+{
+    if !job.adapter.with_header() {
+        return Ok(());
+    }
+    let text = match header(job.alloc, name, is_first) {
+        Ok(text) => text,
+        Err(fault) => return Err(fault),
+    };
+    match write_whole(outs, 0, &text) {
+        Ok(()) => Ok(()),
+        Err(_) => Err(Fault::Write(0)),
+    }
+}
+
+/// Feeds all of a source to an engine of its own.
+///
+/// # Errors
+///
+/// The engine's fault.
+fn feed_source<A: Adapter, I: Inputs, O: Outs>(
+    job: &Job<'_, A>,
+    source: Option<usize>,
+    buffer: &mut [u8],
+    inputs: &mut I,
+    outs: &mut O,
+) -> Result<Fed, Fault>
+    requires room { 0 < length buffer.old }
+    requires input { IfSome source (λ slot. IsTrue (is_readable (I.sources inputs.old) slot)) }
+    requires streams { 2 ≤ length (O.slots outs.old) }
+    requires output { IsTrue (is_writable (O.slots outs.old) 0) }
+    ensures fed { OfSource I.told source (I.sources inputs.old)
+        (λ content. FedAs O.told (O.slots outs.old) (A.task job.now.adapter.now).work (length buffer.old) content (O.slots outs.new) result) }
+    ensures reads { I.told ≡ true → ReadsSource (A.task job.now.adapter.now).work.is_complete (length buffer.old) source (I.sources inputs.old) (I.sources inputs.new) }
+    ensures others { KeepsOther source (I.sources inputs.old) (I.sources inputs.new) }
+    ensures laid { I.laid inputs.new ≡ I.laid inputs.old }
+{
+    let mut engine = match job.adapter.open(job.alloc, outs) {
+        Ok(engine) => engine,
+        Err(fault) => return Err(fault),
+    };
+    match source {
+        Some(slot) => feed_input(&mut engine, slot, buffer, inputs, outs),
+        None => feed_nothing(&mut engine, outs),
+    }
+}

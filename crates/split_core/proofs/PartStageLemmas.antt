@@ -1,0 +1,150 @@
+-- What the stage that cuts off one part after another owes.
+use Rattle.std.proofs.Common.{◌≡◌, ◌≤◌, ℕ, List, ◌++◌, length, map, Bool, true, false, not, cond, Some, None, Result, Ok, Err, OnOk, IfErr, ◌⊎◌, inl, inr, refl, sym, ◌∙◌, ap, subst, arith}
+use Rattle.std.proofs.lemmas.Bool.{false≢true}
+use Rattle.std.proofs.lemmas.List.{length-map}
+use Rattle.ports_core.specs.Name.{Naming}
+use Rattle.ports_core.specs.Slot.{Slot}
+use Rattle.ports_core.specs.Part.{OutputsAt, StoppedBetween, StoppedInTurn}
+use Rattle.ports_core.specs.Engine.{TakesIn, PutsOut, CutsOff, EndsShort, EndsWith, EndsThere, StandsAt, Ended, IsMet, KeepsOwn, is_verdict}
+use Rattle.ports_core.specs.Engine as engine
+use Rattle.ports_core.specs.Work.{Work, IsSettled}
+use Rattle.ports_core.specs.declared.fault.Fault.{Fault}
+use Rattle.ports_core.specs.declared.fault.Fault.TheVariants.{Memory, Write, Read, Open, Suffixes, NoMatch, Range, Usage, Failed, TooLong}
+use Rattle.ports_core.specs.declared.slot.State.TheVariants.{Closed}
+use Rattle.ports_core.proofs.PartLemmas.{stopped_in_turn}
+use Rattle.split_core.specs.declared.cut.Limit.{Limit}
+use Rattle.split_core.specs.Parts.{parts}
+use Rattle.split_core.specs.Split.{Share, share, are_named, from_start}
+use Rattle.split_core.specs.ShareLaws.{settled_count}
+use Rattle.split_core.specs.PartsState.{PartsState, Stands, IsReady, IsAtEnd}
+use Rattle.split_core.specs.PartState.{work, parts_work, Owns}
+use Rattle.split_core.specs.Moves.{part_of, KeepsFile, Passes, Took, Stopped, Breaks, Finishes}
+use Rattle.split_core.proofs.MoveLemmas.{part_drawn, owns_last}
+use Rattle.split_core.proofs.TakenLemmas.{are_named_drawn}
+
+-- the same files, however many names were drawn
+same_part : (names : Naming) (shares : List Share) → part_of (from_start names) shares ≡ part_of names shares
+same_part names shares = part_drawn names (from_start names) shares refl
+
+have_names : (state : PartsState) (x : List ℕ) (have : Bool) → are_named state.names (length (parts state.limit x)) ≡ have → are_named (from_start state.names) (length (map (share Closed) (parts state.limit x))) ≡ have
+have_names state x have is =
+    ap (are_named (from_start state.names)) (length-map (parts state.limit x) (share Closed))
+    ∙ are_named_drawn state.names (from_start state.names) (length (parts state.limit x)) refl ∙ is
+
+all_have : (state : PartsState) (x : List ℕ) → Stands state x → are_named (from_start state.names) (length (map (share Closed) (parts state.limit x))) ≡ true
+all_have state x stands = have_names state x true (ap (are_named state.names) (sym (settled_count state.limit x)) ∙ stands.enough)
+
+-- as long as all parts have names, more can come
+pub never_done : (state : PartsState) (x : List ℕ) → Stands state x → false ≡ (work state).is_complete x
+never_done state x stands = sym (ap not (all_have state x stands))
+
+goes_well : (state : PartsState) (x : List ℕ) → Stands state x → (work state).verdict x ≡ None
+goes_well state x stands = ap (λ (have : Bool). cond (not have) (Some Suffixes) None) (all_have state x stands)
+
+work_by : (state next : PartsState) → next.limit ≡ state.limit → next.names ≡ record state.names { drawn = next.names.drawn } → work next ≡ work state
+work_by state next limit names = ap (λ (those : Limit). parts_work those (from_start next.names)) limit ∙ ap (λ (those : Naming). parts_work state.limit (from_start those)) names
+
+moved_out : (told : Bool) (names : Naming) (low high : List Share) (before old new : List Slot) → (OutputsAt told before (part_of names low) old → OutputsAt told before (part_of names high) new)
+    → OutputsAt told before (part_of (from_start names) low) old → OutputsAt told before (part_of (from_start names) high) new
+moved_out told names low high before old new moves at =
+    subst (λ part. OutputsAt told before part new) (sym (same_part names high)) (moves (subst (λ part. OutputsAt told before part old) (same_part names low) at))
+
+halted : (told : Bool) (names : Naming) (low high : List Share) (before old new : List Slot) (f : Fault) → (OutputsAt told before (part_of names low) old → StoppedInTurn told before (part_of names low) (part_of names high) f new)
+    → OutputsAt told before (part_of (from_start names) low) old → StoppedBetween told before (part_of (from_start names) low) (part_of (from_start names) high) f new
+halted told names low high before old new f halts at =
+    subst (λ part. StoppedBetween told before (part_of (from_start names) low) part f new) (sym (same_part names high))
+    (subst (λ part. StoppedBetween told before part (part_of names high) f new) (sym (same_part names low))
+    (stopped_in_turn told before _ _ f new (halts (subst (λ part. OutputsAt told before part old) (same_part names low) at))))
+
+-- a piece
+
+module _ (told : Bool) (state next : PartsState) (piece : List ℕ) (old new : List Slot) where
+  pub same_work : (result : Result (Unit {0}) Fault) → Passes told state piece old new next result → work next ≡ work state
+  same_work (Ok done) passes = work_by state next passes.limit_same passes.names_same
+  same_work (Err f) passes = work_by state next passes.limit_same passes.names_same
+
+  pub takes_in : (result : Result (Unit {0}) Fault) → Passes told state piece old new next result → OnOk result (TakesIn Stands piece state next)
+  takes_in (Ok done) passes = passes.stands
+  takes_in (Err f) passes = tt
+
+  pub puts_out : (result : Result (Unit {0}) Fault) → Passes told state piece old new next result → OnOk result (PutsOut Stands Owns work state piece told old new)
+  puts_out (Ok done) passes = λ before x at. moved_out told state.names _ _ before old new (passes.moves x at.holds (owns_last state.current (length before) old at.owns) before) at.outputs
+  puts_out (Err f) passes = tt
+
+  pub still_ready : (result : Result (Unit {0}) Fault) → Passes told state piece old new next result → OnOk result (IsReady next.current new)
+  still_ready (Ok done) passes = passes.ready
+  still_ready (Err f) passes = tt
+
+  pub still_owns : (result : Result (Unit {0}) Fault) → Passes told state piece old new next result → KeepsOwn Owns state next old new
+  still_owns (Ok done) passes = passes.owned
+  still_owns (Err f) passes = passes.owned
+
+  -- names ran out: what has a name is out, and nothing can change that
+  settles : Stopped told state piece old new next Suffixes → EndsWith Stands work state piece Suffixes
+  settles stop x stands =
+      let none = have_names state (x ++ piece) false (stop.short refl x stands).0 in
+      (ap not none, ap (λ (have : Bool). cond (not have) (Some Suffixes) None) none)
+
+  judged_out : Stopped told state piece old new next Suffixes → CutsOff Stands Owns work state piece told old new Suffixes
+  judged_out stop before x at =
+      engine.judged refl new (moved_out told state.names _ _ before old new ((stop.short refl x at.holds).1 (owns_last state.current (length before) old at.owns) before) at.outputs) refl
+
+  cut_out : (f : Fault) → is_verdict f ≡ false → Stopped told state piece old new next f → CutsOff Stands Owns work state piece told old new f
+  cut_out f is stop before x at = engine.cut is (halted told state.names _ _ before old new f (stop.halts x at.holds (owns_last state.current (length before) old at.owns) before) at.outputs)
+
+  cut_off : (f : Fault) → Breaks old new f → Stopped told state piece old new next f → CutsOff Stands Owns work state piece told old new f
+  cut_off Memory breaks stop = cut_out Memory refl stop
+  cut_off (Write slot) breaks stop = cut_out (Write slot) refl stop
+  cut_off (Open slot) breaks stop = cut_out (Open slot) refl stop
+  cut_off Suffixes breaks stop = judged_out stop
+  cut_off (Read slot) breaks stop = absurd breaks
+  cut_off (NoMatch operand repetition) breaks stop = absurd breaks
+  cut_off (Range operand repetition) breaks stop = absurd breaks
+  cut_off (Usage kind word) breaks stop = absurd breaks
+  cut_off Failed breaks stop = absurd breaks
+  cut_off TooLong breaks stop = absurd breaks
+
+  pub cuts_off : (result : Result (Unit {0}) Fault) → Passes told state piece old new next result → IfErr result (CutsOff Stands Owns work state piece told old new)
+  cuts_off (Ok done) passes = tt
+  cuts_off (Err f) passes = cut_off f passes.breaks passes
+
+  met_by : (f : Fault) → Breaks old new f → Stopped told state piece old new next f → IsMet (work state).means (work state).means.feeding (true ≡ true) (EndsWith Stands work state piece) old new f
+  met_by Memory breaks stop = (refl, refl)
+  met_by (Write slot) breaks stop = (λ none. absurd (let behind : 2 ≤ slot = breaks.0 in omega (arith, none)), λ none. absurd (false≢true (sym none)), breaks.1)
+  met_by (Open slot) breaks stop = (refl, breaks)
+  met_by Suffixes breaks stop = settles stop
+  met_by (Read slot) breaks stop = absurd breaks
+  met_by (NoMatch operand repetition) breaks stop = absurd breaks
+  met_by (Range operand repetition) breaks stop = absurd breaks
+  met_by (Usage kind word) breaks stop = absurd breaks
+  met_by Failed breaks stop = absurd breaks
+  met_by TooLong breaks stop = absurd breaks
+
+  pub met : (result : Result (Unit {0}) Fault) → Passes told state piece old new next result → IfErr result (IsMet (work state).means (work state).means.feeding (true ≡ true) (EndsWith Stands work state piece) old new)
+  met (Ok done) passes = tt
+  met (Err f) passes = met_by f passes.breaks passes
+
+-- the end
+
+module _ (told : Bool) (state : PartsState) (old new : List Slot) where
+  pub ends : (result : Result (Unit {0}) Fault) → Finishes told state old new result → OnOk result (engine.Finishes Stands Owns work state told old new)
+  ends (Ok done) finishes = λ before x at. (goes_well state x at.holds, moved_out told state.names _ _ before old new (finishes x at.holds (owns_last state.current (length before) old at.owns) before) at.outputs)
+  ends (Err f) finishes = tt
+
+  pub ends_short : (result : Result (Unit {0}) Fault) → Finishes told state old new result → IfErr result (EndsShort Stands Owns work state told old new)
+  ends_short (Ok done) finishes = tt
+  ends_short (Err f) finishes = λ before x at.
+      engine.cut (ap is_verdict finishes.0.1) (halted told state.names _ _ before old new f (finishes.1 x at.holds (owns_last state.current (length before) old at.owns) before) at.outputs)
+
+  pub end_met : (result : Result (Unit {0}) Fault) → Finishes told state old new result → IfErr result (IsMet (work state).means (work state).means.closing (Unit {0}) (EndsThere Stands work state) old new)
+  end_met (Ok done) finishes = tt
+  end_met (Err f) finishes = subst (λ those. IsMet (work state).means (work state).means.closing (Unit {0}) (EndsThere Stands work state) old new those) (sym finishes.0.1)
+      (λ none. absurd (let behind : 2 ≤ finishes.0.0 = finishes.0.2 in omega (arith, none)), λ none. absurd (false≢true (sym none)), finishes.0.3)
+
+pub on_ok : {P : Type 0} (result : Result (Unit {0}) Fault) → P → OnOk result P
+on_ok (Ok done) is = is
+on_ok (Err f) is = tt
+
+pub on_err : {P : Fault → Type 0} (result : Result (Unit {0}) Fault) → ((f : Fault) → P f) → IfErr result P
+on_err (Ok done) is = tt
+on_err (Err f) is = is f

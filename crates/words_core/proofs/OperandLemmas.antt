@@ -1,0 +1,14 @@
+-- Lemmas on words that are operands.
+use Rattle.std.proofs.Common.{◌≡◌, ℕ, ◌+◌, List, [], ◌∷◌, Result, Ok, Err, codes, refl, ap, ◌∙◌}
+use Rattle.words_core.specs.declared.spelling.State.TheVariants.{Reading, OnlyOperands}
+use Rattle.words_core.specs.Table.{OptionRow}
+use Rattle.words_core.specs.Given.{Given, nothing, one_operand}
+use Rattle.words_core.specs.Spelling.{behind, spelled}
+use Rattle.words_core.specs.Laws.{as_operands}
+
+only_operands : (rows : List OptionRow) (words : List (List ℕ)) (place : ℕ) → spelled rows words place OnlyOperands ≡ Ok (record { options = []; operands = as_operands place words })
+only_operands rows [] place = refl
+only_operands rows (word ∷ words) place = ap (behind (one_operand word place)) (only_operands rows words (place + 1))
+
+pub after_the_end : (rows : List OptionRow) (words : List (List ℕ)) (place : ℕ) → spelled rows (codes "--" ∷ words) place Reading ≡ Ok (record { options = []; operands = as_operands (place + 1) words })
+after_the_end rows words place = ap (behind nothing) (only_operands rows words (place + 1))

@@ -1,0 +1,44 @@
+-- What words give: options with their values, and operands, each in their order.
+use Rattle.std.specs.Prelude.{ℕ, List, [], ◌∷◌, ◌++◌}
+use Rattle.words_core.specs.declared.table.Choice.{Choice}
+use Rattle.words_core.specs.declared.spelled.Chosen.{Chosen}
+use Rattle.words_core.specs.declared.spelled.Operand.{Operand}
+use Rattle.words_core.specs.Value.{Meant, Nothing, seen}
+
+-- an option, and the place of the word in which it stands
+pub record GivenOption : Type 0 where
+  pub choice : Choice
+  pub value : Meant
+  pub word : ℕ
+
+-- an operand, and the place of its word
+pub record GivenOperand : Type 0 where
+  pub text : List ℕ
+  pub word : ℕ
+
+pub record Given : Type 0 where
+  pub options : List GivenOption
+  pub operands : List GivenOperand
+
+abbrev pub option_seen : Chosen → GivenOption
+option_seen option = record { choice = option.choice; value = seen option.value; word = option.word }
+
+abbrev pub operand_seen : Operand → GivenOperand
+operand_seen operand = record { text = operand.text.now; word = operand.word }
+
+abbrev pub nothing : Given
+nothing = record { options = []; operands = [] }
+
+abbrev pub one_option : Choice → Meant → ℕ → Given
+one_option choice value word = record { options = record { choice = choice; value = value; word = word } ∷ []; operands = [] }
+
+-- an option without a value
+abbrev pub bare : Choice → ℕ → Given
+bare choice word = one_option choice Nothing word
+
+abbrev pub one_operand : List ℕ → ℕ → Given
+one_operand text word = record { options = []; operands = record { text = text; word = word } ∷ [] }
+
+-- what is given first, and what is given after it
+abbrev pub joined : Given → Given → Given
+joined first more = record { options = first.options ++ more.options; operands = first.operands ++ more.operands }

@@ -1,0 +1,82 @@
+-- The words of the laws: which options ask for what, and the operands among words.
+use Rattle.std.specs.Prelude.{ℕ, ◌+◌, Bool, true, false, List, [], ◌∷◌, fold, Result}
+use Rattle.seg_core.specs.declared.count.Count.{Count}
+use Rattle.ends_core.specs.declared.unit.Unit.{Unit as Measured}
+use Rattle.ports_core.specs.declared.fault.Fault.{Fault}
+use Rattle.words_core.specs.declared.table.Choice.{Choice}
+use Rattle.words_core.specs.declared.table.Choice.TheVariants.{Lines, Bytes, LineBytes, Files, Quiet, Verbose, SuffixLength, NumericSuffixes, HexSuffixes}
+use Rattle.words_core.specs.declared.ends_words.EndsOptions.{EndsOptions}
+use Rattle.words_core.specs.declared.split_words.SplitOptions.{SplitOptions}
+use Rattle.words_core.specs.Value.{Meant, Counted, Width}
+use Rattle.words_core.specs.Given.{GivenOption, GivenOperand}
+use Rattle.words_core.specs.EndsWords.{ends_after, ten_lines}
+use Rattle.words_core.specs.SplitWords.{no_options, split_options}
+
+-- what options ask of `head` or `tail`, and of `split`
+
+abbrev pub ends_of : List GivenOption → EndsOptions
+ends_of options = fold ends_after ten_lines options
+
+abbrev pub split_of : List GivenOption → Result SplitOptions Fault
+split_of options = split_options options no_options
+
+-- how many of what
+abbrev pub amount_of : EndsOptions → Measured × Count
+amount_of asked = (asked.unit, asked.count)
+
+-- whether an option says how many
+abbrev pub counts : Choice → Meant → Bool
+counts Lines (Counted count) = true
+counts Bytes (Counted count) = true
+counts choice value = false
+
+abbrev pub is_count : GivenOption → Bool
+is_count option = counts option.choice option.value
+
+-- whether it says when headers come
+abbrev pub heads : Choice → Bool
+heads Quiet = true
+heads Verbose = true
+heads choice = false
+
+abbrev pub is_headers : GivenOption → Bool
+is_headers option = heads option.choice
+
+-- whether it is a way to split
+abbrev pub splits : Choice → Bool
+splits Lines = true
+splits Bytes = true
+splits LineBytes = true
+splits Files = true
+splits choice = false
+
+abbrev pub is_way : GivenOption → Bool
+is_way option = splits option.choice
+
+-- whether it says which characters suffixes have
+abbrev pub spells : Choice → Bool
+spells NumericSuffixes = true
+spells HexSuffixes = true
+spells choice = false
+
+abbrev pub is_alphabet : GivenOption → Bool
+is_alphabet option = spells option.choice
+
+-- whether it says how many
+abbrev pub widens : Choice → Meant → Bool
+widens SuffixLength (Width width) = true
+widens choice value = false
+
+abbrev pub is_width : GivenOption → Bool
+is_width option = widens option.choice option.value
+
+-- words that are all operands, the first at this place
+abbrev pub as_operands : ℕ → List (List ℕ) → List GivenOperand
+as_operands place [] = []
+as_operands place (word ∷ words) = record { text = word; word = place } ∷ as_operands (place + 1) words
+
+-- operands are some of these words, in their order, each with its place; the first word stands at this place
+pub data AreAmong : List GivenOperand → ℕ → List (List ℕ) → Type 0 where
+  none : (place : ℕ) → AreAmong [] place []
+  passed : (operands : List GivenOperand) (place : ℕ) (word : List ℕ) (words : List (List ℕ)) → AreAmong operands (place + 1) words → AreAmong operands place (word ∷ words)
+  taken : (operands : List GivenOperand) (place : ℕ) (word : List ℕ) (words : List (List ℕ)) → AreAmong operands (place + 1) words → AreAmong (record { text = word; word = place } ∷ operands) place (word ∷ words)

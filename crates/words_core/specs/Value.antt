@@ -1,0 +1,88 @@
+-- What the value of an option says, or what is wrong with it, by its kind. A value that isn't of its form is told before one that
+-- is too large, and that before 0.
+use Rattle.std.specs.Prelude.{ℕ, ◌==◌, nat_le, List, [], ◌∷◌, Result, Ok, Err, if◌then◌else◌}
+use Rattle.seg_core.specs.Count.{count_of, digits_of}
+use Rattle.seg_core.specs.declared.count.Count.{Count}
+use Rattle.seg_core.specs.declared.count.CountFault.{CountFault}
+use Rattle.seg_core.specs.declared.count.CountFault.TheVariants.{NoDigits, Suffix, TooLarge}
+use Rattle.ports_core.specs.declared.fault.UsageKind.{UsageKind}
+use Rattle.ports_core.specs.declared.fault.UsageKind.TheVariants.{BadNumber, NumberTooLarge, Zero}
+use Rattle.words_core.specs.declared.table.Kind.{Kind}
+use Rattle.words_core.specs.declared.table.Kind.TheVariants as kind
+use Rattle.words_core.specs.declared.value.Value.{Value}
+use Rattle.words_core.specs.declared.value.Value.TheVariants as value
+
+-- the value of an option, with the bytes of a text
+pub data Meant : Type 0 where
+  Nothing : Meant
+  Counted : Count → Meant
+  Size : ℕ → Meant
+  Files : ℕ → Meant
+  Width : ℕ → Meant
+  Text : List ℕ → Meant
+
+abbrev pub seen : Value → Meant
+seen value.Nothing = Nothing
+seen (value.Count count) = Counted count
+seen (value.Size size) = Size size
+seen (value.Files files) = Files files
+seen (value.Width width) = Width width
+seen (value.Text text) = Text text.now
+
+abbrev pub seen_in : Result Value UsageKind → Result Meant UsageKind
+seen_in (Ok value) = Ok (seen value)
+seen_in (Err fault) = Err fault
+
+abbrev pub number_fault : CountFault → UsageKind
+number_fault NoDigits = BadNumber
+number_fault Suffix = BadNumber
+number_fault TooLarge = NumberTooLarge
+
+-- a count with its sign
+abbrev pub counted : Result Count CountFault → Result Count UsageKind
+counted (Ok count) = Ok count
+counted (Err fault) = Err (number_fault fault)
+
+-- a number that has a limit
+abbrev pub up_to : ℕ → Result ℕ CountFault → Result ℕ UsageKind
+up_to limit (Ok number) = if nat_le number limit then Ok number else Err NumberTooLarge
+up_to limit (Err fault) = Err (number_fault fault)
+
+-- a number that is at least 1
+abbrev pub not_zero : ℕ → Result ℕ UsageKind
+not_zero number = if number == 0 then Err Zero else Ok number
+
+abbrev pub some : Result ℕ UsageKind → Result ℕ UsageKind
+some (Ok number) = not_zero number
+some (Err fault) = Err fault
+
+abbrev pub some_amount : Result Count UsageKind → Result ℕ UsageKind
+some_amount (Ok count) = not_zero count.amount
+some_amount (Err fault) = Err fault
+
+-- the size of a file: a count, at least 1; with a `-` (45) before it it is a bad number
+abbrev pub size_in : List ℕ → Result ℕ UsageKind
+size_in [] = some_amount (counted (count_of []))
+size_in (byte ∷ text) = if byte == 45 then Err BadNumber else some_amount (counted (count_of (byte ∷ text)))
+
+-- how many files the lines are dealt to: `r/` (114, 47) and digits
+abbrev pub round_in : List ℕ → Result ℕ UsageKind
+round_in [] = Err BadNumber
+round_in (byte ∷ []) = Err BadNumber
+round_in (byte ∷ next ∷ digits) =
+    if byte == 114
+    then (if next == 47 then some (up_to 65535 (digits_of digits)) else Err BadNumber)
+    else Err BadNumber
+
+-- a value that was read, or what is wrong with it
+abbrev pub as_value : {A : Type 0} → (A → Meant) → Result A UsageKind → Result Meant UsageKind
+as_value make (Ok value) = Ok (make value)
+as_value make (Err fault) = Err fault
+
+-- the value that a text gives
+abbrev pub value_in : Kind → List ℕ → Result Meant UsageKind
+value_in kind.Count text = as_value (λ count. Counted count) (counted (count_of text))
+value_in kind.Size text = as_value (λ size. Size size) (size_in text)
+value_in kind.Round text = as_value (λ files. Files files) (round_in text)
+value_in kind.Width text = as_value (λ width. Width width) (up_to 255 (digits_of text))
+value_in kind.Text text = Ok (Text text)

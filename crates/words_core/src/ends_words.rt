@@ -1,0 +1,126 @@
+//! What `head` and `tail` are asked for: POSIX.1-2017, XCU head and tail; `-q`, `-v` and several files for `tail` are GNU's.
+ghost use Rattle.std.specs.Prelude.{◌≡◌, fold, map, IfOk, IfErr};
+ghost use Rattle.words_core.specs.EndsWords.{counted, ends_after, ends_asked, names_asked, ten_lines};
+ghost use Rattle.words_core.specs.Given.{operand_seen, option_seen};
+ghost use Rattle.words_core.specs.Spelling.{Reads};
+ghost use Rattle.words_core.specs.Value.{seen};
+
+use crate::settings::{EndsSettings, Headers};
+use crate::spelled::{Chosen, Operand, Spelled};
+use crate::table::Choice;
+use crate::value::Value;
+use ends_core::Unit;
+use ports_core::Fault;
+use seg_core::count::{Count, Sign};
+use std::alloc::Global;
+
+/// The operand that stands for standard input.
+const STANDARD_INPUT: &str = "-";
+
+/// What options ask for.
+#[derive(Clone, Copy, Debug, PartialEq, Eq)]
+pub struct EndsOptions {
+    pub unit: Unit,
+    pub count: Count,
+    pub headers: Headers,
+}
+
+/// What is asked for without options.
+const TEN_LINES: EndsOptions = EndsOptions {
+    unit: Unit::Lines,
+    count: Count {
+        sign: Sign::Plain,
+        amount: 10,
+    },
+    headers: Headers::ForSeveral,
+};
+
+impl EndsOptions {
+    /// The same, and what one more option asks for.
+    fn with(self, option: &Chosen<'_>) -> Self
+        ensures { result ≡ ends_after self (option_seen option.now) }
+    {
+        match option.choice {
+            Choice::Lines => self.counted(Unit::Lines, option.value),
+            Choice::Bytes => self.counted(Unit::Bytes, option.value),
+            Choice::Quiet => EndsOptions {
+                headers: Headers::Never,
+                ..self
+            },
+            Choice::Verbose => EndsOptions {
+                headers: Headers::Always,
+                ..self
+            },
+            _ => self,
+        }
+    }
+
+    fn counted(self, unit: Unit, value: Value<'_>) -> Self
+        ensures { result ≡ counted self unit (seen value.entry) }
+    {
+        match value {
+            Value::Count(count) => EndsOptions {
+                unit,
+                count,
+                ..self
+            },
+            _ => self,
+        }
+    }
+}
+
+/// What words ask of `head` or `tail`.
+///
+/// # Errors
+///
+/// `Memory` where there is no room for the names.
+pub fn settle_ends<'a>(alloc: Global, spelled: &Spelled<'a>) -> Result<EndsSettings<'a>, Fault>
+    ensures ok { IfOk result (λ settings. settings ≡ ends_asked spelled.now) }
+    ensures err { IfErr result (λ fault. fault ≡ Fault.Memory) }
+{
+    let options = choose_ends(&spelled.options);
+    match names_of(alloc, &spelled.operands) {
+        Ok(names) => Ok(EndsSettings {
+            unit: options.unit,
+            count: options.count,
+            headers: options.headers,
+            names,
+        }),
+        Err(fault) => Err(fault),
+    }
+}
+
+/// What all options ask for: the last of those for counts, and the last of those for headers.
+fn choose_ends(options: &[Chosen<'_>]) -> EndsOptions
+    ensures { result ≡ fold ends_after ten_lines (map option_seen options.now) }
+{
+    let mut asked = TEN_LINES;
+    let mut left = options;
+    while let [option, rest @ ..] = left {
+        asked = asked.with(option);
+        left = rest;
+    }
+    asked
+}
+
+/// The names of the inputs: the operands, or standard input where there is none.
+fn names_of<'a>(alloc: Global, operands: &[Operand<'a>]) -> Result<Vec<&'a str>, Fault>
+    ensures ok { IfOk result (λ names. map (λ name. name.now) names.items ≡ names_asked (map operand_seen operands.now)) }
+    ensures err { IfErr result (λ fault. fault ≡ Fault.Memory) }
+{
+    let mut names = Vec::new(alloc);
+    let mut left = operands;
+    while let [operand, rest @ ..] = left {
+        match names.push(operand.text) {
+            Ok(()) => left = rest,
+            Err(_) => return Err(Fault::Memory),
+        }
+    }
+    if operands.is_empty() {
+        match names.push(STANDARD_INPUT) {
+            Ok(()) => {}
+            Err(_) => return Err(Fault::Memory),
+        }
+    }
+    Ok(names)
+}

@@ -1,0 +1,86 @@
+//! What words spell: options with their values, and operands.
+ghost use Rattle.std.specs.Prelude.{◌≡◌, ◌++◌, [], ◌∷◌, map, IfOk, IfErr};
+ghost use Rattle.words_core.specs.Given.{Given, joined, one_operand, one_option, operand_seen, option_seen};
+ghost use Rattle.words_core.specs.Value.{seen};
+
+use crate::table::Choice;
+use crate::value::Value;
+use ports_core::Fault;
+use std::alloc::Global;
+use std::marker::Model;
+
+/// An option that was given.
+#[derive(Clone, Copy, Debug, PartialEq, Eq)]
+pub struct Chosen<'a> {
+    pub choice: Choice,
+    pub value: Value<'a>,
+    /// The place of the word in which the option stands.
+    pub word: usize,
+}
+
+/// An operand that was given.
+#[derive(Clone, Copy, Debug, PartialEq, Eq)]
+pub struct Operand<'a> {
+    pub text: &'a str,
+    /// The place of the word.
+    pub word: usize,
+}
+
+/// The options and operands that words spell, each in their order.
+#[derive(Drop)]
+pub struct Spelled<'a> {
+    pub options: Vec<Chosen<'a>>,
+    pub operands: Vec<Operand<'a>>,
+}
+
+impl<'a> Model for Spelled<'a> {
+    ghost Value = { Given };
+
+    ghost view = { λ s. record { options = map option_seen s.options.items; operands = map operand_seen s.operands.items } };
+}
+
+impl<'a> Spelled<'a> {
+    /// Nothing yet.
+    pub fn new(alloc: Global) -> Self
+        ensures { result ≡ record { options = []; operands = [] } }
+    {
+        Spelled {
+            options: Vec::new(alloc),
+            operands: Vec::new(alloc),
+        }
+    }
+
+    /// Adds an option.
+    ///
+    /// # Errors
+    ///
+    /// `Memory` where there is no room for it.
+    pub fn add_option(&mut self, choice: Choice, value: Value<'a>, word: usize) -> Result<(), Fault>
+        ensures ok { IfOk result (λ _. self.new ≡ joined self.old (one_option choice (seen value.entry) word)) }
+        ensures err { IfErr result (λ fault. fault ≡ Fault.Memory) }
+    {
+        match self.options.push(Chosen {
+            choice,
+            value,
+            word,
+        }) {
+            Ok(()) => Ok(()),
+            Err(_) => Err(Fault::Memory),
+        }
+    }
+
+    /// Adds an operand.
+    ///
+    /// # Errors
+    ///
+    /// `Memory` where there is no room for it.
+    pub fn add_operand(&mut self, text: &'a str, word: usize) -> Result<(), Fault>
+        ensures ok { IfOk result (λ _. self.new ≡ joined self.old (one_operand text.now word)) }
+        ensures err { IfErr result (λ fault. fault ≡ Fault.Memory) }
+    {
+        match self.operands.push(Operand { text, word }) {
+            Ok(()) => Ok(()),
+            Err(_) => Err(Fault::Memory),
+        }
+    }
+}

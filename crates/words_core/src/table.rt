@@ -1,0 +1,177 @@
+//! The tools and their options, as their manuals list them: POSIX.1-2017, XCU head, tail and split; `-q`, `-v`, the `-c` of
+//! `head`, the `-C`, `-n`, `-d`, `-x` and `-e` of `split` and the long names are GNU's.
+ghost use Rattle.std.specs.Prelude.{◌≡◌, map, option_map};
+ghost use Rattle.words_core.specs.Table.{is_among, option_named, row_named, row_seen, tool_seen, tools};
+
+use ports_core::Tool;
+
+/// An option, by what it chooses. Options of several tools may choose alike.
+#[derive(Clone, Copy, Debug, PartialEq, Eq)]
+pub enum Choice {
+    /// A number of lines.
+    Lines,
+    /// A number of bytes.
+    Bytes,
+    /// A number of bytes that hold whole lines.
+    LineBytes,
+    /// A number of files.
+    Files,
+    /// No headers.
+    Quiet,
+    /// A header before each input.
+    Verbose,
+    /// The width of suffixes.
+    SuffixLength,
+    /// Suffixes of digits.
+    NumericSuffixes,
+    /// Suffixes of hexadecimal digits.
+    HexSuffixes,
+    /// No empty files.
+    ElideEmptyFiles,
+}
+
+/// What the value of an option says.
+#[derive(Clone, Copy, Debug, PartialEq, Eq)]
+pub enum Kind {
+    /// A count, with or without a sign.
+    Count,
+    /// A count, at least 1, without a `-`.
+    Size,
+    /// `r/` and how many files lines are dealt to: digits, 1 to 65,535.
+    Round,
+    /// How many characters a name's number has: digits, 0 to 255.
+    Width,
+    /// Any text.
+    Text,
+}
+
+/// Whether an option takes a value.
+#[derive(Clone, Copy, Debug, PartialEq, Eq)]
+pub enum Takes {
+    /// It takes none.
+    Nothing,
+    /// It takes one: what follows its letter, or what follows `=`, or else the next word.
+    Value(Kind),
+    /// It takes one after `=` alone, and may have none.
+    Optional(Kind),
+}
+
+/// The names of an option as they are written, what it chooses, and the value it takes.
+pub type OptionRow = (&'static [&'static str], Choice, Takes);
+
+/// The name of a tool, the tool, its options, and the option whose value a first word of a hyphen and digits gives.
+pub type ToolRow = (
+    &'static str,
+    Tool,
+    &'static [OptionRow],
+    Option<(Choice, Kind)>,
+);
+
+/// The options of `head` and `tail`.
+const ENDS: &[OptionRow] = &[
+    (&["-n", "--lines"], Choice::Lines, Takes::Value(Kind::Count)),
+    (&["-c", "--bytes"], Choice::Bytes, Takes::Value(Kind::Count)),
+    (
+        &["-q", "--quiet", "--silent"],
+        Choice::Quiet,
+        Takes::Nothing,
+    ),
+    (&["-v", "--verbose"], Choice::Verbose, Takes::Nothing),
+];
+
+/// The options of `split`.
+const SPLIT: &[OptionRow] = &[
+    (&["-l", "--lines"], Choice::Lines, Takes::Value(Kind::Size)),
+    (&["-b", "--bytes"], Choice::Bytes, Takes::Value(Kind::Size)),
+    (
+        &["-C", "--line-bytes"],
+        Choice::LineBytes,
+        Takes::Value(Kind::Size),
+    ),
+    (
+        &["-n", "--number"],
+        Choice::Files,
+        Takes::Value(Kind::Round),
+    ),
+    (
+        &["-a", "--suffix-length"],
+        Choice::SuffixLength,
+        Takes::Value(Kind::Width),
+    ),
+    (
+        &["-d", "--numeric-suffixes"],
+        Choice::NumericSuffixes,
+        Takes::Nothing,
+    ),
+    (
+        &["-x", "--hex-suffixes"],
+        Choice::HexSuffixes,
+        Takes::Nothing,
+    ),
+    (
+        &["-e", "--elide-empty-files"],
+        Choice::ElideEmptyFiles,
+        Takes::Nothing,
+    ),
+];
+
+/// The tools.
+pub const TOOLS: &[ToolRow] = &[
+    ("head", Tool::Head, ENDS, Some((Choice::Lines, Kind::Count))),
+    ("tail", Tool::Tail, ENDS, Some((Choice::Lines, Kind::Count))),
+    (
+        "split",
+        Tool::Split,
+        SPLIT,
+        Some((Choice::Lines, Kind::Size)),
+    ),
+];
+
+/// The table of the tools.
+pub fn all_tools() -> &'static [ToolRow]
+    ensures { map tool_seen result.now ≡ tools }
+{
+    TOOLS
+}
+
+/// The tool of this name in a table.
+pub fn find_row<'a>(rows: &'a [ToolRow], name: &str) -> Option<&'a ToolRow>
+    ensures { option_map (λ row. tool_seen row.now) result ≡ row_named (map tool_seen rows.now) name.now }
+{
+    let mut left = rows;
+    while let [row, rest @ ..] = left {
+        if row.0 == name {
+            return Some(row);
+        }
+        left = rest;
+    }
+    None
+}
+
+/// The option of this name in a tool's table, and whether it takes a value.
+pub fn find_option(rows: &[OptionRow], name: &[u8]) -> Option<(Choice, Takes)>
+    ensures { result ≡ option_named (map row_seen rows.now) name.now }
+{
+    let mut left = rows;
+    while let [row, rest @ ..] = left {
+        if is_among(row.0, name) {
+            return Some((row.1, row.2));
+        }
+        left = rest;
+    }
+    None
+}
+
+/// Whether a name is one of these.
+fn is_among(names: &[&str], name: &[u8]) -> bool
+    ensures { result ≡ is_among (map (λ known. known.now) names.now) name.now }
+{
+    let mut left = names;
+    while let [known, rest @ ..] = left {
+        if known.as_bytes() == name {
+            return true;
+        }
+        left = rest;
+    }
+    false
+}

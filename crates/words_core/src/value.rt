@@ -1,0 +1,116 @@
+//! What the value of an option says (POSIX.1-2017, XBD 12.1; XCU head, tail and split; the suffixes of counts are GNU's).
+ghost use Rattle.std.specs.Prelude.{◌≡◌, ◌≤◌, IfOk};
+ghost use Rattle.seg_core.specs.Count.{count_of, digits_of};
+ghost use Rattle.words_core.specs.Value.{counted, not_zero, number_fault, round_in, seen_in, size_in, up_to, value_in};
+
+use crate::table::Kind;
+use ports_core::UsageKind;
+use seg_core::count::{Count, CountFault, read_count};
+use seg_core::digits::read_digits;
+
+/// The value of an option.
+#[derive(Clone, Copy, Debug, PartialEq, Eq)]
+pub enum Value<'a> {
+    /// None was given.
+    Nothing,
+    /// A count, at most 2^63-1.
+    Count(Count),
+    /// The size of a file, 1 to 2^63-1.
+    Size(u64),
+    /// How many files lines are dealt to, 1 to 65,535.
+    Files(u64),
+    /// How many characters, 0 to 255.
+    Width(u8),
+    /// A text.
+    Text(&'a str),
+}
+
+/// The greatest number of files that lines are dealt to.
+const MOST_FILES: u64 = 65_535;
+
+/// The greatest width of a suffix.
+const WIDEST: u64 = 255;
+
+/// Reads the value of an option.
+///
+/// # Errors
+///
+/// What is wrong with the value: it isn't of its kind's form, or else its number is too large, or else it is 0.
+pub fn read_value(kind: Kind, text: &str) -> Result<Value<'_>, UsageKind>
+    ensures { seen_in result ≡ value_in kind text.now }
+{
+    let bytes = text.as_bytes();
+    match kind {
+        Kind::Count => Ok(Value::Count(read_amount(bytes)?)),
+        Kind::Size => Ok(Value::Size(read_size(bytes)?)),
+        Kind::Round => Ok(Value::Files(read_round(bytes)?)),
+        Kind::Width => Ok(Value::Width(read_number(bytes, WIDEST)? as u8)),
+        Kind::Text => Ok(Value::Text(text)),
+    }
+}
+
+/// A count with or without a sign.
+fn read_amount(text: &[u8]) -> Result<Count, UsageKind>
+    ensures { result ≡ counted (count_of text.now) }
+{
+    match read_count(text) {
+        Ok(count) => Ok(count),
+        Err(fault) => Err(number_fault(fault)),
+    }
+}
+
+/// A count, at least 1. A `-` is a bad number, whatever follows it.
+fn read_size(text: &[u8]) -> Result<u64, UsageKind>
+    ensures { result ≡ size_in text.now }
+{
+    match text {
+        [b'-', ..] => Err(UsageKind::BadNumber),
+        _ => match read_amount(text) {
+            Ok(count) => not_zero(count.amount),
+            Err(fault) => Err(fault),
+        },
+    }
+}
+
+/// `r/` and the number of files.
+fn read_round(text: &[u8]) -> Result<u64, UsageKind>
+    ensures { result ≡ round_in text.now }
+{
+    match text {
+        [b'r', b'/', digits @ ..] => match read_number(digits, MOST_FILES) {
+            Ok(files) => not_zero(files),
+            Err(fault) => Err(fault),
+        },
+        _ => Err(UsageKind::BadNumber),
+    }
+}
+
+/// Digits alone, up to a limit.
+fn read_number(text: &[u8], limit: u64) -> Result<u64, UsageKind>
+    ensures value { result ≡ up_to limit (digits_of text.now) }
+    ensures bound { IfOk result (λ number. number ≤ limit) }
+{
+    match read_digits(text) {
+        Ok(number) if number <= limit => Ok(number),
+        Ok(_) => Err(UsageKind::NumberTooLarge),
+        Err(fault) => Err(number_fault(fault)),
+    }
+}
+
+fn not_zero(number: u64) -> Result<u64, UsageKind>
+    ensures { result ≡ not_zero number }
+{
+    if number == 0 {
+        return Err(UsageKind::Zero);
+    }
+    Ok(number)
+}
+
+fn number_fault(fault: CountFault) -> UsageKind
+    ensures { result ≡ number_fault fault }
+{
+    match fault {
+        CountFault::NoDigits | CountFault::Suffix => UsageKind::BadNumber,
+        CountFault::TooLarge => UsageKind::NumberTooLarge,
+    }
+}
