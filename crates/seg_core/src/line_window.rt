@@ -1,5 +1,5 @@
 //! The last lines of what came in.
-ghost use Rattle.std.specs.Prelude.{◌≡◌, ℕ, ◌+◌, ◌-◌, ◌^◌, ◌<◌, ◌≤◌, ◌==◌, List, [], ◌++◌, length, take, drop, min, IsOk, IfOk, IfErr, IfSome, OnOk, None};
+ghost use Rattle.std.specs.Prelude.{◌≡◌, ℕ, ◌+◌, ◌-◌, ◌<◌, ◌≤◌, ◌==◌, List, [], ◌++◌, length, take, drop, min, IsOk, IfOk, IfErr, IfSome, OnOk, None};
 ghost use Rattle.seg_core.specs.Line.{but_last_lines, first_lines, line_count, newlines};
 ghost use Rattle.seg_core.specs.Window.{without_first};
 

@@ -1,5 +1,5 @@
 //! Each call of the windows once, and windows over a long text beside a plain slow program.
-ghost use Rattle.std.specs.Prelude.{◌≡◌, ◌+◌, ◌-◌, ◌^◌, ◌<◌, ◌++◌, length, drop, OnOk};
+ghost use Rattle.std.specs.Prelude.{◌≡◌, ◌+◌, ◌-◌, ◌++◌, length, drop, OnOk};
 ghost use Rattle.seg_core.specs.Line.{last_lines};
 
 use crate::byte_window::ByteWindow;
