@@ -2,3 +2,4 @@ pub mod ChoiceLemmas
 pub mod LimitLemmas
 pub mod OperandLemmas
 pub mod SpellingLemmas
+pub mod ValueLemmas
