@@ -1,3 +1,4 @@
+pub mod AskedLemmas
 pub mod ChoiceLemmas
 pub mod LimitLemmas
 pub mod OperandLemmas

@@ -3,7 +3,9 @@ use Rattle.std.specs.Prelude.{◌≡◌, ◌≢◌, ℕ, ◌+◌, ◌<◌, Bool,
 use Rattle.std.specs.List.{list_any}
 use Rattle.seg_core.specs.declared.count.Count.{Count}
 use Rattle.ends_core.specs.declared.unit.Unit.{Unit as Measured}
+use Rattle.ports_core.specs.declared.alphabet.Alphabet.{Alphabet}
 use Rattle.ports_core.specs.declared.fault.Fault.{Fault}
+use Rattle.split_core.specs.declared.cut.Cut.{Cut}
 use Rattle.words_core.specs.declared.table.Choice.{Choice}
 use Rattle.words_core.specs.declared.table.Choice.TheVariants.{Lines, Bytes, LineBytes, Files, Quiet, Verbose, SuffixLength, NumericSuffixes, HexSuffixes}
 use Rattle.words_core.specs.declared.table.Kind.{Kind}
@@ -11,6 +13,9 @@ use Rattle.words_core.specs.declared.table.Takes.TheVariants as takes
 use Rattle.words_core.specs.declared.spelling.State.TheVariants.{Reading}
 use Rattle.words_core.specs.declared.ends_words.EndsOptions.{EndsOptions}
 use Rattle.words_core.specs.declared.split_words.SplitOptions.{SplitOptions}
+use Rattle.words_core.specs.declared.settings.Headers.{Headers}
+use Rattle.words_core.specs.EndsAsked.{EndsAsked}
+use Rattle.words_core.specs.SplitAsked.{SplitAsked}
 use Rattle.words_core.specs.Value.{Meant, Counted, Width}
 use Rattle.words_core.specs.Given.{Given, GivenOption, GivenOperand, one_option}
 use Rattle.words_core.specs.Spelling.{behind, is_equals, spelled}
@@ -102,3 +107,11 @@ pub record IsName (rows : List OptionRow) (name : List ℕ) (choice : Choice) (k
   pub named : option_named rows (codes "--" ++ name) ≡ Some (choice, takes.Value kind)
   pub some : name ≢ []
   pub no_equals : list_any is_equals name ≡ false
+
+-- what is asked of `head` or `tail`, and of `split`, for standard input
+
+abbrev pub ends_as : Measured → Count → Headers → EndsAsked
+ends_as unit count headers = record { unit = unit; count = count; headers = headers; names = codes "-" ∷ [] }
+
+abbrev pub split_as : Cut → Alphabet → ℕ → Bool → Bool → SplitAsked
+split_as cut alphabet width auto elide = record { cut = cut; alphabet = alphabet; width = width; auto = auto; elide = elide; input = codes "-"; prefix = codes "x" }

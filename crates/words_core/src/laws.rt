@@ -4,17 +4,23 @@ ghost use Rattle.std.specs.List.{list_any};
 ghost use Rattle.ports_core.specs.declared.fault.UsageKind.TheVariants.{TwoWays};
 ghost use Rattle.words_core.specs.declared.spelling.State.TheVariants.{Reading};
 ghost use Rattle.words_core.specs.declared.split_words.SplitOptions.{SplitOptions};
-ghost use Rattle.seg_core.specs.Count.{is_number};
+ghost use Rattle.seg_core.specs.Count.{count_of, is_number};
 ghost use Rattle.words_core.specs.Given.{Given, GivenOption, one_option};
-ghost use Rattle.words_core.specs.Laws.{AreAmong, Gives, IsLetter, IsName, amount_of, as_operands, ends_of, is_alphabet, is_count, is_headers, is_way, is_width, split_of};
+ghost use Rattle.words_core.specs.Laws.{AreAmong, Gives, IsLetter, IsName, amount_of, as_operands, ends_as, ends_of, is_alphabet, is_count, is_headers, is_way, is_width, split_as, split_of};
 ghost use Rattle.words_core.specs.Spelling.{behind, spelled};
-ghost use Rattle.words_core.specs.SplitWords.{way_in};
+ghost use Rattle.words_core.specs.EndsWords.{ten_lines};
+ghost use Rattle.words_core.specs.SplitWords.{least_width, way_in};
 ghost use Rattle.words_core.specs.Table.{OptionRow};
-ghost use Rattle.words_core.specs.Value.{Meant, value_in};
+ghost use Rattle.words_core.specs.Value.{Meant, round_in, size_in, value_in};
+ghost use Rattle.words_core.specs.Words.{settings_of};
 
+use crate::settings::{Headers, Settings};
 use crate::spelling::State;
 use crate::table::{Choice, Kind};
-use ports_core::Fault;
+use ends_core::Unit;
+use ports_core::{Alphabet, Fault};
+use seg_core::count::Count;
+use split_core::Cut;
 
 /// Of several counts for `head` or `tail` the last decides, as if it stood alone, whatever options stand before it; and so does
 /// the last option for headers. Other options change neither (POSIX.1-2017, XBD 12.2, guideline 11, leaves this to the tool).
@@ -84,4 +90,35 @@ pub fn number_comes_first()
     ensures number { (rows : List OptionRow) (choice : Choice) (kind : Kind) (digits : List ℕ) (meant : Meant) (words : List (List ℕ)) (place : ℕ)
         → is_number digits ≡ true → value_in kind digits ≡ Ok meant
         → spelled rows ((codes "-" ++ digits) ∷ words) place (State.First choice kind) ≡ behind (one_option choice meant place) (spelled rows words (place + 1) Reading) }
+{}
+
+/// What the options of `head` and `tail` ask for, each alone: lines and bytes with their count, headers never or always (POSIX.1-2017,
+/// XCU head and tail; GNU coreutils manual).
+pub fn ends_options_ask()
+    ensures head_lines { (value : List ℕ) (count : Count) → count_of value ≡ Ok count
+        → settings_of (codes "head" ∷ codes "-n" ∷ value ∷ []) ≡ Ok (Settings.Head (ends_as Unit.Lines count Headers.ForSeveral)) }
+    ensures head_bytes { (value : List ℕ) (count : Count) → count_of value ≡ Ok count
+        → settings_of (codes "head" ∷ codes "-c" ∷ value ∷ []) ≡ Ok (Settings.Head (ends_as Unit.Bytes count Headers.ForSeveral)) }
+    ensures tail_lines { (value : List ℕ) (count : Count) → count_of value ≡ Ok count
+        → settings_of (codes "tail" ∷ codes "-n" ∷ value ∷ []) ≡ Ok (Settings.Tail (ends_as Unit.Lines count Headers.ForSeveral)) }
+    ensures tail_bytes { (value : List ℕ) (count : Count) → count_of value ≡ Ok count
+        → settings_of (codes "tail" ∷ codes "-c" ∷ value ∷ []) ≡ Ok (Settings.Tail (ends_as Unit.Bytes count Headers.ForSeveral)) }
+    ensures quiet { settings_of (codes "tail" ∷ codes "-q" ∷ []) ≡ Ok (Settings.Tail (ends_as Unit.Lines ten_lines.count Headers.Never)) }
+    ensures verbose { settings_of (codes "tail" ∷ codes "-v" ∷ []) ≡ Ok (Settings.Tail (ends_as Unit.Lines ten_lines.count Headers.Always)) }
+{}
+
+/// What the options of `split` ask for, each alone (POSIX.1-2017, XCU split; GNU coreutils manual).
+pub fn split_options_ask()
+    ensures lines { (value : List ℕ) (size : ℕ) → size_in value ≡ Ok size
+        → settings_of (codes "split" ∷ codes "-l" ∷ value ∷ []) ≡ Ok (Settings.Split (split_as (Cut.Lines size) Alphabet.Letters 2 true false)) }
+    ensures bytes { (value : List ℕ) (size : ℕ) → size_in value ≡ Ok size
+        → settings_of (codes "split" ∷ codes "-b" ∷ value ∷ []) ≡ Ok (Settings.Split (split_as (Cut.Bytes size) Alphabet.Letters 2 true false)) }
+    ensures line_bytes { (value : List ℕ) (size : ℕ) → size_in value ≡ Ok size
+        → settings_of (codes "split" ∷ codes "-C" ∷ value ∷ []) ≡ Ok (Settings.Split (split_as (Cut.LineBytes size) Alphabet.Letters 2 true false)) }
+    ensures files { (value : List ℕ) (files : ℕ) → round_in value ≡ Ok files
+        → settings_of (codes "split" ∷ codes "-n" ∷ value ∷ []) ≡ Ok (Settings.Split (split_as (Cut.Round files) Alphabet.Letters (least_width Alphabet.Letters files) false false)) }
+    ensures digits { settings_of (codes "split" ∷ codes "-d" ∷ []) ≡ Ok (Settings.Split (split_as (Cut.Lines 1000) Alphabet.Digits 2 true false)) }
+    ensures hexadecimal { settings_of (codes "split" ∷ codes "-x" ∷ []) ≡ Ok (Settings.Split (split_as (Cut.Lines 1000) Alphabet.Hex 2 true false)) }
+    ensures elide { settings_of (codes "split" ∷ codes "-e" ∷ []) ≡ Ok (Settings.Split (split_as (Cut.Lines 1000) Alphabet.Letters 2 true true)) }
+    ensures width { settings_of (codes "split" ∷ codes "-a3" ∷ []) ≡ Ok (Settings.Split (split_as (Cut.Lines 1000) Alphabet.Letters 3 false false)) }
 {}
