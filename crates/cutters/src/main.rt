@@ -1,6 +1,7 @@
 //! `cutters`: the tools that cut files, in one program.
 #![tactic(auto)]
 
+mod args;
 mod ends;
 #[cfg(test)]
 mod ends_tests;
@@ -15,12 +16,15 @@ ghost use Rattle.std.specs.Prelude.{◌≡◌};
 ghost use Rattle.ports_core.specs.Slot.{streams};
 ghost use Rattle.ports_core.specs.Source.{IsFresh};
 
+use crate::args::{ArgsFault, read_args};
 use crate::run::run;
-use ports_core::{DirIn, DirOut, Fault, Tool, UsageKind, say};
+use ports_core::{DirIn, DirOut, Fault, Tool, say, write_whole};
 use std::alloc::{AllocError, Global};
-use std::io::ErrorKind;
+use std::fs;
 use std::process::ExitCode;
-use std::{env, fs};
+
+/// The output for messages.
+const STANDARD_ERROR: usize = 1;
 
 /// Runs the tool that the program's words name, over standard input, standard output and standard error.
 fn main(rt: HostRuntime) -> ExitCode {
@@ -34,26 +38,10 @@ fn main(rt: HostRuntime) -> ExitCode {
             let mut inputs = DirIn::new(rt, alloc, rt.stdin());
             run_args(alloc, &args, &mut inputs, &mut outs)
         }
-        Err(fault) => refuse(alloc, &fault, &mut outs),
+        Err(ArgsFault::NotUtf8(word)) => refuse_word(alloc, word, &mut outs),
+        Err(ArgsFault::Memory) => refuse(alloc, &mut outs),
     };
     ExitCode::from(status)
-}
-
-/// The program's words.
-///
-/// # Errors
-///
-/// `Memory` where there is no room for them. Words that aren't UTF-8 can't be read, so there is no tool then.
-fn read_args(rt: &HostRuntime, alloc: Global) -> Result<Vec<String>, Fault> {
-    let args = match env::args(rt) {
-        Ok(args) => args,
-        Err(error) if error.kind() == ErrorKind::OutOfMemory => return Err(Fault::Memory),
-        Err(_) => return Err(Fault::Usage(UsageKind::MissingTool, 0)),
-    };
-    match args.skip(1).collect(alloc) {
-        Ok(words) => Ok(words),
-        Err(AllocError) => Err(Fault::Memory),
-    }
 }
 
 fn run_args(
@@ -71,14 +59,27 @@ fn run_args(
         .collect::<Vec<&str>>(alloc)
     {
         Ok(words) => run(alloc, &words, inputs, outs),
-        Err(AllocError) => refuse(alloc, &Fault::Memory, outs),
+        Err(AllocError) => refuse(alloc, outs),
     }
 }
 
-/// Says what is wrong, and returns the status.
-fn refuse(alloc: Global, fault: &Fault, outs: &mut DirOut<HostRuntime>) -> u8
+/// Says that there is no memory for the words, and returns the status.
+fn refuse(alloc: Global, outs: &mut DirOut<HostRuntime>) -> u8
     requires { outs.old ≡ streams }
 {
-    say(alloc, Tool::Cutters, fault, "", outs);
+    say(alloc, Tool::Cutters, &Fault::Memory, "", outs);
     1
+}
+
+/// Says which word isn't UTF-8, and returns the status.
+fn refuse_word(alloc: Global, word: usize, outs: &mut DirOut<HostRuntime>) -> u8
+    requires { outs.old ≡ streams }
+{
+    match format!(in alloc; "cutters: word {word} is not UTF-8\n") {
+        Ok(text) => {
+            let _ = write_whole(outs, STANDARD_ERROR, text.as_bytes());
+            1
+        }
+        Err(AllocError) => refuse(alloc, outs),
+    }
 }

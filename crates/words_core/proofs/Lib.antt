@@ -1,4 +1,6 @@
+pub mod AskedLemmas
 pub mod ChoiceLemmas
 pub mod LimitLemmas
 pub mod OperandLemmas
 pub mod SpellingLemmas
+pub mod ValueLemmas

@@ -1,14 +1,25 @@
 -- The words of the laws: which options ask for what, and the operands among words.
-use Rattle.std.specs.Prelude.{ℕ, ◌+◌, Bool, true, false, List, [], ◌∷◌, fold, Result}
+use Rattle.std.specs.Prelude.{◌≡◌, ◌≢◌, ℕ, ◌+◌, ◌<◌, Bool, true, false, List, [], ◌∷◌, ◌++◌, fold, codes, Some, Result}
+use Rattle.std.specs.List.{list_any}
 use Rattle.seg_core.specs.declared.count.Count.{Count}
 use Rattle.ends_core.specs.declared.unit.Unit.{Unit as Measured}
+use Rattle.ports_core.specs.declared.alphabet.Alphabet.{Alphabet}
 use Rattle.ports_core.specs.declared.fault.Fault.{Fault}
+use Rattle.split_core.specs.declared.cut.Cut.{Cut}
 use Rattle.words_core.specs.declared.table.Choice.{Choice}
 use Rattle.words_core.specs.declared.table.Choice.TheVariants.{Lines, Bytes, LineBytes, Files, Quiet, Verbose, SuffixLength, NumericSuffixes, HexSuffixes}
+use Rattle.words_core.specs.declared.table.Kind.{Kind}
+use Rattle.words_core.specs.declared.table.Takes.TheVariants as takes
+use Rattle.words_core.specs.declared.spelling.State.TheVariants.{Reading}
 use Rattle.words_core.specs.declared.ends_words.EndsOptions.{EndsOptions}
 use Rattle.words_core.specs.declared.split_words.SplitOptions.{SplitOptions}
+use Rattle.words_core.specs.declared.settings.Headers.{Headers}
+use Rattle.words_core.specs.EndsAsked.{EndsAsked}
+use Rattle.words_core.specs.SplitAsked.{SplitAsked}
 use Rattle.words_core.specs.Value.{Meant, Counted, Width}
-use Rattle.words_core.specs.Given.{GivenOption, GivenOperand}
+use Rattle.words_core.specs.Given.{Given, GivenOption, GivenOperand, one_option}
+use Rattle.words_core.specs.Spelling.{behind, is_equals, spelled}
+use Rattle.words_core.specs.Table.{OptionRow, option_named}
 use Rattle.words_core.specs.EndsWords.{ends_after, ten_lines}
 use Rattle.words_core.specs.SplitWords.{no_options, split_options}
 
@@ -80,3 +91,27 @@ pub data AreAmong : List GivenOperand → ℕ → List (List ℕ) → Type 0 whe
   none : (place : ℕ) → AreAmong [] place []
   passed : (operands : List GivenOperand) (place : ℕ) (word : List ℕ) (words : List (List ℕ)) → AreAmong operands (place + 1) words → AreAmong operands place (word ∷ words)
   taken : (operands : List GivenOperand) (place : ℕ) (word : List ℕ) (words : List (List ℕ)) → AreAmong operands (place + 1) words → AreAmong (record { text = word; word = place } ∷ operands) place (word ∷ words)
+
+-- words spell an option with its value, and then what the rest spells
+abbrev pub Gives : List OptionRow → List (List ℕ) → ℕ → Choice → Meant → Result Given Fault → Type 0
+Gives rows words place choice meant rest = spelled rows words place Reading ≡ behind (one_option choice meant place) rest
+
+-- a letter, and a name after two hyphens, that name an option of a tool which takes a value of this kind
+
+pub record IsLetter (rows : List OptionRow) (letter : ℕ) (choice : Choice) (kind : Kind) : Type 0 where
+  pub named : option_named rows (codes "-" ++ letter ∷ []) ≡ Some (choice, takes.Value kind)
+  pub ascii : letter < 128
+  pub no_hyphen : letter ≢ 45
+
+pub record IsName (rows : List OptionRow) (name : List ℕ) (choice : Choice) (kind : Kind) : Type 0 where
+  pub named : option_named rows (codes "--" ++ name) ≡ Some (choice, takes.Value kind)
+  pub some : name ≢ []
+  pub no_equals : list_any is_equals name ≡ false
+
+-- what is asked of `head` or `tail`, and of `split`, for standard input
+
+abbrev pub ends_as : Measured → Count → Headers → EndsAsked
+ends_as unit count headers = record { unit = unit; count = count; headers = headers; names = codes "-" ∷ [] }
+
+abbrev pub split_as : Cut → Alphabet → ℕ → Bool → Bool → SplitAsked
+split_as cut alphabet width auto elide = record { cut = cut; alphabet = alphabet; width = width; auto = auto; elide = elide; input = codes "-"; prefix = codes "x" }

@@ -4,13 +4,23 @@ ghost use Rattle.std.specs.List.{list_any};
 ghost use Rattle.ports_core.specs.declared.fault.UsageKind.TheVariants.{TwoWays};
 ghost use Rattle.words_core.specs.declared.spelling.State.TheVariants.{Reading};
 ghost use Rattle.words_core.specs.declared.split_words.SplitOptions.{SplitOptions};
-ghost use Rattle.words_core.specs.Given.{GivenOption};
-ghost use Rattle.words_core.specs.Laws.{amount_of, as_operands, ends_of, is_alphabet, is_count, is_headers, is_way, is_width, split_of};
-ghost use Rattle.words_core.specs.Spelling.{spelled};
-ghost use Rattle.words_core.specs.SplitWords.{way_in};
+ghost use Rattle.seg_core.specs.Count.{count_of, is_number};
+ghost use Rattle.words_core.specs.Given.{Given, GivenOption, one_option};
+ghost use Rattle.words_core.specs.Laws.{AreAmong, Gives, IsLetter, IsName, amount_of, as_operands, ends_as, ends_of, is_alphabet, is_count, is_headers, is_way, is_width, split_as, split_of};
+ghost use Rattle.words_core.specs.Spelling.{behind, spelled};
+ghost use Rattle.words_core.specs.EndsWords.{ten_lines};
+ghost use Rattle.words_core.specs.SplitWords.{least_width, way_in};
 ghost use Rattle.words_core.specs.Table.{OptionRow};
+ghost use Rattle.words_core.specs.Value.{Meant, round_in, size_in, value_in};
+ghost use Rattle.words_core.specs.Words.{settings_of};
 
-use ports_core::Fault;
+use crate::settings::{Headers, Settings};
+use crate::spelling::State;
+use crate::table::{Choice, Kind};
+use ends_core::Unit;
+use ports_core::{Alphabet, Fault};
+use seg_core::count::Count;
+use split_core::Cut;
 
 /// Of several counts for `head` or `tail` the last decides, as if it stood alone, whatever options stand before it; and so does
 /// the last option for headers. Other options change neither (POSIX.1-2017, XBD 12.2, guideline 11, leaves this to the tool).
@@ -46,4 +56,69 @@ pub fn one_way_at_most()
 pub fn operands_follow_the_end()
     ensures { (rows : List OptionRow) (words : List (List ℕ)) (place : ℕ)
         → spelled rows (codes "--" ∷ words) place Reading ≡ Ok (record { options = []; operands = as_operands (place + 1) words }) }
+{}
+
+/// The value of an option, where it isn't empty, is spelled in four ways: behind its letter or in the next word, and behind `=`
+/// after its long name or in the next word. All four give the same option and value (POSIX.1-2017, XBD 12.1; GNU's long
+/// options).
+pub fn values_are_spelled_alike()
+    ensures attached { (rows : List OptionRow) (letter : ℕ) (choice : Choice) (kind : Kind) (value : List ℕ) (meant : Meant) (words : List (List ℕ)) (place : ℕ)
+        → IsLetter rows letter choice kind → value ≢ [] → value_in kind value ≡ Ok meant
+        → Gives rows ((codes "-" ++ letter ∷ value) ∷ words) place choice meant (spelled rows words (place + 1) Reading) }
+    ensures after_letter { (rows : List OptionRow) (letter : ℕ) (choice : Choice) (kind : Kind) (value : List ℕ) (meant : Meant) (words : List (List ℕ)) (place : ℕ)
+        → IsLetter rows letter choice kind → value_in kind value ≡ Ok meant
+        → Gives rows ((codes "-" ++ letter ∷ []) ∷ value ∷ words) place choice meant (spelled rows words (place + 1 + 1) Reading) }
+    ensures after_equals { (rows : List OptionRow) (name : List ℕ) (choice : Choice) (kind : Kind) (value : List ℕ) (meant : Meant) (words : List (List ℕ)) (place : ℕ)
+        → IsName rows name choice kind → value_in kind value ≡ Ok meant
+        → Gives rows ((codes "--" ++ (name ++ (codes "=" ++ value))) ∷ words) place choice meant (spelled rows words (place + 1) Reading) }
+    ensures after_name { (rows : List OptionRow) (name : List ℕ) (choice : Choice) (kind : Kind) (value : List ℕ) (meant : Meant) (words : List (List ℕ)) (place : ℕ)
+        → IsName rows name choice kind → value_in kind value ≡ Ok meant
+        → Gives rows ((codes "--" ++ name) ∷ value ∷ words) place choice meant (spelled rows words (place + 1 + 1) Reading) }
+{}
+
+/// The operands are some of the words, in their order, each with its place.
+pub fn operands_keep_their_order()
+    ensures { (rows : List OptionRow) (words : List (List ℕ)) (place : ℕ) (state : State) (given : Given)
+        → spelled rows words place state ≡ Ok given → AreAmong given.operands place words }
+{}
+
+/// A first word that isn't a hyphen and digits is read as any other word; one that is gives the option of its tool for it, with
+/// these digits as its value.
+pub fn number_comes_first()
+    ensures other { (rows : List OptionRow) (choice : Choice) (kind : Kind) (byte : ℕ) (rest : List ℕ) (words : List (List ℕ)) (place : ℕ)
+        → is_number rest ≡ false → spelled rows ((byte ∷ rest) ∷ words) place (State.First choice kind) ≡ spelled rows ((byte ∷ rest) ∷ words) place Reading }
+    ensures number { (rows : List OptionRow) (choice : Choice) (kind : Kind) (digits : List ℕ) (meant : Meant) (words : List (List ℕ)) (place : ℕ)
+        → is_number digits ≡ true → value_in kind digits ≡ Ok meant
+        → spelled rows ((codes "-" ++ digits) ∷ words) place (State.First choice kind) ≡ behind (one_option choice meant place) (spelled rows words (place + 1) Reading) }
+{}
+
+/// What the options of `head` and `tail` ask for, each alone: lines and bytes with their count, headers never or always (POSIX.1-2017,
+/// XCU head and tail; GNU coreutils manual).
+pub fn ends_options_ask()
+    ensures head_lines { (value : List ℕ) (count : Count) → count_of value ≡ Ok count
+        → settings_of (codes "head" ∷ codes "-n" ∷ value ∷ []) ≡ Ok (Settings.Head (ends_as Unit.Lines count Headers.ForSeveral)) }
+    ensures head_bytes { (value : List ℕ) (count : Count) → count_of value ≡ Ok count
+        → settings_of (codes "head" ∷ codes "-c" ∷ value ∷ []) ≡ Ok (Settings.Head (ends_as Unit.Bytes count Headers.ForSeveral)) }
+    ensures tail_lines { (value : List ℕ) (count : Count) → count_of value ≡ Ok count
+        → settings_of (codes "tail" ∷ codes "-n" ∷ value ∷ []) ≡ Ok (Settings.Tail (ends_as Unit.Lines count Headers.ForSeveral)) }
+    ensures tail_bytes { (value : List ℕ) (count : Count) → count_of value ≡ Ok count
+        → settings_of (codes "tail" ∷ codes "-c" ∷ value ∷ []) ≡ Ok (Settings.Tail (ends_as Unit.Bytes count Headers.ForSeveral)) }
+    ensures quiet { settings_of (codes "tail" ∷ codes "-q" ∷ []) ≡ Ok (Settings.Tail (ends_as Unit.Lines ten_lines.count Headers.Never)) }
+    ensures verbose { settings_of (codes "tail" ∷ codes "-v" ∷ []) ≡ Ok (Settings.Tail (ends_as Unit.Lines ten_lines.count Headers.Always)) }
+{}
+
+/// What the options of `split` ask for, each alone (POSIX.1-2017, XCU split; GNU coreutils manual).
+pub fn split_options_ask()
+    ensures lines { (value : List ℕ) (size : ℕ) → size_in value ≡ Ok size
+        → settings_of (codes "split" ∷ codes "-l" ∷ value ∷ []) ≡ Ok (Settings.Split (split_as (Cut.Lines size) Alphabet.Letters 2 true false)) }
+    ensures bytes { (value : List ℕ) (size : ℕ) → size_in value ≡ Ok size
+        → settings_of (codes "split" ∷ codes "-b" ∷ value ∷ []) ≡ Ok (Settings.Split (split_as (Cut.Bytes size) Alphabet.Letters 2 true false)) }
+    ensures line_bytes { (value : List ℕ) (size : ℕ) → size_in value ≡ Ok size
+        → settings_of (codes "split" ∷ codes "-C" ∷ value ∷ []) ≡ Ok (Settings.Split (split_as (Cut.LineBytes size) Alphabet.Letters 2 true false)) }
+    ensures files { (value : List ℕ) (files : ℕ) → round_in value ≡ Ok files
+        → settings_of (codes "split" ∷ codes "-n" ∷ value ∷ []) ≡ Ok (Settings.Split (split_as (Cut.Round files) Alphabet.Letters (least_width Alphabet.Letters files) false false)) }
+    ensures digits { settings_of (codes "split" ∷ codes "-d" ∷ []) ≡ Ok (Settings.Split (split_as (Cut.Lines 1000) Alphabet.Digits 2 true false)) }
+    ensures hexadecimal { settings_of (codes "split" ∷ codes "-x" ∷ []) ≡ Ok (Settings.Split (split_as (Cut.Lines 1000) Alphabet.Hex 2 true false)) }
+    ensures elide { settings_of (codes "split" ∷ codes "-e" ∷ []) ≡ Ok (Settings.Split (split_as (Cut.Lines 1000) Alphabet.Letters 2 true true)) }
+    ensures width { settings_of (codes "split" ∷ codes "-a3" ∷ []) ≡ Ok (Settings.Split (split_as (Cut.Lines 1000) Alphabet.Letters 3 false false)) }
 {}

@@ -16,7 +16,9 @@ mod value;
 mod words;
 
 pub use laws::{
-    last_of_ends_decides, last_of_split_decides, one_way_at_most, operands_follow_the_end,
+    ends_options_ask, last_of_ends_decides, last_of_split_decides, number_comes_first,
+    one_way_at_most, operands_follow_the_end, operands_keep_their_order, split_options_ask,
+    values_are_spelled_alike,
 };
 pub use settings::{EndsSettings, Headers, Settings, SplitSettings};
 pub use words::{find_tool, read_words};

@@ -1,0 +1,144 @@
+-- Lemmas on the ways in which the value of an option is spelled.
+use Rattle.std.proofs.Common.{◌≡◌, ◌≢◌, ℕ, ◌+◌, ◌<◌, ◌==◌, nat_lt, not, Bool, true, false, ◌||◌, arith, List, [], ◌∷◌, ◌++◌, length, take, drop, Option, Some, None, Result, Ok, Err, codes, cond, refl, sym, ap, subst, ◌∙◌, if◌then◌else◌}
+use Rattle.std.specs.List.{list_any, position_or_len, before_first, after_first}
+use Rattle.std.proofs.lemmas.Bool.Decides.{nat_tests}
+use Rattle.std.proofs.lemmas.List.{length-append}
+use Rattle.std.proofs.Math.Seq.{take-append_seam, drop-append-add, take-length}
+use Rattle.seg_core.specs.Count.{is_number}
+use Rattle.ports_core.specs.declared.fault.Fault.{Fault}
+use Rattle.ports_core.specs.declared.fault.UsageKind.{UsageKind}
+use Rattle.words_core.specs.declared.table.Choice.{Choice}
+use Rattle.words_core.specs.declared.table.Kind.{Kind}
+use Rattle.words_core.specs.declared.table.Takes.{Takes}
+use Rattle.words_core.specs.declared.table.Takes.TheVariants as takes
+use Rattle.words_core.specs.declared.spelling.State.{State}
+use Rattle.words_core.specs.declared.spelling.State.TheVariants.{First, Reading, Awaiting}
+use Rattle.words_core.specs.Table.{OptionRow, option_named}
+use Rattle.words_core.specs.Value.{Meant, value_in}
+use Rattle.words_core.specs.Given.{Given, nothing, one_option}
+use Rattle.words_core.specs.Spelling.{Meaning, after_equals, awaiting, behind, cluster, dashed, first_letter, is_equals, lettered, long, mixed, named, numbered, onward, option_lettered, reading, said, spelled}
+use Rattle.words_core.specs.Laws.{Gives, IsLetter, IsName}
+use Rattle.words_core.proofs.SpellingLemmas.{behind-nothing}
+
+choose : {A : Type 0} (test : Bool) (one other : A) → test ≡ true → (if test then one else other) ≡ one
+choose test one other is = ap (λ those. if those then one else other) is
+
+choose_other : {A : Type 0} (test : Bool) (one other : A) → test ≡ false → (if test then one else other) ≡ other
+choose_other test one other is = ap (λ those. if those then one else other) is
+
+-- a letter
+
+no_hyphen : (letter : ℕ) → letter ≢ 45 → (letter == 45) ≡ false
+no_hyphen letter differs = grind (arith, nat_tests)
+
+is_ascii : (letter : ℕ) → letter < 128 → nat_lt letter 128 ≡ true
+is_ascii letter low = grind (arith, nat_tests)
+
+by_its_letter : (rows : List OptionRow) (letter : ℕ) (choice : Choice) (kind : Kind) (value : List ℕ) (place : ℕ) → IsLetter rows letter choice kind
+    → mixed rows place (45 ∷ letter ∷ value) ≡ lettered place value (cluster rows place value) (Some (choice, takes.Value kind))
+by_its_letter rows letter choice kind value place is =
+    choose_other (letter == 45) (dashed rows place value) (cluster rows place (letter ∷ value)) (no_hyphen letter is.no_hyphen)
+    ∙ ap (lettered place value (cluster rows place value)) (choose (nat_lt letter 128) (option_named rows (45 ∷ letter ∷ [])) None (is_ascii letter is.ascii) ∙ is.named)
+
+given_one : (choice : Choice) (option place : ℕ) (meant : Meant) (value : Result Meant UsageKind) → value ≡ Ok meant → said choice option place value ≡ reading (one_option choice meant option)
+given_one choice option place meant value is = ap (said choice option place) is
+
+pub value_attached : (rows : List OptionRow) (letter : ℕ) (choice : Choice) (kind : Kind) (value : List ℕ) (meant : Meant) (words : List (List ℕ)) (place : ℕ)
+    → IsLetter rows letter choice kind → value ≢ [] → value_in kind value ≡ Ok meant
+    → Gives rows ((45 ∷ letter ∷ value) ∷ words) place choice meant (spelled rows words (place + 1) Reading)
+value_attached rows letter choice kind [] meant words place is some reads = absurd (some refl)
+value_attached rows letter choice kind (byte ∷ value) meant words place is some reads =
+    ap (onward (spelled rows words (place + 1))) (by_its_letter rows letter choice kind (byte ∷ value) place is ∙ given_one choice place place meant (value_in kind (byte ∷ value)) reads)
+
+-- the next word
+
+awaited : (rows : List OptionRow) (choice : Choice) (kind : Kind) (word value : List ℕ) (meant : Meant) (words : List (List ℕ)) (place : ℕ)
+    → mixed rows place word ≡ awaiting choice kind place → value_in kind value ≡ Ok meant
+    → Gives rows (word ∷ value ∷ words) place choice meant (spelled rows words (place + 1 + 1) Reading)
+awaited rows choice kind word value meant words place awaits reads =
+    ap (onward (spelled rows (value ∷ words) (place + 1))) awaits
+    ∙ ap (λ those. behind nothing (onward (spelled rows words (place + 1 + 1)) those)) (given_one choice place (place + 1) meant (value_in kind value) reads)
+    ∙ behind-nothing nothing (behind (one_option choice meant place) (spelled rows words (place + 1 + 1) Reading)) refl
+
+pub value_after_letter : (rows : List OptionRow) (letter : ℕ) (choice : Choice) (kind : Kind) (value : List ℕ) (meant : Meant) (words : List (List ℕ)) (place : ℕ)
+    → IsLetter rows letter choice kind → value_in kind value ≡ Ok meant
+    → Gives rows ((45 ∷ letter ∷ []) ∷ value ∷ words) place choice meant (spelled rows words (place + 1 + 1) Reading)
+value_after_letter rows letter choice kind value meant words place is reads =
+    awaited rows choice kind (45 ∷ letter ∷ []) value meant words place (by_its_letter rows letter choice kind [] place is) reads
+
+-- a long name
+
+neither : (a b : Bool) → (a || b) ≡ false → (a ≡ false) × (b ≡ false)
+neither false b is = (refl, is)
+neither true b is = absurd (cc)
+
+one_further : (test : Bool) (n : ℕ) → test ≡ false → cond (not test) (1 + n) 0 ≡ 1 + n
+one_further test n is = ap (λ those. cond (not those) (1 + n) 0) is
+
+place_of_equals : (front value : List ℕ) → list_any is_equals front ≡ false → position_or_len is_equals (front ++ 61 ∷ value) ≡ length front
+place_of_equals [] value none = refl
+place_of_equals (byte ∷ front) value none =
+    let both = neither (byte == 61) (list_any is_equals front) none in
+    let rest = place_of_equals front value both.1 in
+    one_further (byte == 61) (position_or_len is_equals (front ++ 61 ∷ value)) both.0 ∙ omega (arith, rest)
+
+no_place : (front : List ℕ) → list_any is_equals front ≡ false → position_or_len is_equals front ≡ length front
+no_place [] none = refl
+no_place (byte ∷ front) none =
+    let both = neither (byte == 61) (list_any is_equals front) none in
+    let rest = no_place front both.1 in
+    one_further (byte == 61) (position_or_len is_equals front) both.0 ∙ omega (arith, rest)
+
+differ : (n m : ℕ) → n < m → (n == m) ≡ false
+differ n m below = grind (arith, nat_tests)
+
+alike : (n m : ℕ) → n ≡ m → (n == m) ≡ true
+alike n m is = grind (arith, nat_tests)
+
+equals_in : (front value : List ℕ) → list_any is_equals front ≡ false → after_equals (front ++ 61 ∷ value) ≡ Some value
+equals_in front value none =
+    let place = place_of_equals front value none in
+    let below : position_or_len is_equals (front ++ 61 ∷ value) < length (front ++ 61 ∷ value) = rw length-append (omega (arith, place)) in
+    choose_other (position_or_len is_equals (front ++ 61 ∷ value) == length (front ++ 61 ∷ value)) None (Some (after_first is_equals (front ++ 61 ∷ value))) (differ _ _ below)
+    ∙ ap (λ those. Some those) (ap (λ n. drop (n + 1) (front ++ 61 ∷ value)) place ∙ drop-append-add front (61 ∷ value) 1)
+
+name_in : (front value : List ℕ) → list_any is_equals front ≡ false → before_first is_equals (front ++ 61 ∷ value) ≡ front
+name_in front value none = ap (λ n. take n (front ++ 61 ∷ value)) (place_of_equals front value none) ∙ take-append_seam front (61 ∷ value)
+
+no_equals_in : (front : List ℕ) → list_any is_equals front ≡ false → after_equals front ≡ None
+no_equals_in front none = choose (position_or_len is_equals front == length front) None (Some (after_first is_equals front)) (alike _ _ (no_place front none))
+
+all_name : (front : List ℕ) → list_any is_equals front ≡ false → before_first is_equals front ≡ front
+all_name front none = ap (λ n. take n front) (no_place front none) ∙ take-length front
+
+by_its_name : (rows : List OptionRow) (place : ℕ) (word name : List ℕ) (value : Option (List ℕ)) (option : Option (Choice × Takes)) → before_first is_equals word ≡ name → after_equals word ≡ value → option_named rows name ≡ option
+    → long rows place word ≡ named place value option
+by_its_name rows place word name value option front rest is =
+    ap (λ those. named place those (option_named rows (before_first is_equals word))) rest
+    ∙ ap (λ those. named place value (option_named rows those)) front ∙ ap (named place value) is
+
+long_value : (rows : List OptionRow) (name : List ℕ) (choice : Choice) (kind : Kind) (value : List ℕ) (place : ℕ) → IsName rows name choice kind
+    → mixed rows place (45 ∷ 45 ∷ name ++ 61 ∷ value) ≡ named place (Some value) (Some (choice, takes.Value kind))
+long_value rows [] choice kind value place is = absurd (is.some refl)
+long_value rows (byte ∷ name) choice kind value place is =
+    let front : List ℕ = 45 ∷ 45 ∷ byte ∷ name in
+    by_its_name rows place (front ++ 61 ∷ value) front (Some value) (Some (choice, takes.Value kind)) (name_in front value is.no_equals) (equals_in front value is.no_equals) is.named
+
+long_name : (rows : List OptionRow) (name : List ℕ) (choice : Choice) (kind : Kind) (place : ℕ) → IsName rows name choice kind
+    → mixed rows place (45 ∷ 45 ∷ name) ≡ awaiting choice kind place
+long_name rows [] choice kind place is = absurd (is.some refl)
+long_name rows (byte ∷ name) choice kind place is =
+    let front : List ℕ = 45 ∷ 45 ∷ byte ∷ name in
+    by_its_name rows place front front None (Some (choice, takes.Value kind)) (all_name front is.no_equals) (no_equals_in front is.no_equals) is.named
+
+pub value_after_equals : (rows : List OptionRow) (name : List ℕ) (choice : Choice) (kind : Kind) (value : List ℕ) (meant : Meant) (words : List (List ℕ)) (place : ℕ)
+    → IsName rows name choice kind → value_in kind value ≡ Ok meant
+    → Gives rows ((45 ∷ 45 ∷ name ++ 61 ∷ value) ∷ words) place choice meant (spelled rows words (place + 1) Reading)
+value_after_equals rows name choice kind value meant words place is reads =
+    ap (onward (spelled rows words (place + 1))) (long_value rows name choice kind value place is ∙ given_one choice place place meant (value_in kind value) reads)
+
+pub value_after_name : (rows : List OptionRow) (name : List ℕ) (choice : Choice) (kind : Kind) (value : List ℕ) (meant : Meant) (words : List (List ℕ)) (place : ℕ)
+    → IsName rows name choice kind → value_in kind value ≡ Ok meant
+    → Gives rows ((45 ∷ 45 ∷ name) ∷ value ∷ words) place choice meant (spelled rows words (place + 1 + 1) Reading)
+value_after_name rows name choice kind value meant words place is reads =
+    awaited rows choice kind (45 ∷ 45 ∷ name) value meant words place (long_name rows name choice kind place is) reads
