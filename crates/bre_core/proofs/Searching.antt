@@ -56,7 +56,7 @@ parts_tell test Kind t (suc count) = let before = parts_tell test Kind t count i
   no = λ from to p.
       let small = t.forward p.0 to p.2 in
       any_there (suc to) (λ middle. has_parts test count from middle && test middle to) p.0 (omega (arith, small))
-          (and_true (has_parts test count from p.0) (test p.0 to) (before.no from p.0 p.1) (t.no p.0 to p.2));
+      (and_true (has_parts test count from p.0) (test p.0 to) (before.no from p.0 p.1) (t.no p.0 to p.2));
   forward = λ from to p. parts_forward Kind t.forward (suc count) from to p;
 }
 
@@ -103,7 +103,7 @@ mutual
     no = λ from to m.
         let small = other.forward m.0 to m.2 in
         any_there (suc to) (λ middle. matches pattern line from middle && matches_item item line middle to) m.0 (omega (arith, small))
-            (and_true (matches pattern line from m.0) (matches_item item line m.0 to) (one.no from m.0 m.1) (other.no m.0 to m.2));
+        (and_true (matches pattern line from m.0) (matches_item item line m.0 to) (one.no from m.0 m.1) (other.no m.0 to m.2));
     forward = λ from to m. let first = one.forward from m.0 m.1 in let second = other.forward m.0 to m.2 in omega (arith, first, second);
   }
 
@@ -133,7 +133,7 @@ mutual
     no = λ from to m.
         let few = few_parts (MatchesItem item line) one.forward low high m.0 from to m.1 m.2 m.3 in
         any_there (suc (low + to)) (λ count. leb low count && (is_at_most high count && has_parts (matches_item item line) count from to)) few.0 few.1
-            (and_true _ _ (le-leb low few.0 few.2) (and_true _ _ (at_most_no high few.0 few.3) ((parts_tell (matches_item item line) (MatchesItem item line) one few.0).no from to few.4)));
+        (and_true _ _ (le-leb low few.0 few.2) (and_true _ _ (at_most_no high few.0 few.3) ((parts_tell (matches_item item line) (MatchesItem item line) one few.0).no from to few.4)));
     forward = λ from to m. parts_forward (MatchesItem item line) one.forward m.0 from to m.3;
   }
 
@@ -145,7 +145,7 @@ contains_tells pattern line = let t = tells pattern line in (
       (from.0, to.0, omega (arith, from.1), omega (arith, to.1), t.yes from.0 to.0 from.2),
   λ c.
       any_there (suc (length line)) (λ to. any_below (suc to) (λ from. matches pattern line from to)) c.1 (omega (arith, c.3))
-          (any_there (suc c.1) (λ from. matches pattern line from c.1) c.0 (omega (arith, c.2)) (t.no c.0 c.1 c.4)),
+      (any_there (suc c.1) (λ from. matches pattern line from c.1) c.0 (omega (arith, c.2)) (t.no c.0 c.1 c.4)),
 )
 
 -- two truth values of one fact are the same

@@ -1,0 +1,4 @@
+pub mod Walks
+pub mod Composed
+pub mod Codes
+pub mod Weights

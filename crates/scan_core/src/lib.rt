@@ -1,0 +1,5 @@
+//! Matching a line against a basic regular expression by sets of positions, and by a table of such sets.
+#![tactic(auto)]
+
+pub mod laws;
+mod node;
