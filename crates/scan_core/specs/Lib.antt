@@ -1,1 +1,3 @@
 pub mod Code
+pub mod Backwards
+pub mod Compiling
