@@ -6,3 +6,6 @@ pub mod Stretches
 pub mod Emitting
 pub mod Finishing
 pub mod Compiled
+pub mod Enterings
+pub mod Spreadings
+pub mod Along

@@ -1,3 +1,5 @@
 pub mod Code
 pub mod Backwards
 pub mod Compiling
+pub mod Sets
+pub mod Counted

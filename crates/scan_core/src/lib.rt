@@ -5,3 +5,5 @@ mod compile;
 mod emit;
 pub mod laws;
 mod node;
+mod reach;
+mod scan;
