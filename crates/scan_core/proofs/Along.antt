@@ -6,7 +6,7 @@ use Rattle.bre_core.specs.Match.{Parts}
 use Rattle.scan_core.specs.declared.node.Node.{Node}
 use Rattle.scan_core.specs.declared.node.Node.TheVariants.{Take, First, Last, Choose, Back}
 use Rattle.scan_core.specs.declared.reach.Reach.{Reach}
-use Rattle.scan_core.specs.declared.scan.Scan.{Scan}
+use Rattle.scan_core.specs.declared.search.Search.{Search}
 use Rattle.std.specs.Prelude.{◌==◌}
 use Rattle.std.proofs.Common.{length-append}
 use Rattle.std.proofs.Math.Nat.{mul-le-mul}
@@ -169,7 +169,7 @@ one_counted code line place steps steps' set a x e = record {
 }
 
 -- the line was searched up to a place, and no match has ended
-pub record Searched (code : List Node) (line : List ℕ) (place : ℕ) (scan : Scan) : Type 0 where
+pub record Searched (code : List Node) (line : List ℕ) (place : ℕ) (scan : Search) : Type 0 where
   pub now : IsReach code scan.now
   pub next : IsSet scan.next
   pub room : length code < length scan.next.marks.items
@@ -177,7 +177,7 @@ pub record Searched (code : List Node) (line : List ℕ) (place : ℕ) (scan : S
   pub none : (before : ℕ) → before < place → Entered code line (length code) before → ⊥
   pub counted : AreSteps code line place scan.steps
 
-pub search_starts : (code : List Node) (line : List ℕ) (old : Reach) (scan : Scan) → IsEmptied code old scan.now → IsSet scan.next → length code < length scan.next.marks.items → scan.steps ≡ 0 → Searched code line 0 scan
+pub search_starts : (code : List Node) (line : List ℕ) (old : Reach) (scan : Search) → IsEmptied code old scan.now → IsSet scan.next → length code < length scan.next.marks.items → scan.steps ≡ 0 → Searched code line 0 scan
 search_starts code line old scan e r t z = record {
   now = e.sound; next = r; room = t;
   came = none_came code line scan.now e.none;
@@ -185,7 +185,7 @@ search_starts code line old scan e r t z = record {
   counted = subst (AreSteps code line 0) (sym z) (none_counted code line);
 }
 
-pub search_more : (code : List Node) (line : List ℕ) (place byte : ℕ) (scan new : Scan) (now empty next : Reach) (found at_first : Bool) → Searched code line place scan → place < length line → byte ≡ slice_index line place → at_first ≡ (place == 0)
+pub search_more : (code : List Node) (line : List ℕ) (place byte : ℕ) (scan new : Search) (now empty next : Reach) (found at_first : Bool) → Searched code line place scan → place < length line → byte ≡ slice_index line place → at_first ≡ (place == 0)
     → Opens code at_first false scan.now now → IsEmptied code scan.next empty → Gains code (PassesFrom now code byte) empty next → found ≡ false → (IsTrue found ↔ Has now (length code)) → new.now ≡ next → new.next ≡ now → new.steps ≡ scan.steps + now.positions → Searched code line (place + 1) new
 search_more code line place byte scan new now empty next found at_first s h e f o m g absent test en ex es = record {
   now = subst (IsReach code) (sym en) g.sound;
@@ -202,10 +202,10 @@ search_more code line place byte scan new now empty next found at_first s h e f 
     here : IsAt code line place now
     here = opens_exact code line place at_first false scan.now now (inner line place at_first h f) s.came o
 
-pub search_found : (code : List Node) (line : List ℕ) (place : ℕ) (scan : Scan) (now : Reach) (at_first at_last : Bool) → Searched code line place scan → IsPlace line place at_first at_last → Opens code at_first at_last scan.now now → Has now (length code) → EndsIn code line
+pub search_found : (code : List Node) (line : List ℕ) (place : ℕ) (scan : Search) (now : Reach) (at_first at_last : Bool) → Searched code line place scan → IsPlace line place at_first at_last → Opens code at_first at_last scan.now now → Has now (length code) → EndsIn code line
 search_found code line place scan now at_first at_last s p o h = (place, p.within, ((opens_exact code line place at_first at_last scan.now now p s.came o).exact (length code)).0 h)
 
-pub search_ends : (code : List Node) (line : List ℕ) (place : ℕ) (scan : Scan) (now : Reach) (at_first at_last found : Bool) → Searched code line place scan → IsPlace line place at_first at_last → place ≡ length line → Opens code at_first at_last scan.now now
+pub search_ends : (code : List Node) (line : List ℕ) (place : ℕ) (scan : Search) (now : Reach) (at_first at_last found : Bool) → Searched code line place scan → IsPlace line place at_first at_last → place ≡ length line → Opens code at_first at_last scan.now now
     → (IsTrue found ↔ Has now (length code)) → IsTrue found ↔ EndsIn code line
 search_ends code line place scan now at_first at_last found s p e o test = (
   λ h. search_found code line place scan now at_first at_last s p o (test.0 h),
@@ -216,7 +216,7 @@ search_ends code line place scan now at_first at_last found s p e o test = (
 )
 
 -- the last place is counted
-pub search_counted : (code : List Node) (line : List ℕ) (place steps : ℕ) (scan : Scan) (now : Reach) (at_first at_last : Bool) → Searched code line place scan → IsPlace line place at_first at_last → place ≡ length line → Opens code at_first at_last scan.now now
+pub search_counted : (code : List Node) (line : List ℕ) (place steps : ℕ) (scan : Search) (now : Reach) (at_first at_last : Bool) → Searched code line place scan → IsPlace line place at_first at_last → place ≡ length line → Opens code at_first at_last scan.now now
     → steps ≡ scan.steps + now.positions → IsStepCount code line steps
 search_counted code line place steps scan now at_first at_last s p e o es =
     subst (λ n. AreSteps code line (n + 1) steps) e

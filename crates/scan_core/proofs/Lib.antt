@@ -9,3 +9,4 @@ pub mod Compiled
 pub mod Enterings
 pub mod Spreadings
 pub mod Along
+pub mod Whole

@@ -5,7 +5,7 @@ ghost use Rattle.std.specs.Prelude.{◌≡◌, ◌<◌, ◌≤◌, ◌+◌, ◌+
 ghost use Rattle.bre_core.specs.Flat.{IsBounded};
 ghost use Rattle.bre_core.specs.declared.fault.BreFault.TheVariants.{Memory};
 ghost use Rattle.bre_core.specs.declared.token.Token.TheVariants.{Repeat};
-ghost use Rattle.scan_core.specs.Code.{code_of};
+ghost use Rattle.scan_core.specs.Code.{code_of, IsOrdered};
 ghost use Rattle.scan_core.specs.Compiling.{Pops, AreBegun, Finishes, Begins, Writes, Passes, Takes, depth_in};
 
 use crate::emit::{Duplication, keep, write_out};
@@ -194,6 +194,7 @@ impl Compiling {
 /// which a pattern has at most two a position.
 pub fn compile(alloc: Global, expression: &Expression) -> Result<Vec<Node>, BreFault>
     ensures ok { IfOk result (λ code. code.items ≡ code_of expression.now) }
+    ensures order { IfOk result (λ _. IsOrdered expression.now) }
     ensures err { IfErr result (λ fault. fault ≡ Memory) }
 {
     let tokens = expression.tokens();

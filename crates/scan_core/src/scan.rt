@@ -1,55 +1,75 @@
-//! Searching a line place by place, with the set of what is entered at each.
+//! Matching lines against a pattern.
 
-ghost use Rattle.std.specs.Prelude.{◌≡◌, ◌↔◌, ◌<◌, ◌≤◌, ◌+◌, ◌*◌, IsTrue, IsFalse, length};
-ghost use Rattle.scan_core.specs.Code.{weight};
-ghost use Rattle.scan_core.specs.Sets.{IsSet, IsCode};
-ghost use Rattle.scan_core.specs.Counted.{EndsIn, IsStepCount};
+ghost use Rattle.std.specs.Prelude.{◌≡◌, ◌≤◌, ◌+◌, ◌*◌, IsFalse, IfOk, IfErr, length};
+ghost use Rattle.bre_core.specs.Pattern.{positions_of};
+ghost use Rattle.bre_core.specs.Search.{contains};
+ghost use Rattle.bre_core.specs.declared.fault.BreFault.TheVariants.{Memory};
+ghost use Rattle.scan_core.specs.Code.{code_of};
+ghost use Rattle.scan_core.specs.Counted.{IsStepCount};
 
-use crate::node::Node;
-use crate::reach::Reach;
-use std::mem;
+use crate::bre::Bre;
+use crate::search::Search;
+use bre_core::BreFault;
+use std::alloc::Global;
+use std::marker::Model;
 
-/// Room for searches.
+/// Room for matching lines against patterns of so many positions.
 #[derive(Drop)]
 pub struct Scan {
-    /// What is entered at the place that the search has come to.
-    now: Reach,
-    /// What the next byte leads to.
-    next: Reach,
-    /// The steps of the last search.
-    steps: u128,
+    /// How many positions there is room for.
+    positions: u64,
+    search: Search,
+}
+
+impl Model for Scan {
+    ghost use Rattle.std.specs.Prelude.{◌*◌};
+    ghost use Rattle.scan_core.specs.ScanState.{ScanState};
+    ghost use Rattle.scan_core.specs.Searching.{IsReady};
+
+    ghost Value = { ScanState };
+
+    ghost view = { λ s. record { positions = s.positions; steps = s.search.steps } };
+
+    ghost invariant = { λ s. IsReady (2 * s.positions) s.search };
 }
 
 impl Scan {
-    /// Whether the code's end is entered at some place of the line. Counts the positions that are entered at each place.
-    fn search(&mut self, nodes: &[Node], line: &[u8]) -> bool
-        requires now { IsSet self.old.now }
-        requires next { IsSet self.old.next }
-        requires room { length nodes.now < length self.old.now.marks.items }
-        requires next_room { length self.old.next.marks.items ≡ length self.old.now.marks.items }
-        requires code { IsCode nodes.now }
-        ensures exact { IsTrue result ↔ EndsIn nodes.now line.now }
-        ensures counted { IsFalse result → IsStepCount nodes.now line.now self.new.steps }
-        ensures bound { self.new.steps ≤ (length line.now + 1) * (weight nodes.now + 1) }
-        ensures now { IsSet self.new.now }
-        ensures next { IsSet self.new.next }
-        ensures now_room { length self.new.now.marks.items ≡ length self.old.now.marks.items }
-        ensures next_room { length self.new.next.marks.items ≡ length self.old.now.marks.items }
+    /// Room for patterns of as many positions as this one. It takes 18 bytes for each number of a node, of which there may
+    /// be two for each position, twice.
+    ///
+    /// Fails with `Memory` alone.
+    pub fn new(alloc: Global, bre: &Bre) -> Result<Scan, BreFault>
+        ensures positions { IfOk result (λ scan. scan.positions ≡ positions_of bre.now) }
+        ensures steps { IfOk result (λ scan. scan.steps ≡ 0) }
+        ensures err { IfErr result (λ fault. fault ≡ Memory) }
     {
-        self.now.clear(nodes);
-        self.steps = 0;
-        for place in 0..line.len() {
-            self.now.open(nodes, place == 0, false);
-            self.steps += self.now.positions() as u128;
-            if self.now.has(nodes.len()) {
-                return true;
-            }
-            self.next.clear(nodes);
-            self.now.pass(nodes, line[place], &mut self.next);
-            mem::swap(&mut self.now, &mut self.next);
-        }
-        self.now.open(nodes, line.is_empty(), true);
-        self.steps += self.now.positions() as u128;
-        self.now.has(nodes.len())
+        let positions = bre.positions();
+        let size = 2 * positions as usize;
+        let search = Search::new(alloc, size)?;
+        Ok(Scan { positions, search })
+    }
+
+    /// Whether some stretch of the line, taken without its newline, matches the pattern (XBD 9.1). The pattern has as many
+    /// positions as the one that the room was made for. It takes no memory.
+    ///
+    /// `steps` tells afterwards how many steps it took: a position that is entered at one place of the line is one step.
+    /// The search begins at every place, enters a position at most once at a place, and ends where the pattern's end is
+    /// entered; where it goes to the end of the line, it enters every position that can be entered at each place.
+    pub fn matches(&mut self, bre: &Bre, line: &[u8]) -> bool
+        requires { self.old.positions ≡ positions_of bre.now }
+        ensures exact { result ≡ contains bre.now line.now }
+        ensures counted { IsFalse result → IsStepCount (code_of bre.now) line.now self.new.steps }
+        ensures bound { self.new.steps ≤ (length line.now + 1) * positions_of bre.now }
+        ensures positions { self.new.positions ≡ self.old.positions }
+    {
+        let code = bre.code();
+        self.search.run(code, line)
+    }
+
+    /// The steps of the last `matches`, 0 before the first.
+    pub fn steps(&self) -> u128
+        ensures { result ≡ self.now.steps }
+    {
+        self.search.steps
     }
 }

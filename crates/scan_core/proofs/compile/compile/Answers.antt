@@ -1,7 +1,8 @@
 use Rattle.std.proofs.Common.{◌≡◌, ◌+◌, ◌-◌, ◌<◌, ◌≤◌, [], reverse, drop, length, refl, sym, ap, ◌∙◌, subst, arith}
+use Rattle.bre_core.specs.Flat.{AreBounded}
 use Rattle.bre_core.specs.Steps.{Steps}
 use Rattle.scan_core.specs.Compiling.{Takes, AreBegun, depth_in}
-use Rattle.scan_core.proofs.Compiled.{compiled, way_starts, way_more, bounded_at}
+use Rattle.scan_core.proofs.Compiled.{compiled, ordered, way_starts, way_more, bounded_at}
 use Rattle.scan_core.proofs.compile.compile.Goals as goal
 
 pub loop-place-init : goal.loop-place-init
@@ -30,3 +31,6 @@ returns-clause-ok c =
     let front : c.loop-place.place ≡ 0 = omega (arith, c.loop-place-test.false) in
     c.reverse.ensures.items ∙ compiled c.args.expression.now c.tokens-tokens.result.now w.0 c.loop-place.compiling c.tokens-tokens.ensures.written c.tokens-tokens.ensures.order w.1
         (subst (λ n. Steps Takes w.0 (reverse (drop n c.tokens-tokens.result.now)) c.loop-place.compiling) front w.2)
+
+pub returns-clause-order : goal.returns-clause-order
+returns-clause-order c = ordered c.args.expression.now (subst AreBounded c.tokens-tokens.ensures.written c.tokens-tokens.ensures.order)

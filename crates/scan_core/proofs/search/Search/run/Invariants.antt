@@ -1,7 +1,7 @@
 use Rattle.std.proofs.Common.{◌≡◌, ◌≤◌, ◌+◌, ◌*◌, length}
 use Rattle.scan_core.specs.Code.{weight}
 use Rattle.scan_core.proofs.Along.{Searched}
-use Rattle.scan_core.proofs.scan.Scan.search.Given as goal
+use Rattle.scan_core.proofs.search.Search.run.Given as goal
 
 abbrev pub invariant-loop-place : goal.invariant-loop-place
 invariant-loop-place l = record {
