@@ -93,7 +93,7 @@ closes_exact code line place at_first at_last Old Now p came o number = (λ h. t
     arrive zero at from number l w e h = subst Now w.0 (h w.1)
     arrive (suc count) at from number l w e h =
         arrive count w.0 w.1 number (walk_forward code line count w.0 w.1 number place w.3) w.3 (entered_on code line at from w.0 w.1 e w.2)
-            (λ q. step at from w.0 w.1 l e h w.2 q (simple (leads_place w.2.0 line at from w.0 w.1 w.2.2)))
+        (λ q. step at from w.0 w.1 l e h w.2 q (simple (leads_place w.2.0 line at from w.0 w.1 w.2.2)))
       where
         simple : (w.1 ≡ from) ⊎ ((w.1 ≡ from + 1) × (bytes : List Bool) × (w.2.0 ≡ Take bytes) × (from < length line) × IsTrue (has bytes (slice_index line from)) × (w.0 ≡ at + 1))
             → (w.1 ≡ from) ⊎ ((w.1 ≡ from + 1) × (bytes : List Bool) × (Node_is : Unit {0}) × (from < length line) × (w.0 ≡ at + 1))
@@ -179,7 +179,9 @@ pub record Searched (code : List Node) (line : List ℕ) (place : ℕ) (scan : S
 
 pub search_starts : (code : List Node) (line : List ℕ) (old : Reach) (scan : Search) → IsEmptied code old scan.now → IsSet scan.next → length code < length scan.next.marks.items → scan.steps ≡ 0 → Searched code line 0 scan
 search_starts code line old scan e r t z = record {
-  now = e.sound; next = r; room = t;
+  now = e.sound;
+  next = r;
+  room = t;
   came = none_came code line scan.now e.none;
   none = λ before h. absurd (omega (arith, h));
   counted = subst (AreSteps code line 0) (sym z) (none_counted code line);
@@ -220,7 +222,7 @@ pub search_counted : (code : List Node) (line : List ℕ) (place steps : ℕ) (s
     → steps ≡ scan.steps + now.positions → IsStepCount code line steps
 search_counted code line place steps scan now at_first at_last s p e o es =
     subst (λ n. AreSteps code line (n + 1) steps) e
-        (one_counted code line place scan.steps steps now.marks.items s.counted (opens_exact code line place at_first at_last scan.now now p s.came o).exact (es ∙ ap (λ q. scan.steps + q) o.sound.weighed))
+    (one_counted code line place scan.steps steps now.marks.items s.counted (opens_exact code line place at_first at_last scan.now now p s.came o).exact (es ∙ ap (λ q. scan.steps + q) o.sound.weighed))
 
 pub final : (line : List ℕ) (place : ℕ) (at_first : Bool) → place ≡ length line → at_first ≡ (length line == 0) → IsPlace line place at_first true
 final line place at_first h f = record {

@@ -25,8 +25,8 @@ exact_up_to code line Kind e zero = exact_by [] line (λ from to. from ≡ to) (
     none (suc count) from to h p = absurd (omega (arith, h))
 exact_up_to code line Kind e (suc most) =
     exact_by (up_to (suc most) code) line (λ from to. (from ≡ to) ⊎ ((middle : ℕ) × Kind from middle × AtMost Kind most middle to)) (AtMost Kind (suc most))
-        (exact_maybe (code ++ up_to most code) line (λ from to. (middle : ℕ) × Kind from middle × AtMost Kind most middle to) (exact_both code (up_to most code) line Kind (AtMost Kind most) e (exact_up_to code line Kind e most)))
-        there (λ from to k. here k.0 from to k.1 k.2)
+    (exact_maybe (code ++ up_to most code) line (λ from to. (middle : ℕ) × Kind from middle × AtMost Kind most middle to) (exact_both code (up_to most code) line Kind (AtMost Kind most) e (exact_up_to code line Kind e most)))
+    there (λ from to k. here k.0 from to k.1 k.2)
   where
     there : (from to : ℕ) → (from ≡ to) ⊎ ((middle : ℕ) × Kind from middle × AtMost Kind most middle to) → AtMost Kind (suc most) from to
     there from to (inl q) = (0, omega arith, q)
@@ -60,20 +60,20 @@ Between Kind low high from to = (count : ℕ) × (low ≤ count) × IsAtMost hig
 exact_repeated : (code : List Node) (line : List ℕ) (Kind : ℕ → ℕ → Type 0) (low : ℕ) (high : Option ℕ) → Exact code line Kind → IsAtMost high low → Exact (copies low code ++ tail_of code low high) line (Between Kind low high)
 exact_repeated code line Kind low None e b =
     exact_by (copies low code ++ starred code) line (λ from to. (middle : ℕ) × Parts Kind low from middle × Often Kind middle to) (Between Kind low None)
-        (exact_both (copies low code) (starred code) line (Parts Kind low) (Often Kind) (exact_copies code line Kind e low) (exact_starred code line Kind e))
-        (λ from to k. let often : Often Kind k.0 to = k.2 in (low + often.0, omega arith, tt, parts_join Kind low often.0 from k.0 to k.1 often.1))
-        (λ from to k.
-            let q : k.0 ≡ low + (k.0 - low) = omega (arith, k.1) in
-            let split = parts_split Kind low (k.0 - low) from to (subst (λ c. Parts Kind c from to) q k.3) in
-            (split.0, split.1, (k.0 - low, split.2)))
+    (exact_both (copies low code) (starred code) line (Parts Kind low) (Often Kind) (exact_copies code line Kind e low) (exact_starred code line Kind e))
+    (λ from to k. let often : Often Kind k.0 to = k.2 in (low + often.0, omega arith, tt, parts_join Kind low often.0 from k.0 to k.1 often.1))
+    (λ from to k.
+    let q : k.0 ≡ low + (k.0 - low) = omega (arith, k.1) in
+    let split = parts_split Kind low (k.0 - low) from to (subst (λ c. Parts Kind c from to) q k.3) in
+    (split.0, split.1, (k.0 - low, split.2)))
 exact_repeated code line Kind low (Some high) e b =
     exact_by (copies low code ++ up_to (high - low) code) line (λ from to. (middle : ℕ) × Parts Kind low from middle × AtMost Kind (high - low) middle to) (Between Kind low (Some high))
-        (exact_both (copies low code) (up_to (high - low) code) line (Parts Kind low) (AtMost Kind (high - low)) (exact_copies code line Kind e low) (exact_up_to code line Kind e (high - low)))
-        (λ from to k. let most : AtMost Kind (high - low) k.0 to = k.2 in (low + most.0, omega arith, omega (arith, most.1, b), parts_join Kind low most.0 from k.0 to k.1 most.2))
-        (λ from to k.
-            let q : k.0 ≡ low + (k.0 - low) = omega (arith, k.1) in
-            let split = parts_split Kind low (k.0 - low) from to (subst (λ c. Parts Kind c from to) q k.3) in
-            (split.0, split.1, (k.0 - low, omega (arith, k.2), split.2)))
+    (exact_both (copies low code) (up_to (high - low) code) line (Parts Kind low) (AtMost Kind (high - low)) (exact_copies code line Kind e low) (exact_up_to code line Kind e (high - low)))
+    (λ from to k. let most : AtMost Kind (high - low) k.0 to = k.2 in (low + most.0, omega arith, omega (arith, most.1, b), parts_join Kind low most.0 from k.0 to k.1 most.2))
+    (λ from to k.
+    let q : k.0 ≡ low + (k.0 - low) = omega (arith, k.1) in
+    let split = parts_split Kind low (k.0 - low) from to (subst (λ c. Parts Kind c from to) q k.3) in
+    (split.0, split.1, (k.0 - low, omega (arith, k.2), split.2)))
 
 mutual
   pub code_exact : (pattern : Pattern) (line : List ℕ) → IsOrdered pattern → Exact (code_of pattern) line (Matches pattern line)

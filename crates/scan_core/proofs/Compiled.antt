@@ -113,13 +113,16 @@ mutual
       let one = write_item item (backwards pattern ++ tokens) old final o.1 e (subst (λ l. Steps Takes old l final) (append_assoc (backwards_item item) (backwards pattern) tokens) s) in
       let now = finished_base (old.nodes.items ++ reverse (code_of_item item)) old.pending.items one.0 b one.1 in
       let other = write_pattern pattern tokens one.0 final o.0 now.passing (subst Base (sym now.pending) b) one.2 in
-      let new : IsNow (one.0.nodes.items ++ reverse (code_of pattern)) one.0.pending.items None other.0 = other.1 in
-      (other.0, record {
-        nodes = new.nodes ∙ ap (λ l. l ++ reverse (code_of pattern)) now.nodes ∙ append_assoc old.nodes.items (reverse (code_of_item item)) (reverse (code_of pattern))
-            ∙ ap (λ l. old.nodes.items ++ l) (sym (reverse-append (code_of pattern) (code_of_item item)));
-        pending = new.pending ∙ now.pending;
-        passing = new.passing;
-      }, other.2)
+      let new : IsNow (one.0.nodes.items ++ reverse (code_of pattern)) one.0.pending.items None other.0 = other.1 in (
+        other.0,
+        record {
+          nodes = new.nodes ∙ ap (λ l. l ++ reverse (code_of pattern)) now.nodes ∙ append_assoc old.nodes.items (reverse (code_of_item item)) (reverse (code_of pattern))
+              ∙ ap (λ l. old.nodes.items ++ l) (sym (reverse-append (code_of pattern) (code_of_item item)));
+          pending = new.pending ∙ now.pending;
+          passing = new.passing;
+        },
+        other.2,
+      )
 
   write_item : (item : Item) (tokens : List Token) (old final : Compiling) → IsOrderedItem item → old.passing ≡ None → Steps Takes old (backwards_item item ++ tokens) final
       → (new : Compiling) × Finishes (old.nodes.items ++ reverse (code_of_item item)) old.pending.items new × Steps Takes new tokens final
@@ -135,10 +138,13 @@ mutual
   write_item (repeat item low None) tokens old final o e s =
       let begins : Begins low None old s.0 = takes_writing old s.0 (Repeat low None) e s.1 in
       let inner = write_item item tokens s.0 final o.0 begins.passing s.2 in
-      let out = finished_repeated (s.0.nodes.items ++ reverse (code_of_item item)) s.0.pending.items old.pending.items (record { start = length old.nodes.items; low = low; high = None }) inner.0 inner.1 begins.pending in
-      (inner.0, subst (λ l. Finishes l old.pending.items inner.0)
-          (repeated_out old.nodes.items (s.0.nodes.items ++ reverse (code_of_item item)) out.0 (code_of_item item) (record { start = length old.nodes.items; low = low; high = None }) refl
-              (ap (λ l. l ++ reverse (code_of_item item)) begins.nodes ∙ append_assoc old.nodes.items (Back 0 ∷ []) (reverse (code_of_item item))) out.1) out.2, inner.2)
+      let out = finished_repeated (s.0.nodes.items ++ reverse (code_of_item item)) s.0.pending.items old.pending.items (record { start = length old.nodes.items; low = low; high = None }) inner.0 inner.1 begins.pending in (
+        inner.0,
+        subst (λ l. Finishes l old.pending.items inner.0)
+            (repeated_out old.nodes.items (s.0.nodes.items ++ reverse (code_of_item item)) out.0 (code_of_item item) (record { start = length old.nodes.items; low = low; high = None }) refl
+            (ap (λ l. l ++ reverse (code_of_item item)) begins.nodes ∙ append_assoc old.nodes.items (Back 0 ∷ []) (reverse (code_of_item item))) out.1) out.2,
+        inner.2,
+      )
   write_item (repeat item low (Some zero)) tokens old final o e s =
       let begins : Begins low (Some zero) old s.0 = takes_writing old s.0 (Repeat low (Some zero)) e s.1 in
       let inner = pass_item item tokens 0 s.0 final begins.passing s.2 in
@@ -146,10 +152,13 @@ mutual
   write_item (repeat item low (Some (suc high))) tokens old final o e s =
       let begins : Begins low (Some (suc high)) old s.0 = takes_writing old s.0 (Repeat low (Some (suc high))) e s.1 in
       let inner = write_item item tokens s.0 final o.0 begins.passing s.2 in
-      let out = finished_repeated (s.0.nodes.items ++ reverse (code_of_item item)) s.0.pending.items old.pending.items (record { start = length old.nodes.items; low = low; high = Some (suc high) }) inner.0 inner.1 begins.pending in
-      (inner.0, subst (λ l. Finishes l old.pending.items inner.0)
-          (repeated_out old.nodes.items (s.0.nodes.items ++ reverse (code_of_item item)) out.0 (code_of_item item) (record { start = length old.nodes.items; low = low; high = Some (suc high) }) refl
-              (ap (λ l. l ++ reverse (code_of_item item)) begins.nodes) out.1) out.2, inner.2)
+      let out = finished_repeated (s.0.nodes.items ++ reverse (code_of_item item)) s.0.pending.items old.pending.items (record { start = length old.nodes.items; low = low; high = Some (suc high) }) inner.0 inner.1 begins.pending in (
+        inner.0,
+        subst (λ l. Finishes l old.pending.items inner.0)
+            (repeated_out old.nodes.items (s.0.nodes.items ++ reverse (code_of_item item)) out.0 (code_of_item item) (record { start = length old.nodes.items; low = low; high = Some (suc high) }) refl
+            (ap (λ l. l ++ reverse (code_of_item item)) begins.nodes) out.1) out.2,
+        inner.2,
+      )
 
 -- the bounds of a tree's duplications are in order where those of its tokens are
 bounded_parts : (one other : List Token) → AreBounded (one ++ other) → AreBounded one × AreBounded other

@@ -76,7 +76,7 @@ exact_both a b line Kind Other e f = record {
         let e1 : length a + length b ≡ length (a ++ b) = sym (length-append a b) in
         let e2 : length a + 0 ≡ length a = omega arith in
         let second : Walks (a ++ b) line q.0 (length a) middle (length (a ++ b)) to =
-            subst (λ n. Walks (a ++ b) line q.0 n middle (length (a ++ b)) to) e2 (subst (λ n. Walks (a ++ b) line q.0 (length a + 0) middle n to) e1 (walk-right a b line q.0 0 middle (length b) to q.1)) in
+        subst (λ n. Walks (a ++ b) line q.0 n middle (length (a ++ b)) to) e2 (subst (λ n. Walks (a ++ b) line q.0 (length a + 0) middle n to) e1 (walk-right a b line q.0 0 middle (length b) to q.1)) in
         walk_on (a ++ b) line p.0 q.0 0 from (length a) middle (length (a ++ b)) to (walk-left a b line p.0 0 from (length a) middle p.1) second
 
 -- a code that may be passed by
@@ -227,6 +227,7 @@ exact_starred code line Kind e = record {
         by_of First = 0
         by_of Last = 0
         by_of (Choose skip) = 0
+
         there : (At code n (Back by)) ⊎ ((j : ℕ) × (n ≡ length code + j) × At (Back (length code + 1) ∷ []) j (Back by)) → by ≤ suc n
         there (inl here) = let m = e.fits.begins n by here in omega (arith, m)
         there (inr (zero, far, last)) = let b : by ≡ length code + 1 = cc in omega (arith, b, far)
@@ -238,12 +239,12 @@ exact_starred code line Kind e = record {
         let inside = walk-left code (Back (length code + 1) ∷ []) line p.0 0 from (length code) to p.1 in
         let shifted = walk-right (Choose (length code + 2) ∷ []) (code ++ Back (length code + 1) ∷ []) line p.0 0 from (length code) to inside in
         let last : At (starred code) (1 + length code) (Back (length code + 1)) =
-            at-right (Choose (length code + 2) ∷ []) (code ++ Back (length code + 1) ∷ []) (length code) (Back (length code + 1))
-                (at_at (code ++ Back (length code + 1) ∷ []) (length code + 0) (length code) (Back (length code + 1)) (omega arith) (at-right code (Back (length code + 1) ∷ []) 0 (Back (length code + 1)) refl)) in
+        at-right (Choose (length code + 2) ∷ []) (code ++ Back (length code + 1) ∷ []) (length code) (Back (length code + 1))
+        (at_at (code ++ Back (length code + 1) ∷ []) (length code + 0) (length code) (Back (length code + 1)) (omega arith) (at-right code (Back (length code + 1) ∷ []) 0 (Back (length code + 1)) refl)) in
         let home : Path (starred code) line (1 + length code) to 0 to = (1, (0, to, (Back (length code + 1), last, (omega arith, refl)), (refl, refl))) in
         path_on (starred code) line 0 from (1 + 0) from 0 to
-            (1, (1 + 0, from, (Choose (length code + 2), refl, (inl refl, refl)), (refl, refl)))
-            (path_on (starred code) line (1 + 0) from (1 + length code) to 0 to (p.0, shifted) home)
+        (1, (1 + 0, from, (Choose (length code + 2), refl, (inl refl, refl)), (refl, refl)))
+        (path_on (starred code) line (1 + 0) from (1 + length code) to 0 to (p.0, shifted) home)
 
     loops : (count from to : ℕ) → Parts Kind count from to → Path (starred code) line 0 from 0 to
     loops zero from to q = (0, (refl, q))
@@ -252,7 +253,7 @@ exact_starred code line Kind e = record {
     complete : (count from to : ℕ) → Parts Kind count from to → Path (starred code) line 0 from (length (starred code)) to
     complete count from to q =
         path_on (starred code) line 0 from 0 to (length (starred code)) to (loops count from to q)
-            (1, (length (starred code), to, (Choose (length code + 2), refl, (inr (sym size ∙ out), refl)), (refl, refl)))
+        (1, (length (starred code), to, (Choose (length code + 2), refl, (inr (sym size ∙ out), refl)), (refl, refl)))
       where
         out : length code + 2 ≡ 0 + (length code + 2)
         out = omega arith

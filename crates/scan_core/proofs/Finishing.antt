@@ -83,10 +83,13 @@ pub finished_repeated : (nodes : List Node) (pending around : List Pending) (d :
     → (written : List Node) × Repeats d nodes written × Finishes written around new
 finished_repeated nodes pending around d new f e =
     let s = stack_of around in
-    let first = f (Repeated d ∷ s.0) (e ∙ ap (λ l. l ++ Repeated d ∷ []) s.1 ∙ sym (stack_push (Repeated d) s.0)) in
-    (first.0, first.1, λ stack q.
-        let same : s.0 ≡ stack = sym (reverse-reverse s.0) ∙ ap reverse (sym s.1 ∙ q) ∙ reverse-reverse stack in
-        subst (λ t. FinishesBy t first.0 new) same first.2)
+    let first = f (Repeated d ∷ s.0) (e ∙ ap (λ l. l ++ Repeated d ∷ []) s.1 ∙ sym (stack_push (Repeated d) s.0)) in (
+      first.0,
+      first.1,
+      λ stack q.
+          let same : s.0 ≡ stack = sym (reverse-reverse s.0) ∙ ap reverse (sym s.1 ∙ q) ∙ reverse-reverse stack in
+          subst (λ t. FinishesBy t first.0 new) same first.2,
+    )
 
 -- a node more
 pub begun_node : (nodes new : List Node) (node : Node) (pending : List Pending) → new ≡ nodes ++ node ∷ [] → AreBegun (length nodes) pending → AreBegun (length new) pending

@@ -10,3 +10,5 @@ pub mod Enterings
 pub mod Spreadings
 pub mod Along
 pub mod Whole
+pub mod Inners
+pub mod Tables

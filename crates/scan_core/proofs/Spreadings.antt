@@ -6,7 +6,7 @@ use Rattle.scan_core.specs.declared.node.Node.{Node}
 use Rattle.scan_core.specs.declared.reach.Reach.{Reach}
 use Rattle.std.proofs.lemmas.List.{get_or-set_same, get_or-set_other, length-set}
 use Rattle.scan_core.proofs.Enterings.{gain_nothing, gain_by, gain_both, marks_within}
-use Rattle.scan_core.specs.Sets.{IsMarked, IsSet, positions_among, at_place, marked, IsReach, Has, Gains, Flows, FlowsOn, Spreads, Opens, Passes, PassesFrom, IsEmptied}
+use Rattle.scan_core.specs.Sets.{IsMarked, IsSet, positions_among, at_place, marked, IsReach, Has, Gains, Flows, FlowsOn, Spreads, Opens, Passes, PassesFrom, IsEmptied, Advances, Loaded}
 
 -- the first entered ones were gone over
 pub record Spreading (code : List Node) (at_first at_last : Bool) (old now : Reach) (done : ℕ) : Type 0 where
@@ -137,11 +137,15 @@ empty_more old now new done number r s h e em el ec = record {
     left n k = elim (cases_eq n number) [
       | inl same ↦ absurd (false≢true (sym (ap (λ l. get_or l n false) em ∙ ap (λ m. get_or (set now.marks.items number false) m false) same ∙ get_or-set_same now.marks.items number false false inside) ∙ k))
       | inr other ↦
-          let was = s.left n (sym (get_or-set_other now.marks.items number n false false other) ∙ sym (ap (λ l. get_or l n false) em) ∙ k) in
-          (was.0, elim (cases_eq was.0 done) [
-            | inl here ↦ absurd (other (sym was.3 ∙ ap (λ p. at_place old.list.items p) here ∙ sym e))
-            | inr there ↦ omega (arith, was.1, there)
-          ], was.2, was.3)
+          let was = s.left n (sym (get_or-set_other now.marks.items number n false false other) ∙ sym (ap (λ l. get_or l n false) em) ∙ k) in (
+            was.0,
+            elim (cases_eq was.0 done) [
+              | inl here ↦ absurd (other (sym was.3 ∙ ap (λ p. at_place old.list.items p) here ∙ sym e))
+              | inr there ↦ omega (arith, was.1, there)
+            ],
+            was.2,
+            was.3,
+          )
     ]
 
 pub none_marked : (marks : List Bool) → ((n : ℕ) → IsMarked marks n → ⊥) → marked marks ≡ 0
@@ -171,6 +175,67 @@ empty_ends code old now new done r wide s h em el ec ep = record {
   where
     none : (n : ℕ) → Has new n → ⊥
     none n g = let was = s.left n (sym (ap (λ l. get_or l n false) em) ∙ g) in omega (arith, was.1, was.2, h)
+
+pub advanced : (code : List Node) (byte : ℕ) (now old empty middle new : Reach) → IsEmptied code old empty → Gains code (PassesFrom now code byte) empty middle → Opens code false false middle new → Advances code byte now old new
+advanced code byte now old empty middle new e g o = record {
+  sound = o.sound;
+  size = o.size ∙ g.size ∙ e.size;
+  exact = λ number. (
+    λ h. let f = (o.exact number).0 h in (f.0, less f.0 f.1, f.2),
+    λ f. (o.exact number).1 (f.0, more f.0 f.1, f.2),
+  );
+}
+  where
+    less : (from : ℕ) → Has middle from ⊎ (from ≡ 0) → PassesFrom now code byte from ⊎ (from ≡ 0)
+    less from (inr z) = inr z
+    less from (inl h) = side ((g.exact from).0 h)
+      where
+        side : Has empty from ⊎ PassesFrom now code byte from → PassesFrom now code byte from ⊎ (from ≡ 0)
+        side (inl k) = absurd (e.none from k)
+        side (inr k) = inl k
+
+    more : (from : ℕ) → PassesFrom now code byte from ⊎ (from ≡ 0) → Has middle from ⊎ (from ≡ 0)
+    more from (inl p) = inl ((g.exact from).1 (inr p))
+    more from (inr z) = inr z
+
+-- the first flags were entered
+pub record Loading (code : List Node) (flags : List Bool) (old : Reach) (done : ℕ) (now : Reach) : Type 0 where
+  pub sound : IsReach code now
+  pub size : length now.marks.items ≡ length old.marks.items
+  pub there : (number : ℕ) → Has now number → IsMarked flags number
+  pub here : (number : ℕ) → number < done → IsMarked flags number → Has now number
+
+pub load_starts : {code : List Node} (flags : List Bool) (old now : Reach) → IsEmptied code old now → Loading code flags old 0 now
+load_starts flags old now e = record { sound = e.sound; size = e.size; there = λ n h. absurd (e.none n h); here = λ n l. absurd (omega (arith, l)) }
+
+pub load_more : {code : List Node} (flags : List Bool) (old now new : Reach) (done : ℕ) → Loading code flags old done now → IsMarked flags done → Gains code (λ n. n ≡ done) now new → Loading code flags old (done + 1) new
+load_more flags old now new done l m g = record {
+  sound = g.sound;
+  size = g.size ∙ l.size;
+  there = λ n h. side n ((g.exact n).0 h);
+  here = λ n b f. elim (cases_eq n done) [
+    | inl same ↦ (g.exact n).1 (inr same)
+    | inr other ↦ (g.exact n).1 (inl (l.here n (omega (arith, b, other)) f))
+  ];
+}
+  where
+    side : (n : ℕ) → Has now n ⊎ (n ≡ done) → IsMarked flags n
+    side n (inl h) = l.there n h
+    side n (inr e) = subst (IsMarked flags) (sym e) m
+
+pub load_skip : {code : List Node} (flags : List Bool) (old now : Reach) (done : ℕ) → Loading code flags old done now → get_or flags done false ≡ false → Loading code flags old (done + 1) now
+load_skip flags old now done l e = record {
+  sound = l.sound;
+  size = l.size;
+  there = l.there;
+  here = λ n b f. elim (cases_eq n done) [
+    | inl same ↦ absurd (false≢true (sym e ∙ subst (IsMarked flags) same f))
+    | inr other ↦ l.here n (omega (arith, b, other)) f
+  ];
+}
+
+pub load_ends : {code : List Node} (flags : List Bool) (old now : Reach) (done : ℕ) → Loading code flags old done now → length flags ≤ done → Loaded code flags old now
+load_ends flags old now done l h = record { sound = l.sound; size = l.size; exact = λ n. (l.there n, λ f. let m = marks_within flags n f in l.here n (omega (arith, m, h)) f) }
 
 none_of : (size number : ℕ) → IsMarked (replicate size false) number → ⊥
 none_of zero number h = false≢true h

@@ -68,7 +68,6 @@ walk_on code line (suc first) second at place at' place' to stop v w =
 pub path_on : (code : List Node) (line : List ℕ) (at place at' place' to stop : ℕ) → Path code line at place at' place' → Path code line at' place' to stop → Path code line at place to stop
 path_on code line at place at' place' to stop p q = walk_on code line p.0 q.0 at place at' place' to stop p.1 q.1
 
-
 -- no node leads beyond the code's end or before its front
 pub record Fits (code : List Node) (line : List ℕ) : Type 0 where
   pub ends : (n place n' place' : ℕ) → Goes code line n place n' place' → n' ≤ length code

@@ -80,7 +80,6 @@ up_to_length (suc n) code h =
     let b = up_to_length n code h in
     omega (arith, a, b, l, h)
 
-
 tail_length : (code : List Node) (low : ℕ) (high : Option ℕ) → length code ≤ 2 * weight code → length (tail_of code low high) ≤ 2 * weight (tail_of code low high)
 tail_length code low None h =
     let a = weight-append code (Back (length code + 1) ∷ []) in

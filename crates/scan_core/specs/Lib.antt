@@ -5,3 +5,5 @@ pub mod Sets
 pub mod Counted
 pub mod ScanState
 pub mod Searching
+pub mod Table
+pub mod Built

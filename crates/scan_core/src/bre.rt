@@ -1,14 +1,18 @@
 //! Patterns that are ready for matching.
 
-ghost use Rattle.std.specs.Prelude.{◌≡◌, ◌≤◌, IfOk, IfErr, IsErrOf};
+ghost use Rattle.std.specs.Prelude.{◌≡◌, ◌<◌, ◌≤◌, IfOk, IfErr, IfSome, IsErrOf, length};
 ghost use Rattle.bre_core.specs.Pattern.{Pattern, Reads, positions_of, depth_of};
 ghost use Rattle.bre_core.specs.Refusal.{IsOfText, IsTooLarge};
 ghost use Rattle.bre_core.specs.Search.{contains};
 ghost use Rattle.bre_core.specs.declared.fault.BreFault.TheVariants.{Memory, TooLarge};
 ghost use Rattle.scan_core.specs.Code.{code_of, IsOrdered};
+ghost use Rattle.scan_core.specs.Table.{IsOutcome};
 
+use crate::build::build;
 use crate::compile::compile;
 use crate::node::Node;
+use crate::table::Table;
+use crate::walk::{Outcome, walk};
 use bre_core::{BreFault, Expression};
 use std::alloc::Global;
 use std::marker::Model;
@@ -18,13 +22,15 @@ use std::marker::Model;
 pub struct Bre {
     expression: Expression,
     code: Vec<Node>,
+    table: Option<Table>,
 }
 
 impl Model for Bre {
-    ghost use Rattle.std.specs.Prelude.{◌≡◌, ◌≤◌};
+    ghost use Rattle.std.specs.Prelude.{◌≡◌, ◌≤◌, IfSome};
     ghost use Rattle.bre_core.specs.Code.{pattern_code};
     ghost use Rattle.bre_core.specs.Pattern.{Pattern, positions_of};
     ghost use Rattle.scan_core.specs.Code.{code_of, IsOrdered};
+    ghost use Rattle.scan_core.specs.Table.{IsTable};
 
     ghost Value = { Pattern };
 
@@ -32,7 +38,8 @@ impl Model for Bre {
 
     ghost view = { λ b. b.expression };
 
-    ghost invariant = { λ b. (b.code.items ≡ code_of b.expression) × IsOrdered b.expression × (positions_of b.expression ≤ 65535) };
+    ghost invariant = { λ b. (b.code.items ≡ code_of b.expression) × IsOrdered b.expression × (positions_of b.expression ≤ 65535)
+        × IfSome b.table (IsTable b.code.items) };
 }
 
 impl Bre {
@@ -43,8 +50,9 @@ impl Bre {
     /// with its place. Fails with `TooLarge` where a 256th group would be open at once, or where the whole text reads and
     /// has more than 65,535 positions, and with `Memory` where a growth is refused.
     ///
-    /// A pattern keeps one entry for each of its tokens, of which it has no more than the text has bytes, and at most two
-    /// nodes of 40 bytes for each of its positions.
+    /// A pattern keeps one entry for each of its tokens, of which it has no more than the text has bytes, at most two nodes
+    /// of 40 bytes for each of its positions, and where it has at most 512 nodes a table of up to 4,096 sets with 544 bytes
+    /// for each.
     pub fn read(alloc: Global, text: &[u8]) -> Result<Bre, BreFault>
         ensures reads { IfOk result (Reads text.now) }
         ensures groups { IfOk result (λ bre. depth_of bre ≤ 255) }
@@ -55,7 +63,12 @@ impl Bre {
     {
         let expression = Expression::read(alloc, text)?;
         let code = compile(alloc, &expression)?;
-        Ok(Bre { expression, code })
+        let table = build(alloc, &code)?;
+        Ok(Bre {
+            expression,
+            code,
+            table,
+        })
     }
 
     /// How many positions the pattern has, 1 to 65,535: one for each set of bytes and each anchor, written out as often as
@@ -72,6 +85,20 @@ impl Bre {
         ensures { result.now ≡ self.now }
     {
         &self.expression
+    }
+
+    /// What a walk along a line that isn't empty tells, where the pattern's table has room for each set that it comes to.
+    pub(crate) fn walk(&self, line: &[u8]) -> Option<Outcome>
+        requires { 0 < length line.now }
+        ensures outcome { IfSome result (IsOutcome (code_of self.now) line.now) }
+        ensures order { IsOrdered self.now }
+    {
+        // A proof learns from a use of the fields that the pattern's bounds are in order.
+        let code = &self.code;
+        match &self.table {
+            Some(table) => walk(table, code, line),
+            None => None,
+        }
     }
 
     /// The pattern's code.

@@ -7,6 +7,7 @@
 #![tactic(auto)]
 
 mod bre;
+mod build;
 mod compile;
 mod emit;
 pub mod laws;
@@ -14,6 +15,8 @@ mod node;
 mod reach;
 mod scan;
 mod search;
+mod table;
+mod walk;
 
 pub use bre::{Bre, matches_plain};
 pub use bre_core::BreFault;

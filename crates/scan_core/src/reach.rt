@@ -2,7 +2,7 @@
 
 ghost use Rattle.std.specs.Prelude.{◌≡◌, ◌↔◌, ◌<◌, ◌≤◌, ◌+◌, ℕ, IsTrue, IfOk, IfErr, length};
 ghost use Rattle.bre_core.specs.declared.fault.BreFault.TheVariants.{Memory};
-ghost use Rattle.scan_core.specs.Sets.{IsSet, IsReach, IsCode, Gains, Spreads, Has, Flows, Passes, PassesFrom, Opens, IsEmptied, weight_at};
+ghost use Rattle.scan_core.specs.Sets.{IsSet, IsReach, IsCode, Gains, Spreads, Has, Flows, Passes, PassesFrom, Opens, IsEmptied, Advances, Loaded, weight_at};
 
 use crate::node::Node;
 use bre_core::BreFault;
@@ -138,6 +138,39 @@ impl Reach {
         }
         self.count = 0;
         self.positions = 0;
+    }
+
+    /// Makes of another set what a byte, and then none, leads to from this one, the search having begun once more.
+    pub fn advance(&self, nodes: &[Node], byte: u8, next: &mut Reach)
+        requires sound { IsReach nodes.now self.now }
+        requires other { IsReach nodes.now next.old }
+        requires code { IsCode nodes.now }
+        ensures { Advances nodes.now byte self.now next.old next.new }
+    {
+        next.clear(nodes);
+        self.pass(nodes, byte, next);
+        next.open(nodes, false, false);
+    }
+
+    /// Makes this the set of these flags.
+    pub fn load(&mut self, nodes: &[Node], flags: &[bool])
+        requires sound { IsReach nodes.now self.old }
+        requires size { length flags.now ≡ length nodes.now + 1 }
+        ensures { Loaded nodes.now flags.now self.old self.new }
+    {
+        self.clear(nodes);
+        for i in 0..flags.len() {
+            if flags[i] {
+                self.enter(nodes, i);
+            }
+        }
+    }
+
+    /// The set as flags.
+    pub fn marks(&self) -> &[bool]
+        ensures { result.now ≡ self.now.marks.items }
+    {
+        &self.marks
     }
 
     /// How many of the numbers are positions.

@@ -62,6 +62,12 @@ impl Scan {
         ensures bound { self.new.steps ≤ (length line.now + 1) * positions_of bre.now }
         ensures positions { self.new.positions ≡ self.old.positions }
     {
+        if !line.is_empty() {
+            if let Some(outcome) = bre.walk(line) {
+                self.search.steps = outcome.steps;
+                return outcome.found;
+            }
+        }
         let code = bre.code();
         self.search.run(code, line)
     }

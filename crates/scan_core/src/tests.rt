@@ -90,7 +90,10 @@ fn nested_groups(rt: HostRuntime) {
 fn stars_within_stars(rt: HostRuntime) {
     let alloc = rt.alloc();
     let line = repeated(&rt, alloc, b"", b"a", 1000, b"");
-    assert_eq!(rt; search(&rt, alloc, b"\\(\\(a*\\)*\\)*b", &line), (false, 5005));
+    assert_eq!(rt;
+        search(&rt, alloc, b"\\(\\(a*\\)*\\)*b", &line),
+        (false, 5005)
+    );
 }
 
 #[test]
@@ -113,7 +116,14 @@ fn matches_short(rt: &impl Abort, alloc: Global, bre: &Bre) -> bool {
 #[test]
 fn a_group_that_stands_no_time(rt: HostRuntime) {
     let alloc = rt.alloc();
-    let pattern = repeated(&rt, alloc, b"x\\(\\(a*b\\)\\{3\\}", b"\\{255\\}", 1000, b"\\)\\{0\\}*y");
+    let pattern = repeated(
+        &rt,
+        alloc,
+        b"x\\(\\(a*b\\)\\{3\\}",
+        b"\\{255\\}",
+        1000,
+        b"\\)\\{0\\}*y",
+    );
     let bre = read(&rt, alloc, &pattern);
     assert_eq!(rt; bre.positions(), 4);
     let mut scan = Scan::new(alloc, &bre).expect(&rt, "there is memory");
@@ -205,13 +215,27 @@ fn as_the_plain_matcher(rt: HostRuntime) {
 
 /// Tokens that random patterns are made of; what they make may not read.
 const TOKENS: [&[u8]; 14] = [
-    b"a", b"b", b"c", b"*", b".", b"^", b"$", b"\\(", b"\\)", b"[ab]", b"[^a]", b"\\{2\\}",
-    b"\\{0,1\\}", b"\\{1,\\}",
+    b"a",
+    b"b",
+    b"c",
+    b"*",
+    b".",
+    b"^",
+    b"$",
+    b"\\(",
+    b"\\)",
+    b"[ab]",
+    b"[^a]",
+    b"\\{2\\}",
+    b"\\{0,1\\}",
+    b"\\{1,\\}",
 ];
 
 /// The next of a row of numbers that look random.
 fn next_number(state: &mut u64) -> usize {
-    *state = state.wrapping_mul(6_364_136_223_846_793_005).wrapping_add(1_442_695_040_888_963_407);
+    *state = state
+        .wrapping_mul(6_364_136_223_846_793_005)
+        .wrapping_add(1_442_695_040_888_963_407);
     (*state >> 33) as usize
 }
 
@@ -227,7 +251,9 @@ fn random_pairs(rt: HostRuntime) {
         let mut pattern = Vec::new(alloc);
         for _token in 0..1 + next_number(&mut state) % 6 {
             let token = TOKENS[next_number(&mut state) % 14];
-            pattern.extend_from_slice(token).expect(&rt, "there is memory");
+            pattern
+                .extend_from_slice(token)
+                .expect(&rt, "there is memory");
         }
         if let Ok(bre) = Bre::read(alloc, &pattern) {
             let line = line_of(&rt, alloc, next_number(&mut state) % 625);

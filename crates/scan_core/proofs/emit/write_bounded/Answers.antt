@@ -39,4 +39,4 @@ copy_times-requires-2 c =
 pub returns-clause-ok : goal.returns-clause-ok
 returns-clause-ok c = let g = c.loop-more.invariant.grown in on_ok_weaker c.copy_times-2.result
     (λ e before code b n. bounded_out c.args.nodes.now.items c.loop-more.nodes.items _ g.0 before code c.args.start _ c.args.low c.args.high c.loop-more._more b n (omega (arith, c.len.ensures)) g.1
-        (c.loop-more.invariant.written before code b n) (omega (arith, c.loop-more-test.false, c.loop-more.auto, c.requires.order, c.if-low-high.false)) e) c.copy_times-2.ensures.ok
+    (c.loop-more.invariant.written before code b n) (omega (arith, c.loop-more-test.false, c.loop-more.auto, c.requires.order, c.if-low-high.false)) e) c.copy_times-2.ensures.ok

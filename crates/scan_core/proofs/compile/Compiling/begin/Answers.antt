@@ -11,5 +11,5 @@ returns-else-most-eq0-clause-begun c = on_ok_weaker c.wait.result
 pub returns-in_ok-keep-in-None-clause-begun : goal.returns-in_ok-keep-in-None-clause-begun
 returns-in_ok-keep-in-None-clause-begun c = on_ok_weaker c.wait-in-None.result
     (λ e. begun_waits (length c.keep.new.nodes.items) c.args.self.now.pending.items _ _ (begun_node c.args.self.now.nodes.items _ _ c.args.self.now.pending.items c.in_ok-keep-in-None.ensures.ok c.requires.begun)
-        (unbounded_begun c.args.high c.args.low _ (length c.keep.new.nodes.items) c.in-None.is (let l = ap length c.in_ok-keep-in-None.ensures.ok in let a = length-append c.args.self.now.nodes.items (Back 0 ∷ []) in omega (arith, l, a, c.len-start.ensures))) e)
+    (unbounded_begun c.args.high c.args.low _ (length c.keep.new.nodes.items) c.in-None.is (let l = ap length c.in_ok-keep-in-None.ensures.ok in let a = length-append c.args.self.now.nodes.items (Back 0 ∷ []) in omega (arith, l, a, c.len-start.ensures))) e)
     c.wait-in-None.ensures.ok

@@ -10,8 +10,8 @@ pub loop-done-preserved : goal.loop-done-preserved
 loop-done-preserved c =
     let l = count_most c.loop-done.self c.loop-done.invariant.sound in
     spread_more _ _ _ _ _ _ _ c.index-number.result.now c.loop-done.invariant c.if-done-self.false
-        (c.index-number.ensures ∙ no_default c.loop-done.self.list.items c.loop-done.done _ 0 (omega (arith, l, c.loop-done.invariant.sound.fits, c.if-done-self.false)))
-        c.lead.ensures
+    (c.index-number.ensures ∙ no_default c.loop-done.self.list.items c.loop-done.done _ 0 (omega (arith, l, c.loop-done.invariant.sound.fits, c.if-done-self.false)))
+    c.lead.ensures
 
 pub returns : goal.returns
 returns c =

@@ -24,4 +24,10 @@ returns-clause-exact c =
 pub returns-clause-bound : goal.returns-clause-bound
 returns-clause-bound c =
     bound_of c.args.bre.now (length c.args.line.now + 1) c.run.new.self.steps c.code-code.ensures.order
-        (subst (λ code. c.run.new.self.steps ≤ (length c.args.line.now + 1) * (weight code + 1)) c.code-code.ensures.code c.run.ensures.bound)
+    (subst (λ code. c.run.new.self.steps ≤ (length c.args.line.now + 1) * (weight code + 1)) c.code-code.ensures.code c.run.ensures.bound)
+
+pub returns-in-Some-clause-exact : goal.returns-in-Some-clause-exact
+returns-in-Some-clause-exact c = found_contains c.args.bre.now c.args.line.now c.in-Some.outcome.found c.walk.ensures.order c.in-Some.ensures.outcome.exact
+
+pub returns-in-Some-clause-bound : goal.returns-in-Some-clause-bound
+returns-in-Some-clause-bound c = bound_of c.args.bre.now (length c.args.line.now + 1) c.in-Some.outcome.steps c.walk.ensures.order c.in-Some.ensures.outcome.bound

@@ -31,32 +31,32 @@ pub returns-then-has-clause-bound : goal.returns-then-has-clause-bound
 returns-then-has-clause-bound c =
     let m = reach_most c.args.nodes.now c.open.new.self c.open.ensures.sound in
     steps_wider (c.loop-place.place + 1) (length c.args.line.now + 1) _ (weight c.args.nodes.now + 1)
-        (steps_more c.loop-place.place c.loop-place.self.steps _ (weight c.args.nodes.now + 1) c.loop-place.invariant.bound (omega (arith, m, c.positions.ensures))) (omega (arith, c.loop-place-test.true))
+    (steps_more c.loop-place.place c.loop-place.self.steps _ (weight c.args.nodes.now + 1) c.loop-place.invariant.bound (omega (arith, m, c.positions.ensures))) (omega (arith, c.loop-place-test.true))
 
 pub loop-place-preserved : goal.loop-place-preserved
 loop-place-preserved c = record {
   searched =
-    search_more c.args.nodes.now c.args.line.now c.loop-place.place _ c.loop-place.self _ c.open.new.self c.clear-in-loop-place.new.self c.pass.new.next c.has.result _ c.loop-place.invariant.searched c.loop-place-test.true refl refl
-        c.open.ensures c.clear-in-loop-place.ensures c.pass.ensures c.if-has.false c.has.ensures c.swap.ensures.x_after c.swap.ensures.y_after (ap (λ p. c.loop-place.self.steps + p) c.positions.ensures);
+      search_more c.args.nodes.now c.args.line.now c.loop-place.place _ c.loop-place.self _ c.open.new.self c.clear-in-loop-place.new.self c.pass.new.next c.has.result _ c.loop-place.invariant.searched c.loop-place-test.true refl refl
+      c.open.ensures c.clear-in-loop-place.ensures c.pass.ensures c.if-has.false c.has.ensures c.swap.ensures.x_after c.swap.ensures.y_after (ap (λ p. c.loop-place.self.steps + p) c.positions.ensures);
   bound =
-    let m = reach_most c.args.nodes.now c.open.new.self c.open.ensures.sound in
-    steps_more c.loop-place.place c.loop-place.self.steps _ (weight c.args.nodes.now + 1) c.loop-place.invariant.bound (omega (arith, m, c.positions.ensures));
+      let m = reach_most c.args.nodes.now c.open.new.self c.open.ensures.sound in
+      steps_more c.loop-place.place c.loop-place.self.steps _ (weight c.args.nodes.now + 1) c.loop-place.invariant.bound (omega (arith, m, c.positions.ensures));
   now_room = ap (λ r. length r.marks.items) c.swap.ensures.x_after ∙ c.pass.ensures.size ∙ c.clear-in-loop-place.ensures.size ∙ c.loop-place.invariant.next_room;
   next_room = ap (λ r. length r.marks.items) c.swap.ensures.y_after ∙ c.open.ensures.size ∙ c.loop-place.invariant.now_room;
 }
 
 pub returns-clause-exact : goal.returns-clause-exact
 returns-clause-exact c =
-  search_ends c.args.nodes.now c.args.line.now c.loop-place.place c.loop-place.self c.open-2.new.self c.is_empty.result true c.has-2.result c.loop-place.invariant.searched (final c.args.line.now c.loop-place.place c.is_empty.result (omega (arith, c.loop-place-test.false, c.loop-place.auto.place-end)) c.is_empty.ensures)
-      (omega (arith, c.loop-place-test.false, c.loop-place.auto.place-end)) c.open-2.ensures c.has-2.ensures
+    search_ends c.args.nodes.now c.args.line.now c.loop-place.place c.loop-place.self c.open-2.new.self c.is_empty.result true c.has-2.result c.loop-place.invariant.searched (final c.args.line.now c.loop-place.place c.is_empty.result (omega (arith, c.loop-place-test.false, c.loop-place.auto.place-end)) c.is_empty.ensures)
+    (omega (arith, c.loop-place-test.false, c.loop-place.auto.place-end)) c.open-2.ensures c.has-2.ensures
 
 pub returns-clause-counted : goal.returns-clause-counted
 returns-clause-counted c = λ absent.
-  search_counted c.args.nodes.now c.args.line.now c.loop-place.place _ c.loop-place.self c.open-2.new.self c.is_empty.result true c.loop-place.invariant.searched (final c.args.line.now c.loop-place.place c.is_empty.result (omega (arith, c.loop-place-test.false, c.loop-place.auto.place-end)) c.is_empty.ensures)
-      (omega (arith, c.loop-place-test.false, c.loop-place.auto.place-end)) c.open-2.ensures (ap (λ p. c.loop-place.self.steps + p) c.positions-2.ensures)
+    search_counted c.args.nodes.now c.args.line.now c.loop-place.place _ c.loop-place.self c.open-2.new.self c.is_empty.result true c.loop-place.invariant.searched (final c.args.line.now c.loop-place.place c.is_empty.result (omega (arith, c.loop-place-test.false, c.loop-place.auto.place-end)) c.is_empty.ensures)
+    (omega (arith, c.loop-place-test.false, c.loop-place.auto.place-end)) c.open-2.ensures (ap (λ p. c.loop-place.self.steps + p) c.positions-2.ensures)
 
 pub returns-clause-bound : goal.returns-clause-bound
 returns-clause-bound c =
     let m = reach_most c.args.nodes.now c.open-2.new.self c.open-2.ensures.sound in
     steps_wider (c.loop-place.place + 1) (length c.args.line.now + 1) _ (weight c.args.nodes.now + 1)
-        (steps_more c.loop-place.place c.loop-place.self.steps _ (weight c.args.nodes.now + 1) c.loop-place.invariant.bound (omega (arith, m, c.positions-2.ensures))) (omega (arith, c.loop-place.auto.place-end))
+    (steps_more c.loop-place.place c.loop-place.self.steps _ (weight c.args.nodes.now + 1) c.loop-place.invariant.bound (omega (arith, m, c.positions-2.ensures))) (omega (arith, c.loop-place.auto.place-end))
