@@ -274,7 +274,7 @@ fn next_number(state: &mut u64) -> usize {
 fn random_pairs(rt: HostRuntime) {
     let alloc = rt.alloc();
     let mut state = 7;
-    let mut pairs = 0;
+    let mut pairs: u32 = 0;
     for _try in 0..100_000 {
         if pairs == 5000 {
             break;
@@ -289,7 +289,7 @@ fn random_pairs(rt: HostRuntime) {
         if let Ok(bre) = Bre::read(alloc, &pattern) {
             let line = line_of(&rt, alloc, next_number(&mut state) % 625);
             agree(&rt, alloc, &bre, &line);
-            pairs += 1;
+            pairs = pairs.wrapping_add(1);
         }
     }
     assert_eq!(rt; pairs, 5000);
