@@ -11,6 +11,7 @@ pub mod Places
 pub mod Reach
 pub mod Refusals
 pub mod Repeats
+pub mod Searching
 pub mod Sets
 pub mod SoFar
 pub mod Tokens

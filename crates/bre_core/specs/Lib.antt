@@ -12,6 +12,7 @@ pub mod Pattern
 pub mod Plain
 pub mod PlainState
 pub mod Refusal
+pub mod Search
 pub mod Spans
 pub mod Steps
 pub mod Token

@@ -1,0 +1,156 @@
+-- The truth value says what is contained.
+use Rattle.std.proofs.Common.{◌≡◌, ◌⊎◌, ◌↔◌, inl, inr, ℕ, zero, suc, ◌+◌, ◌-◌, ◌<◌, ◌≤◌, Bool, true, false, leb, ◌&&◌, ◌||◌, List, length, Option, Some, None, refl, sym, ap, ◌∙◌, subst, arith}
+use Rattle.std.specs.Prelude.{IsTrue}
+use Rattle.std.proofs.lemmas.Bool.{cases_eq, cases_lt, false≢true, or_cases, or_left, or_right, eqb-true, eq-eqb, leb-true, le-leb, lt-ltb}
+use borrow.Author.Tests.{ltb-true}
+use Rattle.bre_core.specs.ByteSet.{has}
+use Rattle.bre_core.specs.Match.{Parts, IsAtMost, Matches, MatchesItem, Contains}
+use Rattle.bre_core.specs.Pattern.{Pattern, nothing, append, Item, set, front, end, group, repeat}
+use Rattle.bre_core.specs.Search.{any_below, has_parts, is_at_most, matches, matches_item, contains}
+
+both_true : (a b : Bool) → (a && b) ≡ true → (a ≡ true) × (b ≡ true)
+both_true true b e = (refl, e)
+both_true false b e = absurd (false≢true e)
+
+and_true : (a b : Bool) → a ≡ true → b ≡ true → (a && b) ≡ true
+and_true true b e f = f
+and_true false b e f = absurd (false≢true e)
+
+any_found : (bound : ℕ) (test : ℕ → Bool) → any_below bound test ≡ true → (number : ℕ) × (number < bound) × (test number ≡ true)
+any_found zero test e = absurd (false≢true e)
+any_found (suc bound) test e = side (λ f. any_found bound test f) (or_cases (any_below bound test) (test bound) e)
+  where
+    side : (any_below bound test ≡ true → (number : ℕ) × (number < bound) × (test number ≡ true)) → (any_below bound test ≡ true) ⊎ (test bound ≡ true)
+        → (number : ℕ) × (number < suc bound) × (test number ≡ true)
+    side before (inl f) = let n = before f in (n.0, omega (arith, n.1), n.2)
+    side before (inr f) = (bound, omega arith, f)
+
+any_there : (bound : ℕ) (test : ℕ → Bool) (number : ℕ) → number < bound → test number ≡ true → any_below bound test ≡ true
+any_there zero test number h e = absurd (omega (arith, h))
+any_there (suc bound) test number h e = elim (cases_eq number bound) [
+  | inl same ↦ or_right (any_below bound test) (test bound) (ap test (sym same) ∙ e)
+  | inr other ↦ or_left (any_below bound test) (test bound) (any_there bound test number (omega (arith, h, other)) e)
+]
+
+-- a truth value of two places that says what a relation says
+record Tells (test : ℕ → ℕ → Bool) (Kind : ℕ → ℕ → Type 0) : Type 0 where
+  yes : (from to : ℕ) → test from to ≡ true → Kind from to
+  no : (from to : ℕ) → Kind from to → test from to ≡ true
+  forward : (from to : ℕ) → Kind from to → from ≤ to
+
+parts_forward : (Kind : ℕ → ℕ → Type 0) → ((from to : ℕ) → Kind from to → from ≤ to) → (count from to : ℕ) → Parts Kind count from to → from ≤ to
+parts_forward Kind f zero from to p = omega (arith, p)
+parts_forward Kind f (suc count) from to p = let one = parts_forward Kind f count from p.0 p.1 in let other = f p.0 to p.2 in omega (arith, one, other)
+
+parts_tell : (test : ℕ → ℕ → Bool) (Kind : ℕ → ℕ → Type 0) → Tells test Kind → (count : ℕ) → Tells (has_parts test count) (Parts Kind count)
+parts_tell test Kind t zero = record {
+  yes = λ from to e. eqb-true from to e;
+  no = λ from to e. eq-eqb from to e;
+  forward = λ from to e. parts_forward Kind t.forward 0 from to e;
+}
+parts_tell test Kind t (suc count) = let before = parts_tell test Kind t count in record {
+  yes = λ from to e.
+      let found = any_found (suc to) (λ middle. has_parts test count from middle && test middle to) e in
+      let both = both_true (has_parts test count from found.0) (test found.0 to) found.2 in
+      (found.0, before.yes from found.0 both.0, t.yes found.0 to both.1);
+  no = λ from to p.
+      let small = t.forward p.0 to p.2 in
+      any_there (suc to) (λ middle. has_parts test count from middle && test middle to) p.0 (omega (arith, small))
+      (and_true (has_parts test count from p.0) (test p.0 to) (before.no from p.0 p.1) (t.no p.0 to p.2));
+  forward = λ from to p. parts_forward Kind t.forward (suc count) from to p;
+}
+
+-- among more parts than the stretch is long there is an empty one, which can go
+fewer : (Kind : ℕ → ℕ → Type 0) → ((from to : ℕ) → Kind from to → from ≤ to) → (count from to : ℕ) → to ≤ from + count → Parts Kind (suc count) from to → Parts Kind count from to
+fewer Kind f zero from to h p = let first : from ≡ p.0 = p.1 in let step = f p.0 to p.2 in let e : from ≡ to = omega (arith, first, step, h) in e
+fewer Kind f (suc count) from to h p = elim (cases_eq p.0 to) [
+  | inl same ↦ subst (λ m. Parts Kind (suc count) from m) same p.1
+  | inr other ↦ let step = f p.0 to p.2 in (p.0, fewer Kind f count from p.0 (omega (arith, h, step, other)) p.1, p.2)
+]
+
+at_most_less : (high : Option ℕ) (count : ℕ) → IsAtMost high (suc count) → IsAtMost high count
+at_most_less None count h = tt
+at_most_less (Some high) count h = omega (arith, h)
+
+few_parts : (Kind : ℕ → ℕ → Type 0) → ((from to : ℕ) → Kind from to → from ≤ to) → (low : ℕ) (high : Option ℕ) (count from to : ℕ) → low ≤ count → IsAtMost high count → Parts Kind count from to
+    → (few : ℕ) × (few < suc (low + to)) × (low ≤ few) × IsAtMost high few × Parts Kind few from to
+few_parts Kind f low high zero from to l h p = (0, omega arith, l, h, p)
+few_parts Kind f low high (suc count) from to l h p = elim (cases_lt (suc count) (suc (low + to))) [
+  | inl small ↦ (suc count, small, l, h, p)
+  | inr large ↦ few_parts Kind f low high count from to (omega (arith, large)) (at_most_less high count h) (fewer Kind f count from to (omega (arith, large)) p)
+]
+
+at_most_yes : (high : Option ℕ) (count : ℕ) → is_at_most high count ≡ true → IsAtMost high count
+at_most_yes None count e = tt
+at_most_yes (Some high) count e = leb-true count high e
+
+at_most_no : (high : Option ℕ) (count : ℕ) → IsAtMost high count → is_at_most high count ≡ true
+at_most_no None count h = refl
+at_most_no (Some high) count h = le-leb count high h
+
+mutual
+  tells : (pattern : Pattern) (line : List ℕ) → Tells (matches pattern line) (Matches pattern line)
+  tells nothing line = record {
+    yes = λ from to e. eqb-true from to e;
+    no = λ from to e. eq-eqb from to e;
+    forward = λ from to e. omega (arith, e);
+  }
+  tells (append pattern item) line = let one = tells pattern line in let other = item_tells item line in record {
+    yes = λ from to e.
+        let found = any_found (suc to) (λ middle. matches pattern line from middle && matches_item item line middle to) e in
+        let both = both_true (matches pattern line from found.0) (matches_item item line found.0 to) found.2 in
+        (found.0, one.yes from found.0 both.0, other.yes found.0 to both.1);
+    no = λ from to m.
+        let small = other.forward m.0 to m.2 in
+        any_there (suc to) (λ middle. matches pattern line from middle && matches_item item line middle to) m.0 (omega (arith, small))
+        (and_true (matches pattern line from m.0) (matches_item item line m.0 to) (one.no from m.0 m.1) (other.no m.0 to m.2));
+    forward = λ from to m. let first = one.forward from m.0 m.1 in let second = other.forward m.0 to m.2 in omega (arith, first, second);
+  }
+
+  item_tells : (item : Item) (line : List ℕ) → Tells (matches_item item line) (MatchesItem item line)
+  item_tells (set bytes) line = record {
+    yes = λ from to e. let a = both_true _ _ e in let b = both_true _ _ a.1 in (eqb-true to (from + 1) a.0, ltb-true from (length line) b.0, b.1);
+    no = λ from to m. and_true _ _ (eq-eqb to (from + 1) m.0) (and_true _ _ (lt-ltb from (length line) m.1) m.2);
+    forward = λ from to m. omega (arith, m.0);
+  }
+  item_tells front line = record {
+    yes = λ from to e. let a = both_true _ _ e in (eqb-true from 0 a.0, eqb-true to 0 a.1);
+    no = λ from to m. and_true _ _ (eq-eqb from 0 m.0) (eq-eqb to 0 m.1);
+    forward = λ from to m. omega (arith, m.0, m.1);
+  }
+  item_tells end line = record {
+    yes = λ from to e. let a = both_true _ _ e in (eqb-true from (length line) a.0, eqb-true to (length line) a.1);
+    no = λ from to m. and_true _ _ (eq-eqb from (length line) m.0) (eq-eqb to (length line) m.1);
+    forward = λ from to m. omega (arith, m.0, m.1);
+  }
+  item_tells (group pattern) line = let inner = tells pattern line in record { yes = inner.yes; no = inner.no; forward = inner.forward }
+  item_tells (repeat item low high) line = let one = item_tells item line in record {
+    yes = λ from to e.
+        let found = any_found (suc (low + to)) (λ count. leb low count && (is_at_most high count && has_parts (matches_item item line) count from to)) e in
+        let a = both_true (leb low found.0) _ found.2 in
+        let b = both_true (is_at_most high found.0) _ a.1 in
+        (found.0, leb-true low found.0 a.0, at_most_yes high found.0 b.0, (parts_tell (matches_item item line) (MatchesItem item line) one found.0).yes from to b.1);
+    no = λ from to m.
+        let few = few_parts (MatchesItem item line) one.forward low high m.0 from to m.1 m.2 m.3 in
+        any_there (suc (low + to)) (λ count. leb low count && (is_at_most high count && has_parts (matches_item item line) count from to)) few.0 few.1
+        (and_true _ _ (le-leb low few.0 few.2) (and_true _ _ (at_most_no high few.0 few.3) ((parts_tell (matches_item item line) (MatchesItem item line) one few.0).no from to few.4)));
+    forward = λ from to m. parts_forward (MatchesItem item line) one.forward m.0 from to m.3;
+  }
+
+pub contains_tells : (pattern : Pattern) (line : List ℕ) → IsTrue (contains pattern line) ↔ Contains pattern line
+contains_tells pattern line = let t = tells pattern line in (
+  λ e.
+      let to = any_found (suc (length line)) (λ to. any_below (suc to) (λ from. matches pattern line from to)) e in
+      let from = any_found (suc to.0) (λ from. matches pattern line from to.0) to.2 in
+      (from.0, to.0, omega (arith, from.1), omega (arith, to.1), t.yes from.0 to.0 from.2),
+  λ c.
+      any_there (suc (length line)) (λ to. any_below (suc to) (λ from. matches pattern line from to)) c.1 (omega (arith, c.3))
+      (any_there (suc c.1) (λ from. matches pattern line from c.1) c.0 (omega (arith, c.2)) (t.no c.0 c.1 c.4)),
+)
+
+-- two truth values of one fact are the same
+pub one_truth : (a b : Bool) (Fact : Type 0) → IsTrue a ↔ Fact → IsTrue b ↔ Fact → a ≡ b
+one_truth true true Fact f g = refl
+one_truth false false Fact f g = refl
+one_truth true false Fact f g = sym (g.1 (f.0 refl))
+one_truth false true Fact f g = f.1 (g.0 refl)

@@ -1,0 +1,263 @@
+-- The sets of entered nodes along a line, place by place.
+use Rattle.std.proofs.Common.{◌≡◌, ◌⊎◌, ◌↔◌, inl, inr, ℕ, zero, suc, ◌+◌, ◌*◌, ◌-◌, ◌<◌, ◌≤◌, Bool, true, false, IsTrue, List, [], ◌∷◌, ◌++◌, length, get_or, slice_index, refl, sym, ap, ◌∙◌, subst, arith}
+use Rattle.std.proofs.lemmas.Bool.{cases_eq, cases_lt, false≢true, eqb-true, eq-eqb}
+use Rattle.bre_core.specs.ByteSet.{has}
+use Rattle.bre_core.specs.Match.{Parts}
+use Rattle.scan_core.specs.declared.node.Node.{Node}
+use Rattle.scan_core.specs.declared.node.Node.TheVariants.{Take, First, Last, Choose, Back}
+use Rattle.scan_core.specs.declared.reach.Reach.{Reach}
+use Rattle.scan_core.specs.declared.search.Search.{Search}
+use Rattle.std.specs.Prelude.{◌==◌}
+use Rattle.std.proofs.Common.{length-append}
+use Rattle.std.proofs.Math.Nat.{mul-le-mul}
+use Rattle.scan_core.specs.Code.{weight}
+use Rattle.scan_core.specs.Sets.{IsSet, positions_among}
+use Rattle.scan_core.specs.Counted.{set_at, positions_in_all, AreSteps, IsStepCount, EndsIn}
+use Rattle.scan_core.proofs.Enterings.{is_set, reach_most}
+use Rattle.scan_core.specs.Code.{At, Leads, Goes, Walks, Path, Entered}
+use Rattle.scan_core.specs.Sets.{IsMarked, IsReach, Has, Gains, LeadsOn, Flows, FlowsOn, Opens, Passes, PassesFrom, IsEmptied, Came}
+use Rattle.scan_core.proofs.Walks.{path_on}
+
+-- which place of the line this is
+pub record IsPlace (line : List ℕ) (place : ℕ) (at_first at_last : Bool) : Type 0 where
+  pub within : place ≤ length line
+  pub first : IsTrue at_first ↔ (place ≡ 0)
+  pub last : IsTrue at_last ↔ (place ≡ length line)
+
+pub flow_goes : (node : Node) (line : List ℕ) (place : ℕ) (at_first at_last : Bool) (from to : ℕ) → IsPlace line place at_first at_last → LeadsOn node at_first at_last from to → Leads node line from place to place
+flow_goes (Take bytes) line place f l from to p h = absurd h
+flow_goes First line place f l from to p h = (h.1, refl, p.first.0 h.0)
+flow_goes Last line place f l from to p h = (h.1, refl, p.last.0 h.0)
+flow_goes (Choose skip) line place f l from to p h = (h, refl)
+flow_goes (Back by) line place f l from to p h = (h, refl)
+
+goes_flow : (node : Node) (line : List ℕ) (place : ℕ) (at_first at_last : Bool) (from to : ℕ) → IsPlace line place at_first at_last → Leads node line from place to place → LeadsOn node at_first at_last from to
+goes_flow (Take bytes) line place f l from to p h = absurd (omega (arith, h.1))
+goes_flow First line place f l from to p h = (p.first.1 h.2, h.0)
+goes_flow Last line place f l from to p h = (p.last.1 h.2, h.0)
+goes_flow (Choose skip) line place f l from to p h = h.0
+goes_flow (Back by) line place f l from to p h = h.0
+
+-- a step stays at its place or goes on by one
+leads_place : (node : Node) (line : List ℕ) (from place to place' : ℕ) → Leads node line from place to place' → (place' ≡ place) ⊎ ((place' ≡ place + 1) × (bytes : List Bool) × (node ≡ Take bytes) × (place < length line) × IsTrue (has bytes (slice_index line place)) × (to ≡ from + 1))
+leads_place (Take bytes) line from place to place' h = inr (h.1, bytes, refl, h.2, h.3, h.0)
+leads_place First line from place to place' h = inl h.1
+leads_place Last line from place to place' h = inl h.1
+leads_place (Choose skip) line from place to place' h = inl h.1
+leads_place (Back by) line from place to place' h = inl h.1
+
+walk_forward : (code : List Node) (line : List ℕ) (count at place to stop : ℕ) → Walks code line count at place to stop → place ≤ stop
+walk_forward code line zero at place to stop w = omega (arith, w.1)
+walk_forward code line (suc count) at place to stop w = step (leads_place w.2.0 line at place w.0 w.1 w.2.2) (walk_forward code line count w.0 w.1 to stop w.3)
+  where
+    step : (w.1 ≡ place) ⊎ ((w.1 ≡ place + 1) × (bytes : List Bool) × (w.2.0 ≡ Take bytes) × (place < length line) × IsTrue (has bytes (slice_index line place)) × (w.0 ≡ at + 1)) → w.1 ≤ stop → place ≤ stop
+    step (inl e) h = omega (arith, e, h)
+    step (inr e) h = omega (arith, e.0, h)
+
+pub entered_on : (code : List Node) (line : List ℕ) (at place to stop : ℕ) → Entered code line at place → Goes code line at place to stop → Entered code line to stop
+entered_on code line at place to stop e g = (e.0, e.1, path_on code line 0 e.0 at place to stop e.2 (1, (to, stop, g, (refl, refl))))
+
+-- what was entered at a place is just what can be
+pub record IsAt (code : List Node) (line : List ℕ) (place : ℕ) (now : Reach) : Type 0 where
+  pub exact : (number : ℕ) → Has now number ↔ Entered code line number place
+
+pub closes_exact : (code : List Node) (line : List ℕ) (place : ℕ) (at_first at_last : Bool) (Old Now : ℕ → Type 0) → IsPlace line place at_first at_last → ((number : ℕ) → Old number ↔ Came code line place number)
+    → ((number : ℕ) → Now number ↔ ((from : ℕ) × (Old from ⊎ (from ≡ 0)) × FlowsOn code at_first at_last from number)) → (number : ℕ) → Now number ↔ Entered code line number place
+closes_exact code line place at_first at_last Old Now p came o number = (λ h. there number ((o number).0 h), λ e. here number e)
+  where
+    flows : (count from to : ℕ) → Entered code line from place → Parts (Flows code at_first at_last) count from to → Entered code line to place
+    flows zero from to e q = subst (λ n. Entered code line n place) q e
+    flows (suc count) from to e q = entered_on code line q.0 place to place (flows count from q.0 e q.1) (q.2.0, q.2.1, flow_goes q.2.0 line place at_first at_last q.0 to p q.2.2)
+
+    start : (from : ℕ) → Old from ⊎ (from ≡ 0) → Entered code line from place
+    start from (inl h) = let c = (came from).0 h in entered_on code line c.2 c.0 from place c.3 c.4
+    start from (inr e) = (place, p.within, (0, (sym e, refl)))
+
+    there : (number : ℕ) → ((from : ℕ) × (Old from ⊎ (from ≡ 0)) × FlowsOn code at_first at_last from number) → Entered code line number place
+    there number f = flows f.2.0 f.0 number (start f.0 f.1) f.2.1
+
+    close : (from to : ℕ) → Now from → Goes code line from place to place → Now to
+    close from to h g =
+        let was = (o from).0 h in
+        (o to).1 (was.0, was.1, (suc was.2.0, (from, was.2.1, (g.0, g.1, goes_flow g.0 line place at_first at_last from to p g.2))))
+
+    step : (at from at' from' : ℕ) → from ≤ place → Entered code line at from → (from ≡ place → Now at) → Goes code line at from at' from' → from' ≡ place
+        → (from' ≡ from) ⊎ ((from' ≡ from + 1) × (bytes : List Bool) × (Node_is : Unit {0}) × (from < length line) × (at' ≡ at + 1)) → Now at'
+    step at from at' from' l e h g q (inl same) =
+        let here : from ≡ place = omega (arith, same, q) in
+        close at at' (h here) (subst (λ n. Goes code line at n at' place) here (subst (λ n. Goes code line at from at' n) q g))
+    step at from at' from' l e h g q (inr more) =
+        (o at').1 (at', inl ((came at').1 (from, omega (arith, more.0, q), at, e, subst (λ n. Goes code line at from at' n) q g)), (0, refl))
+
+    arrive : (count at from number : ℕ) → from ≤ place → Walks code line count at from number place → Entered code line at from → (from ≡ place → Now at) → Now number
+    arrive zero at from number l w e h = subst Now w.0 (h w.1)
+    arrive (suc count) at from number l w e h =
+        arrive count w.0 w.1 number (walk_forward code line count w.0 w.1 number place w.3) w.3 (entered_on code line at from w.0 w.1 e w.2)
+        (λ q. step at from w.0 w.1 l e h w.2 q (simple (leads_place w.2.0 line at from w.0 w.1 w.2.2)))
+      where
+        simple : (w.1 ≡ from) ⊎ ((w.1 ≡ from + 1) × (bytes : List Bool) × (w.2.0 ≡ Take bytes) × (from < length line) × IsTrue (has bytes (slice_index line from)) × (w.0 ≡ at + 1))
+            → (w.1 ≡ from) ⊎ ((w.1 ≡ from + 1) × (bytes : List Bool) × (Node_is : Unit {0}) × (from < length line) × (w.0 ≡ at + 1))
+        simple (inl s) = inl s
+        simple (inr s) = inr (s.0, s.1, tt, s.3, s.5)
+
+    here : (number : ℕ) → Entered code line number place → Now number
+    here number e =
+        let l = walk_forward code line e.2.0 0 e.0 number place e.2.1 in
+        arrive e.2.0 0 e.0 number l e.2.1 (e.0, e.1, (0, (refl, refl))) (λ q. (o 0).1 (0, inr refl, (0, refl)))
+
+pub opens_exact : (code : List Node) (line : List ℕ) (place : ℕ) (at_first at_last : Bool) (old now : Reach) → IsPlace line place at_first at_last → ((number : ℕ) → Has old number ↔ Came code line place number) → Opens code at_first at_last old now
+    → IsAt code line place now
+opens_exact code line place at_first at_last old now p came o = record { exact = closes_exact code line place at_first at_last (Has old) (Has now) p came o.exact }
+
+-- a byte leads on from the set of one place to what comes at the next
+pub passes_exact : (code : List Node) (line : List ℕ) (place byte : ℕ) (now empty next : Reach) → IsAt code line place now → place < length line → byte ≡ slice_index line place → ((number : ℕ) → Has empty number → ⊥) → Gains code (PassesFrom now code byte) empty next
+    → (number : ℕ) → Has next number ↔ Came code line (place + 1) number
+passes_exact code line place byte now empty next a h e none g number = (λ k. there ((g.exact number).0 k), λ c. here c)
+  where
+    there : Has empty number ⊎ PassesFrom now code byte number → Came code line (place + 1) number
+    there (inl k) = absurd (none number k)
+    there (inr k) = (place, refl, k.0, (a.exact k.0).0 k.1, (Take k.2.0, k.2.1, (k.2.3, refl, h, subst (λ b. IsTrue (has k.2.0 b)) e k.2.2)))
+
+    here : Came code line (place + 1) number → Has next number
+    here c = (g.exact number).1 (inr (back c (leads_place c.4.0 line c.2 c.0 number (place + 1) c.4.2)))
+      where
+        back : (c : Came code line (place + 1) number) → (place + 1 ≡ c.0) ⊎ ((place + 1 ≡ c.0 + 1) × (bytes : List Bool) × (c.4.0 ≡ Take bytes) × (c.0 < length line) × IsTrue (has bytes (slice_index line c.0)) × (number ≡ c.2 + 1)) → PassesFrom now code byte number
+        back c (inl s) = let q = c.1 in absurd (omega (arith, s, q))
+        back c (inr s) =
+            let same : c.0 ≡ place = omega (arith, s.0) in
+            (c.2, (a.exact c.2).1 (subst (λ n. Entered code line c.2 n) same c.3), (s.1, subst (At code c.2) s.2 c.4.1, subst (λ b. IsTrue (has s.1 b)) (ap (λ n. slice_index line n) same ∙ sym e) s.4, s.5))
+
+pub none_came : (code : List Node) (line : List ℕ) (old : Reach) → ((number : ℕ) → Has old number → ⊥) → (number : ℕ) → Has old number ↔ Came code line 0 number
+none_came code line old none number = (λ h. absurd (none number h), λ c. absurd (omega (arith, c.1)))
+
+pub inner : (line : List ℕ) (place : ℕ) (at_first : Bool) → place < length line → at_first ≡ (place == 0) → IsPlace line place at_first false
+inner line place at_first h f = record {
+  within = omega (arith, h);
+  first = (λ t. eqb-true place 0 (sym f ∙ t), λ e. f ∙ eq-eqb place 0 e);
+  last = (λ t. absurd (false≢true t), λ e. absurd (omega (arith, e, h)));
+}
+
+-- one place more is counted
+front_sets : (sets more : List (List Bool)) (place : ℕ) → place < length sets → set_at (sets ++ more) place ≡ set_at sets place
+front_sets [] more place h = absurd (omega (arith, h))
+front_sets (set ∷ sets) more zero h = refl
+front_sets (set ∷ sets) more (suc place) h = front_sets sets more place (omega (arith, h))
+
+last_set : (sets : List (List Bool)) (set : List Bool) (place : ℕ) → place ≡ length sets → set_at (sets ++ set ∷ []) place ≡ set
+last_set [] set zero e = refl
+last_set [] set (suc place) e = absurd (omega (arith, e))
+last_set (other ∷ sets) set zero e = absurd (omega (arith, e))
+last_set (other ∷ sets) set (suc place) e = last_set sets set place (omega (arith, e))
+
+more_positions : (code : List Node) (sets : List (List Bool)) (set : List Bool) → positions_in_all code (sets ++ set ∷ []) ≡ positions_in_all code sets + positions_among code set
+more_positions code [] set = omega arith
+more_positions code (other ∷ sets) set = let r = more_positions code sets set in omega (arith, r)
+
+pub none_counted : (code : List Node) (line : List ℕ) → AreSteps code line 0 0
+none_counted code line = record { sets = []; all = refl; exact = λ place number h. absurd (omega (arith, h)); total = refl }
+
+pub one_counted : (code : List Node) (line : List ℕ) (place steps steps' : ℕ) (set : List Bool) → AreSteps code line place steps → ((number : ℕ) → IsMarked set number ↔ Entered code line number place) → steps' ≡ steps + positions_among code set
+    → AreSteps code line (place + 1) steps'
+one_counted code line place steps steps' set a x e = record {
+  sets = a.sets ++ set ∷ [];
+  all = let l = length-append a.sets (set ∷ []) in omega (arith, l, a.all);
+  exact = λ p number h. elim (cases_eq p place) [
+    | inl same ↦ subst (λ s. IsMarked s number ↔ Entered code line number p) (sym (last_set a.sets set p (omega (arith, same, a.all)))) (subst (λ q. IsMarked set number ↔ Entered code line number q) (sym same) (x number))
+    | inr other ↦ let l : p < place = omega (arith, h, other) in subst (λ s. IsMarked s number ↔ Entered code line number p) (sym (front_sets a.sets (set ∷ []) p (omega (arith, l, a.all)))) (a.exact p number l)
+  ];
+  total = let m = more_positions code a.sets set in let t = a.total in omega (arith, m, t, e);
+}
+
+-- the line was searched up to a place, and no match has ended
+pub record Searched (code : List Node) (line : List ℕ) (place : ℕ) (scan : Search) : Type 0 where
+  pub now : IsReach code scan.now
+  pub next : IsSet scan.next
+  pub room : length code < length scan.next.marks.items
+  pub came : (number : ℕ) → Has scan.now number ↔ Came code line place number
+  pub none : (before : ℕ) → before < place → Entered code line (length code) before → ⊥
+  pub counted : AreSteps code line place scan.steps
+
+pub search_starts : (code : List Node) (line : List ℕ) (old : Reach) (scan : Search) → IsEmptied code old scan.now → IsSet scan.next → length code < length scan.next.marks.items → scan.steps ≡ 0 → Searched code line 0 scan
+search_starts code line old scan e r t z = record {
+  now = e.sound;
+  next = r;
+  room = t;
+  came = none_came code line scan.now e.none;
+  none = λ before h. absurd (omega (arith, h));
+  counted = subst (AreSteps code line 0) (sym z) (none_counted code line);
+}
+
+pub search_more : (code : List Node) (line : List ℕ) (place byte : ℕ) (scan new : Search) (now empty next : Reach) (found at_first : Bool) → Searched code line place scan → place < length line → byte ≡ slice_index line place → at_first ≡ (place == 0)
+    → Opens code at_first false scan.now now → IsEmptied code scan.next empty → Gains code (PassesFrom now code byte) empty next → found ≡ false → (IsTrue found ↔ Has now (length code)) → new.now ≡ next → new.next ≡ now → new.steps ≡ scan.steps + now.positions → Searched code line (place + 1) new
+search_more code line place byte scan new now empty next found at_first s h e f o m g absent test en ex es = record {
+  now = subst (IsReach code) (sym en) g.sound;
+  next = subst IsSet (sym ex) (is_set now o.sound);
+  room = let l = ap (λ r. length r.marks.items) ex in omega (arith, l, o.sound.room);
+  came = λ number. subst (λ r. Has r number ↔ Came code line (place + 1) number) (sym en) (passes_exact code line place byte now empty next here h e m.none g number);
+  none = λ before l k. elim (cases_eq before place) [
+    | inl same ↦ absurd (false≢true (sym absent ∙ test.1 ((here.exact (length code)).1 (subst (λ p. Entered code line (length code) p) same k))))
+    | inr other ↦ s.none before (omega (arith, l, other)) k
+  ];
+  counted = one_counted code line place scan.steps new.steps now.marks.items s.counted here.exact (es ∙ ap (λ p. scan.steps + p) o.sound.weighed);
+}
+  where
+    here : IsAt code line place now
+    here = opens_exact code line place at_first false scan.now now (inner line place at_first h f) s.came o
+
+pub search_found : (code : List Node) (line : List ℕ) (place : ℕ) (scan : Search) (now : Reach) (at_first at_last : Bool) → Searched code line place scan → IsPlace line place at_first at_last → Opens code at_first at_last scan.now now → Has now (length code) → EndsIn code line
+search_found code line place scan now at_first at_last s p o h = (place, p.within, ((opens_exact code line place at_first at_last scan.now now p s.came o).exact (length code)).0 h)
+
+pub search_ends : (code : List Node) (line : List ℕ) (place : ℕ) (scan : Search) (now : Reach) (at_first at_last found : Bool) → Searched code line place scan → IsPlace line place at_first at_last → place ≡ length line → Opens code at_first at_last scan.now now
+    → (IsTrue found ↔ Has now (length code)) → IsTrue found ↔ EndsIn code line
+search_ends code line place scan now at_first at_last found s p e o test = (
+  λ h. search_found code line place scan now at_first at_last s p o (test.0 h),
+  λ k. elim (cases_eq k.0 place) [
+    | inl same ↦ test.1 (((opens_exact code line place at_first at_last scan.now now p s.came o).exact (length code)).1 (subst (λ q. Entered code line (length code) q) same k.2))
+    | inr other ↦ absurd (s.none k.0 (omega (arith, k.1, e, other)) k.2)
+  ],
+)
+
+-- the last place is counted
+pub search_counted : (code : List Node) (line : List ℕ) (place steps : ℕ) (scan : Search) (now : Reach) (at_first at_last : Bool) → Searched code line place scan → IsPlace line place at_first at_last → place ≡ length line → Opens code at_first at_last scan.now now
+    → steps ≡ scan.steps + now.positions → IsStepCount code line steps
+search_counted code line place steps scan now at_first at_last s p e o es =
+    subst (λ n. AreSteps code line (n + 1) steps) e
+    (one_counted code line place scan.steps steps now.marks.items s.counted (opens_exact code line place at_first at_last scan.now now p s.came o).exact (es ∙ ap (λ q. scan.steps + q) o.sound.weighed))
+
+pub final : (line : List ℕ) (place : ℕ) (at_first : Bool) → place ≡ length line → at_first ≡ (length line == 0) → IsPlace line place at_first true
+final line place at_first h f = record {
+  within = omega (arith, h);
+  first = (λ t. h ∙ eqb-true (length line) 0 (sym f ∙ t), λ e. f ∙ eq-eqb (length line) 0 (sym h ∙ e));
+  last = (λ t. h, λ e. refl);
+}
+
+-- what a byte leads to from all that was entered at a place
+pub came_exact : (code : List Node) (line : List ℕ) (place byte : ℕ) (Now : ℕ → Type 0) → ((number : ℕ) → Now number ↔ Entered code line number place) → place < length line → byte ≡ slice_index line place
+    → (number : ℕ) → ((from : ℕ) × Now from × Passes code byte from number) ↔ Came code line (suc place) number
+came_exact code line place byte Now a h e number = (λ k. there k, λ c. back c (leads_place c.4.0 line c.2 c.0 number (suc place) c.4.2))
+  where
+    there : ((from : ℕ) × Now from × Passes code byte from number) → Came code line (suc place) number
+    there k = (place, omega arith, k.0, (a k.0).0 k.1, (Take k.2.0, k.2.1, (k.2.3, omega arith, h, subst (λ b. IsTrue (has k.2.0 b)) e k.2.2)))
+
+    back : (c : Came code line (suc place) number) → (suc place ≡ c.0) ⊎ ((suc place ≡ c.0 + 1) × (bytes : List Bool) × (c.4.0 ≡ Take bytes) × (c.0 < length line) × IsTrue (has bytes (slice_index line c.0)) × (number ≡ c.2 + 1)) → (from : ℕ) × Now from × Passes code byte from number
+    back c (inl s) = let q = c.1 in absurd (omega (arith, s, q))
+    back c (inr s) =
+        let same : c.0 ≡ place = omega (arith, s.0) in
+        (c.2, (a c.2).1 (subst (λ n. Entered code line c.2 n) same c.3), (s.1, subst (At code c.2) s.2 c.4.1, subst (λ b. IsTrue (has s.1 b)) (ap (λ n. slice_index line n) same ∙ sym e) s.4, s.5))
+
+-- one place more
+pub steps_more : (place steps count size : ℕ) → steps ≤ place * size → count ≤ size → steps + count ≤ (place + 1) * size
+steps_more place steps count size h k = let e : (place + 1) * size ≡ place * size + size = grind arith in omega (arith, h, k, e)
+
+pub steps_wider : (place most steps size : ℕ) → steps ≤ place * size → place ≤ most → steps ≤ most * size
+steps_wider place most steps size h k =
+    let e : most ≡ place + (most - place) = omega (arith, k) in
+    let f : (place + (most - place)) * size ≡ place * size + (most - place) * size = grind arith in
+    let g = ap (λ n. n * size) e in
+    omega (arith, h, f, g)
+
+-- the steps so far and those of one place more fit 128 bits
+pub steps_fit : (steps place size more : ℕ) → steps ≤ place * size → place ≤ 18446744073709551616 → size ≤ 9223372036854775808 → more ≤ 9223372036854775808 → steps + more < 340282366920938463463374607431768211456
+steps_fit steps place size more h p s m =
+    let b : place * size ≤ 18446744073709551616 * 9223372036854775808 = mul-le-mul p s in
+    omega (arith, h, b, m)

@@ -1,0 +1,259 @@
+-- The walks of a pattern's code are what it matches: each way of putting codes together.
+use Rattle.std.proofs.Common.{◌≡◌, ◌⊎◌, ◌↔◌, inl, inr, ℕ, zero, suc, ◌+◌, ◌-◌, ◌<◌, ◌≤◌, Bool, IsTrue, List, [], ◌∷◌, ◌++◌, length, slice_index, Option, Some, None, refl, sym, ap, ◌∙◌, subst, arith}
+use Rattle.std.proofs.lemmas.Bool.{cases_eq, cases_lt}
+use Rattle.std.proofs.lemmas.List.{length-append}
+use Rattle.bre_core.specs.Match.{Parts}
+use Rattle.scan_core.specs.declared.node.Node.{Node}
+use Rattle.scan_core.specs.declared.node.Node.TheVariants.{Take, First, Last, Choose, Back}
+use Rattle.scan_core.specs.Code.{At, Leads, Goes, Walks, Path, maybe, starred, up_to, copies}
+use Rattle.scan_core.proofs.Walks.{at-left, at_at, at-right, at_within, at-split, leads_shift, leads_unshift, walk-left, walk-right, walk_on, path_on, Fits, Exact, in_second, through, ended}
+
+pub exact_by : (code : List Node) (line : List ℕ) (Kind Other : ℕ → ℕ → Type 0) → Exact code line Kind → ((from to : ℕ) → Kind from to → Other from to) → ((from to : ℕ) → Other from to → Kind from to) → Exact code line Other
+exact_by code line Kind Other e there here = record {
+  fits = e.fits;
+  sound = λ from to p. there from to (e.sound from to p);
+  complete = λ from to k. e.complete from to (here from to k);
+}
+
+pub exact_none : (line : List ℕ) → Exact [] line (λ from to. from ≡ to)
+exact_none line = record {
+  fits = record { ends = λ n place n' place' g. absurd g.1; begins = λ n by h. absurd h };
+  sound = λ from to p. ended [] line p.0 0 from 0 to refl p.1;
+  complete = λ from to e. (zero, (refl, e));
+}
+
+-- a code of one node that leads to its end
+pub exact_one : (node : Node) (line : List ℕ) (Kind : ℕ → ℕ → Type 0)
+    → ((at place at' place' : ℕ) → Leads node line at place at' place' → (at' ≡ at + 1) × Kind place place')
+    → ((place place' : ℕ) → Kind place place' → Leads node line 0 place 1 place')
+    → ((by : ℕ) → node ≡ Back by → ⊥) → Exact (node ∷ []) line Kind
+exact_one node line Kind out there never = record {
+  fits = record { ends = λ n place n' place' g. ends n place n' place' g; begins = λ n by h. begins n by h };
+  sound = λ from to p. sound from to p.0 p.1;
+  complete = λ from to k. (1, (1, to, (node, refl, there from to k), (refl, refl)));
+}
+  where
+    ends : (n place n' place' : ℕ) → Goes (node ∷ []) line n place n' place' → n' ≤ 1
+    ends zero place n' place' g = let o = out 0 place n' place' (subst (λ m. Leads m line 0 place n' place') g.1 g.2) in omega (arith, o.0)
+    ends (suc n) place n' place' g = absurd g.1
+
+    begins : (n by : ℕ) → At (node ∷ []) n (Back by) → by ≤ n
+    begins zero by h = absurd (never by (sym h))
+    begins (suc n) by h = absurd h
+
+    sound : (from to count : ℕ) → Walks (node ∷ []) line count 0 from 1 to → Kind from to
+    sound from to zero w = absurd (omega (arith, w.0))
+    sound from to (suc count) w =
+        let o = out 0 from w.0 w.1 (subst (λ m. Leads m line 0 from w.0 w.1) w.2.1 w.2.2) in
+        subst (λ p. Kind from p) (ended (node ∷ []) line count w.0 w.1 1 to (omega (arith, o.0)) w.3) o.1
+
+-- one code after another
+pub exact_both : (a b : List Node) (line : List ℕ) (Kind Other : ℕ → ℕ → Type 0) → Exact a line Kind → Exact b line Other → Exact (a ++ b) line (λ from to. (middle : ℕ) × Kind from middle × Other middle to)
+exact_both a b line Kind Other e f = record {
+  fits = record { ends = λ n place n' place' g. ends n place n' place' g; begins = λ n by h. begins n by (at-split a b n (Back by) h) };
+  sound = λ from to p. let t = through a b line e.fits f.fits p.0 0 from to (omega arith) p.1 in (t.0, e.sound from t.0 t.1, f.sound t.0 to t.2);
+  complete = λ from to k. complete from to k.0 (e.complete from k.0 k.1) (f.complete k.0 to k.2);
+}
+  where
+    ends : (n place n' place' : ℕ) → Goes (a ++ b) line n place n' place' → n' ≤ length (a ++ b)
+    ends n place n' place' g = there (at-split a b n g.0 g.1)
+      where
+        there : (At a n g.0) ⊎ ((k : ℕ) × (n ≡ length a + k) × At b k g.0) → n' ≤ length (a ++ b)
+        there (inl h) = let l = length-append a b in let m = e.fits.ends n place n' place' (g.0, h, g.2) in omega (arith, l, m)
+        there (inr h) =
+            let led : Leads g.0 line (length a + h.0) place n' place' = subst (λ m. Leads g.0 line m place n' place') h.1 g.2 in
+            let moved = leads_unshift g.0 line (length a) h.0 place n' place' (λ by q. f.fits.begins h.0 by (subst (λ node. At b h.0 node) q h.2)) led in
+            let m = f.fits.ends h.0 place moved.0 place' (g.0, h.2, moved.2) in
+            let l = length-append a b in
+            omega (arith, l, m, moved.1)
+
+    begins : (n by : ℕ) → (At a n (Back by)) ⊎ ((k : ℕ) × (n ≡ length a + k) × At b k (Back by)) → by ≤ n
+    begins n by (inl h) = e.fits.begins n by h
+    begins n by (inr h) = let m = f.fits.begins h.0 by h.2 in omega (arith, m, h.1)
+
+    complete : (from to middle : ℕ) → Path a line 0 from (length a) middle → Path b line 0 middle (length b) to → Path (a ++ b) line 0 from (length (a ++ b)) to
+    complete from to middle p q =
+        let e1 : length a + length b ≡ length (a ++ b) = sym (length-append a b) in
+        let e2 : length a + 0 ≡ length a = omega arith in
+        let second : Walks (a ++ b) line q.0 (length a) middle (length (a ++ b)) to =
+        subst (λ n. Walks (a ++ b) line q.0 n middle (length (a ++ b)) to) e2 (subst (λ n. Walks (a ++ b) line q.0 (length a + 0) middle n to) e1 (walk-right a b line q.0 0 middle (length b) to q.1)) in
+        walk_on (a ++ b) line p.0 q.0 0 from (length a) middle (length (a ++ b)) to (walk-left a b line p.0 0 from (length a) middle p.1) second
+
+-- a code that may be passed by
+pub exact_maybe : (code : List Node) (line : List ℕ) (Kind : ℕ → ℕ → Type 0) → Exact code line Kind → Exact (maybe code) line (λ from to. (from ≡ to) ⊎ Kind from to)
+exact_maybe code line Kind e = record {
+  fits = record { ends = λ n place n' place' g. ends n place n' place' g; begins = λ n by h. begins n by h };
+  sound = λ from to p. sound from to p.0 p.1;
+  complete = λ from to k. complete from to k;
+}
+  where
+    ends : (n place n' place' : ℕ) → Goes (maybe code) line n place n' place' → n' ≤ length (maybe code)
+    ends zero place n' place' g = either (subst (λ m. Leads m line 0 place n' place') g.1 g.2).0
+      where
+        either : (n' ≡ 0 + 1) ⊎ (n' ≡ 0 + (length code + 1)) → n' ≤ suc (length code)
+        either (inl q) = omega (arith, q)
+        either (inr q) = omega (arith, q)
+    ends (suc n) place n' place' g =
+        let n1 : suc n ≡ 1 + n = omega arith in
+        let moved = leads_unshift g.0 line 1 n place n' place' (λ by q. e.fits.begins n by (subst (λ node. At code n node) q g.1)) (subst (λ k. Leads g.0 line k place n' place') n1 g.2) in
+        let m = e.fits.ends n place moved.0 place' (g.0, g.1, moved.2) in
+        omega (arith, m, moved.1)
+
+    begins : (n by : ℕ) → At (maybe code) n (Back by) → by ≤ n
+    begins zero by h = elim (no_back h) [ ]
+      where
+        no_back : Back by ≡ Choose (length code + 1) → ⊥
+        no_back q = cc
+    begins (suc n) by h = let m = e.fits.begins n by h in omega (arith, m)
+
+    sound : (from to count : ℕ) → Walks (maybe code) line count 0 from (suc (length code)) to → (from ≡ to) ⊎ Kind from to
+    sound from to zero w = absurd (omega (arith, w.0))
+    sound from to (suc count) w = either (subst (λ m. Leads m line 0 from w.0 w.1) w.2.1 w.2.2)
+      where
+        either : ((w.0 ≡ 0 + 1) ⊎ (w.0 ≡ 0 + (length code + 1))) × (w.1 ≡ from) → (from ≡ to) ⊎ Kind from to
+        either h = side h.0
+          where
+            side : (w.0 ≡ 0 + 1) ⊎ (w.0 ≡ 0 + (length code + 1)) → (from ≡ to) ⊎ Kind from to
+            side (inl q) =
+                let inside = in_second (Choose (length code + 1) ∷ []) code line e.fits count w.0 0 w.1 to (omega (arith, q)) w.3 in
+                inr (e.sound from to (count, subst (λ place. Walks code line count 0 place (length code) to) h.1 inside))
+            side (inr q) = inl (sym h.1 ∙ ended (maybe code) line count w.0 w.1 (suc (length code)) to (omega (arith, q)) w.3)
+
+    complete : (from to : ℕ) → (from ≡ to) ⊎ Kind from to → Path (maybe code) line 0 from (suc (length code)) to
+    complete from to (inl q) = (1, (suc (length code), from, (Choose (length code + 1), refl, (inr (omega arith), refl)), (refl, q)))
+    complete from to (inr k) =
+        let p = e.complete from to k in
+        let right = walk-right (Choose (length code + 1) ∷ []) code line p.0 0 from (length code) to p.1 in
+        let e1 : 1 + length code ≡ suc (length code) = omega arith in
+        (suc p.0, (1 + 0, from, (Choose (length code + 1), refl, (inl refl, refl)), subst (λ n. Walks (maybe code) line p.0 (1 + 0) from n to) e1 right))
+
+pub parts_first : (Kind : ℕ → ℕ → Type 0) (count from middle to : ℕ) → Kind from middle → Parts Kind count middle to → Parts Kind (suc count) from to
+parts_first Kind zero from middle to k p = (from, refl, subst (λ n. Kind from n) p k)
+parts_first Kind (suc count) from middle to k p = (p.0, parts_first Kind count from middle p.0 k p.1, p.2)
+
+pub parts_next : (Kind : ℕ → ℕ → Type 0) (count from to : ℕ) → Parts Kind (suc count) from to → (middle : ℕ) × Kind from middle × Parts Kind count middle to
+parts_next Kind zero from to p = (to, subst (λ n. Kind n to) (sym p.1) p.2, refl)
+parts_next Kind (suc count) from to p = let q = parts_next Kind count from p.0 p.1 in (q.0, q.1, (p.0, q.2, p.2))
+
+-- any number of times
+abbrev pub Often : (ℕ → ℕ → Type 0) → ℕ → ℕ → Type 0
+Often Kind from to = (count : ℕ) × Parts Kind count from to
+
+-- what walks of so many steps are, from the front of the code and from within it
+record StarHolds (code : List Node) (line : List ℕ) (Kind : ℕ → ℕ → Type 0) (count : ℕ) : Type 0 where
+  whole : (place stop : ℕ) → Walks (starred code) line count 0 place (length code + 2) stop → Often Kind place stop
+  within : (at k place stop : ℕ) → at ≡ suc k → k ≤ length code → Walks (starred code) line count at place (length code + 2) stop → (middle : ℕ) × Path code line k place (length code) middle × Often Kind middle stop
+
+star_begun : (code : List Node) (line : List ℕ) (Kind : ℕ → ℕ → Type 0) → Exact code line Kind → (count at' place' place stop : ℕ) → StarHolds code line Kind count → (at' ≡ 0 + 1) ⊎ (at' ≡ 0 + (length code + 2)) → place' ≡ place
+    → Walks (starred code) line count at' place' (length code + 2) stop → Often Kind place stop
+star_begun code line Kind e count at' place' place stop ih (inl q) same w =
+    let inside = ih.within at' 0 place' stop (omega (arith, q)) (omega arith) w in
+    let rest : Often Kind inside.0 stop = inside.2 in
+    (suc rest.0, parts_first Kind rest.0 place inside.0 stop (e.sound place inside.0 (subst (λ n. Path code line 0 n (length code) inside.0) same inside.1)) rest.1)
+star_begun code line Kind e count at' place' place stop ih (inr q) same w =
+    let l = length-append code (Back (length code + 1) ∷ []) in
+    (0, sym same ∙ ended (starred code) line count at' place' (length code + 2) stop (omega (arith, q, l)) w)
+
+star_at : (code : List Node) (line : List ℕ) (Kind : ℕ → ℕ → Type 0) → Exact code line Kind → (count k place stop : ℕ) → StarHolds code line Kind count → k ≤ length code → (at' place' : ℕ) (node : Node)
+    → (At code k node) ⊎ ((j : ℕ) × (k ≡ length code + j) × At (Back (length code + 1) ∷ []) j node) → Leads node line (suc k) place at' place' → Walks (starred code) line count at' place' (length code + 2) stop
+    → (middle : ℕ) × Path code line k place (length code) middle × Often Kind middle stop
+star_at code line Kind e count k place stop ih h at' place' node (inl here) led w =
+    let n1 : suc k ≡ 1 + k = omega arith in
+    let moved = leads_unshift node line 1 k place at' place' (λ by q. e.fits.begins k by (subst (λ n. At code k n) q here)) (subst (λ n. Leads node line n place at' place') n1 led) in
+    let fits = e.fits.ends k place moved.0 place' (node, here, moved.2) in
+    let rest = ih.within at' moved.0 place' stop (omega (arith, moved.1)) fits w in
+    (rest.0, (suc rest.1.0, (moved.0, place', (node, here, moved.2), rest.1.1)), rest.2)
+star_at code line Kind e count k place stop ih h at' place' node (inr (zero, far, last)) led w =
+    let back_led : Leads (Back (length code + 1)) line (suc k) place at' place' = subst (λ n. Leads n line (suc k) place at' place') last led in
+    let at0 : at' ≡ 0 = omega (arith, back_led.0, far) in
+    let rest = ih.whole place' stop (subst (λ n. Walks (starred code) line count n place' (length code + 2) stop) at0 w) in
+    (place', (zero, (omega (arith, far), sym back_led.1)), rest)
+star_at code line Kind e count k place stop ih h at' place' node (inr (suc j, far, last)) led w = absurd last
+
+star_holds : (code : List Node) (line : List ℕ) (Kind : ℕ → ℕ → Type 0) → Exact code line Kind → (count : ℕ) → StarHolds code line Kind count
+star_holds code line Kind e zero = record {
+  whole = λ place stop w. absurd (omega (arith, w.0));
+  within = λ at k place stop q h w. absurd (omega (arith, w.0, q, h));
+}
+star_holds code line Kind e (suc count) = let ih = star_holds code line Kind e count in record {
+  whole = λ place stop w. let led : ((w.0 ≡ 0 + 1) ⊎ (w.0 ≡ 0 + (length code + 2))) × (w.1 ≡ place) = subst (λ m. Leads m line 0 place w.0 w.1) w.2.1 w.2.2 in
+      star_begun code line Kind e count w.0 w.1 place stop ih led.0 led.1 w.3;
+  within = λ at k place stop q h w.
+      star_at code line Kind e count k place stop ih h w.0 w.1 w.2.0 (at-split code (Back (length code + 1) ∷ []) k w.2.0 (at_at (starred code) at (suc k) w.2.0 q w.2.1)) (subst (λ n. Leads w.2.0 line n place w.0 w.1) q w.2.2) w.3;
+}
+
+-- a code any number of times
+pub exact_starred : (code : List Node) (line : List ℕ) (Kind : ℕ → ℕ → Type 0) → Exact code line Kind → Exact (starred code) line (Often Kind)
+exact_starred code line Kind e = record {
+  fits = record { ends = λ n place n' place' g. ends n place n' place' g; begins = λ n by h. begins n by h };
+  sound = λ from to p. (star_holds code line Kind e p.0).whole from to (subst (λ n. Walks (starred code) line p.0 0 from n to) (sym size) p.1);
+  complete = λ from to k. complete k.0 from to k.1;
+}
+  where
+    size : length code + 2 ≡ length (starred code)
+    size = let l = length-append code (Back (length code + 1) ∷ []) in omega (arith, l)
+
+    ends : (n place n' place' : ℕ) → Goes (starred code) line n place n' place' → n' ≤ length (starred code)
+    ends zero place n' place' g = let l = length-append code (Back (length code + 1) ∷ []) in either l (subst (λ m. Leads m line 0 place n' place') g.1 g.2).0
+      where
+        either : length (code ++ Back (length code + 1) ∷ []) ≡ length code + 1 → (n' ≡ 0 + 1) ⊎ (n' ≡ 0 + (length code + 2)) → n' ≤ length (starred code)
+        either l (inl q) = omega (arith, q, l)
+        either l (inr q) = omega (arith, q, l)
+    ends (suc n) place n' place' g = there (at-split code (Back (length code + 1) ∷ []) n g.0 g.1)
+      where
+        there : (At code n g.0) ⊎ ((j : ℕ) × (n ≡ length code + j) × At (Back (length code + 1) ∷ []) j g.0) → n' ≤ length (starred code)
+        there (inl here) =
+            let l = length-append code (Back (length code + 1) ∷ []) in
+            let n1 : suc n ≡ 1 + n = omega arith in
+            let moved = leads_unshift g.0 line 1 n place n' place' (λ by q. e.fits.begins n by (subst (λ node. At code n node) q here)) (subst (λ k. Leads g.0 line k place n' place') n1 g.2) in
+            let m = e.fits.ends n place moved.0 place' (g.0, here, moved.2) in
+            omega (arith, m, moved.1, l)
+        there (inr (zero, far, last)) =
+            let l = length-append code (Back (length code + 1) ∷ []) in
+            let led : Leads (Back (length code + 1)) line (suc n) place n' place' = subst (λ m. Leads m line (suc n) place n' place') last g.2 in
+            omega (arith, led.0, far, l)
+        there (inr (suc j, far, last)) = absurd last
+
+    begins : (n by : ℕ) → At (starred code) n (Back by) → by ≤ n
+    begins zero by h = elim (no_back h) [ ]
+      where
+        no_back : Back by ≡ Choose (length code + 2) → ⊥
+        no_back q = cc
+    begins (suc n) by h = there (at-split code (Back (length code + 1) ∷ []) n (Back by) h)
+      where
+        by_of : Node → ℕ
+        by_of (Back b) = b
+        by_of (Take bytes) = 0
+        by_of First = 0
+        by_of Last = 0
+        by_of (Choose skip) = 0
+
+        there : (At code n (Back by)) ⊎ ((j : ℕ) × (n ≡ length code + j) × At (Back (length code + 1) ∷ []) j (Back by)) → by ≤ suc n
+        there (inl here) = let m = e.fits.begins n by here in omega (arith, m)
+        there (inr (zero, far, last)) = let b : by ≡ length code + 1 = cc in omega (arith, b, far)
+        there (inr (suc j, far, last)) = absurd last
+
+    around : (from to : ℕ) → Kind from to → Path (starred code) line 0 from 0 to
+    around from to k =
+        let p = e.complete from to k in
+        let inside = walk-left code (Back (length code + 1) ∷ []) line p.0 0 from (length code) to p.1 in
+        let shifted = walk-right (Choose (length code + 2) ∷ []) (code ++ Back (length code + 1) ∷ []) line p.0 0 from (length code) to inside in
+        let last : At (starred code) (1 + length code) (Back (length code + 1)) =
+        at-right (Choose (length code + 2) ∷ []) (code ++ Back (length code + 1) ∷ []) (length code) (Back (length code + 1))
+        (at_at (code ++ Back (length code + 1) ∷ []) (length code + 0) (length code) (Back (length code + 1)) (omega arith) (at-right code (Back (length code + 1) ∷ []) 0 (Back (length code + 1)) refl)) in
+        let home : Path (starred code) line (1 + length code) to 0 to = (1, (0, to, (Back (length code + 1), last, (omega arith, refl)), (refl, refl))) in
+        path_on (starred code) line 0 from (1 + 0) from 0 to
+        (1, (1 + 0, from, (Choose (length code + 2), refl, (inl refl, refl)), (refl, refl)))
+        (path_on (starred code) line (1 + 0) from (1 + length code) to 0 to (p.0, shifted) home)
+
+    loops : (count from to : ℕ) → Parts Kind count from to → Path (starred code) line 0 from 0 to
+    loops zero from to q = (0, (refl, q))
+    loops (suc count) from to q = path_on (starred code) line 0 from 0 q.0 0 to (loops count from q.0 q.1) (around q.0 to q.2)
+
+    complete : (count from to : ℕ) → Parts Kind count from to → Path (starred code) line 0 from (length (starred code)) to
+    complete count from to q =
+        path_on (starred code) line 0 from 0 to (length (starred code)) to (loops count from to q)
+        (1, (length (starred code), to, (Choose (length code + 2), refl, (inr (sym size ∙ out), refl)), (refl, refl)))
+      where
+        out : length code + 2 ≡ 0 + (length code + 2)
+        out = omega arith

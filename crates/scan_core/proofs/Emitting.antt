@@ -1,0 +1,153 @@
+-- An item that stands last, written out as often as a duplication asks for.
+use Rattle.std.proofs.Common.{◌≡◌, ℕ, zero, suc, ◌+◌, ◌-◌, ◌<◌, ◌≤◌, List, [], ◌∷◌, ◌++◌, length, set, reverse, refl, sym, ap, ◌∙◌, subst, arith, append_assoc, append-nil, add-one, length-append}
+use Rattle.std.proofs.lemmas.List.{reverse-append, length-reverse}
+use Rattle.scan_core.specs.declared.node.Node.{Node}
+use Rattle.scan_core.specs.declared.node.Node.TheVariants.{Choose, Back}
+use Rattle.scan_core.specs.Code.{copies, up_to, maybe, starred}
+use Rattle.scan_core.specs.Backwards.{stretch}
+use Rattle.scan_core.proofs.Stretches.{stretch_stays, stretch_behind, reverse-cons, reverse-copies, copies_turn}
+
+set_behind : (before rest : List Node) (node new : Node) (n : ℕ) → length before ≡ n → set (before ++ node ∷ rest) n new ≡ before ++ new ∷ rest
+set_behind [] rest node new zero e = refl
+set_behind [] rest node new (suc n) e = absurd (omega (arith, e))
+set_behind (x ∷ before) rest node new zero e = absurd (omega (arith, e))
+set_behind (x ∷ before) rest node new (suc n) e = ap (λ l. x ∷ l) (set_behind before rest node new n (omega (arith, e)))
+
+reverse-starred : (code : List Node) → reverse (starred code) ≡ (Back (length code + 1) ∷ reverse code) ++ Choose (length code + 2) ∷ []
+reverse-starred code =
+    reverse-cons (Choose (length code + 2)) (code ++ Back (length code + 1) ∷ [])
+    ∙ ap (λ l. l ++ Choose (length code + 2) ∷ []) (reverse-append code (Back (length code + 1) ∷ []))
+
+-- without a bound
+pub starred_out : (nodes marked chosen new before code : List Node) (start size low : ℕ) → length before ≡ start → nodes ≡ before ++ Back 0 ∷ reverse code → size ≡ length nodes - start - 1
+    → marked ≡ set nodes start (Back (size + 1)) → chosen ≡ marked ++ Choose (length marked - start + 1) ∷ [] → new ≡ chosen ++ copies low (stretch (start + 1) size chosen)
+    → new ≡ before ++ reverse (copies low code ++ starred code)
+starred_out nodes marked chosen new before code start size low b n s m ch e =
+    e ∙ ap (λ l. chosen ++ copies low l) here ∙ ap (λ l. l ++ copies low (reverse code)) whole
+    ∙ append_assoc before (reverse (starred code)) (copies low (reverse code))
+    ∙ ap (λ l. before ++ (reverse (starred code) ++ l)) (sym (reverse-copies low code))
+    ∙ ap (λ l. before ++ l) (sym (reverse-append (copies low code) (starred code)))
+  where
+    counted : size ≡ length code
+    counted =
+        let l = ap length n in
+        let a = length-append before (Back 0 ∷ reverse code) in
+        let r = length-reverse code in
+        omega (arith, l, a, r, b, s)
+
+    set_now : marked ≡ before ++ Back (length code + 1) ∷ reverse code
+    set_now = m ∙ ap (λ l. set l start (Back (size + 1))) n ∙ set_behind before (reverse code) (Back 0) (Back (size + 1)) start b ∙ ap (λ k. before ++ Back (k + 1) ∷ reverse code) counted
+
+    skip : length marked - start + 1 ≡ length code + 2
+    skip =
+        let l = ap length set_now in
+        let a = length-append before (Back (length code + 1) ∷ reverse code) in
+        let r = length-reverse code in
+        omega (arith, l, a, r, b)
+
+    whole : chosen ≡ before ++ reverse (starred code)
+    whole =
+        ch ∙ ap (λ l. l ++ Choose (length marked - start + 1) ∷ []) set_now ∙ ap (λ k. (before ++ Back (length code + 1) ∷ reverse code) ++ Choose k ∷ []) skip
+        ∙ append_assoc before (Back (length code + 1) ∷ reverse code) (Choose (length code + 2) ∷ [])
+        ∙ ap (λ l. before ++ l) (sym (reverse-starred code))
+
+    parted : chosen ≡ (before ++ Back (length code + 1) ∷ []) ++ (reverse code ++ Choose (length code + 2) ∷ [])
+    parted = whole ∙ ap (λ l. before ++ l) (reverse-starred code) ∙ sym (append_assoc before (Back (length code + 1) ∷ []) (reverse code ++ Choose (length code + 2) ∷ []))
+
+    here : stretch (start + 1) size chosen ≡ reverse code
+    here =
+        let a = length-append before (Back (length code + 1) ∷ []) in
+        let r = length-reverse code in
+        ap (stretch (start + 1) size) parted ∙ stretch_behind (before ++ Back (length code + 1) ∷ []) (reverse code) (Choose (length code + 2) ∷ []) (start + 1) size (omega (arith, a, b)) (omega (arith, r, counted))
+
+counted_item : (nodes before code : List Node) (start : ℕ) → length before ≡ start → nodes ≡ before ++ reverse code → length code ≡ length nodes - start
+counted_item nodes before code start b n =
+    let l = ap length n in
+    let a = length-append before (reverse code) in
+    let r = length-reverse code in
+    omega (arith, l, a, r, b)
+
+-- the item where it stands, nodes having been written after it
+item_here : (nodes more before code : List Node) (start : ℕ) → length before ≡ start → nodes ≡ before ++ reverse code → stretch start (length nodes - start) (nodes ++ more) ≡ reverse code
+item_here nodes more before code start b n =
+    let r = length-reverse code in
+    let s = counted_item nodes before code start b n in
+    ap (λ l. stretch start (length nodes - start) (l ++ more)) n ∙ ap (stretch start (length nodes - start)) (append_assoc before (reverse code) more)
+    ∙ stretch_behind before (reverse code) more start (length nodes - start) b (omega (arith, r, s))
+
+-- so many times
+pub exact_out : (nodes new before code : List Node) (start size low high : ℕ) → length before ≡ start → nodes ≡ before ++ reverse code → size ≡ length nodes - start → low ≡ high → 0 < high
+    → new ≡ nodes ++ copies (low - 1) (stretch start size nodes) → new ≡ before ++ reverse (copies low code ++ up_to (high - low) code)
+exact_out nodes new before code start size low high b n s same some e =
+    e ∙ ap (λ l. nodes ++ copies (low - 1) l) here ∙ ap (λ l. l ++ copies (low - 1) (reverse code)) n
+    ∙ append_assoc before (reverse code) (copies (low - 1) (reverse code))
+    ∙ ap (λ l. before ++ l) (copies_turn (low - 1) (reverse code))
+    ∙ ap (λ k. before ++ copies k (reverse code)) one
+    ∙ ap (λ l. before ++ l) (sym (reverse-copies low code))
+    ∙ ap (λ l. before ++ reverse l) (sym (append-nil (copies low code)))
+    ∙ ap (λ k. before ++ reverse (copies low code ++ up_to k code)) none
+  where
+    here : stretch start size nodes ≡ reverse code
+    here = ap (λ l. stretch start size l) (sym (append-nil nodes)) ∙ ap (λ k. stretch start k (nodes ++ [])) s ∙ item_here nodes [] before code start b n
+
+    one : suc (low - 1) ≡ low
+    one = omega (arith, same, some)
+
+    none : 0 ≡ high - low
+    none = omega (arith, same)
+
+-- the first optional copy
+pub optional_first : (nodes new before code : List Node) (start : ℕ) → length before ≡ start → nodes ≡ before ++ reverse code → new ≡ nodes ++ Choose (length nodes - start + 1) ∷ [] → new ≡ before ++ reverse (up_to 1 code)
+optional_first nodes new before code start b n e =
+    e ∙ ap (λ l. l ++ Choose (length nodes - start + 1) ∷ []) n ∙ ap (λ k. (before ++ reverse code) ++ Choose k ∷ []) skip
+    ∙ append_assoc before (reverse code) (Choose (length (code ++ []) + 1) ∷ [])
+    ∙ ap (λ l. before ++ (reverse l ++ Choose (length (code ++ []) + 1) ∷ [])) (sym (append-nil code))
+    ∙ ap (λ l. before ++ l) (sym (reverse-cons (Choose (length (code ++ []) + 1)) (code ++ [])))
+  where
+    skip : length nodes - start + 1 ≡ length (code ++ []) + 1
+    skip =
+        let s = counted_item nodes before code start b n in
+        let a = length-append code [] in
+        omega (arith, s, a)
+
+-- one more optional copy
+pub optional_more : (nodes now middle new more before code : List Node) (start size count : ℕ) → length before ≡ start → nodes ≡ before ++ reverse code → size ≡ length nodes - start → now ≡ nodes ++ more
+    → now ≡ before ++ reverse (up_to count code) → middle ≡ now ++ stretch start size now → new ≡ middle ++ Choose (length middle - start + 1) ∷ [] → new ≡ before ++ reverse (up_to (count + 1) code)
+optional_more nodes now middle new more before code start size count b n s g w m e =
+    e ∙ ap (λ l. l ++ Choose (length middle - start + 1) ∷ []) copied ∙ ap (λ k. (before ++ reverse (code ++ up_to count code)) ++ Choose k ∷ []) skip
+    ∙ append_assoc before (reverse (code ++ up_to count code)) (Choose (length (code ++ up_to count code) + 1) ∷ [])
+    ∙ ap (λ l. before ++ l) (sym (reverse-cons (Choose (length (code ++ up_to count code) + 1)) (code ++ up_to count code)))
+    ∙ ap (λ k. before ++ reverse (up_to k code)) (sym (add-one count))
+  where
+    here : stretch start size now ≡ reverse code
+    here = ap (λ l. stretch start size l) g ∙ ap (λ k. stretch start k (nodes ++ more)) s ∙ item_here nodes more before code start b n
+
+    copied : middle ≡ before ++ reverse (code ++ up_to count code)
+    copied =
+        m ∙ ap (λ l. now ++ l) here ∙ ap (λ l. l ++ reverse code) w ∙ append_assoc before (reverse (up_to count code)) (reverse code)
+        ∙ ap (λ l. before ++ l) (sym (reverse-append code (up_to count code)))
+
+    skip : length middle - start + 1 ≡ length (code ++ up_to count code) + 1
+    skip =
+        let l = ap length copied in
+        let a = length-append before (reverse (code ++ up_to count code)) in
+        let r = length-reverse (code ++ up_to count code) in
+        omega (arith, l, a, r, b)
+
+-- the copies that are always there, before the optional ones
+pub bounded_out : (nodes now new more before code : List Node) (start size low high count : ℕ) → length before ≡ start → nodes ≡ before ++ reverse code → size ≡ length nodes - start → now ≡ nodes ++ more
+    → now ≡ before ++ reverse (up_to count code) → count ≡ high - low → new ≡ now ++ copies low (stretch start size now) → new ≡ before ++ reverse (copies low code ++ up_to (high - low) code)
+bounded_out nodes now new more before code start size low high count b n s g w k e =
+    e ∙ ap (λ l. now ++ copies low l) here ∙ ap (λ l. l ++ copies low (reverse code)) w
+    ∙ append_assoc before (reverse (up_to count code)) (copies low (reverse code))
+    ∙ ap (λ l. before ++ (reverse (up_to count code) ++ l)) (sym (reverse-copies low code))
+    ∙ ap (λ l. before ++ l) (sym (reverse-append (copies low code) (up_to count code)))
+    ∙ ap (λ m. before ++ reverse (copies low code ++ up_to m code)) k
+  where
+    here : stretch start size now ≡ reverse code
+    here = ap (λ l. stretch start size l) g ∙ ap (λ k. stretch start k (nodes ++ more)) s ∙ item_here nodes more before code start b n
+
+-- what was written stays at the front
+pub grown_on : (nodes now middle new more first second : List Node) → now ≡ nodes ++ more → middle ≡ now ++ first → new ≡ middle ++ second → (all : List Node) × (new ≡ nodes ++ all)
+grown_on nodes now middle new more first second g m e =
+    ((more ++ first) ++ second, e ∙ ap (λ l. l ++ second) (m ∙ ap (λ l. l ++ first) g ∙ append_assoc nodes more first) ∙ append_assoc nodes (more ++ first) second)

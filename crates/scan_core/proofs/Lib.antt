@@ -1,0 +1,14 @@
+pub mod Walks
+pub mod Composed
+pub mod Codes
+pub mod Weights
+pub mod Stretches
+pub mod Emitting
+pub mod Finishing
+pub mod Compiled
+pub mod Enterings
+pub mod Spreadings
+pub mod Along
+pub mod Whole
+pub mod Inners
+pub mod Tables

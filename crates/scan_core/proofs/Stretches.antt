@@ -1,0 +1,61 @@
+-- Stretches of nodes, and their copies.
+use Rattle.std.proofs.Common.{◌≡◌, ℕ, zero, suc, ◌+◌, ◌-◌, ◌<◌, ◌≤◌, List, [], ◌∷◌, ◌++◌, length, take, drop, get_or, reverse, refl, sym, ap, ◌∙◌, subst, arith, append_assoc, append-nil, add-one, length-append, length-drop}
+use Rattle.std.proofs.lemmas.List.{take_more, get_or-drop, take-append-le, drop-append-le, reverse-append}
+use Rattle.scan_core.specs.declared.node.Node.{Node}
+use Rattle.scan_core.specs.Code.{copies, up_to, maybe}
+use Rattle.scan_core.specs.Backwards.{stretch}
+
+front_of : {X : Type 0} (xs ys : List X) (n : ℕ) (d : X) → n < length xs → get_or (xs ++ ys) n d ≡ get_or xs n d
+front_of [] ys n d h = absurd (omega (arith, h))
+front_of (x ∷ xs) ys zero d h = refl
+front_of (x ∷ xs) ys (suc n) d h = front_of xs ys n d (omega (arith, h))
+
+-- one node more of a stretch
+pub stretch_more : (old now new : List Node) (from k : ℕ) (node : Node) → now ≡ old ++ take k (drop from old) → from + k < length old → node ≡ get_or now (from + k) node → new ≡ now ++ node ∷ []
+    → new ≡ old ++ take (k + 1) (drop from old)
+stretch_more old now new from k node e h is m =
+    let here : node ≡ get_or (drop from old) k node = is ∙ ap (λ l. get_or l (from + k) node) e ∙ front_of old (take k (drop from old)) (from + k) node h ∙ sym (get_or-drop from old k node) in
+    let size = length-drop from old in
+    let more : take (k + 1) (drop from old) ≡ take k (drop from old) ++ node ∷ [] = take_more (drop from old) k node (omega (arith, size, h)) ∙ ap (λ n. take k (drop from old) ++ n ∷ []) (sym here) in
+    m ∙ ap (λ l. l ++ node ∷ []) e ∙ append_assoc old (take k (drop from old)) (node ∷ []) ∙ ap (λ l. old ++ l) (sym more)
+
+-- a stretch stays where nodes are written after it
+pub stretch_stays : (from size : ℕ) (old more : List Node) → from + size ≤ length old → stretch from size (old ++ more) ≡ stretch from size old
+stretch_stays from size old more h =
+    let l = length-drop from old in
+    ap (take size) (drop-append-le from old more (omega (arith, h))) ∙ take-append-le size (drop from old) more (omega (arith, h, l))
+
+-- one copy more
+pub copies_more : (old now new : List Node) (from size count : ℕ) → now ≡ old ++ copies count (stretch from size old) → from + size ≤ length old → new ≡ now ++ stretch from size now
+    → new ≡ old ++ copies (count + 1) (stretch from size old)
+copies_more old now new from size count e h m =
+    m ∙ ap (λ l. l ++ stretch from size l) e
+    ∙ ap (λ l. (old ++ copies count (stretch from size old)) ++ l) (stretch_stays from size old (copies count (stretch from size old)) h)
+    ∙ append_assoc old (copies count (stretch from size old)) (stretch from size old)
+    ∙ ap (λ n. old ++ copies n (stretch from size old)) (sym (add-one count))
+
+pub reverse-cons : (node : Node) (code : List Node) → reverse (node ∷ code) ≡ reverse code ++ node ∷ []
+reverse-cons node code = reverse-append (node ∷ []) code
+
+-- a copy may stand on either side of the others
+pub copies_turn : (count : ℕ) (code : List Node) → code ++ copies count code ≡ copies count code ++ code
+copies_turn zero code = append-nil code
+copies_turn (suc count) code = sym (append_assoc code (copies count code) code) ∙ ap (λ l. l ++ code) (copies_turn count code)
+
+pub reverse-copies : (count : ℕ) (code : List Node) → reverse (copies count code) ≡ copies count (reverse code)
+reverse-copies zero code = refl
+reverse-copies (suc count) code = reverse-append (copies count code) code ∙ ap (λ l. reverse code ++ l) (reverse-copies count code) ∙ copies_turn count (reverse code)
+
+-- the stretch behind a front
+pub stretch_behind : (before code more : List Node) (from size : ℕ) → length before ≡ from → length code ≡ size → stretch from size (before ++ (code ++ more)) ≡ code
+stretch_behind [] code more zero size e f = subst (λ n. take n (code ++ more) ≡ code) f (whole code more)
+  where
+    whole : (code more : List Node) → take (length code) (code ++ more) ≡ code
+    whole [] more = take-none more
+      where
+        take-none : (more : List Node) → take 0 more ≡ []
+        take-none more = refl
+    whole (node ∷ code) more = ap (λ l. node ∷ l) (whole code more)
+stretch_behind [] code more (suc from) size e f = absurd (omega (arith, e))
+stretch_behind (node ∷ before) code more zero size e f = absurd (omega (arith, e))
+stretch_behind (node ∷ before) code more (suc from) size e f = stretch_behind before code more from size (omega (arith, e)) f

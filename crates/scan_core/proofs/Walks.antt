@@ -1,0 +1,129 @@
+-- Walks over the nodes of a pattern.
+use Rattle.std.proofs.Common.{◌≡◌, ◌⊎◌, ◌↔◌, inl, inr, ℕ, zero, suc, ◌+◌, ◌-◌, ◌<◌, ◌≤◌, Bool, IsTrue, List, [], ◌∷◌, ◌++◌, length, slice_index, Option, Some, None, refl, sym, ap, ◌∙◌, subst, arith}
+use Rattle.std.proofs.lemmas.Bool.{cases_eq, cases_lt}
+use Rattle.std.proofs.lemmas.List.{length-append}
+use Rattle.bre_core.specs.Match.{Parts}
+use Rattle.scan_core.specs.declared.node.Node.{Node}
+use Rattle.scan_core.specs.declared.node.Node.TheVariants.{Take, First, Last, Choose, Back}
+use Rattle.scan_core.specs.Code.{At, Leads, Goes, Walks, Path, maybe, starred, up_to, copies}
+
+pub at-left : (a b : List Node) (n : ℕ) (node : Node) → At a n node → At (a ++ b) n node
+at-left [] b n node h = absurd h
+at-left (x ∷ a) b zero node h = h
+at-left (x ∷ a) b (suc n) node h = at-left a b n node h
+
+pub at_at : (code : List Node) (n m : ℕ) (node : Node) → n ≡ m → At code n node → At code m node
+at_at code n m node e h = subst (λ k. At code k node) e h
+
+pub at-right : (a b : List Node) (n : ℕ) (node : Node) → At b n node → At (a ++ b) (length a + n) node
+at-right [] b n node h = at_at b n (0 + n) node (omega arith) h
+at-right (x ∷ a) b n node h =
+    let e : suc (length a + n) ≡ suc (length a) + n = omega arith in
+    at_at (x ∷ (a ++ b)) (suc (length a + n)) (suc (length a) + n) node e (at-right a b n node h)
+
+pub at_within : (a : List Node) (n : ℕ) (node : Node) → At a n node → n < length a
+at_within [] n node h = absurd h
+at_within (x ∷ a) zero node h = omega arith
+at_within (x ∷ a) (suc n) node h = let l = at_within a n node h in omega (arith, l)
+
+-- a node of two parts is one of the first's or of the second's
+pub at-split : (a b : List Node) (n : ℕ) (node : Node) → At (a ++ b) n node → (At a n node) ⊎ ((k : ℕ) × (n ≡ length a + k) × At b k node)
+at-split [] b n node h = inr (n, omega arith, h)
+at-split (x ∷ a) b zero node h = inl h
+at-split (x ∷ a) b (suc n) node h = more (at-split a b n node h)
+  where
+    more : (At a n node) ⊎ ((k : ℕ) × (n ≡ length a + k) × At b k node) → (At a n node) ⊎ ((k : ℕ) × (suc n ≡ suc (length a) + k) × At b k node)
+    more (inl g) = inl g
+    more (inr g) = inr (g.0, omega (arith, g.1), g.2)
+
+-- the same step further on in a longer code
+pub leads_shift : (node : Node) (line : List ℕ) (base at place at' place' : ℕ) → Leads node line at place at' place' → Leads node line (base + at) place (base + at') place'
+leads_shift (Take bytes) line base at place at' place' h = (omega (arith, h.0), h.1, h.2, h.3)
+leads_shift First line base at place at' place' h = (omega (arith, h.0), h.1, h.2)
+leads_shift Last line base at place at' place' h = (omega (arith, h.0), h.1, h.2)
+leads_shift (Choose skip) line base at place at' place' h = (either h.0, h.1)
+  where
+    either : (at' ≡ at + 1) ⊎ (at' ≡ at + skip) → (base + at' ≡ base + at + 1) ⊎ (base + at' ≡ base + at + skip)
+    either (inl e) = inl (omega (arith, e))
+    either (inr e) = inr (omega (arith, e))
+leads_shift (Back by) line base at place at' place' h = (omega (arith, h.0), h.1)
+
+pub walk-left : (a b : List Node) (line : List ℕ) (count at place to stop : ℕ) → Walks a line count at place to stop → Walks (a ++ b) line count at place to stop
+walk-left a b line zero at place to stop w = w
+walk-left a b line (suc count) at place to stop w =
+    (w.0, w.1, (w.2.0, at-left a b at w.2.0 w.2.1, w.2.2), walk-left a b line count w.0 w.1 to stop w.3)
+
+pub walk-right : (a b : List Node) (line : List ℕ) (count at place to stop : ℕ) → Walks b line count at place to stop → Walks (a ++ b) line count (length a + at) place (length a + to) stop
+walk-right a b line zero at place to stop w = (ap (λ n. length a + n) w.0, w.1)
+walk-right a b line (suc count) at place to stop w =
+    (length a + w.0, w.1, (w.2.0, at-right a b at w.2.0 w.2.1, leads_shift w.2.0 line (length a) at place w.0 w.1 w.2.2), walk-right a b line count w.0 w.1 to stop w.3)
+
+pub walk_on : (code : List Node) (line : List ℕ) (first second at place at' place' to stop : ℕ) → Walks code line first at place at' place' → Walks code line second at' place' to stop → Path code line at place to stop
+walk_on code line zero second at place at' place' to stop v w =
+    (second, subst (λ n. Walks code line second n place to stop) (sym v.0) (subst (λ n. Walks code line second at' n to stop) (sym v.1) w))
+walk_on code line (suc first) second at place at' place' to stop v w =
+    let rest = walk_on code line first second v.0 v.1 at' place' to stop v.3 w in
+    (suc rest.0, (v.0, v.1, v.2, rest.1))
+
+pub path_on : (code : List Node) (line : List ℕ) (at place at' place' to stop : ℕ) → Path code line at place at' place' → Path code line at' place' to stop → Path code line at place to stop
+path_on code line at place at' place' to stop p q = walk_on code line p.0 q.0 at place at' place' to stop p.1 q.1
+
+-- no node leads beyond the code's end or before its front
+pub record Fits (code : List Node) (line : List ℕ) : Type 0 where
+  pub ends : (n place n' place' : ℕ) → Goes code line n place n' place' → n' ≤ length code
+  pub begins : (n by : ℕ) → At code n (Back by) → by ≤ n
+
+-- a code's walks from its front to its end are those of a kind
+pub record Exact (code : List Node) (line : List ℕ) (Kind : ℕ → ℕ → Type 0) : Type 0 where
+  pub fits : Fits code line
+  pub sound : (from to : ℕ) → Path code line 0 from (length code) to → Kind from to
+  pub complete : (from to : ℕ) → Kind from to → Path code line 0 from (length code) to
+
+pub leads_unshift : (node : Node) (line : List ℕ) (base at place at' place' : ℕ) → ((by : ℕ) → node ≡ Back by → by ≤ at) → Leads node line (base + at) place at' place' → (k : ℕ) × (at' ≡ base + k) × Leads node line at place k place'
+leads_unshift (Take bytes) line base at place at' place' b h = (at + 1, omega (arith, h.0), (refl, h.1, h.2, h.3))
+leads_unshift First line base at place at' place' b h = (at + 1, omega (arith, h.0), (refl, h.1, h.2))
+leads_unshift Last line base at place at' place' b h = (at + 1, omega (arith, h.0), (refl, h.1, h.2))
+leads_unshift (Choose skip) line base at place at' place' b h = either h.0
+  where
+    either : (at' ≡ base + at + 1) ⊎ (at' ≡ base + at + skip) → (k : ℕ) × (at' ≡ base + k) × (((k ≡ at + 1) ⊎ (k ≡ at + skip)) × (place' ≡ place))
+    either (inl e) = (at + 1, omega (arith, e), (inl refl, h.1))
+    either (inr e) = (at + skip, omega (arith, e), (inr refl, h.1))
+leads_unshift (Back by) line base at place at' place' b h =
+    let l = b by refl in
+    (at - by, omega (arith, h.0, l), (omega (arith, l), h.1))
+
+-- a walk that begins in the second of two parts stays there
+pub in_second : (a b : List Node) (line : List ℕ) → Fits b line → (count at k place stop : ℕ) → at ≡ length a + k → Walks (a ++ b) line count at place (length (a ++ b)) stop → Walks b line count k place (length b) stop
+in_second a b line f zero at k place stop e w = let l = length-append a b in (omega (arith, l, e, w.0), w.1)
+in_second a b line f (suc count) at k place stop e w = there (λ k' e'. in_second a b line f count w.0 k' w.1 stop e' w.3) (at-split a b at w.2.0 w.2.1)
+  where
+    there : ((k' : ℕ) → w.0 ≡ length a + k' → Walks b line count k' w.1 (length b) stop) → (At a at w.2.0) ⊎ ((j : ℕ) × (at ≡ length a + j) × At b j w.2.0) → Walks b line (suc count) k place (length b) stop
+    there again (inl h) = let l = at_within a at w.2.0 h in absurd (omega (arith, l, e))
+    there again (inr h) =
+        let same : h.0 ≡ k = omega (arith, e, h.1) in
+        let here : At b k w.2.0 = at_at b h.0 k w.2.0 same h.2 in
+        let led : Leads w.2.0 line (length a + k) place w.0 w.1 = subst (λ n. Leads w.2.0 line n place w.0 w.1) e w.2.2 in
+        let moved = leads_unshift w.2.0 line (length a) k place w.0 w.1 (λ by g. f.begins k by (subst (λ node. At b k node) g here)) led in
+        (moved.0, w.1, (w.2.0, here, moved.2), again moved.0 moved.1)
+
+-- a walk through two parts goes through the first and then through the second
+pub through : (a b : List Node) (line : List ℕ) → Fits a line → Fits b line → (count at place stop : ℕ) → at ≤ length a → Walks (a ++ b) line count at place (length (a ++ b)) stop
+    → (middle : ℕ) × Path a line at place (length a) middle × Path b line 0 middle (length b) stop
+through a b line f g zero at place stop h w =
+    let l = length-append a b in
+    (place, (zero, (omega (arith, l, w.0, h), refl)), (zero, (omega (arith, l, w.0, h), w.1)))
+through a b line f g (suc count) at place stop h w = elim (cases_eq at (length a)) [
+  | inl same ↦ (place, (zero, (same, refl)), (suc count, in_second a b line g (suc count) at 0 place stop (omega (arith, same)) w))
+  | inr other ↦ there (λ h'. through a b line f g count w.0 w.1 stop h' w.3) other (at-split a b at w.2.0 w.2.1)
+]
+  where
+    there : (w.0 ≤ length a → (middle : ℕ) × Path a line w.0 w.1 (length a) middle × Path b line 0 middle (length b) stop) → (at ≡ length a → ⊥) → (At a at w.2.0) ⊎ ((j : ℕ) × (at ≡ length a + j) × At b j w.2.0) → (middle : ℕ) × Path a line at place (length a) middle × Path b line 0 middle (length b) stop
+    there again other (inl here) =
+        let step : Goes a line at place w.0 w.1 = (w.2.0, here, w.2.2) in
+        let rest = again (f.ends at place w.0 w.1 step) in
+        (rest.0, (suc rest.1.0, (w.0, w.1, step, rest.1.1)), rest.2)
+    there again other (inr far) = absurd (other (omega (arith, far.1, h)))
+
+pub ended : (code : List Node) (line : List ℕ) (count at place to stop : ℕ) → at ≡ length code → Walks code line count at place to stop → place ≡ stop
+ended code line zero at place to stop e w = w.1
+ended code line (suc count) at place to stop e w = let l = at_within code at w.2.0 w.2.1 in absurd (omega (arith, l, e))

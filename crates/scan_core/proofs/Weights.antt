@@ -1,0 +1,113 @@
+-- A pattern's code has its positions.
+use Rattle.std.proofs.Common.{◌≡◌, ℕ, zero, suc, ◌+◌, ◌*◌, ◌-◌, ◌≤◌, List, [], ◌∷◌, ◌++◌, length, Option, Some, None, refl, sym, ap, ◌∙◌, arith}
+use Rattle.std.proofs.lemmas.List.{length-append}
+use Rattle.bre_core.specs.Match.{IsAtMost}
+use Rattle.bre_core.specs.Pattern.{Pattern, nothing, append, Item, set, front, end, group, repeat, repeated, positions_in, positions_in_item}
+use Rattle.scan_core.specs.declared.node.Node.{Node}
+use Rattle.scan_core.specs.declared.node.Node.TheVariants.{Take, First, Last, Choose, Back}
+use Rattle.scan_core.specs.Code.{maybe, starred, up_to, copies, tail_of, code_of, code_of_item, IsOrdered, IsOrderedItem, weight_of, weight}
+
+pub weight-append : (a b : List Node) → weight (a ++ b) ≡ weight a + weight b
+weight-append [] b = let e : weight b ≡ 0 + weight b = omega arith in e
+weight-append (node ∷ a) b = let e = weight-append a b in omega (arith, e)
+
+times_more : (n w : ℕ) → suc n * w ≡ n * w + w
+times_more n w = grind arith
+
+weight_copies : (n : ℕ) (code : List Node) → weight (copies n code) ≡ n * weight code
+weight_copies zero code = let e : 0 ≡ 0 * weight code = grind arith in e
+weight_copies (suc n) code = let a = weight-append (copies n code) code in let b = weight_copies n code in let t = times_more n (weight code) in omega (arith, a, b, t)
+
+weight_up_to : (n : ℕ) (code : List Node) → weight (up_to n code) ≡ n * weight code + n
+weight_up_to zero code = let e : 0 ≡ 0 * weight code + 0 = grind arith in e
+weight_up_to (suc n) code =
+    let a = weight-append code (up_to n code) in
+    let b = weight_up_to n code in
+    let t = times_more n (weight code) in
+    let f : 1 + weight (code ++ up_to n code) ≡ suc n * weight code + suc n = omega (arith, a, b, t) in
+    f
+
+times_sum : (a b w : ℕ) → (a + b) * w ≡ a * w + b * w
+times_sum a b w = grind arith
+
+weight_repeated : (code : List Node) (low : ℕ) (high : Option ℕ) → IsAtMost high low → weight (copies low code ++ tail_of code low high) ≡ repeated (weight code) low high
+weight_repeated code low None o =
+    let a = weight-append (copies low code) (starred code) in
+    let b = weight_copies low code in
+    let c = weight-append code (Back (length code + 1) ∷ []) in
+    let one : 1 * weight code ≡ weight code = grind arith in
+    let t = times_sum low 1 (weight code) in
+    omega (arith, a, b, c, t, one)
+weight_repeated code low (Some high) o =
+    let a = weight-append (copies low code) (up_to (high - low) code) in
+    let b = weight_copies low code in
+    let c = weight_up_to (high - low) code in
+    let t = times_sum low (high - low) (weight code) in
+    let e : low + (high - low) ≡ high = omega (arith, o) in
+    let f = ap (λ n. n * weight code) e in
+    omega (arith, a, b, c, t, f)
+
+mutual
+  pub weight_is : (pattern : Pattern) → IsOrdered pattern → weight (code_of pattern) ≡ positions_in pattern
+  weight_is nothing o = refl
+  weight_is (append pattern item) o =
+      let a = weight-append (code_of pattern) (code_of_item item) in
+      let b = weight_is pattern o.0 in
+      let c = item_weight item o.1 in
+      omega (arith, a, b, c)
+
+  item_weight : (item : Item) → IsOrderedItem item → weight (code_of_item item) ≡ positions_in_item item
+  item_weight (set bytes) o = refl
+  item_weight front o = refl
+  item_weight end o = refl
+  item_weight (group pattern) o = weight_is pattern o
+  item_weight (repeat item low high) o = weight_repeated (code_of_item item) low high o.1 ∙ ap (λ w. repeated w low high) (item_weight item o.0)
+
+-- a code has at most two nodes a position: each step back has its choice
+copies_length : (n : ℕ) (code : List Node) → length code ≤ 2 * weight code → length (copies n code) ≤ 2 * weight (copies n code)
+copies_length zero code h = omega arith
+copies_length (suc n) code h =
+    let a = weight-append (copies n code) code in
+    let l = length-append (copies n code) code in
+    let b = copies_length n code h in
+    omega (arith, a, b, l, h)
+
+up_to_length : (n : ℕ) (code : List Node) → length code ≤ 2 * weight code → length (up_to n code) ≤ 2 * weight (up_to n code)
+up_to_length zero code h = omega arith
+up_to_length (suc n) code h =
+    let a = weight-append code (up_to n code) in
+    let l = length-append code (up_to n code) in
+    let b = up_to_length n code h in
+    omega (arith, a, b, l, h)
+
+tail_length : (code : List Node) (low : ℕ) (high : Option ℕ) → length code ≤ 2 * weight code → length (tail_of code low high) ≤ 2 * weight (tail_of code low high)
+tail_length code low None h =
+    let a = weight-append code (Back (length code + 1) ∷ []) in
+    let l = length-append code (Back (length code + 1) ∷ []) in
+    omega (arith, a, l, h)
+tail_length code low (Some high) h = up_to_length (high - low) code h
+
+repeated_length : (code : List Node) (low : ℕ) (high : Option ℕ) → length code ≤ 2 * weight code → length (copies low code ++ tail_of code low high) ≤ 2 * weight (copies low code ++ tail_of code low high)
+repeated_length code low high h =
+    let a = weight-append (copies low code) (tail_of code low high) in
+    let l = length-append (copies low code) (tail_of code low high) in
+    let b = copies_length low code h in
+    let c = tail_length code low high h in
+    omega (arith, a, b, c, l)
+
+mutual
+  pub length_most : (pattern : Pattern) → length (code_of pattern) ≤ 2 * weight (code_of pattern)
+  length_most nothing = omega arith
+  length_most (append pattern item) =
+      let a = weight-append (code_of pattern) (code_of_item item) in
+      let l = length-append (code_of pattern) (code_of_item item) in
+      let b = length_most pattern in
+      let c = item_length item in
+      omega (arith, a, b, c, l)
+
+  item_length : (item : Item) → length (code_of_item item) ≤ 2 * weight (code_of_item item)
+  item_length (set bytes) = omega arith
+  item_length front = omega arith
+  item_length end = omega arith
+  item_length (group pattern) = length_most pattern
+  item_length (repeat item low high) = repeated_length (code_of_item item) low high (item_length item)

@@ -1,0 +1,15 @@
+use Rattle.std.proofs.Common.{rules, ◌≡◌, ◌<◌, [], length, refl, sym, ◌∙◌, subst}
+use Rattle.scan_core.specs.Counted.{set_at}
+use Rattle.scan_core.specs.Sets.{Loaded}
+use Rattle.scan_core.proofs.Inners.{any_default}
+use Rattle.scan_core.proofs.Tables.{fill_starts, filled_more}
+use Rattle.scan_core.proofs.build.Building.fill.Goals as goal
+
+pub loop-byte-init : goal.loop-byte-init
+loop-byte-init c =
+    let e : c.deref.result.now ≡ set_at c.args.self.now.sets.items c.args.state = (let d = any_default c.args.self.now.sets.items c.args.state c.index-set.result.now [] c.requires.state in let v = c.deref.ensures.value in let w = c.set.view_is in let i = c.index-set.ensures in cc) in
+    fill_starts c.args.nodes.now c.args.most c.args.state c.args.self.now _ c.requires.so_far c.requires.state (subst (λ s. Loaded c.args.nodes.now s c.args.self.now.now c.load.new.self) e c.load.ensures) refl refl refl
+
+pub loop-byte-preserved : goal.loop-byte-preserved
+loop-byte-preserved c =
+    filled_more c.args.nodes.now c.args.most c.args.state c.loop-byte.byte c.in_ok-read.read c.entry_of.new.self _ c.in_ok-read.ensures.filling c.loop-byte-test.true c.in_ok-read.ensures.tells refl refl refl c.in_ok-push.ensures.items

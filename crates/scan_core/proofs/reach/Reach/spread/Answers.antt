@@ -1,0 +1,21 @@
+use Rattle.std.proofs.Common.{rules, ◌≡◌, ◌<◌, ◌≤◌, length, slice_index_or, get_or, refl, sym, ◌∙◌, arith}
+use Rattle.scan_core.proofs.Enterings.{no_default, count_most}
+use Rattle.scan_core.proofs.Spreadings.{spread_starts, spread_more, spread_ends}
+use Rattle.scan_core.proofs.reach.Reach.spread.Goals as goal
+
+pub returns-then-done-self : goal.returns-then-done-self
+returns-then-done-self c = spread_ends _ _ _ _ _ _ c.loop-done.invariant c.if-done-self.true
+
+pub loop-done-preserved : goal.loop-done-preserved
+loop-done-preserved c =
+    let l = count_most c.loop-done.self c.loop-done.invariant.sound in
+    spread_more _ _ _ _ _ _ _ c.index-number.result.now c.loop-done.invariant c.if-done-self.false
+    (c.index-number.ensures ∙ no_default c.loop-done.self.list.items c.loop-done.done _ 0 (omega (arith, l, c.loop-done.invariant.sound.fits, c.if-done-self.false)))
+    c.lead.ensures
+
+pub returns : goal.returns
+returns c =
+    let l = count_most c.loop-done.self c.loop-done.invariant.sound in
+    let s = c.loop-done.invariant.size in
+    let far : length c.args.self.now.marks.items ≤ c.loop-done.done = search (rules, c.loop-done-test.false, c.len-done-end.ensures) in
+    spread_ends _ _ _ _ _ _ c.loop-done.invariant (omega (arith, l, s, far))

@@ -1,0 +1,93 @@
+-- A pattern's code: a list of nodes, each at its number. The number after the last node is the pattern's end.
+use Rattle.std.specs.Prelude.{◌≡◌, ◌⊎◌, ◌↔◌, ℕ, zero, suc, ◌+◌, ◌-◌, ◌<◌, ◌≤◌, Bool, IsTrue, List, [], ◌∷◌, ◌++◌, length, slice_index, Option, Some, None}
+use Rattle.bre_core.specs.ByteSet.{has}
+use Rattle.scan_core.specs.declared.node.Node.{Node}
+use Rattle.scan_core.specs.declared.node.Node.TheVariants.{Take, First, Last, Choose, Back}
+use Rattle.bre_core.specs.Match.{IsAtMost}
+use Rattle.bre_core.specs.Pattern.{Pattern, nothing, append, Item, set, front, end, group, repeat}
+
+-- the node at a number
+abbrev pub At : List Node → ℕ → Node → Type 0
+At [] number node = ⊥
+At (head ∷ rest) zero node = node ≡ head
+At (head ∷ rest) (suc number) node = At rest number node
+
+-- from a node entered at a place of the line another is entered
+abbrev pub Leads : Node → List ℕ → ℕ → ℕ → ℕ → ℕ → Type 0
+Leads (Take bytes) line at place at' place' = (at' ≡ at + 1) × (place' ≡ place + 1) × (place < length line) × IsTrue (has bytes (slice_index line place))
+Leads First line at place at' place' = (at' ≡ at + 1) × (place' ≡ place) × (place ≡ 0)
+Leads Last line at place at' place' = (at' ≡ at + 1) × (place' ≡ place) × (place ≡ length line)
+Leads (Choose skip) line at place at' place' = ((at' ≡ at + 1) ⊎ (at' ≡ at + skip)) × (place' ≡ place)
+Leads (Back by) line at place at' place' = (at ≡ at' + by) × (place' ≡ place)
+
+abbrev pub Goes : List Node → List ℕ → ℕ → ℕ → ℕ → ℕ → Type 0
+Goes code line at place at' place' = (node : Node) × At code at node × Leads node line at place at' place'
+
+-- so many steps
+abbrev pub Walks : List Node → List ℕ → ℕ → ℕ → ℕ → ℕ → ℕ → Type 0
+Walks code line zero at place to stop = (at ≡ to) × (place ≡ stop)
+Walks code line (suc count) at place to stop = (at' : ℕ) × (place' : ℕ) × Goes code line at place at' place' × Walks code line count at' place' to stop
+
+abbrev pub Path : List Node → List ℕ → ℕ → ℕ → ℕ → ℕ → Type 0
+Path code line at place to stop = (count : ℕ) × Walks code line count at place to stop
+
+-- the nodes of an item or none; of an item any number of times; up to so many times; so many times
+abbrev pub maybe : List Node → List Node
+maybe code = Choose (length code + 1) ∷ code
+
+abbrev pub starred : List Node → List Node
+starred code = Choose (length code + 2) ∷ (code ++ Back (length code + 1) ∷ [])
+
+abbrev pub up_to : ℕ → List Node → List Node
+up_to zero code = []
+up_to (suc count) code = maybe (code ++ up_to count code)
+
+abbrev pub copies : ℕ → List Node → List Node
+copies zero code = []
+copies (suc count) code = copies count code ++ code
+
+abbrev pub tail_of : List Node → ℕ → Option ℕ → List Node
+tail_of code low None = starred code
+tail_of code low (Some high) = up_to (high - low) code
+
+abbrev mutual
+  pub code_of : Pattern → List Node
+  code_of nothing = []
+  code_of (append pattern item) = code_of pattern ++ code_of_item item
+
+  pub code_of_item : Item → List Node
+  code_of_item (set bytes) = Take bytes ∷ []
+  code_of_item front = First ∷ []
+  code_of_item end = Last ∷ []
+  code_of_item (group pattern) = code_of pattern
+  code_of_item (repeat item low high) = copies low (code_of_item item) ++ tail_of (code_of_item item) low high
+
+-- a node is entered at a place, the search having begun at every place up to it
+abbrev pub Entered : List Node → List ℕ → ℕ → ℕ → Type 0
+Entered code line number place = (from : ℕ) × (from ≤ length line) × Path code line 0 from number place
+
+-- no duplication's least is above its most
+abbrev mutual
+  pub IsOrdered : Pattern → Type 0
+  IsOrdered nothing = Unit {0}
+  IsOrdered (append pattern item) = IsOrdered pattern × IsOrderedItem item
+
+  pub IsOrderedItem : Item → Type 0
+  IsOrderedItem (set bytes) = Unit {0}
+  IsOrderedItem front = Unit {0}
+  IsOrderedItem end = Unit {0}
+  IsOrderedItem (group pattern) = IsOrdered pattern
+  IsOrderedItem (repeat item low high) = IsOrderedItem item × IsAtMost high low
+
+-- a step back is no position, any other node is one
+abbrev pub weight_of : Node → ℕ
+weight_of (Take bytes) = 1
+weight_of First = 1
+weight_of Last = 1
+weight_of (Choose skip) = 1
+weight_of (Back by) = 0
+
+-- how many nodes are positions
+abbrev pub weight : List Node → ℕ
+weight [] = 0
+weight (node ∷ code) = weight_of node + weight code

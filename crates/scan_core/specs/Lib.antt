@@ -1,0 +1,9 @@
+pub mod Code
+pub mod Backwards
+pub mod Compiling
+pub mod Sets
+pub mod Counted
+pub mod ScanState
+pub mod Searching
+pub mod Table
+pub mod Built

@@ -1,0 +1,124 @@
+//! Patterns that are ready for matching.
+
+ghost use Rattle.std.specs.Prelude.{◌≡◌, ◌<◌, ◌≤◌, IfOk, IfErr, IfSome, IsErrOf, length};
+ghost use Rattle.bre_core.specs.Pattern.{Pattern, Reads, positions_of, depth_of};
+ghost use Rattle.bre_core.specs.Refusal.{IsOfText, IsTooLarge};
+ghost use Rattle.bre_core.specs.Search.{contains};
+ghost use Rattle.bre_core.specs.declared.fault.BreFault.TheVariants.{Memory, TooLarge};
+ghost use Rattle.scan_core.specs.Code.{code_of, IsOrdered};
+ghost use Rattle.scan_core.specs.Table.{IsOutcome};
+
+use crate::build::build;
+use crate::compile::compile;
+use crate::node::Node;
+use crate::table::Table;
+use crate::walk::{Outcome, walk};
+use bre_core::{BreFault, Expression};
+use std::alloc::Global;
+use std::marker::Model;
+
+/// A basic regular expression, with the code that lines are matched by.
+#[derive(Drop)]
+pub struct Bre {
+    expression: Expression,
+    code: Vec<Node>,
+    table: Option<Table>,
+}
+
+impl Model for Bre {
+    ghost use Rattle.std.specs.Prelude.{◌≡◌, ◌≤◌, IfSome};
+    ghost use Rattle.bre_core.specs.Code.{pattern_code};
+    ghost use Rattle.bre_core.specs.Pattern.{Pattern, positions_of};
+    ghost use Rattle.scan_core.specs.Code.{code_of, IsOrdered};
+    ghost use Rattle.scan_core.specs.Table.{IsTable};
+
+    ghost Value = { Pattern };
+
+    ghost coded = { pattern_code };
+
+    ghost view = { λ b. b.expression };
+
+    ghost invariant = { λ b. (b.code.items ≡ code_of b.expression) × IsOrdered b.expression × (positions_of b.expression ≤ 65535)
+        × IfSome b.table (IsTable b.code.items) };
+}
+
+impl Bre {
+    /// Reads a basic regular expression (POSIX.1-2017, XBD 9.3, in the POSIX locale), in one pass over the text, and makes
+    /// ready to match lines with it.
+    ///
+    /// Fails with one of the kinds `Empty` to `Class` where the text is no pattern: the first fault from left to right,
+    /// with its place. Fails with `TooLarge` where a 256th group would be open at once, or where the whole text reads and
+    /// has more than 65,535 positions, and with `Memory` where a growth is refused.
+    ///
+    /// A pattern keeps one entry for each of its tokens, of which it has no more than the text has bytes, at most two nodes
+    /// of 40 bytes for each of its positions, and where it has at most 512 nodes a table of up to 4,096 sets with 544 bytes
+    /// for each.
+    pub fn read(alloc: Global, text: &[u8]) -> Result<Bre, BreFault>
+        ensures reads { IfOk result (Reads text.now) }
+        ensures groups { IfOk result (λ bre. depth_of bre ≤ 255) }
+        ensures size { IfOk result (λ bre. positions_of bre ≤ 65535) }
+        ensures refused { IfErr result (λ fault. IsOfText fault
+            → (pattern : Pattern) → Reads text.now pattern → ⊥) }
+        ensures large { IsErrOf result TooLarge → IsTooLarge text.now }
+    {
+        let expression = Expression::read(alloc, text)?;
+        let code = compile(alloc, &expression)?;
+        let table = build(alloc, &code)?;
+        Ok(Bre {
+            expression,
+            code,
+            table,
+        })
+    }
+
+    /// How many positions the pattern has, 1 to 65,535: one for each set of bytes and each anchor, written out as often as
+    /// an interval asks for it, one for each choice that a duplication leaves, and one for the pattern's end.
+    pub fn positions(&self) -> u64
+        ensures exact { result ≡ positions_of self.now }
+        ensures most { result ≤ 65535 }
+    {
+        self.expression.positions()
+    }
+
+    /// The pattern as it was read.
+    pub(crate) fn expression(&self) -> &Expression
+        ensures { result.now ≡ self.now }
+    {
+        &self.expression
+    }
+
+    /// What a walk along a line that isn't empty tells, where the pattern's table has room for each set that it comes to.
+    pub(crate) fn walk(&self, line: &[u8]) -> Option<Outcome>
+        requires { 0 < length line.now }
+        ensures outcome { IfSome result (IsOutcome (code_of self.now) line.now) }
+        ensures order { IsOrdered self.now }
+    {
+        // A proof learns from a use of the fields that the pattern's bounds are in order.
+        let code = &self.code;
+        match &self.table {
+            Some(table) => walk(table, code, line),
+            None => None,
+        }
+    }
+
+    /// The pattern's code.
+    pub(crate) fn code(&self) -> &[Node]
+        ensures code { result.now ≡ code_of self.now }
+        ensures order { IsOrdered self.now }
+    {
+        &self.code
+    }
+}
+
+/// Whether some stretch of the line, taken without its newline, matches the pattern (XBD 9.1), found by a plain slow
+/// program: for a line of n bytes it keeps (n + 1) times (n + 1) flags for what it has gone over and for each open group,
+/// and each token takes up to n to the power of 3 steps, an interval as many times as its bound says. `Scan::matches`
+/// gives the same answer fast, and without memory.
+///
+/// Fails with `Memory` alone.
+pub fn matches_plain(alloc: Global, bre: &Bre, line: &[u8]) -> Result<bool, BreFault>
+    ensures exact { IfOk result (λ found. found ≡ contains bre.now line.now) }
+    ensures err { IfErr result (λ fault. fault ≡ Memory) }
+{
+    bre_core::matches_plain(alloc, bre.expression(), line)
+}

@@ -1,0 +1,26 @@
+//! Matching lines against basic regular expressions by sets of positions.
+//!
+//! `Bre::read` reads a pattern and compiles it to its code; `Scan::matches` says whether a line contains a match, in one
+//! pass over the line and without memory, and `Scan::steps` how many positions it entered. Contracts see a `Bre` as its tree,
+//! as those of `bre_core` do: `contains` is what matching answers. The code of a tree is `code_of` in `specs/Code`; that its
+//! end is entered exactly where the line contains a match, and that its positions are the pattern's, are laws.
+#![tactic(auto)]
+
+mod bre;
+mod build;
+mod compile;
+mod emit;
+pub mod laws;
+mod node;
+mod reach;
+mod scan;
+mod search;
+mod table;
+mod walk;
+
+pub use bre::{Bre, matches_plain};
+pub use bre_core::BreFault;
+pub use scan::Scan;
+
+#[cfg(test)]
+mod tests;

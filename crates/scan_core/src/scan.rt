@@ -1,0 +1,81 @@
+//! Matching lines against a pattern.
+
+ghost use Rattle.std.specs.Prelude.{◌≡◌, ◌≤◌, ◌+◌, ◌*◌, IsFalse, IfOk, IfErr, length};
+ghost use Rattle.bre_core.specs.Pattern.{positions_of};
+ghost use Rattle.bre_core.specs.Search.{contains};
+ghost use Rattle.bre_core.specs.declared.fault.BreFault.TheVariants.{Memory};
+ghost use Rattle.scan_core.specs.Code.{code_of};
+ghost use Rattle.scan_core.specs.Counted.{IsStepCount};
+
+use crate::bre::Bre;
+use crate::search::Search;
+use bre_core::BreFault;
+use std::alloc::Global;
+use std::marker::Model;
+
+/// Room for matching lines against patterns of so many positions.
+#[derive(Drop)]
+pub struct Scan {
+    /// How many positions there is room for.
+    positions: u64,
+    search: Search,
+}
+
+impl Model for Scan {
+    ghost use Rattle.std.specs.Prelude.{◌*◌};
+    ghost use Rattle.scan_core.specs.ScanState.{ScanState};
+    ghost use Rattle.scan_core.specs.Searching.{IsReady};
+
+    ghost Value = { ScanState };
+
+    ghost view = { λ s. record { positions = s.positions; steps = s.search.steps } };
+
+    ghost invariant = { λ s. IsReady (2 * s.positions) s.search };
+}
+
+impl Scan {
+    /// Room for patterns of as many positions as this one. It takes 18 bytes for each number of a node, of which there may
+    /// be two for each position, twice.
+    ///
+    /// Fails with `Memory` alone.
+    pub fn new(alloc: Global, bre: &Bre) -> Result<Scan, BreFault>
+        ensures positions { IfOk result (λ scan. scan.positions ≡ positions_of bre.now) }
+        ensures steps { IfOk result (λ scan. scan.steps ≡ 0) }
+        ensures err { IfErr result (λ fault. fault ≡ Memory) }
+    {
+        let positions = bre.positions();
+        let size = 2 * positions as usize;
+        let search = Search::new(alloc, size)?;
+        Ok(Scan { positions, search })
+    }
+
+    /// Whether some stretch of the line, taken without its newline, matches the pattern (XBD 9.1). The pattern has as many
+    /// positions as the one that the room was made for. It takes no memory.
+    ///
+    /// `steps` tells afterwards how many steps it took: a position that is entered at one place of the line is one step.
+    /// The search begins at every place, enters a position at most once at a place, and ends where the pattern's end is
+    /// entered; where it goes to the end of the line, it enters every position that can be entered at each place.
+    pub fn matches(&mut self, bre: &Bre, line: &[u8]) -> bool
+        requires { self.old.positions ≡ positions_of bre.now }
+        ensures exact { result ≡ contains bre.now line.now }
+        ensures counted { IsFalse result → IsStepCount (code_of bre.now) line.now self.new.steps }
+        ensures bound { self.new.steps ≤ (length line.now + 1) * positions_of bre.now }
+        ensures positions { self.new.positions ≡ self.old.positions }
+    {
+        if !line.is_empty() {
+            if let Some(outcome) = bre.walk(line) {
+                self.search.steps = outcome.steps;
+                return outcome.found;
+            }
+        }
+        let code = bre.code();
+        self.search.run(code, line)
+    }
+
+    /// The steps of the last `matches`, 0 before the first.
+    pub fn steps(&self) -> u128
+        ensures { result ≡ self.now.steps }
+    {
+        self.search.steps
+    }
+}
