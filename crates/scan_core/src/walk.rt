@@ -14,6 +14,7 @@ pub struct Outcome {
 }
 
 /// How far the bytes of the line lead from a state back to it.
+#[inline(always)]
 fn stay(rows: &[u16], line: &[u8], from: usize, state: usize) -> usize
     requires rows { state * 256 + 256 ≤ length rows.now }
     requires from { from ≤ length line.now }
@@ -31,6 +32,7 @@ fn stay(rows: &[u16], line: &[u8], from: usize, state: usize) -> usize
 }
 
 /// The positions of several places that have the same set.
+#[inline(always)]
 fn positions_of_places(positions: usize, places: usize) -> u128
     ensures { result ≡ positions * places }
 {
@@ -38,6 +40,7 @@ fn positions_of_places(positions: usize, places: usize) -> u128
 }
 
 /// The end of the stretch from a place on in which the state stays: at once the line's end where no byte can change it.
+#[inline(always)]
 fn stretch_end(table: &Table, nodes: &[Node], line: &[u8], from: usize, state: usize) -> usize
     requires table { IsTable nodes.now table.now }
     requires state { state < length table.now.states.items }
