@@ -1,12 +1,10 @@
 -- Lemmas on what one option alone asks for.
-use Rattle.std.proofs.Common.{◌≡◌, ℕ, List, [], ◌∷◌, Option, Some, None, Result, Ok, Err, Bool, true, codes, false, lit<, refl, ap, ◌∙◌, if◌then◌else◌}
+use Rattle.std.proofs.Common.{◌≡◌, ℕ, List, [], ◌∷◌, Option, Some, None, Ok, true, codes, false, lit<, refl, ap, ◌∙◌, if◌then◌else◌}
 use Rattle.seg_core.specs.Count.{count_of, digits_of, is_number}
 use Rattle.seg_core.specs.declared.count.Count.{Count}
 use Rattle.ends_core.specs.declared.unit.Unit.TheVariants as unit
 use Rattle.ports_core.specs.declared.tool.Tool.TheVariants as tool
 use Rattle.ports_core.specs.declared.alphabet.Alphabet.TheVariants as alphabet
-use Rattle.ports_core.specs.declared.fault.Fault.{Fault}
-use Rattle.ports_core.specs.declared.fault.UsageKind.{UsageKind}
 use Rattle.split_core.specs.declared.cut.Cut.TheVariants as cut
 use Rattle.words_core.specs.declared.table.Choice.{Choice}
 use Rattle.words_core.specs.declared.table.Choice.TheVariants.{Lines, Bytes, LineBytes, Files}
@@ -14,12 +12,12 @@ use Rattle.words_core.specs.declared.table.Kind.{Kind}
 use Rattle.words_core.specs.declared.table.Kind.TheVariants as kind
 use Rattle.words_core.specs.declared.settings.Headers.TheVariants as headers
 use Rattle.words_core.specs.declared.settings.Settings.TheVariants.{Head, Tail, Split}
-use Rattle.words_core.specs.declared.spelling.State.TheVariants.{First, Reading}
+use Rattle.words_core.specs.declared.spelling.State.TheVariants.{First}
 use Rattle.words_core.specs.Table.{OptionRow, ToolRow, row_named, tools}
 use Rattle.words_core.specs.Value.{Meant, Counted, as_value, counted, round_in, size_in, value_in}
 use Rattle.words_core.specs.Value as meant
-use Rattle.words_core.specs.Given.{Given, one_option}
-use Rattle.words_core.specs.Spelling.{behind, mixed, numbered, onward, spelled, valued}
+use Rattle.words_core.specs.Given.{one_option}
+use Rattle.words_core.specs.Spelling.{mixed, onward, spelled, valued}
 use Rattle.words_core.specs.EndsWords.{ten_lines}
 use Rattle.words_core.specs.SplitWords.{least_width, then_check}
 use Rattle.words_core.specs.Words.{settings_for, settings_of}

@@ -1,5 +1,5 @@
 -- Lemmas on what options ask for, one after another.
-use Rattle.std.proofs.Common.{◌≡◌, ◌≢◌, ℕ, ◌+◌, ◌≤◌, Bool, true, false, ◌||◌, arith, List, [], ◌∷◌, ◌++◌, length, Option, Some, None, Result, Ok, Err, refl, sym, ◌∙◌, ap, subst, if◌then◌else◌}
+use Rattle.std.proofs.Common.{◌≡◌, ℕ, ◌+◌, ◌≤◌, Bool, true, false, ◌||◌, arith, List, [], ◌∷◌, ◌++◌, length, Option, Some, None, Result, Ok, Err, refl, sym, ◌∙◌, ap, subst, if◌then◌else◌}
 use Rattle.std.specs.Prelude.{fold, filter, IsOk}
 use Rattle.std.specs.List.{list_any}
 use Rattle.ports_core.specs.declared.fault.Fault.{Fault}
@@ -10,8 +10,7 @@ use Rattle.words_core.specs.declared.table.Choice.{Choice}
 use Rattle.words_core.specs.declared.table.Choice.TheVariants.{Lines, Bytes, LineBytes, Files, Quiet, Verbose, SuffixLength, NumericSuffixes, HexSuffixes, ElideEmptyFiles}
 use Rattle.words_core.specs.declared.ends_words.EndsOptions.{EndsOptions}
 use Rattle.words_core.specs.declared.split_words.SplitOptions.{SplitOptions}
-use Rattle.words_core.specs.Value.{Meant, Nothing, Counted, Size, Width, Text}
-use Rattle.words_core.specs.Value as meant
+use Rattle.words_core.specs.Value.{Meant, Counted, Width}
 use Rattle.words_core.specs.Given.{GivenOption}
 use Rattle.words_core.specs.EndsWords.{ends_after, ends_by, ten_lines}
 use Rattle.words_core.specs.SplitWords.{no_options, one_way, second_way, split_after, split_by, split_options, then_check, way_in}

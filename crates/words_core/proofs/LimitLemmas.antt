@@ -1,6 +1,6 @@
 -- Whatever words spell, sizes, counts of files and widths are within their limits, and files that lines are dealt to have names.
-use Rattle.std.proofs.Common.{◌≡◌, refl, sym, ℕ, ◌+◌, ◌==◌, ◌≤◌, Bool, true, false, arith, rules, tests, List, [], ◌∷◌, ◌++◌, Option, Some, None, Result, Ok, Err, IfOk, subst, if◌then◌else◌}
-use Rattle.std.specs.Prelude.{⊤, nat_lt}
+use Rattle.std.proofs.Common.{◌≡◌, refl, ℕ, ◌+◌, ◌==◌, ◌≤◌, Bool, true, false, arith, rules, tests, List, [], ◌∷◌, ◌++◌, Option, Some, None, Result, Ok, Err, IfOk, subst, if◌then◌else◌}
+use Rattle.std.specs.Prelude.{⊤}
 use Rattle.std.proofs.lemmas.Bool.Decides.{nat_tests}
 use Rattle.seg_core.specs.Count.{count_of, digits_of, is_number}
 use Rattle.seg_core.specs.declared.count.Count.{Count}
@@ -26,11 +26,11 @@ use Rattle.words_core.specs.declared.spelling.State.TheVariants.{First, Reading,
 use Rattle.words_core.specs.declared.split_words.SplitOptions.{SplitOptions}
 use Rattle.words_core.specs.declared.split_words.Suffix.{Suffix}
 use Rattle.words_core.specs.declared.settings.Settings.{Settings}
-use Rattle.words_core.specs.Table.{OptionRow, ToolRow, option_named}
+use Rattle.words_core.specs.Table.{OptionRow, ToolRow}
 use Rattle.words_core.specs.Value.{Meant, Nothing, Counted, Size, Files, Width, Text, not_zero, some, some_amount, up_to, counted, size_in, round_in, as_value, value_in}
-use Rattle.words_core.specs.Given.{Given, GivenOption, GivenOperand, bare, joined}
+use Rattle.words_core.specs.Given.{Given, GivenOption, bare}
 use Rattle.words_core.specs.Spelling.{Meaning, Reads, before, said, valued, attached, by_letter, lettered, option_lettered, cluster, after_equals, by_name, named, dashed, mixed, foremost, meaning_of, behind, onward, spelled, start_of, given_by}
-use Rattle.words_core.specs.SplitWords.{AreNamed, CanSplit, IsInLimits, IsWidth, names_all, least_width, free, dealt, way_of, sized, way_in, second_way, with_width, split_by, split_after, split_options, no_options, suffix_for, files_in, then_check, asked_of, split_asked}
+use Rattle.words_core.specs.SplitWords.{AreNamed, CanSplit, IsInLimits, IsWidth, names_all, least_width, free, dealt, way_of, sized, way_in, second_way, with_width, split_by, split_after, split_options, no_options, suffix_for, files_in, then_check, split_asked}
 use Rattle.words_core.specs.Words.{CanRun, settings_for}
 
 -- a value, and all of them, within their limits

@@ -9,7 +9,7 @@ use Rattle.words_core.specs.declared.table.Takes.{Takes}
 use Rattle.words_core.specs.declared.table.Takes.TheVariants as takes
 use Rattle.words_core.specs.declared.spelling.State.{State}
 use Rattle.words_core.specs.declared.spelling.State.TheVariants.{First, Reading, Awaiting, OnlyOperands}
-use Rattle.words_core.specs.Table.{OptionRow, option_named}
+use Rattle.words_core.specs.Table.{OptionRow}
 use Rattle.words_core.specs.Value.{Meant, value_in}
 use Rattle.words_core.specs.Given.{Given, GivenOperand, bare, nothing, one_operand}
 use Rattle.words_core.specs.Spelling.{Meaning, after_equals, attached, before, behind, by_letter, by_name, cluster, dashed, foremost, lettered, meaning_of, mixed, named, onward, option_lettered, said, spelled, valued}

@@ -1,22 +1,19 @@
 -- Lemmas on the ways in which the value of an option is spelled.
-use Rattle.std.proofs.Common.{◌≡◌, ◌≢◌, ℕ, ◌+◌, ◌<◌, ◌==◌, nat_lt, not, Bool, true, false, ◌||◌, arith, List, [], ◌∷◌, ◌++◌, length, take, drop, Option, Some, None, Result, Ok, Err, codes, cond, refl, sym, ap, subst, ◌∙◌, if◌then◌else◌}
+use Rattle.std.proofs.Common.{◌≡◌, ◌≢◌, ℕ, ◌+◌, ◌<◌, ◌==◌, nat_lt, not, Bool, true, false, ◌||◌, arith, List, [], ◌∷◌, ◌++◌, length, take, drop, Option, Some, None, Result, Ok, cond, refl, ap, ◌∙◌, if◌then◌else◌}
 use Rattle.std.specs.List.{list_any, position_or_len, before_first, after_first}
 use Rattle.std.proofs.lemmas.Bool.Decides.{nat_tests}
 use Rattle.std.proofs.lemmas.List.{length-append}
 use Rattle.std.proofs.Math.Seq.{take-append_seam, drop-append-add, take-length}
-use Rattle.seg_core.specs.Count.{is_number}
-use Rattle.ports_core.specs.declared.fault.Fault.{Fault}
 use Rattle.ports_core.specs.declared.fault.UsageKind.{UsageKind}
 use Rattle.words_core.specs.declared.table.Choice.{Choice}
 use Rattle.words_core.specs.declared.table.Kind.{Kind}
 use Rattle.words_core.specs.declared.table.Takes.{Takes}
 use Rattle.words_core.specs.declared.table.Takes.TheVariants as takes
-use Rattle.words_core.specs.declared.spelling.State.{State}
-use Rattle.words_core.specs.declared.spelling.State.TheVariants.{First, Reading, Awaiting}
+use Rattle.words_core.specs.declared.spelling.State.TheVariants.{Reading}
 use Rattle.words_core.specs.Table.{OptionRow, option_named}
 use Rattle.words_core.specs.Value.{Meant, value_in}
-use Rattle.words_core.specs.Given.{Given, nothing, one_option}
-use Rattle.words_core.specs.Spelling.{Meaning, after_equals, awaiting, behind, cluster, dashed, first_letter, is_equals, lettered, long, mixed, named, numbered, onward, option_lettered, reading, said, spelled}
+use Rattle.words_core.specs.Given.{nothing, one_option}
+use Rattle.words_core.specs.Spelling.{after_equals, awaiting, behind, cluster, dashed, is_equals, lettered, long, mixed, named, onward, reading, said, spelled}
 use Rattle.words_core.specs.Laws.{Gives, IsLetter, IsName}
 use Rattle.words_core.proofs.SpellingLemmas.{behind-nothing}
 

@@ -1,6 +1,6 @@
 use Rattle.std.proofs.Common.{map, refl}
 use Rattle.words_core.specs.Table.{row_seen}
-use Rattle.words_core.proofs.SpellingLemmas.{one_more, none_more, lacks_value, ends_well, behind-nothing, one_place_more, takes_no_value}
+use Rattle.words_core.proofs.SpellingLemmas.{one_more, none_more, lacks_value, behind-nothing, one_place_more}
 use Rattle.words_core.proofs.spelling.read_items.Goals as goal
 
 pub loop-left-init : goal.loop-left-init

@@ -1,4 +1,3 @@
-use Rattle.std.proofs.Common.{map}
 use Rattle.words_core.specs.Table.{tool_seen}
 use Rattle.words_core.proofs.LimitLemmas.{read-can}
 use Rattle.words_core.proofs.words.read_words.Goals as goal
