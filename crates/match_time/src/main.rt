@@ -42,7 +42,9 @@ fn each_line(scan: &mut Scan, bre: &Bre, text: &[u8], is_matched: bool) -> Found
             if scan.matches(bre, line) {
                 found.lines = found.lines.wrapping_add(1);
             }
-            found.steps = found.steps.wrapping_add((scan.steps() % 4_294_967_296) as u64);
+            found.steps = found
+                .steps
+                .wrapping_add((scan.steps() % 4_294_967_296) as u64);
         } else {
             found.lines = found.lines.wrapping_add(1);
         }
@@ -98,6 +100,9 @@ fn main(rt: HostRuntime) -> io::Result<()> {
     let mut text = Vec::new(alloc);
     rt.stdin().read_to_end(&mut text)?;
     let best = best_of_rounds(&rt, &mut scan, &bre, &text)?;
-    println!(rt; "{} {} {} {}", best.plain, best.matched, best.found.lines, best.found.steps)?;
+    println!(rt;
+        "{} {} {} {}",
+        best.plain, best.matched, best.found.lines, best.found.steps
+    )?;
     Ok(())
 }
