@@ -100,6 +100,9 @@ mod tests {
         }
     }
 
+    /// Longer than the first room for a word.
+    const LONG: &[u8] = &[b'a'; 1000];
+
     fn refuses(rt: &impl Abort, alloc: Global, words: &[&[u8]], place: usize) {
         match read_args(&Args { words }, alloc) {
             Ok(_) => assert!(rt; false),
@@ -109,14 +112,17 @@ mod tests {
 
     #[test]
     fn reads_words(rt: HostRuntime) -> Result<(), Fail> {
-        let long = [b'a'; 1000];
-        let words: [&[u8]; 4] = [b"cutters", b"head", b"", &long];
-        match read_args(&Args { words: &words }, rt.alloc()) {
+        match read_args(
+            &Args {
+                words: &[b"cutters", b"head", b"", LONG],
+            },
+            rt.alloc(),
+        ) {
             Ok(found) => {
                 assert_eq!(rt; found.len(), 3);
                 assert_eq!(rt; found[0].as_str(), "head");
                 assert_eq!(rt; found[1].as_str(), "");
-                assert_eq!(rt; found[2].as_bytes(), long.as_slice());
+                assert_eq!(rt; found[2].as_bytes(), LONG);
             }
             Err(fault) => assert!(rt; false, "{fault:?}"),
         }
