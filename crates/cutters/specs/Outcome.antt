@@ -1,16 +1,15 @@
 -- What a whole run does, by its words.
 use Rattle.std.specs.Prelude.{◌≡◌, ℕ, Bool, List, [], ◌∷◌, Option, Some, None, Result, Ok, Err, slice_index_or}
 use Rattle.ports_core.specs.Slot.{Slot}
-use Rattle.ports_core.specs.Source.{Content}
+use Rattle.ports_core.specs.Source.{Source}
 use Rattle.ports_core.specs.Text.{message_of}
 use Rattle.ports_core.specs.Message.{Says}
 use Rattle.ports_core.specs.declared.tool.Tool.{Tool}
 use Rattle.ports_core.specs.declared.tool.Tool.TheVariants as tool
 use Rattle.ports_core.specs.declared.fault.Fault.{Fault}
 use Rattle.ports_core.specs.declared.fault.Fault.TheVariants.{Memory, Write, Read, Open, Suffixes, NoMatch, Range, Usage, Failed, TooLong}
-use Rattle.run_core.specs.Feeding.{ReadsFor}
 use Rattle.run_core.specs.Input.{Input}
-use Rattle.run_core.specs.RunEnds.{EndsAs, standard_error, streams_with, largest_piece}
+use Rattle.run_core.specs.RunEnds.{RunsAs, standard_error, streams_with}
 use Rattle.words_core.specs.declared.settings.Settings.{Settings}
 use Rattle.words_core.specs.Words.{tool_named, settings_of}
 use Rattle.cutters.specs.Tasks.{task_of, names_of}
@@ -44,13 +43,13 @@ pub record Refuses (told : Bool) (tool : Tool) (text : List ℕ) (new : List Slo
   pub slots : new ≡ streams_with error
   pub failed : status ≡ 1
 
-abbrev pub RunEndsAt : Bool → List (List ℕ) → List Input → List Slot → ℕ → Result Settings Fault → Type 0
-RunEndsAt told words inputs new status (Ok settings) = EndsAs told (task_of settings) inputs new status
-RunEndsAt told words inputs new status (Err fault) = Refuses told (speaker words) (message_of (speaker words) fault (word_of words fault)) new status
+abbrev pub RunEndsAt : Bool → Bool → List (List ℕ) → List Input → List Source → List Slot → ℕ → Result Settings Fault → Type 0
+RunEndsAt told_in told words inputs sources new status (Ok settings) = RunsAs told_in told (task_of settings) (names_of settings) inputs sources new status
+RunEndsAt told_in told words inputs sources new status (Err fault) = Refuses told (speaker words) (message_of (speaker words) fault (word_of words fault)) new status
 
--- a run of these words on these inputs left the outputs so, and returned this status
-abbrev pub RunEnds : Bool → List (List ℕ) → List Input → List Slot → ℕ → Type 0
-RunEnds told words inputs new status = RunEndsAt told words inputs new status (settings_of words)
+-- a run of these words on these inputs left inputs and outputs so, and returned this status
+abbrev pub RunEnds : Bool → Bool → List (List ℕ) → List Input → List Source → List Slot → ℕ → Type 0
+RunEnds told_in told words inputs sources new status = RunEndsAt told_in told words inputs sources new status (settings_of words)
 
 -- the names that these words read
 abbrev pub names_at : Result Settings Fault → List (List ℕ)
@@ -59,15 +58,6 @@ names_at (Err fault) = []
 
 abbrev pub names_read : List (List ℕ) → List (List ℕ)
 names_read words = names_at (settings_of words)
-
--- what is read of standard input: nothing for words that are refused; else pieces of at most 65,536 bytes, and none once the output
--- is complete
-abbrev pub ReadsAt : Result Settings Fault → Content → Content → Type 0
-ReadsAt (Ok settings) there left = ReadsFor (task_of settings).work.is_complete largest_piece there left
-ReadsAt (Err fault) there left = left ≡ there
-
-abbrev pub Reads : List (List ℕ) → Content → Content → Type 0
-Reads words there left = ReadsAt (settings_of words) there left
 
 -- the words ask for nothing
 abbrev pub AreNone : List (List ℕ) → Type 0

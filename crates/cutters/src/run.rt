@@ -1,12 +1,11 @@
 //! One whole run: from words and inputs to outputs and a status.
-ghost use Rattle.std.specs.Prelude.{◌≡◌, true, false, map};
+ghost use Rattle.std.specs.Prelude.{◌≡◌, false, map};
 ghost use Rattle.ports_core.specs.Slot.{streams};
 ghost use Rattle.ports_core.specs.Source.{source_at, IsFresh};
-ghost use Rattle.run_core.specs.Feeding.{ReadsFor};
 ghost use Rattle.run_core.specs.Input.{has_dash};
-ghost use Rattle.run_core.specs.RunEnds.{EndsAs, RunsOver, largest_piece};
+ghost use Rattle.run_core.specs.RunEnds.{RunsAs, RunsOver};
 ghost use Rattle.run_core.specs.RunSteps.{world_of};
-ghost use Rattle.cutters.specs.Outcome.{AreNone, Reads, RunEnds, names_read, speaker, word_of};
+ghost use Rattle.cutters.specs.Outcome.{AreNone, RunEnds, names_read, speaker, word_of};
 ghost use Rattle.cutters.specs.Tasks.{names_of, task_of};
 ghost use Rattle.words_core.specs.Words.{CanRun};
 
@@ -23,10 +22,9 @@ pub fn run<I: Inputs, O: Outs>(alloc: Global, words: &[&str], inputs: &mut I, ou
     requires inputs { IsFresh (I.sources inputs.old) }
     requires outputs { O.slots outs.old ≡ streams }
     ensures ends { RunsOver I.told (world_of (I.laid inputs.old) (I.sources inputs.old)) (names_read (map (λ word. word.now) words.now))
-        (λ found. RunEnds O.told (map (λ word. word.now) words.now) found (O.slots outs.new) result) }
+        (λ found. RunEnds I.told O.told (map (λ word. word.now) words.now) found (I.sources inputs.new) (O.slots outs.new) result) }
     ensures unopened { AreNone (map (λ word. word.now) words.now) → I.sources inputs.new ≡ I.sources inputs.old }
     ensures untouched { has_dash (names_read (map (λ word. word.now) words.now)) ≡ false → source_at (I.sources inputs.new) 0 ≡ source_at (I.sources inputs.old) 0 }
-    ensures reads { I.told ≡ true → Reads (map (λ word. word.now) words.now) (source_at (I.sources inputs.old) 0).left (source_at (I.sources inputs.new) 0).left }
 {
     match read_words(alloc, words) {
         Ok(settings) => run_tool(alloc, &settings, inputs, outs),
@@ -47,9 +45,8 @@ fn run_tool<I: Inputs, O: Outs>(
     requires outputs { O.slots outs.old ≡ streams }
     requires can { CanRun settings.now }
     ensures ends { RunsOver I.told (world_of (I.laid inputs.old) (I.sources inputs.old)) (names_of settings.now)
-        (λ found. EndsAs O.told (task_of settings.now) found (O.slots outs.new) result) }
+        (λ found. RunsAs I.told O.told (task_of settings.now) (names_of settings.now) found (I.sources inputs.new) (O.slots outs.new) result) }
     ensures untouched { has_dash (names_of settings.now) ≡ false → source_at (I.sources inputs.new) 0 ≡ source_at (I.sources inputs.old) 0 }
-    ensures reads { I.told ≡ true → ReadsFor (task_of settings.now).work.is_complete largest_piece (source_at (I.sources inputs.old) 0).left (source_at (I.sources inputs.new) 0).left }
 {
     match settings {
         Settings::Head(settings) => run_inputs(

@@ -4,7 +4,7 @@ use Rattle.std.proofs.lemmas.List.{append-nil, take-append-drop}
 use Rattle.std.proofs.lemmas.Bool.{false≢true}
 use Rattle.ports_core.specs.Slot.{Slot, changed_at}
 use Rattle.ports_core.specs.Source.{Content, Source, source_at, is_readable, gives, fails, without, Gave, BrokeOff}
-use Rattle.ports_core.specs.Part.{OutputsAt}
+use Rattle.ports_core.specs.Part.{Part, OutputsAt}
 use Rattle.ports_core.specs.Swept.{Swept}
 use Rattle.ports_core.specs.Work.{Work, Means, Needs, IsLawful, IsComplete, Judges, IsSettled}
 use Rattle.ports_core.specs.Engine.{StandsAt, TakesIn, PutsOut, CutsOff, Finishes, EndsShort, EndsWith, EndsThere, IsCaused, IsMet, Ended, is_verdict, KeepsOwn, Clears}
@@ -15,7 +15,7 @@ use Rattle.ports_core.proofs.SlotLemmas.{length-changed_at}
 use Rattle.run_core.specs.declared.feeding.Fed.{Fed}
 use Rattle.run_core.specs.declared.feeding.Fed.TheVariants.{Whole, Enough, Broken}
 use Rattle.run_core.specs.Input.{empty}
-use Rattle.run_core.specs.Feeding.{IsLong, Stops, HasAll, to_end, enough, feeding, closing, FedAs, whole, had_enough, broke_off, judged, stopped, OfContent, KeepsOthers, IsNeeded, ReadsFor, EndsSo, finished, fell_short}
+use Rattle.run_core.specs.Feeding.{BreaksOnly, Step, Stops, HasAll, to_end, enough, IsCall, call_of, feeds, closes, FedAs, whole, had_enough, broke_off, judged, stopped, OfContent, KeepsOthers, IsNeeded, ReadsFor, EndsSo, finished, fell_short}
 
 -- what was read of the input with this number so far, and what is left of it
 pub record HasRead (content : Content) (x : List ℕ) (slot : ℕ) (sources : List Source) : Type 0 where
@@ -55,7 +55,7 @@ keeps_again slot old mid new first second = record {
 }
 
 -- an input that can be read is there
-readable_within : (sources : List Source) (slot : ℕ) → IsTrue (is_readable sources slot) → slot < length sources
+pub readable_within : (sources : List Source) (slot : ℕ) → IsTrue (is_readable sources slot) → slot < length sources
 readable_within [] slot can = absurd (false≢true can)
 readable_within (source ∷ sources) zero can = omega arith
 readable_within (source ∷ sources) (suc slot) can = let within : slot < length sources = readable_within sources slot can in omega arith
@@ -79,15 +79,15 @@ read_more content x slot sources new old_buffer buffer size n read can gave is =
     }
 
 -- why an engine that is live is stopped
-stops : (work : Work) (content : Content) (most : ℕ) (needs : Needs) (Lacks : Type 0) (Ends : Fault → Type 0) (fault : Fault) (taken size : ℕ) (old new : List Slot) → is_verdict fault ≡ false → (2 ^ 63 ≤ taken + size → IsLong work.is_complete most content.bytes)
-    → IsCaused (IsMet work.means needs Lacks Ends old new) false taken size old new fault → Stops work most (Some content) new fault
-stops work content most needs Lacks Ends _ taken size old new is long (engine.over is_over kept) = absurd (false≢true is_over)
-stops work content most needs Lacks Ends _ taken size old new is long (engine.long live many kept) = long many
-stops work content most needs Lacks Ends fault taken size old new is long (engine.met _ live why) = by_why fault is why where
-  by_why : (fault : Fault) → is_verdict fault ≡ false → IsMet work.means needs Lacks Ends old new fault → Stops work most (Some content) new fault
-  by_why Memory is why = tt
-  by_why (Write slot) is why = (why.1, why.2.1)
-  by_why (Open slot) is why = why.0
+stops : (work : Work) (read : List ℕ) (low high : Part) (needs : Needs) (Lacks : Type 0) (Ends : Fault → Type 0) (fault : Fault) (taken size : ℕ) (old new : List Slot) → is_verdict fault ≡ false → (2 ^ 63 ≤ taken + size → 2 ^ 63 ≤ length read)
+    → IsCaused (IsMet work.means needs Lacks Ends old new) false taken size old new fault → Stops (call_of work needs read low high) new fault
+stops work read low high needs Lacks Ends _ taken size old new is long (engine.over is_over kept) = absurd (false≢true is_over)
+stops work read low high needs Lacks Ends _ taken size old new is long (engine.long live many kept) = long many
+stops work read low high needs Lacks Ends fault taken size old new is long (engine.met _ live why) = by_why fault is why where
+  by_why : (fault : Fault) → is_verdict fault ≡ false → IsMet work.means needs Lacks Ends old new fault → Stops (call_of work needs read low high) new fault
+  by_why Memory is why = why.0
+  by_why (Write slot) is why = (why.0, why.1, why.2.1)
+  by_why (Open slot) is why = (why.0, why.1)
   by_why TooLong is why = absurd why
   by_why Suffixes is why = absurd (false≢true (sym is))
   by_why Failed is why = absurd why
@@ -125,13 +125,13 @@ or_complete breaks true is = either_way breaks where
 or_complete breaks false is = absurd (false≢true is)
 
 -- what a fault left within an input, and what was made of its files then
-short_of_piece : (told : Bool) (most : ℕ) (work : Work) (content : Content) (x piece rest : List ℕ) (reached new before : List Slot) (fault : Fault) → IsLawful work → content.bytes ≡ (x ++ piece) ++ rest → length piece ≤ most → work.is_complete x ≡ false
+short_of_piece : (told : Bool) (opening : Needs) (most : ℕ) (work : Work) (content : Content) (WasRead : List ℕ → Type 0) (x piece rest : List ℕ) (reached new before : List Slot) (fault : Fault) → IsLawful work → content.bytes ≡ (x ++ piece) ++ rest → length piece ≤ most → work.is_complete x ≡ false → WasRead (x ++ piece)
     → Ended told before (work.settled x) (work.settled (x ++ piece)) work.clears fault reached
-    → (is_verdict fault ≡ false → Stops work most (Some content) reached fault) → (is_verdict fault ≡ true → IsSettled work (x ++ piece) fault)
-    → (is_verdict fault ≡ true → new ≡ reached) → (is_verdict fault ≡ false → Swept work.clears (length before) reached new) → FedAs told before work most content new (Err fault)
-short_of_piece told most work content x piece rest reached new before fault lawful is within going (engine.cut unjudged stop) why settles kept swept =
-    stopped fault unjudged _ _ (feeding x piece rest is within going) reached (why unjudged) stop (swept unjudged)
-short_of_piece told most work content x piece rest reached new before fault lawful is within going (engine.judged judging first at cleared) why settles kept swept =
+    → (is_verdict fault ≡ false → Stops (call_of work work.means.feeding (x ++ piece) (work.settled x) (work.settled (x ++ piece))) reached fault) → (is_verdict fault ≡ true → IsSettled work (x ++ piece) fault)
+    → (is_verdict fault ≡ true → new ≡ reached) → (is_verdict fault ≡ false → Swept work.clears (length before) reached new) → FedAs told before work opening most content WasRead new (Err fault)
+short_of_piece told opening most work content WasRead x piece rest reached new before fault lawful is within going read (engine.cut unjudged stop) why settles kept swept =
+    stopped fault unjudged _ (feeds x piece rest is within going) read reached (why unjudged) stop (swept unjudged)
+short_of_piece told opening most work content WasRead x piece rest reached new before fault lawful is within going read (engine.judged judging first at cleared) why settles kept swept =
     let stays : IsComplete work (x ++ piece) rest = lawful.stays (x ++ piece) rest (settles judging).0 in
     judged fault judging (or_complete content.breaks_off _ (ap work.is_complete is ∙ stays.still)) (ap work.verdict is ∙ stays.verdict_stays ∙ (settles judging).1) first
     (subst (λ part. OutputsAt told before part first) (sym stays.whole_stays ∙ ap work.whole (sym is)) at)
@@ -154,33 +154,33 @@ whole_at work x rest lawful done =
     let there : IsComplete work x rest = lawful.stays x rest done in
     there.whole_stays ∙ sym here.whole_stays ∙ ap work.whole (append-nil x)
 
-fed_all : (told : Bool) (most : ℕ) (work : Work) (content : Content) (x : List ℕ) (new before : List Slot) (fed : Fed) → IsLawful work → HasGot work content x fed → work.verdict x ≡ None → OutputsAt told before (work.whole x) new → FedAs told before work most content new (Ok fed)
-fed_all told most work content x new before Whole lawful got well at =
+fed_all : (told : Bool) (opening : Needs) (most : ℕ) (work : Work) (content : Content) (WasRead : List ℕ → Type 0) (x : List ℕ) (new before : List Slot) (fed : Fed) → IsLawful work → HasGot work content x fed → work.verdict x ≡ None → OutputsAt told before (work.whole x) new → FedAs told before work opening most content WasRead new (Ok fed)
+fed_all told opening most work content WasRead x new before Whole lawful got well at =
     whole got.0 (ap work.is_complete got.2 ∙ got.1) (ap work.verdict got.2 ∙ well) (subst (λ bytes. OutputsAt told before (work.whole bytes) new) (sym got.2) at)
-fed_all told most work content x new before Enough lawful got well at =
+fed_all told opening most work content WasRead x new before Enough lawful got well at =
     let stays : IsComplete work x got.1.0 = lawful.stays x got.1.0 got.0 in
     had_enough (ap work.is_complete got.1.1 ∙ stays.still) (ap work.verdict got.1.1 ∙ stays.verdict_stays ∙ well)
     (subst (λ part. OutputsAt told before part new) (sym (ap work.whole got.1.1 ∙ whole_at work x got.1.0 lawful got.0)) at)
-fed_all told most work content x new before Broken lawful got well at = absurd got
+fed_all told opening most work content WasRead x new before Broken lawful got well at = absurd got
 
-judged_all : (told : Bool) (most : ℕ) (work : Work) (content : Content) (x : List ℕ) (reached new before : List Slot) (fed : Fed) (fault : Fault) → is_verdict fault ≡ true → IsLawful work → HasGot work content x fed → Judges work x fault → OutputsAt told before (work.whole x) reached → Swept work.clears (length before) reached new → FedAs told before work most content new (Err fault)
-judged_all told most work content x reached new before Whole fault judging lawful got verdict at swept =
+judged_all : (told : Bool) (opening : Needs) (most : ℕ) (work : Work) (content : Content) (WasRead : List ℕ → Type 0) (x : List ℕ) (reached new before : List Slot) (fed : Fed) (fault : Fault) → is_verdict fault ≡ true → IsLawful work → HasGot work content x fed → Judges work x fault → OutputsAt told before (work.whole x) reached → Swept work.clears (length before) reached new → FedAs told before work opening most content WasRead new (Err fault)
+judged_all told opening most work content WasRead x reached new before Whole fault judging lawful got verdict at swept =
     judged fault judging (ends_whole content.breaks_off _ got.0) (ap work.verdict got.2 ∙ verdict) reached (subst (λ bytes. OutputsAt told before (work.whole bytes) reached) (sym got.2) at) swept
-judged_all told most work content x reached new before Enough fault judging lawful got verdict at swept =
+judged_all told opening most work content WasRead x reached new before Enough fault judging lawful got verdict at swept =
     let stays : IsComplete work x got.1.0 = lawful.stays x got.1.0 got.0 in
     judged fault judging (or_complete content.breaks_off _ (ap work.is_complete got.1.1 ∙ stays.still)) (ap work.verdict got.1.1 ∙ stays.verdict_stays ∙ verdict) reached
     (subst (λ part. OutputsAt told before part reached) (sym (ap work.whole got.1.1 ∙ whole_at work x got.1.0 lawful got.0)) at) swept
-judged_all told most work content x reached new before Broken fault judging lawful got verdict at swept = absurd got
+judged_all told opening most work content WasRead x reached new before Broken fault judging lawful got verdict at swept = absurd got
 
 -- what a fault left at the end, and what was made of its files then
-short_of_end : (told : Bool) (most : ℕ) (work : Work) (content : Content) (x : List ℕ) (reached new before : List Slot) (fed : Fed) (fault : Fault) → IsLawful work → HasGot work content x fed
+short_of_end : (told : Bool) (opening : Needs) (most : ℕ) (work : Work) (content : Content) (WasRead : List ℕ → Type 0) (x : List ℕ) (reached new before : List Slot) (fed : Fed) (fault : Fault) → IsLawful work → HasGot work content x fed → WasRead x
     → Ended told before (work.settled x) (work.whole x) work.clears fault reached
-    → (is_verdict fault ≡ false → Stops work most (Some content) reached fault) → (is_verdict fault ≡ true → Judges work x fault)
-    → (is_verdict fault ≡ true → new ≡ reached) → (is_verdict fault ≡ false → Swept work.clears (length before) reached new) → FedAs told before work most content new (Err fault)
-short_of_end told most work content x reached new before fed fault lawful got (engine.cut unjudged stop) why verdict kept swept =
-    stopped fault unjudged _ _ (closing x (got_all work content x fed got)) reached (why unjudged) stop (swept unjudged)
-short_of_end told most work content x reached new before fed fault lawful got (engine.judged judging first at cleared) why verdict kept swept =
-    judged_all told most work content x first new before fed fault judging lawful got (verdict judging) at (subst (λ those. Swept work.clears (length before) first those) (sym (kept judging)) cleared)
+    → (is_verdict fault ≡ false → Stops (call_of work work.means.closing x (work.settled x) (work.whole x)) reached fault) → (is_verdict fault ≡ true → Judges work x fault)
+    → (is_verdict fault ≡ true → new ≡ reached) → (is_verdict fault ≡ false → Swept work.clears (length before) reached new) → FedAs told before work opening most content WasRead new (Err fault)
+short_of_end told opening most work content WasRead x reached new before fed fault lawful got read (engine.cut unjudged stop) why verdict kept swept =
+    stopped fault unjudged _ (closes x (got_all work content x fed got)) read reached (why unjudged) stop (swept unjudged)
+short_of_end told opening most work content WasRead x reached new before fed fault lawful got read (engine.judged judging first at cleared) why verdict kept swept =
+    judged_all told opening most work content WasRead x first new before fed fault judging lawful got (verdict judging) at (subst (λ those. Swept work.clears (length before) first those) (sym (kept judging)) cleared)
 
 module _ {E : Type 0} (Holds : E → List ℕ → Type 0) (Owns : E → ℕ → List Slot → Type 0) (work : E → Work) (is_over : E → Bool) (fed_of : E → ℕ) where
   -- the loop has fed the engine x
@@ -213,54 +213,51 @@ module _ {E : Type 0} (Holds : E → List ℕ → Type 0) (Owns : E → ℕ → 
     pub counts : (e : E) (x : List ℕ) → Holds e x → fed_of e ≡ length x
     pub lawful : (e : E) → IsLawful (work e)
 
-  long_here : (now : E) (most : ℕ) (content : Content) (x piece rest : List ℕ) → content.bytes ≡ (x ++ piece) ++ rest → length piece ≤ most → (work now).is_complete x ≡ false → 2 ^ 63 ≤ length x + length piece → IsLong (work now).is_complete most content.bytes
-  long_here now most content x piece rest is within going long = record { before = x; piece = piece; rest = rest; cut = is; within = within; going = going; long = let size : length (x ++ piece) ≡ length x + length piece = length-append x piece in omega (arith, long) }
-
   -- the loop ended at a fault of the engine, within the input
-  pub stopped_feeding : (laws : Laws) (told : Bool) (most : ℕ) (lack : Type 0) (start now next : E) (content : Content) (x piece rest : List ℕ) (old mid reached new before : List Slot) (fault : Fault) → Feeds told start now x old mid → Owns start (length before) old → OutputsAt told before ((work start).settled []) old
-      → content.bytes ≡ (x ++ piece) ++ rest → length piece ≤ most → (work now).is_complete x ≡ false → CutsOff Holds Owns work now piece told mid reached fault
+  pub stopped_feeding : (laws : Laws) (told : Bool) (opening : Needs) (most : ℕ) (lack : Type 0) (start now next : E) (content : Content) (WasRead : List ℕ → Type 0) (x piece rest : List ℕ) (old mid reached new before : List Slot) (fault : Fault) → Feeds told start now x old mid → Owns start (length before) old → OutputsAt told before ((work start).settled []) old
+      → content.bytes ≡ (x ++ piece) ++ rest → length piece ≤ most → (work now).is_complete x ≡ false → WasRead (x ++ piece) → CutsOff Holds Owns work now piece told mid reached fault
       → IsCaused (IsMet (work now).means (work now).means.feeding lack (EndsWith Holds work now piece) mid reached) (is_over now) (fed_of now) (length piece) mid reached fault
       → work next ≡ work now → (is_verdict fault ≡ false → KeepsOwn Owns now next mid reached) → (is_verdict fault ≡ true → new ≡ reached) → (is_verdict fault ≡ false → Clears Owns work next reached new)
-      → FedAs told before (work start) most content new (Err fault)
-  stopped_feeding laws told most lack start now next content x piece rest old mid reached new before fault so_far own at is within going cuts caused same owned kept cleared =
+      → FedAs told before (work start) opening most content WasRead new (Err fault)
+  stopped_feeding laws told opening most lack start now next content WasRead x piece rest old mid reached new before fault so_far own at is within going read cuts caused same owned kept cleared =
       let why = subst (λ n. IsCaused (IsMet (work now).means (work now).means.feeding lack (EndsWith Holds work now piece) mid reached) false n (length piece) mid reached fault) (laws.counts now x so_far.holds)
       (subst (λ over. IsCaused (IsMet (work now).means (work now).means.feeding lack (EndsWith Holds work now piece) mid reached) over (fed_of now) (length piece) mid reached fault) (laws.live now x so_far.holds) caused) in
-      subst (λ (those : Work). FedAs told before those most content new (Err fault)) so_far.same
-      (short_of_piece told most (work now) content x piece rest reached new before fault (laws.lawful now) is within going (cuts before x (stands told start now x old mid before so_far own at))
-      (λ unjudged. stops (work now) content most (work now).means.feeding lack (EndsWith Holds work now piece) fault (length x) (length piece) mid reached unjudged (long_here now most content x piece rest is within going) why)
+      subst (λ (those : Work). FedAs told before those opening most content WasRead new (Err fault)) so_far.same
+      (short_of_piece told opening most (work now) content WasRead x piece rest reached new before fault (laws.lawful now) is within going read (cuts before x (stands told start now x old mid before so_far own at))
+      (λ unjudged. stops (work now) (x ++ piece) ((work now).settled x) ((work now).settled (x ++ piece)) (work now).means.feeding lack (EndsWith Holds work now piece) fault (length x) (length piece) mid reached unjudged (λ long. let size : length (x ++ piece) ≡ length x + length piece = length-append x piece in omega (arith, long)) why)
       (λ judging. judges (work now).means (work now).means.feeding lack (EndsWith Holds work now piece) fault _ _ _ mid reached judging caused x so_far.holds)
       kept
       (λ unjudged. subst (λ (those : Work). Swept those.clears (length before) reached new) same (cleared unjudged (length before) (owned unjudged (length before) (so_far.owns (length before) own)))))
 
   -- the loop ended with the input, or where nothing more can follow
-  pub ended : (laws : Laws) (told : Bool) (most : ℕ) (start now : E) (content : Content) (x : List ℕ) (old mid new before : List Slot) (fed : Fed) (result : Result Fed Fault) → Feeds told start now x old mid → Owns start (length before) old → OutputsAt told before ((work start).settled []) old → HasGot (work now) content x fed
-      → EndsSo Holds Owns work is_over fed_of told now fed mid new result → FedAs told before (work start) most content new result
-  ended laws told most start now content x old mid new before fed result so_far own at got (finished finishes) =
+  pub ended : (laws : Laws) (told : Bool) (opening : Needs) (most : ℕ) (start now : E) (content : Content) (WasRead : List ℕ → Type 0) (x : List ℕ) (old mid new before : List Slot) (fed : Fed) (result : Result Fed Fault) → Feeds told start now x old mid → Owns start (length before) old → OutputsAt told before ((work start).settled []) old → HasGot (work now) content x fed → WasRead x
+      → EndsSo Holds Owns work is_over fed_of told now fed mid new result → FedAs told before (work start) opening most content WasRead new result
+  ended laws told opening most start now content WasRead x old mid new before fed result so_far own at got read (finished finishes) =
       let done = finishes before x (stands told start now x old mid before so_far own at) in
-      subst (λ (those : Work). FedAs told before those most content new (Ok fed)) so_far.same (fed_all told most (work now) content x new before fed (laws.lawful now) got done.0 done.1)
-  ended laws told most start now content x old mid new before fed result so_far own at got (fell_short fault reached short caused kept cleared) =
+      subst (λ (those : Work). FedAs told before those opening most content WasRead new (Ok fed)) so_far.same (fed_all told opening most (work now) content WasRead x new before fed (laws.lawful now) got done.0 done.1)
+  ended laws told opening most start now content WasRead x old mid new before fed result so_far own at got read (fell_short fault reached short caused kept cleared) =
       let why = subst (λ over. IsCaused (IsMet (work now).means (work now).means.closing (Unit {0}) (EndsThere Holds work now) mid reached) over (fed_of now) 0 mid reached fault) (laws.live now x so_far.holds) caused in
-      subst (λ (those : Work). FedAs told before those most content new (Err fault)) so_far.same
-      (short_of_end told most (work now) content x reached new before fed fault (laws.lawful now) got (short before x (stands told start now x old mid before so_far own at))
-      (λ unjudged. stops (work now) content most (work now).means.closing (Unit {0}) (EndsThere Holds work now) fault (fed_of now) 0 mid reached unjudged (λ long. absurd (let bound : fed_of now < 2 ^ 63 = so_far.bound in omega (arith, bound, long))) why)
+      subst (λ (those : Work). FedAs told before those opening most content WasRead new (Err fault)) so_far.same
+      (short_of_end told opening most (work now) content WasRead x reached new before fed fault (laws.lawful now) got read (short before x (stands told start now x old mid before so_far own at))
+      (λ unjudged. stops (work now) x ((work now).settled x) ((work now).whole x) (work now).means.closing (Unit {0}) (EndsThere Holds work now) fault (fed_of now) 0 mid reached unjudged (λ long. absurd (let bound : fed_of now < 2 ^ 63 = so_far.bound in omega (arith, bound, long))) why)
       (λ judging. judges (work now).means (work now).means.closing (Unit {0}) (EndsThere Holds work now) fault _ _ _ mid reached judging caused x so_far.holds)
       kept
       (λ unjudged. cleared unjudged (length before) (so_far.owns (length before) own)))
 
   -- the loop ended where the input broke off
-  pub broken_off : (told : Bool) (most : ℕ) (start now : E) (content : Content) (x : List ℕ) (old slots new before : List Slot) → Feeds told start now x old slots → Owns start (length before) old → OutputsAt told before ((work start).settled []) old → content.bytes ≡ x → content.breaks_off ≡ true → (work now).is_complete x ≡ false
-      → Clears Owns work now slots new → FedAs told before (work start) most content new (Ok Broken)
-  broken_off told most start now content x old slots new before so_far own at all breaks going cleared =
-      subst (λ (those : Work). FedAs told before those most content new (Ok Broken)) so_far.same
+  pub broken_off : (told : Bool) (opening : Needs) (most : ℕ) (start now : E) (content : Content) (WasRead : List ℕ → Type 0) (x : List ℕ) (old slots new before : List Slot) → Feeds told start now x old slots → Owns start (length before) old → OutputsAt told before ((work start).settled []) old → content.bytes ≡ x → content.breaks_off ≡ true → (work now).is_complete x ≡ false
+      → Clears Owns work now slots new → FedAs told before (work start) opening most content WasRead new (Ok Broken)
+  broken_off told opening most start now content WasRead x old slots new before so_far own at all breaks going cleared =
+      subst (λ (those : Work). FedAs told before those opening most content WasRead new (Ok Broken)) so_far.same
       (broke_off breaks (ap (work now).is_complete all ∙ going) slots
       (subst (λ bytes. OutputsAt told before ((work now).settled bytes) slots) (sym all) (so_far.outputs before own at))
       (cleared (length before) (so_far.owns (length before) own)))
 
   -- an input without bytes: the engine is closed at once
-  pub closed_at_start : (laws : Laws) (told : Bool) (most : ℕ) (start : E) (old new before : List Slot) (fed : Fed) (result : Result Fed Fault) → Holds start [] → fed_of start < 2 ^ 63 → Owns start (length before) old → OutputsAt told before ((work start).settled []) old → HasGot (work start) empty [] fed
-      → EndsSo Holds Owns work is_over fed_of told start fed old new result → FedAs told before (work start) most empty new result
-  closed_at_start laws told most start old new before fed result holds bound own at got ends =
-      ended laws told most start start empty [] old old new before fed result (begins told start old holds bound) own at got ends
+  pub closed_at_start : (laws : Laws) (told : Bool) (opening : Needs) (most : ℕ) (start : E) (old new before : List Slot) (fed : Fed) (result : Result Fed Fault) → Holds start [] → fed_of start < 2 ^ 63 → Owns start (length before) old → OutputsAt told before ((work start).settled []) old → HasGot (work start) empty [] fed
+      → EndsSo Holds Owns work is_over fed_of told start fed old new result → FedAs told before (work start) opening most empty (λ read. Unit {0}) new result
+  closed_at_start laws told opening most start old new before fed result holds bound own at got ends =
+      ended laws told opening most start start empty (λ read. Unit {0}) [] old old new before fed result (begins told start old holds bound) own at got tt ends
 
   -- an input that ended, or was enough, didn't break off
   pub ends_sound : (told : Bool) (engine : E) (fed : Fed) (old new : List Slot) (result : Result Fed Fault) (P : Type 0) → (fed ≡ Broken → ⊥) → EndsSo Holds Owns work is_over fed_of told engine fed old new result → IfOk result (λ found. found ≡ Broken → P)
@@ -281,9 +278,9 @@ read_to_end content x slot sources read none sound = (sym read.breaks_off ∙ so
 pub read_broken : (content : Content) (x : List ℕ) (slot : ℕ) (sources : List Source) → HasRead content x slot sources → BrokeOff (source_at sources slot).left → (content.bytes ≡ x) × (content.breaks_off ≡ true)
 read_broken content x slot sources read broke = (read.bytes ∙ ap (λ rest. x ++ rest) broke.no_more ∙ append-nil x, sym read.breaks_off ∙ broke.breaks_off)
 
-pub of_content : (told : Bool) (there seen : Content) (P : Content → Type 0) → (told ≡ true → P there) → P seen → OfContent told there P
-of_content true there seen P told untold = (there, λ t. refl, told refl)
-of_content false there seen P told untold = (seen, λ t. absurd (false≢true t), untold)
+pub of_content : (told : Bool) (there seen : Content) (source : Source) (P : Content → Type 0) → (told ≡ true → P there) → (told ≡ false → P seen) → (seen.breaks_off ≡ true → source.is_broken ≡ true) → OfContent told there (λ content. P content × BreaksOnly told content source)
+of_content true there seen source P told untold broke = (there, λ t. refl, (told refl, λ differs. absurd (false≢true (sym differs))))
+of_content false there seen source P told untold broke = (seen, λ t. absurd (false≢true t), (untold refl, λ _. broke))
 
 -- what was read was needed
 
@@ -301,21 +298,14 @@ read_failed content x slot sources new size read can is =
     read.bytes ∙ ap (λ (left : Content). x ++ left.bytes)
     (sym (ap (λ those. (source_at those slot).left) is ∙ ap (λ (source : Source). source.left) (changed_there _ slot (fails size) sources (readable_within sources slot can))))
 
+-- the read that told the end took nothing
+pub read_none_more : (content : Content) (x : List ℕ) (slot : ℕ) (sources new : List Source) (size n : ℕ) → HasRead content x slot sources → IsTrue (is_readable sources slot) → n ≡ 0 → new ≡ changed_at slot (gives size n) sources → content.bytes ≡ x ++ (source_at new slot).left.bytes
+read_none_more content x slot sources new size n read can none is =
+    read.bytes ∙ ap (λ (left : Content). x ++ left.bytes) (sym (ap (λ (source : Source). source.left) (left_after slot sources new size n can is) ∙ ap (λ (k : ℕ). without k (source_at sources slot).left) none))
+
 -- nothing was read
 pub reads_none : (is_complete : List ℕ → Bool) (most : ℕ) (there left : Content) → left ≡ there → ReadsFor is_complete most there left
 reads_none is_complete most there left is = ([], needed_none is_complete most, ap (λ (content : Content). content.bytes) (sym is))
-
--- the same by what another test says of the same bytes
-pub reads_as : (one other : List ℕ → Bool) (most : ℕ) (there left : Content) → ((x : List ℕ) → one x ≡ other x) → ReadsFor one most there left → ReadsFor other most there left
-reads_as one other most there left same (x, inl none, is) = (x, inl none, is)
-reads_as one other most there left same (x, inr (before, piece, cut, within, going), is) = (x, inr (before, piece, cut, within, sym (same before) ∙ going), is)
-
--- the same by another name for the greatest piece
-pub reads_room : (is_complete : List ℕ → Bool) (room most : ℕ) (there left : Content) → room ≡ most → ReadsFor is_complete room there left → ReadsFor is_complete most there left
-reads_room is_complete room most there left same reads = subst (λ n. ReadsFor is_complete n there left) same reads
-
-pub content_too : (told : Bool) (there : Content) (P Q : Content → Type 0) → ((content : Content) → P content → Q content) → OfContent told there P → OfContent told there Q
-content_too told there P Q also (content, is, holds) = (content, is, also content holds)
 
 greater : (a b most : ℕ) → a ≤ most → b ≤ most → max a b ≤ most
 greater a b most first second = omega (arith, first, second)
@@ -334,5 +324,5 @@ pub broken_now : (slot size : ℕ) (sources new : List Source) → IsTrue (is_re
 broken_now slot size sources new can is = ap (λ (source : Source). source.is_broken) (failed_at slot size sources new can is)
 
 -- the same of the fault that is handed on
-pub given_so : (told : Bool) (before new : List Slot) (work : Work) (most : ℕ) (content : Content) (given fault : Fault) → given ≡ fault → FedAs told before work most content new (Err fault) → FedAs told before work most content new (Err given)
-given_so told before new work most content given fault is fed = subst (λ those. FedAs told before work most content new (Err those)) (sym is) fed
+pub given_so : (told : Bool) (before new : List Slot) (work : Work) (opening : Needs) (most : ℕ) (content : Content) (WasRead : List ℕ → Type 0) (given fault : Fault) → given ≡ fault → FedAs told before work opening most content WasRead new (Err fault) → FedAs told before work opening most content WasRead new (Err given)
+given_so told before new work opening most content WasRead given fault is fed = subst (λ those. FedAs told before work opening most content WasRead new (Err those)) (sym is) fed

@@ -1,12 +1,12 @@
 -- Lemmas on one input of a run.
-use Rattle.std.proofs.Common.{arith, ◌≡◌, ℕ, ◌≤◌, Bool, true, false, not, ◌&&◌, ◌||◌, IsTrue, if◌then◌else◌, List, [], ◌∷◌, length, take, Option, Some, None, Result, Ok, Err, refl, sym, ◌∙◌, ap, subst}
+use Rattle.std.proofs.Common.{arith, ◌≡◌, ℕ, ◌<◌, ◌≤◌, Bool, true, false, not, ◌&&◌, ◌||◌, IsTrue, if◌then◌else◌, List, [], ◌∷◌, length, take, Option, Some, None, Result, Ok, Err, refl, sym, ◌∙◌, ap, subst}
 use Rattle.std.proofs.lemmas.Bool.{false≢true}
 use Rattle.ports_core.specs.Slot.{Slot, is_open, slot_at, is_writable, told_of, with_written}
 use Rattle.ports_core.specs.Write.{BrokeAfter}
 use Rattle.ports_core.specs.Source.{Content, Source, source_at}
 use Rattle.ports_core.specs.Part.{Part, nothing, only_out, OutputsAt, StoppedBetween}
 use Rattle.ports_core.specs.Swept.{Swept}
-use Rattle.ports_core.specs.Work.{Work}
+use Rattle.ports_core.specs.Work.{Work, Needs}
 use Rattle.ports_core.specs.Engine.{is_verdict}
 use Rattle.ports_core.specs.Text.{message_of}
 use Rattle.ports_core.specs.Message.{SaysOn}
@@ -19,12 +19,13 @@ use Rattle.ports_core.proofs.SlotLemmas.{with_written-nil, length-changed_at}
 use Rattle.run_core.specs.declared.inputs.Progress.{Progress}
 use Rattle.run_core.specs.declared.feeding.Fed.{Fed}
 use Rattle.run_core.specs.declared.feeding.Fed.TheVariants.{Whole, Enough, Broken}
-use Rattle.run_core.specs.Feeding.{is_enough, Stops, opening, FedAs, whole, had_enough, broke_off, judged, stopped, OfContent, ReadsFor}
+use Rattle.run_core.specs.Feeding.{is_enough, Step, Stops, opens, BreaksOnly, FedAs, whole, had_enough, broke_off, judged, stopped, LeavesOf, OfContent, ReadsFor}
 use Rattle.run_core.specs.Input.{empty}
-use Rattle.run_core.specs.RunEnds.{standard_output, streams_with, heading, calling}
-use Rattle.run_core.specs.RunSteps.{HeaderFails, no_room, broke, TookInput, took, cut_off, OfSource, Opens, OpensShort, KeepsOther, ReadsSource}
+use Rattle.run_core.specs.Reading.{IsDone, Leaves}
+use Rattle.run_core.specs.RunEnds.{standard_output, streams_with, heading, calling, step_after}
+use Rattle.run_core.specs.RunSteps.{HeaderFails, no_room, broke, TookInput, took, cut_off, OfSource, Opens, OpensShort, KeepsOther}
 use Rattle.run_core.specs.Task.{Task, Outcome, after_part, header_text, verdict_messages, is_given, of_content}
-use Rattle.run_core.proofs.FeedingLemmas.{reads_none}
+use Rattle.run_core.proofs.ReadingLemmas.{left_of}
 use Rattle.run_core.proofs.JoinedLemmas.{begins_on, after_assoc, out_on, at_after, stop_after, none_to_sweep}
 use Rattle.run_core.proofs.StopLemmas.{said_swept}
 
@@ -68,17 +69,13 @@ headed_count told text old mid wrote = ap length wrote ∙ length-changed_at 0 _
 
 -- the source of an input
 
-pub of_source_too : (told : Bool) (source : Option ℕ) (sources : List Source) (P Q : Content → Type 0) → ((content : Content) → P content → Q content) → OfSource told source sources P → OfSource told source sources Q
-of_source_too told None sources P Q more holds = more _ holds
-of_source_too told (Some slot) sources P Q more (content, there, holds) = (content, there, more content holds)
+pub of_source_too : (told : Bool) (source : Option ℕ) (sources : List Source) (A B Q : Content → Type 0) → ((content : Content) → A content → B content → Q content) → OfSource told source sources (λ content. A content × B content) → OfSource told source sources Q
+of_source_too told None sources A B Q more (one, two) = more _ one two
+of_source_too told (Some slot) sources A B Q more (content, there, both) = (content, there, more content both.0 both.1)
 
-pub any_source : (told : Bool) (source : Option ℕ) (sources : List Source) (P : Content → Type 0) → ((content : Content) → P content) → OfSource told source sources P
-any_source told None sources P holds = holds _
-any_source told (Some slot) sources P holds = ((source_at sources slot).left, λ t. refl, holds _)
-
-pub from_source : (told : Bool) (source : Option ℕ) (sources : List Source) (P : Content → Type 0) (Q : Type 0) → ((content : Content) → P content → Q) → OfSource told source sources P → Q
-from_source told None sources P Q more holds = more _ holds
-from_source told (Some slot) sources P Q more (content, there, holds) = more content holds
+pub from_source : (told : Bool) (source : Option ℕ) (sources : List Source) (A B : Content → Type 0) (Q : Type 0) → ((content : Content) → A content → B content → Q) → OfSource told source sources (λ content. A content × B content) → Q
+from_source told None sources A B Q more (one, two) = more _ one two
+from_source told (Some slot) sources A B Q more (content, there, both) = more content both.0 both.1
 
 -- tests
 
@@ -150,72 +147,88 @@ made_short task is_first name content short =
 still_writable : (told : Bool) (old : List Slot) (bytes : List ℕ) → IsTrue (is_writable old 0) → IsTrue (is_writable (with_written 0 (told_of told bytes) old) 0)
 still_writable told old bytes can = writable-written old 0 0 (told_of told bytes) ∙ can
 
-pub stopped_in_header : (told : Bool) (task : Task) (most : ℕ) (is_first : Bool) (name : List ℕ) (content : Option Content) (outcome : Outcome) (progress : Progress) (was_read : Bool) (so_far : Part) (error : Slot) (old new : List Slot) (fault : Fault) → OutputsAt told (streams_with error) so_far old
-    → HeaderFails told (header_text task.with_header is_first name) old new fault → TookInput told task most outcome (header_text task.with_header is_first name) content progress was_read so_far error (length old) new (Err fault)
-stopped_in_header told task most is_first name content outcome progress was_read so_far error old new fault at (no_room is) =
-    cut_off Memory so_far (after_part so_far (only_out (header_text task.with_header is_first name))) new (heading content) tt
-    (stopped_here told (streams_with error) so_far _ Memory old new at (begins_on so_far _) is tt)
+pub stopped_in_header : (told_in told : Bool) (task : Task) (most : ℕ) (is_first : Bool) (name : List ℕ) (source : Option ℕ) (content : Content) (outcome : Outcome) (progress : Progress) (was_read : Bool) (so_far : Part) (error : Slot) (sources : List Source) (old new : List Slot) (fault : Fault) → task.with_header ≡ true → Leaves told_in content source sources []
+    → OutputsAt told (streams_with error) so_far old → HeaderFails told (header_text task.with_header is_first name) old new fault
+    → TookInput told_in told task most outcome (header_text task.with_header is_first name) source (Some content) progress was_read so_far error (length old) sources new (Err fault)
+stopped_in_header told_in told task most is_first name source content outcome progress was_read so_far error sources old new fault due unread at (no_room is) =
+    cut_off Memory _ new (heading content due unread) refl
+    (stopped_here told (streams_with error) so_far (after_part so_far (only_out (header_text task.with_header is_first name))) Memory old new at (begins_on so_far _) is tt)
     (none_to_sweep task.work.clears (length old) new (omega (arith, ap length is)))
-stopped_in_header told task most is_first name content outcome progress was_read so_far error old new fault at (broke n after) =
+stopped_in_header told_in told task most is_first name source content outcome progress was_read so_far error sources old new fault due unread at (broke n after) =
     let text = header_text task.with_header is_first name in
     let count : length new ≡ length old = ap length after.slots ∙ length-changed_at 0 _ _ ∙ length-changed_at 0 _ old in
-    cut_off (Write 0) so_far (after_part so_far (only_out text)) new (heading content)
-    (λ alone. refl, ap (λ those. (slot_at those 0).is_broken) after.slots ∙ broken_at 0 _ (still_writable told old (take n text) (part_writable told error so_far old at)))
+    cut_off (Write 0) _ new (heading content due unread)
+    (λ _. refl, λ alone. refl, ap (λ those. (slot_at those 0).is_broken) after.slots ∙ broken_at 0 _ (still_writable told old (take n text) (part_writable told error so_far old at)))
     (subst (λ high. StoppedBetween told (streams_with error) so_far high (Write 0) new) (out_on so_far text) (out_cut told (streams_with error) so_far old new text n at after))
     (none_to_sweep task.work.clears (length old) new (omega (arith, count)))
 
+-- what stopped a call stopped the same after what was written before
+stops_after : (first : Part) (call : Step) (now : List Slot) (fault : Fault) → Stops call now fault → Stops (step_after first call) now fault
+stops_after first call now Memory why = why
+stops_after first call now (Write slot) why = why
+stops_after first call now (Open slot) why = why
+stops_after first call now TooLong why = why
+stops_after first call now (Read slot) why = why
+stops_after first call now Suffixes why = why
+stops_after first call now (NoMatch operand repetition) why = why
+stops_after first call now (Range operand repetition) why = why
+stops_after first call now (Usage kind word) why = why
+stops_after first call now Failed why = why
+
 -- the engine's part of an input, after the header
-module _ (told : Bool) (task : Task) (most : ℕ) (is_first : Bool) (name : List ℕ) (progress : Progress) (so_far : Part) (error : Slot) (count : ℕ) (mid : List Slot) (counted : length mid ≡ count) (streams_there : 2 ≤ count)
+module _ (told_in told : Bool) (task : Task) (most : ℕ) (is_first : Bool) (name : List ℕ) (progress : Progress) (so_far : Part) (error : Slot) (count : ℕ) (source : Option ℕ) (sources : List Source) (mid : List Slot) (counted : length mid ≡ count) (streams_there : 2 ≤ count)
     (at : OutputsAt told (streams_with error) (after_part so_far (only_out (header_text task.with_header is_first name))) mid) where
   abbrev pub TookSo : Content → List Slot → Result Progress Fault → Type 0
-  TookSo content new result = TookInput told task most (of_content task is_first name (Some content)) (header_text task.with_header is_first name) (Some content) progress progress.was_read so_far error count new result
+  TookSo content new result = TookInput told_in told task most (of_content task is_first name (Some content)) (header_text task.with_header is_first name) source (Some content) progress progress.was_read so_far error count sources new result
 
   part_after : (error_now : Slot) (part : Part) (reached : List Slot) → OutputsAt told (streams_with error_now) (after_part (after_part so_far (only_out (header_text task.with_header is_first name))) part) reached
       → OutputsAt told (streams_with error_now) (after_part so_far (after_part (only_out (header_text task.with_header is_first name)) part)) reached
   part_after error_now part reached there = subst (λ those. OutputsAt told (streams_with error_now) those reached) (after_assoc so_far (only_out (header_text task.with_header is_first name)) part) there
 
   -- it went well
-  went_well : (content : Content) (new : List Slot) → is_enough task.work content ≡ true → task.work.verdict content.bytes ≡ None → OutputsAt told mid (task.work.whole content.bytes) new → TookSo content new (Ok (record progress { is_first = false }))
-  went_well content new enough well there =
-      subst (λ outcome. TookInput told task most outcome (header_text task.with_header is_first name) (Some content) progress progress.was_read so_far error count new (Ok (record progress { is_first = false }))) (sym (made_well task is_first name content enough well))
+  went_well : (content : Content) (new : List Slot) → IsDone told_in task.work.is_complete most source (Some content) sources → is_enough task.work content ≡ true → task.work.verdict content.bytes ≡ None → OutputsAt told mid (task.work.whole content.bytes) new → TookSo content new (Ok (record progress { is_first = false }))
+  went_well content new done enough well there =
+      subst (λ outcome. TookInput told_in told task most outcome (header_text task.with_header is_first name) source (Some content) progress progress.was_read so_far error count sources new (Ok (record progress { is_first = false }))) (sym (made_well task is_first name content enough well))
       (took (record progress { is_first = false }) error new
       (ap (λ (b : Bool). record { was_read = progress.was_read; is_first = b; failed = progress.failed }) (sym (and_false progress.is_first)) ∙ ap (λ (b : Bool). record { was_read = progress.was_read; is_first = progress.is_first && false; failed = b }) (sym (or_false progress.failed)))
-      refl (part_after error _ new (at_after told (streams_with error) _ _ mid new at there)) refl)
+      done refl (part_after error _ new (at_after told (streams_with error) _ _ mid new at there)) refl)
 
   -- a message is due
-  went_badly : (content : Content) (part : Part) (text : List ℕ) (reached old new : List Slot)
+  went_badly : (content : Content) (part : Part) (text : List ℕ) (reached old new : List Slot) → IsDone told_in task.work.is_complete most source (Some content) sources
       → of_content task is_first name (Some content) ≡ record { part = after_part (only_out (header_text task.with_header is_first name)) part; messages = text ∷ []; failed = true; sweeps = task.work.clears }
       → OutputsAt told mid part reached → Swept task.work.clears (length mid) reached old → SaysOn told task.tool text old new → TookSo content new (Ok (record progress { is_first = false; failed = true }))
-  went_badly content part text reached old new made there swept says =
+  went_badly content part text reached old new done made there swept says =
       let said = said_swept told task.tool text task.work.clears standard_output error _ reached old new count streams_there (at_after told (streams_with error) _ part mid reached at there) (subst (λ n. Swept task.work.clears n reached old) counted swept) says in
-      subst (λ outcome. TookInput told task most outcome (header_text task.with_header is_first name) (Some content) progress progress.was_read so_far error count new (Ok (record progress { is_first = false; failed = true }))) (sym made)
+      subst (λ outcome. TookInput told_in told task most outcome (header_text task.with_header is_first name) source (Some content) progress progress.was_read so_far error count sources new (Ok (record progress { is_first = false; failed = true }))) (sym made)
       (took (record progress { is_first = false; failed = true }) said.0 said.2.0
       (ap (λ (b : Bool). record { was_read = progress.was_read; is_first = b; failed = true }) (sym (and_false progress.is_first)) ∙ ap (λ (b : Bool). record { was_read = progress.was_read; is_first = progress.is_first && false; failed = b }) (sym (or_true progress.failed)))
-      (said.0, said.1, refl) (part_after said.0 part said.2.0 said.2.1) said.2.2)
+      done (said.0, said.1, refl) (part_after said.0 part said.2.0 said.2.1) said.2.2)
 
-  pub took_whole : (content : Content) (new : List Slot) (fed : Fed) → fed ≡ Whole → FedAs told mid task.work most content new (Ok fed) → TookSo content new (Ok (record progress { is_first = false }))
-  took_whole content new fed is ends = from_whole (subst (λ those. FedAs told mid task.work most content new (Ok those)) is ends) where
-    from_whole : FedAs told mid task.work most content new (Ok Whole) → TookSo content new (Ok (record progress { is_first = false }))
-    from_whole (whole sound going well there) = went_well content new (ended_enough task.work content sound) well there
+  pub took_whole : (content : Content) (new : List Slot) (fed : Fed) → IsDone told_in task.work.is_complete most source (Some content) sources → fed ≡ Whole → FedAs told mid task.work task.opening most content (Leaves told_in content source sources) new (Ok fed) → TookSo content new (Ok (record progress { is_first = false }))
+  took_whole content new fed done is ends = from_whole (subst (λ those. FedAs told mid task.work task.opening most content (Leaves told_in content source sources) new (Ok those)) is ends) where
+    from_whole : FedAs told mid task.work task.opening most content (Leaves told_in content source sources) new (Ok Whole) → TookSo content new (Ok (record progress { is_first = false }))
+    from_whole (whole sound going well there) = went_well content new done (ended_enough task.work content sound) well there
 
-  pub took_enough : (content : Content) (new : List Slot) (fed : Fed) → fed ≡ Enough → FedAs told mid task.work most content new (Ok fed) → TookSo content new (Ok (record progress { is_first = false }))
-  took_enough content new fed is ends = from_enough (subst (λ those. FedAs told mid task.work most content new (Ok those)) is ends) where
-    from_enough : FedAs told mid task.work most content new (Ok Enough) → TookSo content new (Ok (record progress { is_first = false }))
-    from_enough (had_enough complete well there) = went_well content new (complete_enough task.work content complete) well there
+  pub took_enough : (content : Content) (new : List Slot) (fed : Fed) → IsDone told_in task.work.is_complete most source (Some content) sources → fed ≡ Enough → FedAs told mid task.work task.opening most content (Leaves told_in content source sources) new (Ok fed) → TookSo content new (Ok (record progress { is_first = false }))
+  took_enough content new fed done is ends = from_enough (subst (λ those. FedAs told mid task.work task.opening most content (Leaves told_in content source sources) new (Ok those)) is ends) where
+    from_enough : FedAs told mid task.work task.opening most content (Leaves told_in content source sources) new (Ok Enough) → TookSo content new (Ok (record progress { is_first = false }))
+    from_enough (had_enough complete well there) = went_well content new done (complete_enough task.work content complete) well there
 
-  pub took_broken : (content : Content) (old new : List Slot) (fed : Fed) → fed ≡ Broken → FedAs told mid task.work most content old (Ok fed) → SaysOn told task.tool (message_of task.tool (Read 0) name) old new → TookSo content new (Ok (record progress { is_first = false; failed = true }))
-  took_broken content old new fed is ends says = from_broken (subst (λ those. FedAs told mid task.work most content old (Ok those)) is ends) where
-    from_broken : FedAs told mid task.work most content old (Ok Broken) → TookSo content new (Ok (record progress { is_first = false; failed = true }))
-    from_broken (broke_off breaks going reached there swept) = went_badly content _ _ reached old new (made_short task is_first name content (breaks_short task.work content breaks going)) there swept says
+  pub took_broken : (content : Content) (old new : List Slot) (fed : Fed) → IsDone told_in task.work.is_complete most source (Some content) sources → fed ≡ Broken → FedAs told mid task.work task.opening most content (Leaves told_in content source sources) old (Ok fed) → SaysOn told task.tool (message_of task.tool (Read 0) name) old new → TookSo content new (Ok (record progress { is_first = false; failed = true }))
+  took_broken content old new fed done is ends says = from_broken (subst (λ those. FedAs told mid task.work task.opening most content (Leaves told_in content source sources) old (Ok those)) is ends) where
+    from_broken : FedAs told mid task.work task.opening most content (Leaves told_in content source sources) old (Ok Broken) → TookSo content new (Ok (record progress { is_first = false; failed = true }))
+    from_broken (broke_off breaks going reached there swept) = went_badly content _ _ reached old new done (made_short task is_first name content (breaks_short task.work content breaks going)) there swept says
 
-  pub took_verdict : (content : Content) (old new : List Slot) (fault : Fault) → is_verdict fault ≡ true → FedAs told mid task.work most content old (Err fault) → SaysOn told task.tool (message_of task.tool fault (task.subject fault)) old new → TookSo content new (Ok (record progress { is_first = false; failed = true }))
-  took_verdict content old new fault judging (judged _ is enough judges reached there swept) says = went_badly content _ _ reached old new (made_judged task is_first name content fault enough judges) there swept says
-  took_verdict content old new fault judging (stopped _ unjudged low high step reached why stop swept) says = absurd (false≢true (sym unjudged ∙ judging))
+  pub took_verdict : (content : Content) (old new : List Slot) (fault : Fault) → IsDone told_in task.work.is_complete most source (Some content) sources → is_verdict fault ≡ true → FedAs told mid task.work task.opening most content (Leaves told_in content source sources) old (Err fault) → SaysOn told task.tool (message_of task.tool fault (task.subject fault)) old new → TookSo content new (Ok (record progress { is_first = false; failed = true }))
+  took_verdict content old new fault done judging (judged _ is enough judges reached there swept) says = went_badly content _ _ reached old new done (made_judged task is_first name content fault enough judges) there swept says
+  took_verdict content old new fault done judging (stopped _ unjudged call is_call read reached why stop swept) says = absurd (false≢true (sym unjudged ∙ judging))
 
-  pub took_stopped : (content : Content) (new : List Slot) (fault : Fault) → is_verdict fault ≡ false → FedAs told mid task.work most content new (Err fault) → TookSo content new (Err fault)
+  pub took_stopped : (content : Content) (new : List Slot) (fault : Fault) → is_verdict fault ≡ false → FedAs told mid task.work task.opening most content (Leaves told_in content source sources) new (Err fault) → TookSo content new (Err fault)
   took_stopped content new fault unjudged (judged _ is enough judges reached there swept) = absurd (false≢true (sym unjudged ∙ is))
-  took_stopped content new fault unjudged (stopped _ is low high step reached why stop swept) =
-      cut_off fault _ _ reached (calling content low high step) why (stop_after told (streams_with error) _ low high fault mid reached at stop) (subst (λ n. Swept task.work.clears n reached new) counted swept)
+  took_stopped content new fault unjudged (stopped _ is call is_call read reached why stop swept) =
+      cut_off fault (step_after (after_part so_far (only_out (header_text task.with_header is_first name))) call) reached (calling content call is_call read)
+      (stops_after (after_part so_far (only_out (header_text task.with_header is_first name))) call reached fault why)
+      (stop_after told (streams_with error) _ call.low call.high fault mid reached at stop) (subst (λ n. Swept task.work.clears n reached new) counted swept)
 
 -- standard error is open after an input was fed
 
@@ -223,63 +236,39 @@ swept_open : (told : Bool) (clears : Bool) (error : Slot) (part : Part) (reached
 swept_open told false error part reached new first behind opened at same = ap (λ those. is_open (slot_at those 1).state) same ∙ part_open told error part reached opened at
 swept_open told true error part reached new first behind opened at swept = ap (λ (slot : Slot). is_open slot.state) (swept.before 1 (omega (arith, behind))) ∙ part_open told error part reached opened at
 
-pub fed_open : (told : Bool) (work : Work) (most : ℕ) (error : Slot) (part : Part) (mid new : List Slot) (content : Content) (fed : Fed) → fed ≡ Broken → is_open error.state ≡ true → OutputsAt told (streams_with error) part mid → FedAs told mid work most content new (Ok fed) → is_open (slot_at new 1).state ≡ true
-fed_open told work most error part mid new content fed is opened at ends = from_broken (subst (λ those. FedAs told mid work most content new (Ok those)) is ends) where
-  from_broken : FedAs told mid work most content new (Ok Broken) → is_open (slot_at new 1).state ≡ true
+pub fed_open : (told : Bool) (work : Work) (opening : Needs) (most : ℕ) (error : Slot) (part : Part) (mid new : List Slot) (content : Content) (WasRead : List ℕ → Type 0) (fed : Fed) → fed ≡ Broken → is_open error.state ≡ true → OutputsAt told (streams_with error) part mid → FedAs told mid work opening most content WasRead new (Ok fed) → is_open (slot_at new 1).state ≡ true
+fed_open told work opening most error part mid new content WasRead fed is opened at ends = from_broken (subst (λ those. FedAs told mid work opening most content WasRead new (Ok those)) is ends) where
+  from_broken : FedAs told mid work opening most content WasRead new (Ok Broken) → is_open (slot_at new 1).state ≡ true
   from_broken (broke_off breaks going reached there swept) = swept_open told work.clears error _ reached new (length mid) (part_two told error part mid at) opened (at_after told (streams_with error) part _ mid reached at there) swept
 
-pub judged_open : (told : Bool) (work : Work) (most : ℕ) (error : Slot) (part : Part) (mid new : List Slot) (content : Content) (fault : Fault) → is_verdict fault ≡ true → is_open error.state ≡ true → OutputsAt told (streams_with error) part mid → FedAs told mid work most content new (Err fault) → is_open (slot_at new 1).state ≡ true
-judged_open told work most error part mid new content fault judging opened at (judged _ is enough judges reached there swept) = swept_open told work.clears error _ reached new (length mid) (part_two told error part mid at) opened (at_after told (streams_with error) part _ mid reached at there) swept
-judged_open told work most error part mid new content fault judging opened at (stopped _ unjudged low high step reached why stop swept) = absurd (false≢true (sym unjudged ∙ judging))
+pub judged_open : (told : Bool) (work : Work) (opening : Needs) (most : ℕ) (error : Slot) (part : Part) (mid new : List Slot) (content : Content) (WasRead : List ℕ → Type 0) (fault : Fault) → is_verdict fault ≡ true → is_open error.state ≡ true → OutputsAt told (streams_with error) part mid → FedAs told mid work opening most content WasRead new (Err fault) → is_open (slot_at new 1).state ≡ true
+judged_open told work opening most error part mid new content WasRead fault judging opened at (judged _ is enough judges reached there swept) = swept_open told work.clears error _ reached new (length mid) (part_two told error part mid at) opened (at_after told (streams_with error) part _ mid reached at there) swept
+judged_open told work opening most error part mid new content WasRead fault judging opened at (stopped _ unjudged call is_call read reached why stop swept) = absurd (false≢true (sym unjudged ∙ judging))
 
 -- an engine that could not be opened
-
-stops_at : (work : Work) (most : ℕ) (content : Content) (now : List Slot) (fault : Fault) → Stops work 0 None now fault → Stops work most (Some content) now fault
-stops_at work most content now Memory why = why
-stops_at work most content now (Write slot) why = why
-stops_at work most content now (Open slot) why = why
-stops_at work most content now TooLong why = absurd why
-stops_at work most content now (Read slot) why = absurd why
-stops_at work most content now Suffixes why = absurd why
-stops_at work most content now (NoMatch operand repetition) why = absurd why
-stops_at work most content now (Range operand repetition) why = absurd why
-stops_at work most content now (Usage kind word) why = absurd why
-stops_at work most content now Failed why = absurd why
-
-pub not_opened : (told : Bool) (work : Work) (most : ℕ) (content : Content) (old new : List Slot) (fault : Fault) → OpensShort work told old new fault → FedAs told old work most content new (Err fault)
-not_opened told work most content old new fault short = stopped fault short.unjudged nothing (work.settled []) opening short.reached (stops_at work most content short.reached fault short.why) short.stop short.swept
+pub not_opened : (told : Bool) (work : Work) (opening : Needs) (most : ℕ) (content : Content) (WasRead : List ℕ → Type 0) (old new : List Slot) (fault : Fault) → OpensShort work opening told old new fault → WasRead [] → FedAs told old work opening most content WasRead new (Err fault)
+not_opened told work opening most content WasRead old new fault short read = stopped fault short.unjudged _ opens read short.reached short.why short.stop short.swept
 
 -- what was fed to the engine that was opened
-pub fed_as : {E : Type 0} (Holds : E → List ℕ → Type 0) (Owns : E → ℕ → List Slot → Type 0) (work : E → Work) (Ready : E → List Slot → Type 0) (fed : E → ℕ) (asked : Work) (told told_in : Bool) (old mid new : List Slot) (engine : E) (source : Option ℕ) (slot : ℕ) (sources : List Source) (most : ℕ) (result : Result Fed Fault)
-    → source ≡ Some slot → Opens Holds Owns work Ready fed asked told old mid engine
-    → ((before : List Slot) → Owns engine (length before) mid → OutputsAt told before ((work engine).settled []) mid → OfContent told_in (source_at sources slot).left (λ content. FedAs told before (work engine) most content new result))
-    → OfSource told_in source sources (λ content. FedAs told old asked most content new result)
-fed_as Holds Owns work Ready fed asked told told_in old mid new engine source slot sources most result is opens feeds =
-    subst (λ from. OfSource told_in from sources (λ content. FedAs told old asked most content new result)) (sym is)
-    (subst (λ (those : Work). OfContent told_in (source_at sources slot).left (λ content. FedAs told old those most content new result)) opens.does
-    (feeds old opens.owns (subst (λ (those : Work). OutputsAt told old (those.settled []) mid) (sym opens.does) opens.outputs)))
+pub fed_as : {E : Type 0} (Holds : E → List ℕ → Type 0) (Owns : E → ℕ → List Slot → Type 0) (work : E → Work) (Ready : E → List Slot → Type 0) (fed : E → ℕ) (asked : Work) (opening : Needs) (told told_in : Bool) (old mid new : List Slot) (engine : E) (source : Option ℕ) (slot : ℕ) (sources left : List Source) (most : ℕ) (result : Result Fed Fault)
+    → source ≡ Some slot → Opens Holds Owns work Ready fed asked told old mid engine → slot < length left
+    → ((before : List Slot) (opening : Needs) → Owns engine (length before) mid → OutputsAt told before ((work engine).settled []) mid → OfContent told_in (source_at sources slot).left (λ content. FedAs told before (work engine) opening most content (LeavesOf told_in content (source_at left slot)) new result × BreaksOnly told_in content (source_at left slot)))
+    → (told_in ≡ true → ReadsFor (work engine).is_complete most (source_at sources slot).left (source_at left slot).left)
+    → OfSource told_in source sources (λ content. FedAs told old asked opening most content (Leaves told_in content source left) new result × IsDone told_in asked.is_complete most source (Some content) left)
+fed_as Holds Owns work Ready fed asked opening told told_in old mid new engine source slot sources left most result is had within feeds reads =
+    subst (λ from. OfSource told_in from sources (λ content. FedAs told old asked opening most content (Leaves told_in content from left) new result × IsDone told_in asked.is_complete most from (Some content) left)) (sym is)
+    (subst (λ (those : Work). OfContent told_in (source_at sources slot).left (λ content. FedAs told old those opening most content (LeavesOf told_in content (source_at left slot)) new result × IsDone told_in those.is_complete most (Some slot) (Some content) left)) had.does
+    (left_of told_in (work engine).is_complete most slot (source_at sources slot).left left (λ content. FedAs told old (work engine) opening most content (LeavesOf told_in content (source_at left slot)) new result) within reads
+    (feeds old opening had.owns (subst (λ (those : Work). OutputsAt told old (those.settled []) mid) (sym had.does) had.outputs))))
 
-pub fed_none : {E : Type 0} (Holds : E → List ℕ → Type 0) (Owns : E → ℕ → List Slot → Type 0) (work : E → Work) (Ready : E → List Slot → Type 0) (fed : E → ℕ) (asked : Work) (told told_in : Bool) (old mid new : List Slot) (engine : E) (source : Option ℕ) (sources : List Source) (most : ℕ) (result : Result Fed Fault)
+pub fed_none : {E : Type 0} (Holds : E → List ℕ → Type 0) (Owns : E → ℕ → List Slot → Type 0) (work : E → Work) (Ready : E → List Slot → Type 0) (fed : E → ℕ) (asked : Work) (opening : Needs) (told told_in : Bool) (old mid new : List Slot) (engine : E) (source : Option ℕ) (sources left : List Source) (most : ℕ) (result : Result Fed Fault)
     → source ≡ None → Opens Holds Owns work Ready fed asked told old mid engine
-    → ((before : List Slot) (room : ℕ) → Owns engine (length before) mid → OutputsAt told before ((work engine).settled []) mid → FedAs told before (work engine) room empty new result)
-    → OfSource told_in source sources (λ content. FedAs told old asked most content new result)
-fed_none Holds Owns work Ready fed asked told told_in old mid new engine source sources most result is opens feeds =
-    subst (λ from. OfSource told_in from sources (λ content. FedAs told old asked most content new result)) (sym is)
-    (subst (λ (those : Work). FedAs told old those most empty new result) opens.does
-    (feeds old most opens.owns (subst (λ (those : Work). OutputsAt told old (those.settled []) mid) (sym opens.does) opens.outputs)))
-
--- what was read of the source
-
-pub reads_nothing : (is_complete : List ℕ → Bool) (most : ℕ) (source : Option ℕ) (sources : List Source) → ReadsSource is_complete most source sources sources
-reads_nothing is_complete most None sources = tt
-reads_nothing is_complete most (Some slot) sources = reads_none is_complete most (source_at sources slot).left (source_at sources slot).left refl
-
-pub reads_from : (done asked : Work) (most : ℕ) (source : Option ℕ) (slot : ℕ) (old new : List Source) → source ≡ Some slot → done ≡ asked → ReadsFor done.is_complete most (source_at old slot).left (source_at new slot).left → ReadsSource asked.is_complete most source old new
-reads_from done asked most source slot old new is same reads =
-    subst (λ from. ReadsSource asked.is_complete most from old new) (sym is) (subst (λ (those : Work). ReadsFor those.is_complete most (source_at old slot).left (source_at new slot).left) same reads)
-
-pub reads_nowhere : (is_complete : List ℕ → Bool) (most : ℕ) (source : Option ℕ) (old new : List Source) → source ≡ None → ReadsSource is_complete most source old new
-reads_nowhere is_complete most source old new is = subst (λ from. ReadsSource is_complete most from old new) (sym is) tt
+    → ((before : List Slot) (opening : Needs) (room : ℕ) → Owns engine (length before) mid → OutputsAt told before ((work engine).settled []) mid → FedAs told before (work engine) opening room empty (λ read. Unit {0}) new result)
+    → OfSource told_in source sources (λ content. FedAs told old asked opening most content (Leaves told_in content source left) new result × IsDone told_in asked.is_complete most source (Some content) left)
+fed_none Holds Owns work Ready fed asked opening told told_in old mid new engine source sources left most result is had feeds =
+    subst (λ from. OfSource told_in from sources (λ content. FedAs told old asked opening most content (Leaves told_in content from left) new result × IsDone told_in asked.is_complete most from (Some content) left)) (sym is)
+    (subst (λ (those : Work). FedAs told old those opening most empty (λ read. Unit {0}) new result) had.does
+    (feeds old opening most had.owns (subst (λ (those : Work). OutputsAt told old (those.settled []) mid) (sym had.does) had.outputs)), tt)
 
 -- no input but that of the source was touched
 

@@ -1,5 +1,5 @@
 -- Lemmas on taking the inputs for names, one after another.
-use Rattle.std.proofs.Common.{◌≡◌, ℕ, ◌+◌, ◌-◌, ◌<◌, ◌≤◌, Bool, true, false, not, ◌&&◌, ◌||◌, IsTrue, if◌then◌else◌, List, [], ◌∷◌, ◌++◌, length, take, drop, map, get_or, Bor, Option, Some, None, IfSome, Result, Ok, Err, ◌⊎◌, inl, inr, arith, append_assoc, length-append, refl, sym, ◌∙◌, ap, subst, lit<}
+use Rattle.std.proofs.Common.{codes, ◌≡◌, ℕ, ◌+◌, ◌-◌, ◌<◌, ◌≤◌, Bool, true, false, not, ◌&&◌, ◌||◌, IsTrue, if◌then◌else◌, List, [], ◌∷◌, ◌++◌, length, take, drop, map, get_or, Bor, Option, Some, None, IfSome, Result, Ok, Err, ◌⊎◌, inl, inr, arith, append_assoc, length-append, refl, sym, ◌∙◌, ap, subst, lit<}
 use Rattle.std.proofs.lemmas.List.{append-nil, length-map, take_rest}
 use Rattle.std.proofs.lemmas.Bool.{false≢true}
 use Rattle.ports_core.specs.Slot.{Slot, is_open, streams}
@@ -11,17 +11,17 @@ use Rattle.ports_core.specs.Text.{message_of}
 use Rattle.ports_core.specs.Message.{SaysAll, SaysOn}
 use Rattle.ports_core.specs.declared.fault.Fault.{Fault}
 use Rattle.ports_core.specs.declared.fault.Fault.TheVariants.{Memory, Open}
-use Rattle.ports_core.proofs.PartLemmas.{nothing_out, stopped_here}
+use Rattle.ports_core.proofs.PartLemmas.{nothing_out, part_begins_itself, stopped_here}
 use Rattle.ports_core.proofs.MessageLemmas.{says_behind, all_said_state}
 use Rattle.run_core.specs.declared.inputs.Progress.{Progress}
-use Rattle.run_core.specs.Feeding.{KeepsOthers, ReadsFor}
+use Rattle.run_core.specs.Reading.{AreUntouched, AsksAtMost, TakesOne, count_after}
 use Rattle.run_core.specs.Input.{has_dash, Input, World, AreFrom, is_dash, input_of, inputs_from, inputs_at, file_input, standard_input, read_before, next_slot, empty}
-use Rattle.run_core.specs.RunEnds.{standard_output, standard_error, streams_with, RunsOver, RunStep, heading}
-use Rattle.run_core.specs.RunSteps.{HasStreams, after_input, TookInput, took, cut_off, TookAll, all, stopped_at, not_begun, OfSource, KeepsOther, OpensOne, OfName, ReadsSource, ReadsStandard, standard_source, world_of}
-use Rattle.run_core.specs.Task.{Task, Outcome, no_outcome, joined, after_part, of_input, of_inputs, made_by, header_text, is_missing, are_missing, ends_badly}
-use Rattle.run_core.proofs.FeedingLemmas.{reads_none}
+use Rattle.run_core.specs.RunEnds.{standard_output, standard_error, streams_with, largest_piece, RunsOver, RunStep, unopened}
+use Rattle.run_core.specs.RunSteps.{HasStreams, after_input, TookInput, took, cut_off, TookAll, all, stopped_at, not_begun, OfSource, OfName, is_unopened, standard_source, world_of}
+use Rattle.run_core.specs.Task.{Task, Outcome, no_outcome, joined, after_part, of_content, of_input, of_inputs, made_by, header_text, is_missing, are_missing, ends_badly}
+use Rattle.run_core.proofs.ReadingLemmas.{StayDone, all_done, all_done_nil, count_more, done_more, done_with, fresh_asks, last_source, missing_done, rest_untouched, still_done}
 use Rattle.run_core.proofs.InputLemmas.{or_true, or_false, and_true}
-use Rattle.run_core.proofs.JoinedLemmas.{begins_on, after_assoc, none_to_sweep, swept_from}
+use Rattle.run_core.proofs.JoinedLemmas.{after_assoc, none_to_sweep, swept_from}
 use Rattle.run_core.proofs.StopLemmas.{said_at}
 
 -- a list of words and its front
@@ -46,14 +46,6 @@ neither true b is = absurd (false≢true (sym is))
 
 -- the inputs that were opened
 
-last_source : (sources : List Source) (source : Source) → source_at (sources ++ source ∷ []) (length sources) ≡ source
-last_source [] source = refl
-last_source (first ∷ sources) source = last_source sources source
-
-first_source : (sources more : List Source) → 0 < length sources → source_at (sources ++ more) 0 ≡ source_at sources 0
-first_source [] more some = absurd (omega arith)
-first_source (first ∷ sources) more some = refl
-
 pub opened_readable : (told : Bool) (laid : ℕ → List ℕ → Option Content) (old new : List Source) (name : List ℕ) (slot : ℕ) → Opens told laid old new name slot → IsTrue (is_readable new slot)
 opened_readable told laid old new name slot opens =
     ap (λ those. is_readable those slot) opens.sources ∙ ap (is_readable (old ++ source_of opens.content ∷ [])) opens.number
@@ -66,37 +58,6 @@ readable_at false sources can = can refl
 pub dash_readable : (was_read : Bool) (source : Option ℕ) (sources : List Source) → source ≡ standard_source was_read → (was_read ≡ false → IsTrue (is_readable sources 0)) → IfSome source (λ slot. IsTrue (is_readable sources slot))
 dash_readable was_read source sources is can = subst (λ from. IfSome from (λ slot. IsTrue (is_readable sources slot))) (sym is) (readable_at was_read sources can)
 
--- what taking a name leaves of the inputs
-
-pub opens_dash : (was_read : Bool) (source : Option ℕ) (name : List ℕ) (old new : List Source) → source ≡ standard_source was_read → is_dash name ≡ true → KeepsOther source old new → OpensOne name old new
-opens_dash was_read source name old new is dash keeps = record {
-  count = same_count source keeps ∙ sym (ap (λ (b : Bool). if b then length old else length old + 1) dash);
-  standard = λ differs. absurd (false≢true (sym differs ∙ dash));
-} where
-  same_count : (from_where : Option ℕ) → KeepsOther from_where old new → length new ≡ length old
-  same_count None same = ap length same
-  same_count (Some slot) others = others.count
-
-one_more : (sources : List Source) (source : Source) → length (sources ++ source ∷ []) ≡ length sources + 1
-one_more sources source = length-append sources (source ∷ [])
-
-pub opens_file : (told : Bool) (laid : ℕ → List ℕ → Option Content) (name : List ℕ) (old mid new : List Source) (slot : ℕ) → is_dash name ≡ false → 0 < length old → Opens told laid old mid name slot → KeepsOthers slot mid new → OpensOne name old new
-opens_file told laid name old mid new slot differs some opens keeps = record {
-  count = keeps.count ∙ ap length opens.sources ∙ one_more old (source_of opens.content) ∙ sym (ap (λ (b : Bool). if b then length old else length old + 1) differs);
-  standard = λ _. keeps.others 0 (λ same. let at : slot ≡ length old = opens.number in omega (arith, same)) ∙ ap (λ those. source_at those 0) opens.sources ∙ first_source old (source_of opens.content ∷ []) some;
-}
-
-not_open : (told : Bool) (laid : ℕ → List ℕ → Option Content) (old new : List Source) (name : List ℕ) (fault : Fault) (slot : ℕ) → OpensNothing told laid old new name fault → fault ≡ Open slot → (told ≡ true → laid (length old) name ≡ None) × (new ≡ old ++ missing ∷ [])
-not_open told laid old new name fault slot (from.broke at number lies is) open_is = (λ t. ap (λ n. laid n name) (sym number) ∙ lies t, is)
-not_open told laid old new name fault slot (from.no_room is) open_is = absurd (cc)
-
-pub opens_missing : (told : Bool) (laid : ℕ → List ℕ → Option Content) (name : List ℕ) (old new : List Source) (fault : Fault) (slot : ℕ) → is_dash name ≡ false → 0 < length old → OpensNothing told laid old new name fault → fault ≡ Open slot → OpensOne name old new
-opens_missing told laid name old new fault slot differs some opens is =
-    let nothing_there = not_open told laid old new name fault slot opens is in record {
-      count = ap length nothing_there.1 ∙ one_more old missing ∙ sym (ap (λ (b : Bool). if b then length old else length old + 1) differs);
-      standard = λ _. ap (λ those. source_at those 0) nothing_there.1 ∙ first_source old (missing ∷ []) some;
-    }
-
 -- which input a name stands for
 
 of_file : (told : Bool) (world : World) (was_read : Bool) (slot : ℕ) (name : List ℕ) (content : Option Content) (P : Input → Type 0) → is_dash name ≡ false → (told ≡ true → world.laid slot name ≡ content) → P (file_input name slot content) → OfName told world was_read slot name P
@@ -107,9 +68,9 @@ of_file told world was_read slot name content P differs lies holds = (
   holds,
 )
 
-dash_at : (told was_read : Bool) (laid : ℕ → List ℕ → Option Content) (sources : List Source) (slot : ℕ) (name : List ℕ) (P : Content → Type 0) (Q : Input → Type 0) → is_dash name ≡ true
-    → ((content : Content) → P content → Q (standard_input content)) → (P empty → Q read_before)
-    → OfSource told (standard_source was_read) sources P → OfName told (world_of laid sources) was_read slot name Q
+dash_at : (told was_read : Bool) (laid : ℕ → List ℕ → Option Content) (sources : List Source) (slot : ℕ) (name : List ℕ) (P : Option ℕ → Content → Type 0) (Q : Input → Type 0) → is_dash name ≡ true
+    → ((content : Content) → P (Some 0) content → Q (standard_input content)) → (P None empty → Q read_before)
+    → OfSource told (standard_source was_read) sources (P (standard_source was_read)) → OfName told (world_of laid sources) was_read slot name Q
 dash_at told true laid sources slot name P Q dash first again holds = (
   read_before,
   (record { laid = laid; standard = empty }, sym (ap (input_of (record { laid = laid; standard = empty }) true slot name) dash)),
@@ -123,11 +84,11 @@ dash_at told false laid sources slot name P Q dash first again (content, there, 
   first content holds,
 )
 
-pub of_dash : (told was_read : Bool) (source : Option ℕ) (laid : ℕ → List ℕ → Option Content) (sources : List Source) (slot : ℕ) (name : List ℕ) (P : Content → Type 0) (Q : Input → Type 0) → source ≡ standard_source was_read → is_dash name ≡ true
-    → ((content : Content) → P content → Q (standard_input content)) → (P empty → Q read_before)
-    → OfSource told source sources P → OfName told (world_of laid sources) was_read slot name Q
+pub of_dash : (told was_read : Bool) (source : Option ℕ) (laid : ℕ → List ℕ → Option Content) (sources : List Source) (slot : ℕ) (name : List ℕ) (P : Option ℕ → Content → Type 0) (Q : Input → Type 0) → source ≡ standard_source was_read → is_dash name ≡ true
+    → ((content : Content) → P (Some 0) content → Q (standard_input content)) → (P None empty → Q read_before)
+    → OfSource told source sources (P source) → OfName told (world_of laid sources) was_read slot name Q
 of_dash told was_read source laid sources slot name P Q is dash first again holds =
-    dash_at told was_read laid sources slot name P Q dash first again (subst (λ from. OfSource told from sources P) is holds)
+    dash_at told was_read laid sources slot name P Q dash first again (subst (λ from. OfSource told from sources (P from)) is holds)
 
 pub of_opened : (told was_read : Bool) (laid : ℕ → List ℕ → Option Content) (old new : List Source) (slot : ℕ) (name : List ℕ) (P : Content → Type 0) (Q : Input → Type 0) → is_dash name ≡ false → Opens told laid old new name slot
     → ((content : Content) → P content → Q (file_input name (length old) (Some content)))
@@ -138,54 +99,75 @@ of_opened told was_read laid old new slot name P Q differs opens as_file (conten
     ∙ ap Some (sym (there t ∙ ap (λ (source : Source). source.left) (ap (λ those. source_at those slot) opens.sources ∙ ap (source_at (old ++ source_of opens.content ∷ [])) opens.number ∙ last_source old (source_of opens.content)))))
     (as_file content holds)
 
-pub of_missing : (told was_read : Bool) (laid : ℕ → List ℕ → Option Content) (old new : List Source) (fault : Fault) (slot : ℕ) (name : List ℕ) (Q : Input → Type 0) → is_dash name ≡ false → OpensNothing told laid old new name fault → fault ≡ Open slot
-    → Q (file_input name (length old) None) → OfName told (world_of laid old) was_read (length old) name Q
-of_missing told was_read laid old new fault slot name Q differs opens is holds =
-    of_file told (world_of laid old) was_read (length old) name None Q differs (not_open told laid old new name fault slot opens is).0 holds
-
-pub of_any : (told was_read : Bool) (laid : ℕ → List ℕ → Option Content) (old : List Source) (name : List ℕ) (Q : Input → Type 0) → is_dash name ≡ false
-    → ((content : Option Content) → Q (file_input name (length old) content)) → OfName told (world_of laid old) was_read (length old) name Q
-of_any told was_read laid old name Q differs holds = of_file told (world_of laid old) was_read (length old) name (laid (length old) name) Q differs (λ t. refl) (holds _)
-
 -- the same step, seen from the name
 
-took_as : (told : Bool) (task : Task) (most : ℕ) (outcome : Outcome) (header : List ℕ) (content : Option Content) (progress other : Progress) (was_read is_read : Bool) (so_far : Part) (error : Slot) (first : ℕ) (new : List Slot) (result : Result Progress Fault)
+took_as : (told_in told : Bool) (task : Task) (most : ℕ) (outcome : Outcome) (header : List ℕ) (slot : Option ℕ) (content : Option Content) (progress other : Progress) (was_read is_read : Bool) (so_far : Part) (error : Slot) (first : ℕ) (sources : List Source) (new : List Slot) (result : Result Progress Fault)
     → ((failed : Bool) → after_input progress was_read failed content ≡ after_input other is_read failed content)
-    → TookInput told task most outcome header content progress was_read so_far error first new result → TookInput told task most outcome header content other is_read so_far error first new result
-took_as told task most outcome header content progress other was_read is_read so_far error first new result same (took next after reached is says at swept) = took next after reached (is ∙ same outcome.failed) says at swept
-took_as told task most outcome header content progress other was_read is_read so_far error first new result same (cut_off fault low high reached step stops stop swept) = cut_off fault low high reached step stops stop swept
+    → TookInput told_in told task most outcome header slot content progress was_read so_far error first sources new result → TookInput told_in told task most outcome header slot content other is_read so_far error first sources new result
+took_as told_in told task most outcome header slot content progress other was_read is_read so_far error first sources new result same (took next after reached is done says at swept) = took next after reached (is ∙ same outcome.failed) done says at swept
+took_as told_in told task most outcome header slot content progress other was_read is_read so_far error first sources new result same (cut_off fault step reached is_step stops stop swept) = cut_off fault step reached is_step stops stop swept
 
-pub took_dash : (told : Bool) (task : Task) (most : ℕ) (outcome : Outcome) (header : List ℕ) (content : Option Content) (progress : Progress) (name : List ℕ) (so_far : Part) (error : Slot) (first : ℕ) (new : List Slot) (result : Result Progress Fault) → is_dash name ≡ true
-    → TookInput told task most outcome header content (record progress { was_read = true }) true so_far error first new result → TookInput told task most outcome header content progress (progress.was_read || is_dash name) so_far error first new result
-took_dash told task most outcome header content progress name so_far error first new result dash =
-    took_as told task most outcome header content (record progress { was_read = true }) progress true (progress.was_read || is_dash name) so_far error first new result
+took_dash : (told_in told : Bool) (task : Task) (most : ℕ) (outcome : Outcome) (header : List ℕ) (slot : Option ℕ) (content : Option Content) (progress : Progress) (name : List ℕ) (so_far : Part) (error : Slot) (first : ℕ) (sources : List Source) (new : List Slot) (result : Result Progress Fault) → is_dash name ≡ true
+    → TookInput told_in told task most outcome header slot content (record progress { was_read = true }) true so_far error first sources new result → TookInput told_in told task most outcome header slot content progress (progress.was_read || is_dash name) so_far error first sources new result
+took_dash told_in told task most outcome header slot content progress name so_far error first sources new result dash =
+    took_as told_in told task most outcome header slot content (record progress { was_read = true }) progress true (progress.was_read || is_dash name) so_far error first sources new result
     (λ failed. ap (λ (b : Bool). record { was_read = b; is_first = progress.is_first && is_missing content; failed = progress.failed || failed }) (sym (ap (λ (b : Bool). progress.was_read || b) dash ∙ or_true progress.was_read)))
 
-pub took_file : (told : Bool) (task : Task) (most : ℕ) (outcome : Outcome) (header : List ℕ) (content : Option Content) (progress : Progress) (name : List ℕ) (so_far : Part) (error : Slot) (first : ℕ) (new : List Slot) (result : Result Progress Fault) → is_dash name ≡ false
-    → TookInput told task most outcome header content progress progress.was_read so_far error first new result → TookInput told task most outcome header content progress (progress.was_read || is_dash name) so_far error first new result
-took_file told task most outcome header content progress name so_far error first new result differs =
-    took_as told task most outcome header content progress progress progress.was_read (progress.was_read || is_dash name) so_far error first new result
+pub took_file : (told_in told : Bool) (task : Task) (most : ℕ) (outcome : Outcome) (header : List ℕ) (slot : ℕ) (content : Option Content) (progress : Progress) (laid : ℕ → List ℕ → Option Content) (name : List ℕ) (old mid : List Source) (so_far : Part) (error : Slot) (first : ℕ) (sources : List Source) (new : List Slot) (result : Result Progress Fault) → is_dash name ≡ false → Opens told_in laid old mid name slot
+    → TookInput told_in told task most outcome header (Some slot) content progress progress.was_read so_far error first sources new result → TookInput told_in told task most outcome header (Some (length old)) content progress (progress.was_read || is_dash name) so_far error first sources new result
+took_file told_in told task most outcome header slot content progress laid name old mid so_far error first sources new result differs opens one =
+    took_as told_in told task most outcome header (Some (length old)) content progress progress progress.was_read (progress.was_read || is_dash name) so_far error first sources new result
     (λ failed. ap (λ (b : Bool). record { was_read = b; is_first = progress.is_first && is_missing content; failed = progress.failed || failed }) (sym (ap (λ (b : Bool). progress.was_read || b) differs ∙ or_false progress.was_read)))
+    (subst (λ n. TookInput told_in told task most outcome header (Some n) content progress progress.was_read so_far error first sources new result) opens.number one)
 
 nothing_after : (part : Part) → after_part part nothing ≡ part
 nothing_after part = ap (λ (out : List ℕ). record { out = out; files = part.files ++ [] }) (append-nil part.out) ∙ ap (λ (files : List File). record { out = part.out; files = files }) (append-nil part.files)
 
-pub took_missing : (told : Bool) (task : Task) (most : ℕ) (progress : Progress) (name : List ℕ) (number slot : ℕ) (so_far : Part) (error : Slot) (old new : List Slot) → is_dash name ≡ false → OutputsAt told (streams_with error) so_far old
+took_missing : (told_in told : Bool) (task : Task) (most : ℕ) (progress : Progress) (name : List ℕ) (sources after : List Source) (slot : ℕ) (so_far : Part) (error : Slot) (old new : List Slot) → is_dash name ≡ false → after ≡ sources ++ missing ∷ [] → OutputsAt told (streams_with error) so_far old
     → SaysOn told task.tool (message_of task.tool (Open slot) name) old new
-    → TookInput told task most (of_input task progress.is_first (file_input name number None)) (header_text task.with_header progress.is_first name) None progress (progress.was_read || is_dash name) so_far error (length old) new (Ok (record progress { failed = true }))
-took_missing told task most progress name number slot so_far error old new differs at says =
+    → TookInput told_in told task most (of_input task progress.is_first (file_input name (length sources) None)) (header_text task.with_header progress.is_first name) (Some (length sources)) None progress (progress.was_read || is_dash name) so_far error (length old) after new (Ok (record progress { failed = true }))
+took_missing told_in told task most progress name sources after slot so_far error old new differs are at says =
     let said = said_at told task.tool (message_of task.tool (Open slot) name) standard_output error so_far old new at says in
     took (record progress { failed = true }) said.0 new
     (ap (λ (b : Bool). record { was_read = b; is_first = progress.is_first; failed = true }) (sym (ap (λ (b : Bool). progress.was_read || b) differs ∙ or_false progress.was_read))
     ∙ ap (λ (b : Bool). record { was_read = progress.was_read || is_dash name; is_first = b; failed = true }) (sym (and_true progress.is_first))
     ∙ ap (λ (b : Bool). record { was_read = progress.was_read || is_dash name; is_first = progress.is_first && true; failed = b }) (sym (or_true progress.failed)))
+    (missing_done told_in task.work.is_complete most sources after are)
     (said.0, said.1, refl)
     (subst (λ part. OutputsAt told (streams_with said.0) part new) (sym (nothing_after so_far)) said.2) refl
 
-pub took_no_memory : (told : Bool) (task : Task) (most : ℕ) (outcome : Outcome) (header : List ℕ) (content : Option Content) (progress : Progress) (was_read : Bool) (so_far : Part) (error : Slot) (old : List Slot) → OutputsAt told (streams_with error) so_far old
-    → TookInput told task most outcome header content progress was_read so_far error (length old) old (Err Memory)
-took_no_memory told task most outcome header content progress was_read so_far error old at =
-    cut_off Memory so_far _ old (heading content) tt (stopped_here told (streams_with error) so_far _ Memory old old at (begins_on so_far _) refl tt) (none_to_sweep task.work.clears (length old) old (omega arith))
+-- standard input, for the operand `-`
+pub took_standard : (told_in told : Bool) (task : Task) (most : ℕ) (progress : Progress) (source : Option ℕ) (laid : ℕ → List ℕ → Option Content) (name : List ℕ) (old sources : List Source) (so_far : Part) (error : Slot) (first : ℕ) (new : List Slot) (result : Result Progress Fault) → source ≡ standard_source progress.was_read → is_dash name ≡ true
+    → OfSource told_in source old (λ content. TookInput told_in told task most (of_content task progress.is_first (codes "standard input") (Some content)) (header_text task.with_header progress.is_first (codes "standard input")) source (Some content) (record progress { was_read = true }) true so_far error first sources new result)
+    → OfName told_in (world_of laid old) progress.was_read (length old) name
+    (λ input. TookInput told_in told task most (of_input task progress.is_first input) (header_text task.with_header progress.is_first input.name) input.slot input.content progress (progress.was_read || is_dash name) so_far error first sources new result)
+took_standard told_in told task most progress source laid name old sources so_far error first new result is dash =
+    of_dash told_in progress.was_read source laid old (length old) name
+    (λ from content. TookInput told_in told task most (of_content task progress.is_first (codes "standard input") (Some content)) (header_text task.with_header progress.is_first (codes "standard input")) from (Some content) (record progress { was_read = true }) true so_far error first sources new result)
+    _ is dash
+    (λ content one. took_dash told_in told task most _ _ _ _ progress name so_far error first sources new result dash one)
+    (λ one. took_dash told_in told task most _ _ _ _ progress name so_far error first sources new result dash one)
+
+-- a name that could not be opened: it is passed over with a message
+
+pub of_missing : (told_in told : Bool) (task : Task) (most : ℕ) (progress : Progress) (laid : ℕ → List ℕ → Option Content) (name : List ℕ) (sources after : List Source) (fault : Fault) (so_far : Part) (error : Slot) (old new : List Slot) → is_dash name ≡ false → OpensNothing told_in laid sources after name fault → is_unopened fault ≡ true → OutputsAt told (streams_with error) so_far old
+    → SaysOn told task.tool (message_of task.tool fault name) old new
+    → OfName told_in (world_of laid sources) progress.was_read (length sources) name
+    (λ input. TookInput told_in told task most (of_input task progress.is_first input) (header_text task.with_header progress.is_first input.name) input.slot input.content progress (progress.was_read || is_dash name) so_far error (length old) after new (Ok (record progress { failed = true })))
+of_missing told_in told task most progress laid name sources after _ so_far error old new differs (from.broke slot number lies are) cannot at says =
+    of_file told_in (world_of laid sources) progress.was_read (length sources) name None _ differs (λ t. ap (λ n. laid n name) (sym number) ∙ lies t)
+    (took_missing told_in told task most progress name sources after slot so_far error old new differs are at says)
+of_missing told_in told task most progress laid name sources after _ so_far error old new differs (from.no_room are) cannot at says = absurd (false≢true cannot)
+
+-- there was no room for it
+pub of_no_room : (told_in told : Bool) (task : Task) (most : ℕ) (progress : Progress) (laid : ℕ → List ℕ → Option Content) (name : List ℕ) (sources after : List Source) (fault : Fault) (so_far : Part) (error : Slot) (old : List Slot) → is_dash name ≡ false → OpensNothing told_in laid sources after name fault → is_unopened fault ≡ false → OutputsAt told (streams_with error) so_far old
+    → OfName told_in (world_of laid sources) progress.was_read (length sources) name
+    (λ input. TookInput told_in told task most (of_input task progress.is_first input) (header_text task.with_header progress.is_first input.name) input.slot input.content progress (progress.was_read || is_dash name) so_far error (length old) after old (Err fault))
+of_no_room told_in told task most progress laid name sources after _ so_far error old differs (from.broke slot number lies are) other at = absurd (false≢true (sym other))
+of_no_room told_in told task most progress laid name sources after _ so_far error old differs (from.no_room are) other at =
+    of_file told_in (world_of laid sources) progress.was_read (length sources) name (laid (length sources) name) _ differs (λ t. refl)
+    (cut_off Memory _ old (unopened (laid (length sources) name) (length sources) refl (omega (arith, ap length are))) refl
+    (stopped_here told (streams_with error) so_far so_far Memory old old at (part_begins_itself so_far) refl tt) (none_to_sweep task.work.clears (length old) old (omega arith)))
 
 -- the loop over names
 
@@ -246,6 +228,9 @@ pub record Walked (told_in told : Bool) (task : Task) (world : World) (names lef
   pub laid_same : laid ≡ world.laid
   pub standard : progress.was_read ≡ false → source_at sources 0 ≡ source_of world.standard
   pub some : 0 < length sources
+  pub known : StayDone told_in task.work.is_complete largest_piece progress.was_read done sources
+  pub asked : AsksAtMost largest_piece sources
+  pub count : count_after (length sources) left ≡ count_after 1 names
 
 pub walk_begins : (told_in told : Bool) (task : Task) (names : List (List ℕ)) (laid : ℕ → List ℕ → Option Content) (sources : List Source) (slots : List Slot) → IsFresh sources → slots ≡ streams → (task.work.clears ≡ true → length names ≤ 1)
     → Walked told_in told task (world_of laid sources) names names (record { was_read = false; is_first = true; failed = false }) laid sources slots
@@ -270,6 +255,9 @@ walk_begins told_in told task names laid sources slots fresh are alone =
       laid_same = refl;
       standard = λ _. at_first ∙ ap source_of (sym (ap (λ (source : Source). source.left) at_first));
       some = subst (λ n. 0 < n) (sym one) (lit< tt);
+      known = tt;
+      asked = fresh_asks largest_piece sources fresh;
+      count = ap (λ n. count_after n names) one;
     } where
       nothing_joined : (outcome : Outcome) → joined no_outcome outcome ≡ outcome
       nothing_joined outcome = refl
@@ -324,21 +312,21 @@ taken_alone clears name left slots alone is = by (alone is) where
   by (inl none) = absurd (let few : length (name ∷ left) ≡ 0 = ap length none in omega (arith, few))
   by (inr few) = (no_more left (let less = few.0 in omega (arith, less)), few.1)
 
-abbrev pub Takes : Bool → Bool → Task → ℕ → Progress → (ℕ → List ℕ → Option Content) → List Source → List ℕ → Part → Slot → List Slot → List Slot → Result Progress Fault → Type 0
-Takes told_in told task most progress laid sources name so_far error slots new result =
+abbrev pub Takes : Bool → Bool → Task → ℕ → Progress → (ℕ → List ℕ → Option Content) → List Source → List Source → List ℕ → Part → Slot → List Slot → List Slot → Result Progress Fault → Type 0
+Takes told_in told task most progress laid sources new_sources name so_far error slots new result =
     OfName told_in (world_of laid sources) progress.was_read (length sources) name
-    (λ input. TookInput told task most (of_input task progress.is_first input) (header_text task.with_header progress.is_first input.name) input.content progress (progress.was_read || is_dash name) so_far error (length slots) new result)
+    (λ input. TookInput told_in told task most (of_input task progress.is_first input) (header_text task.with_header progress.is_first input.name) input.slot input.content progress (progress.was_read || is_dash name) so_far error (length slots) new_sources new result)
 
 -- one more name was taken
-pub walk_goes_on : (told_in told : Bool) (task : Task) (most : ℕ) (world : World) (names : List (List ℕ)) (name : List ℕ) (left : List (List ℕ)) (progress next : Progress) (laid new_laid : ℕ → List ℕ → Option Content) (sources new_sources : List Source) (slots new : List Slot)
+pub walk_goes_on : (told_in told : Bool) (task : Task) (world : World) (names : List (List ℕ)) (name : List ℕ) (left : List (List ℕ)) (progress next : Progress) (laid new_laid : ℕ → List ℕ → Option Content) (sources new_sources : List Source) (slots new : List Slot)
     → Walked told_in told task world names (name ∷ left) progress laid sources slots
-    → ((so_far : Part) (error : Slot) → is_open error.state ≡ true → OutputsAt told (streams_with error) so_far slots → Takes told_in told task most progress laid sources name so_far error slots new (Ok next))
-    → OpensOne name sources new_sources → new_laid ≡ laid
+    → ((so_far : Part) (error : Slot) → is_open error.state ≡ true → OutputsAt told (streams_with error) so_far slots → Takes told_in told task largest_piece progress laid sources new_sources name so_far error slots new (Ok next))
+    → TakesOne largest_piece progress.was_read name sources new_sources → length new_sources ≡ next_slot (length sources) name → new_laid ≡ laid
     → Walked told_in told task world names left next new_laid new_sources new
-walk_goes_on told_in told task most world names name left progress next laid new_laid sources new_sources slots new walked takes opens same =
+walk_goes_on told_in told task world names name left progress next laid new_laid sources new_sources slots new walked takes leaves opens same =
     goes_with (takes walked.made.part walked.error (error_open told_in told task world names (name ∷ left) progress laid sources slots walked) (slots_at told_in told task world names (name ∷ left) progress laid sources slots (omega arith) walked)) where
-      goes_with : Takes told_in told task most progress laid sources name walked.made.part walked.error slots new (Ok next) → Walked told_in told task world names left next new_laid new_sources new
-      goes_with (input, is_for, there, took _ after reached is says at swept) =
+      goes_with : Takes told_in told task largest_piece progress laid sources new_sources name walked.made.part walked.error slots new (Ok next) → Walked told_in told task world names left next new_laid new_sources new
+      goes_with (input, is_for, there, took _ after reached is is_done says at swept) =
           let one = of_input task progress.is_first input in
           let was : next.was_read ≡ (progress.was_read || is_dash name) = ap (λ (p : Progress). p.was_read) is in
           let unswept : walked.made.sweeps ≡ false = walked.unswept (omega arith) in
@@ -361,15 +349,21 @@ walk_goes_on told_in told task most world names name left progress next laid new
                 ∙ joined_assoc walked.made one (of_inputs task (progress.is_first && is_missing input.content) rest)
                 ∙ ap (λ (b : Bool). joined (joined walked.made one) (of_inputs task b rest)) (sym (ap (λ (p : Progress). p.is_first) is));
             rest_are = λ rest are_rest. subst (AreFrom false 1 names) (sym (append_assoc walked.done (input ∷ []) rest))
-                (walked.rest_are (input ∷ rest) (is_for, subst (λ (b : Bool). AreFrom b (next_slot (length sources) name) left rest) was (subst (λ n. AreFrom next.was_read n left rest) opens.count are_rest)));
+                (walked.rest_are (input ∷ rest) (is_for, subst (λ (b : Bool). AreFrom b (next_slot (length sources) name) left rest) was (subst (λ n. AreFrom next.was_read n left rest) opens are_rest)));
             rest_there = λ t. append_assoc walked.done (input ∷ []) (inputs_from world next.was_read (length new_sources) left)
                 ∙ ap (λ (first : Input). walked.done ++ first ∷ inputs_from world next.was_read (length new_sources) left) (there t ∙ same_input world progress.was_read (length sources) name (is_dash name) laid sources walked.laid_same walked.standard)
-                ∙ ap (λ n. walked.done ++ input_of world progress.was_read (length sources) name (is_dash name) ∷ inputs_from world next.was_read n left) opens.count
+                ∙ ap (λ n. walked.done ++ input_of world progress.was_read (length sources) name (is_dash name) ∷ inputs_from world next.was_read n left) opens
                 ∙ ap (λ (b : Bool). walked.done ++ input_of world progress.was_read (length sources) name (is_dash name) ∷ inputs_from world b (next_slot (length sources) name) left) was
                 ∙ walked.rest_there t;
             laid_same = same ∙ walked.laid_same;
-            standard = λ unread. let both = neither progress.was_read (is_dash name) (sym was ∙ unread) in opens.standard both.1 ∙ walked.standard both.0;
-            some = subst (λ n. 0 < n) (sym opens.count) (more_some (is_dash name));
+            standard = λ unread. let both = neither progress.was_read (is_dash name) (sym was ∙ unread) in leaves.unasked both.1 ∙ walked.standard both.0;
+            some = subst (λ n. 0 < n) (sym opens) (more_some (is_dash name));
+            known = subst (λ (b : Bool). StayDone told_in task.work.is_complete largest_piece b (walked.done ++ input ∷ []) new_sources) (sym was)
+                (done_more told_in task.work.is_complete largest_piece (progress.was_read || is_dash name) walked.done input new_sources
+                (still_done told_in task.work.is_complete largest_piece largest_piece progress.was_read (progress.was_read || is_dash name) name walked.done sources new_sources (λ had. ap (λ (b : Bool). b || is_dash name) had) leaves walked.known)
+                (done_with told_in task.work.is_complete largest_piece progress.was_read (length sources) name input new_sources is_for walked.some is_done));
+            asked = leaves.asked walked.asked;
+            count = sym (ap (λ n. count_after n left) (sym opens)) ∙ walked.count;
           } where
             more_some : (d : Bool) → 0 < (if d then length sources else length sources + 1)
             more_some true = walked.some
@@ -380,14 +374,15 @@ walk_goes_on told_in told task most world names name left progress next laid new
             none_swept true none some = absurd (let few : length left ≡ 0 = ap length (none refl) in omega (arith, few, some))
 
 -- a fault stopped the run at a name
-pub walk_stops : (told_in told : Bool) (task : Task) (most : ℕ) (world : World) (names : List (List ℕ)) (name : List ℕ) (left : List (List ℕ)) (progress : Progress) (laid : ℕ → List ℕ → Option Content) (sources : List Source) (slots new : List Slot) (fault : Fault)
+pub walk_stops : (told_in told : Bool) (task : Task) (world : World) (names : List (List ℕ)) (name : List ℕ) (left : List (List ℕ)) (progress : Progress) (laid : ℕ → List ℕ → Option Content) (sources new_sources : List Source) (slots new : List Slot) (fault : Fault)
     → Walked told_in told task world names (name ∷ left) progress laid sources slots
-    → ((so_far : Part) (error : Slot) → is_open error.state ≡ true → OutputsAt told (streams_with error) so_far slots → Takes told_in told task most progress laid sources name so_far error slots new (Err fault))
-    → RunsOver told_in world names (λ found. TookAll told task most found new (Err fault))
-walk_stops told_in told task most world names name left progress laid sources slots new fault walked takes =
+    → ((so_far : Part) (error : Slot) → is_open error.state ≡ true → OutputsAt told (streams_with error) so_far slots → Takes told_in told task largest_piece progress laid sources new_sources name so_far error slots new (Err fault))
+    → TakesOne largest_piece progress.was_read name sources new_sources
+    → RunsOver told_in world names (λ found. TookAll told_in told task found new_sources new (Err fault))
+walk_stops told_in told task world names name left progress laid sources new_sources slots new fault walked takes leaves =
     stops_with (takes walked.made.part walked.error (error_open told_in told task world names (name ∷ left) progress laid sources slots walked) (slots_at told_in told task world names (name ∷ left) progress laid sources slots (omega arith) walked)) where
-      stops_with : Takes told_in told task most progress laid sources name walked.made.part walked.error slots new (Err fault) → RunsOver told_in world names (λ found. TookAll told task most found new (Err fault))
-      stops_with (input, is_for, there, cut_off _ low high reached step stops stop swept) =
+      stops_with : Takes told_in told task largest_piece progress laid sources new_sources name walked.made.part walked.error slots new (Err fault) → RunsOver told_in world names (λ found. TookAll told_in told task found new_sources new (Err fault))
+      stops_with (input, is_for, there, cut_off _ step reached is_step stops stop swept) =
           let rest = inputs_from world (progress.was_read || is_dash name) (next_slot (length sources) name) left in
           let before : made_by task walked.done ≡ walked.made
           = ap (of_inputs task true) (sym (append-nil walked.done)) ∙ walked.rest_made [] ∙ joined_nothing walked.made in (
@@ -396,20 +391,31 @@ walk_stops told_in told task most world names name left progress laid sources sl
               are = walked.rest_are (input ∷ rest) (is_for, are_from world (progress.was_read || is_dash name) (next_slot (length sources) name) left);
               there = λ t. ap (λ (first : Input). walked.done ++ first ∷ rest) (there t ∙ same_input world progress.was_read (length sources) name (is_dash name) laid sources walked.laid_same walked.standard) ∙ walked.rest_there t;
             },
-            stopped_at fault walked.done input rest walked.error low high reached refl
-                (subst (λ (outcome : Outcome). RunStep task.work most outcome.part (header_text task.with_header (are_missing walked.done) input.name) input.content low high) (sym before)
-                (subst (λ (is_first : Bool). RunStep task.work most walked.made.part (header_text task.with_header is_first input.name) input.content low high) walked.first step))
+            stopped_at fault walked.done input rest walked.error step reached refl
+                (all_done told_in task.work.is_complete largest_piece (progress.was_read || is_dash name) walked.done new_sources
+                (still_done told_in task.work.is_complete largest_piece largest_piece progress.was_read (progress.was_read || is_dash name) name walked.done sources new_sources (λ had. ap (λ (b : Bool). b || is_dash name) had) leaves walked.known))
+                (rest_untouched world (progress.was_read || is_dash name) (next_slot (length sources) name) left new_sources
+                (λ unread. let both = neither progress.was_read (is_dash name) unread in leaves.unasked both.1 ∙ walked.standard both.0) leaves.within)
+                (subst (λ (outcome : Outcome). RunStep told_in task largest_piece outcome.part (header_text task.with_header (are_missing walked.done) input.name) input.slot new_sources input.content step) (sym before)
+                (subst (λ (is_first : Bool). RunStep told_in task largest_piece walked.made.part (header_text task.with_header is_first input.name) input.slot new_sources input.content step) walked.first is_step))
                 stops
                 (subst (λ (outcome : Outcome). SaysAll told task.tool outcome.messages standard_error walked.error) (sym before) walked.says)
                 stop
                 (swept_from task.work.clears (length slots) 2 reached new (λ clears. (taken_alone task.work.clears name left slots walked.alone clears).1) swept),
           )
 
+pub walk_within : (told_in told : Bool) (task : Task) (world : World) (names : List (List ℕ)) (name : List ℕ) (left : List (List ℕ)) (progress : Progress) (laid : ℕ → List ℕ → Option Content) (sources new_sources : List Source) (slots : List Slot)
+    → Walked told_in told task world names (name ∷ left) progress laid sources slots → TakesOne largest_piece progress.was_read name sources new_sources → length new_sources ≤ count_after 1 names
+walk_within told_in told task world names name left progress laid sources new_sources slots walked leaves =
+    let within : length new_sources ≤ next_slot (length sources) name = leaves.within in
+    let more : next_slot (length sources) name ≤ count_after (next_slot (length sources) name) left = count_more (next_slot (length sources) name) left in
+    omega (arith, within, more, walked.count)
+
 -- all names were taken
-pub walk_ends : (told_in told : Bool) (task : Task) (most : ℕ) (world : World) (names left : List (List ℕ)) (progress : Progress) (laid : ℕ → List ℕ → Option Content) (sources : List Source) (slots : List Slot) → left ≡ []
+pub walk_ends : (told_in told : Bool) (task : Task) (world : World) (names left : List (List ℕ)) (progress : Progress) (laid : ℕ → List ℕ → Option Content) (sources : List Source) (slots : List Slot) → left ≡ []
     → Walked told_in told task world names left progress laid sources slots
-    → RunsOver told_in world names (λ found. TookAll told task most found slots (Ok progress.failed))
-walk_ends told_in told task most world names left progress laid sources slots none walked =
+    → RunsOver told_in world names (λ found. TookAll told_in told task found sources slots (Ok progress.failed))
+walk_ends told_in told task world names left progress laid sources slots none walked =
     let made : made_by task (walked.done ++ []) ≡ walked.made = walked.rest_made [] ∙ joined_nothing walked.made in (
       walked.done ++ [],
       record {
@@ -419,79 +425,71 @@ walk_ends told_in told task most world names left progress laid sources slots no
       all progress.failed walked.error walked.reached (walked.failed ∙ ap (λ (those : Outcome). those.failed) (sym made))
           (subst (λ (those : Outcome). SaysAll told task.tool those.messages standard_error walked.error) (sym made) walked.says)
           (subst (λ (those : Outcome). OutputsAt told (streams_with walked.error) those.part walked.reached) (sym made) walked.at)
-          (subst (λ (those : Outcome). Swept those.sweeps 2 walked.reached slots) (sym made) walked.swept),
+          (subst (λ (those : Outcome). Swept those.sweeps 2 walked.reached slots) (sym made) walked.swept)
+          (all_done_nil told_in task.work.is_complete largest_piece walked.done sources (all_done told_in task.work.is_complete largest_piece progress.was_read walked.done sources walked.known)),
     )
+
+pub walk_counts : (told_in told : Bool) (task : Task) (world : World) (names left : List (List ℕ)) (progress : Progress) (laid : ℕ → List ℕ → Option Content) (sources : List Source) (slots : List Slot) → left ≡ []
+    → Walked told_in told task world names left progress laid sources slots → length sources ≤ count_after 1 names
+walk_counts told_in told task world names left progress laid sources slots none walked = let all_taken : count_after (length sources) left ≡ length sources = ap (count_after (length sources)) none in omega (arith, all_taken, walked.count)
 
 -- the same over the words that a loop has left
 
-pub walk_goes_on_at : (told_in told : Bool) (task : Task) (most : ℕ) (world : World) (names : List (List ℕ)) (none : Bor (List ℕ)) (left : List (Bor (List ℕ))) (progress next : Progress) (laid new_laid : ℕ → List ℕ → Option Content) (sources new_sources : List Source) (slots new : List Slot)
-    → 1 ≤ length left → Walked told_in told task world names (map (λ word. word.now) left) progress laid sources slots
-    → ((so_far : Part) (error : Slot) → is_open error.state ≡ true → OutputsAt told (streams_with error) so_far slots → Takes told_in told task most progress laid sources (get_or left 0 none).now so_far error slots new (Ok next))
-    → OpensOne (get_or left 0 none).now sources new_sources → new_laid ≡ laid
+pub walk_goes_on_at : (told_in told : Bool) (task : Task) (room : ℕ) (world : World) (names : List (List ℕ)) (none : Bor (List ℕ)) (left : List (Bor (List ℕ))) (progress next : Progress) (laid new_laid : ℕ → List ℕ → Option Content) (sources new_sources : List Source) (slots new : List Slot)
+    → room ≡ largest_piece → 1 ≤ length left → Walked told_in told task world names (map (λ word. word.now) left) progress laid sources slots
+    → ((so_far : Part) (error : Slot) → is_open error.state ≡ true → OutputsAt told (streams_with error) so_far slots → Takes told_in told task room progress laid sources new_sources (get_or left 0 none).now so_far error slots new (Ok next))
+    → TakesOne room progress.was_read (get_or left 0 none).now sources new_sources → length new_sources ≡ next_slot (length sources) (get_or left 0 none).now → new_laid ≡ laid
     → Walked told_in told task world names (map (λ word. word.now) (take (length left - 1) (drop 1 left))) next new_laid new_sources new
-walk_goes_on_at told_in told task most world names none left progress next laid new_laid sources new_sources slots new some walked takes opens same =
-    walk_goes_on told_in told task most world names (get_or left 0 none).now (map (λ word. word.now) (take (length left - 1) (drop 1 left))) progress next laid new_laid sources new_sources slots new
-    (subst (λ those. Walked told_in told task world names those progress laid sources slots) (front_and_rest none left some) walked) takes opens same
+walk_goes_on_at told_in told task room world names none left progress next laid new_laid sources new_sources slots new at_most some walked takes leaves opens same =
+    walk_goes_on told_in told task world names (get_or left 0 none).now (map (λ word. word.now) (take (length left - 1) (drop 1 left))) progress next laid new_laid sources new_sources slots new
+    (subst (λ those. Walked told_in told task world names those progress laid sources slots) (front_and_rest none left some) walked)
+    (subst (λ n. (so_far : Part) (error : Slot) → is_open error.state ≡ true → OutputsAt told (streams_with error) so_far slots → Takes told_in told task n progress laid sources new_sources (get_or left 0 none).now so_far error slots new (Ok next)) at_most takes)
+    (subst (λ n. TakesOne n progress.was_read (get_or left 0 none).now sources new_sources) at_most leaves) opens same
 
-pub walk_stops_at : (told_in told : Bool) (task : Task) (room most : ℕ) (world : World) (names : List (List ℕ)) (none : Bor (List ℕ)) (left : List (Bor (List ℕ))) (progress : Progress) (laid : ℕ → List ℕ → Option Content) (sources : List Source) (slots new : List Slot) (fault : Fault)
-    → room ≡ most → 1 ≤ length left → Walked told_in told task world names (map (λ word. word.now) left) progress laid sources slots
-    → ((so_far : Part) (error : Slot) → is_open error.state ≡ true → OutputsAt told (streams_with error) so_far slots → Takes told_in told task room progress laid sources (get_or left 0 none).now so_far error slots new (Err fault))
-    → RunsOver told_in world names (λ found. TookAll told task most found new (Err fault))
-walk_stops_at told_in told task room most world names none left progress laid sources slots new fault same some walked takes =
-    subst (λ n. RunsOver told_in world names (λ found. TookAll told task n found new (Err fault))) same
-    (walk_stops told_in told task room world names (get_or left 0 none).now (map (λ word. word.now) (take (length left - 1) (drop 1 left))) progress laid sources slots new fault
-    (subst (λ those. Walked told_in told task world names those progress laid sources slots) (front_and_rest none left some) walked) takes)
+pub walk_stops_at : (told_in told : Bool) (task : Task) (room : ℕ) (world : World) (names : List (List ℕ)) (none : Bor (List ℕ)) (left : List (Bor (List ℕ))) (progress : Progress) (laid : ℕ → List ℕ → Option Content) (sources new_sources : List Source) (slots new : List Slot) (fault : Fault)
+    → room ≡ largest_piece → 1 ≤ length left → Walked told_in told task world names (map (λ word. word.now) left) progress laid sources slots
+    → ((so_far : Part) (error : Slot) → is_open error.state ≡ true → OutputsAt told (streams_with error) so_far slots → Takes told_in told task room progress laid sources new_sources (get_or left 0 none).now so_far error slots new (Err fault))
+    → TakesOne room progress.was_read (get_or left 0 none).now sources new_sources
+    → RunsOver told_in world names (λ found. TookAll told_in told task found new_sources new (Err fault))
+walk_stops_at told_in told task room world names none left progress laid sources new_sources slots new fault at_most some walked takes leaves =
+    walk_stops told_in told task world names (get_or left 0 none).now (map (λ word. word.now) (take (length left - 1) (drop 1 left))) progress laid sources new_sources slots new fault
+    (subst (λ those. Walked told_in told task world names those progress laid sources slots) (front_and_rest none left some) walked)
+    (subst (λ n. (so_far : Part) (error : Slot) → is_open error.state ≡ true → OutputsAt told (streams_with error) so_far slots → Takes told_in told task n progress laid sources new_sources (get_or left 0 none).now so_far error slots new (Err fault)) at_most takes)
+    (subst (λ n. TakesOne n progress.was_read (get_or left 0 none).now sources new_sources) at_most leaves)
+
+pub walk_within_at : (told_in told : Bool) (task : Task) (room : ℕ) (world : World) (names : List (List ℕ)) (none : Bor (List ℕ)) (left : List (Bor (List ℕ))) (progress : Progress) (laid : ℕ → List ℕ → Option Content) (sources new_sources : List Source) (slots : List Slot)
+    → room ≡ largest_piece → 1 ≤ length left → Walked told_in told task world names (map (λ word. word.now) left) progress laid sources slots
+    → TakesOne room progress.was_read (get_or left 0 none).now sources new_sources → length new_sources ≤ count_after 1 names
+walk_within_at told_in told task room world names none left progress laid sources new_sources slots at_most some walked leaves =
+    walk_within told_in told task world names (get_or left 0 none).now (map (λ word. word.now) (take (length left - 1) (drop 1 left))) progress laid sources new_sources slots
+    (subst (λ those. Walked told_in told task world names those progress laid sources slots) (front_and_rest none left some) walked)
+    (subst (λ n. TakesOne n progress.was_read (get_or left 0 none).now sources new_sources) at_most leaves)
+
+-- no read asked for more
+pub asks_on_at : (room : ℕ) (was_read : Bool) (name : List ℕ) (sources new_sources : List Source) → room ≡ largest_piece → AsksAtMost largest_piece sources → TakesOne room was_read name sources new_sources → AsksAtMost largest_piece new_sources
+asks_on_at room was_read name sources new_sources at_most asked leaves = subst (λ n. AsksAtMost n new_sources) at_most (leaves.asked (subst (λ n. AsksAtMost n sources) (sym at_most) asked))
 
 pub some_left : (left : List (Bor (List ℕ))) → 1 ≤ length left → 1 ≤ length (map (λ (word : Bor (List ℕ)). word.now) left)
 some_left left some = subst (λ n. 1 ≤ n) (sym (length-map left (λ (word : Bor (List ℕ)). word.now))) some
 
+-- a run that touched no input
+pub none_touched : (told_in : Bool) (laid : ℕ → List ℕ → Option Content) (sources : List Source) (names : List (List ℕ)) → IsFresh sources → RunsOver told_in (world_of laid sources) names (λ found. AreUntouched found sources)
+none_touched told_in laid sources names fresh =
+    let world = world_of laid sources in
+    let at_first : source_at sources 0 ≡ source_of fresh.standard = ap (λ those. source_at those 0) fresh.only in (
+      inputs_at world names,
+      record { are = are_from world false 1 names; there = λ t. refl },
+      rest_untouched world false 1 names sources (λ _. at_first ∙ ap source_of (sym (ap (λ (source : Source). source.left) at_first))) (omega (arith, ap length fresh.only)),
+    )
+
 -- there was no memory before the first input was opened
-pub no_memory_first : (told_in told : Bool) (world : World) (names : List (List ℕ)) (task : Task) (most : ℕ) (old : List Slot) → old ≡ streams → RunsOver told_in world names (λ found. TookAll told task most found old (Err Memory))
-no_memory_first told_in told world names task most old are = (inputs_at world names, record { are = are_from world false 1 names; there = λ t. refl }, not_begun are)
+pub no_memory_first : (told_in told : Bool) (laid : ℕ → List ℕ → Option Content) (sources : List Source) (names : List (List ℕ)) (task : Task) (old : List Slot) → IsFresh sources → old ≡ streams
+    → RunsOver told_in (world_of laid sources) names (λ found. TookAll told_in told task found sources old (Err Memory))
+no_memory_first told_in told laid sources names task old fresh are =
+    let untouched = none_touched told_in laid sources names fresh in (untouched.0, untouched.1, not_begun are untouched.2)
 
--- what was read of standard input
-
-still_first : (is_complete : List ℕ → Bool) (most : ℕ) (was_read : Bool) (old new : List Source) → source_at new 0 ≡ source_at old 0 → ReadsStandard is_complete most was_read old new
-still_first is_complete most was_read old new same = record {
-  first = λ _. reads_none is_complete most (source_at old 0).left (source_at new 0).left (ap (λ (source : Source). source.left) same);
-  again = λ _. same;
-}
-
-pub reads_dash : (is_complete : List ℕ → Bool) (most : ℕ) (was_read : Bool) (source : Option ℕ) (old new : List Source) → source ≡ standard_source was_read → KeepsOther source old new → ReadsSource is_complete most source old new → ReadsStandard is_complete most was_read old new
-reads_dash is_complete most was_read source old new is keeps reads = at_source was_read (subst (λ from. KeepsOther from old new) is keeps) (subst (λ from. ReadsSource is_complete most from old new) is reads) where
-  at_source : (was : Bool) → KeepsOther (standard_source was) old new → ReadsSource is_complete most (standard_source was) old new → ReadsStandard is_complete most was old new
-  at_source true same none = still_first is_complete most true old new (ap (λ those. source_at those 0) same)
-  at_source false others read = record { first = λ _. read; again = λ was. absurd (false≢true was) }
-
-pub reads_file : (is_complete : List ℕ → Bool) (most : ℕ) (told : Bool) (laid : ℕ → List ℕ → Option Content) (name : List ℕ) (was_read : Bool) (old mid new : List Source) (slot : ℕ) → 0 < length old → Opens told laid old mid name slot → KeepsOthers slot mid new → ReadsStandard is_complete most was_read old new
-reads_file is_complete most told laid name was_read old mid new slot some opens keeps =
-    still_first is_complete most was_read old new
-    (keeps.others 0 (λ same. let at : slot ≡ length old = opens.number in omega (arith, same)) ∙ ap (λ those. source_at those 0) opens.sources ∙ first_source old (source_of opens.content ∷ []) some)
-
-pub reads_missing : (is_complete : List ℕ → Bool) (most : ℕ) (told : Bool) (laid : ℕ → List ℕ → Option Content) (name : List ℕ) (was_read : Bool) (old new : List Source) (fault : Fault) → 0 < length old → OpensNothing told laid old new name fault → ReadsStandard is_complete most was_read old new
-reads_missing is_complete most told laid name was_read old new fault some (from.broke at number lies is) = still_first is_complete most was_read old new (ap (λ those. source_at those 0) is ∙ first_source old (missing ∷ []) some)
-reads_missing is_complete most told laid name was_read old new fault some (from.no_room is) = still_first is_complete most was_read old new (ap (λ those. source_at those 0) is)
-
--- the loop goes on, or stops, with what it read
-pub reads_on : (is_complete : List ℕ → Bool) (most : ℕ) (was_read : Bool) (there : Content) (old new : List Source) → (was_read ≡ false → source_at old 0 ≡ source_of there) → ReadsFor is_complete most there (source_at old 0).left → ReadsStandard is_complete most was_read old new → ReadsFor is_complete most there (source_at new 0).left
-reads_on is_complete most true there old new unread so_far reads = subst (λ (source : Source). ReadsFor is_complete most there source.left) (sym (reads.again refl)) so_far
-reads_on is_complete most false there old new unread so_far reads = subst (λ (source : Source). ReadsFor is_complete most source.left (source_at new 0).left) (unread refl) (reads.first refl)
-
-pub reads_on_at : (is_complete : List ℕ → Bool) (room most : ℕ) (was_read : Bool) (there : Content) (old new : List Source) → room ≡ most → (was_read ≡ false → source_at old 0 ≡ source_of there) → ReadsFor is_complete most there (source_at old 0).left → ReadsStandard is_complete room was_read old new → ReadsFor is_complete most there (source_at new 0).left
-reads_on_at is_complete room most was_read there old new same unread so_far reads = reads_on is_complete most was_read there old new unread so_far (subst (λ n. ReadsStandard is_complete n was_read old new) same reads)
-
--- standard input is untouched where no name asks for it
-
-pub file_untouched : (told : Bool) (laid : ℕ → List ℕ → Option Content) (name : List ℕ) (old mid new : List Source) (slot : ℕ) → 0 < length old → Opens told laid old mid name slot → KeepsOthers slot mid new → source_at new 0 ≡ source_at old 0
-file_untouched told laid name old mid new slot some opens keeps =
-    keeps.others 0 (λ same. let at : slot ≡ length old = opens.number in omega (arith, same)) ∙ ap (λ those. source_at those 0) opens.sources ∙ first_source old (source_of opens.content ∷ []) some
-
-pub missing_untouched : (told : Bool) (laid : ℕ → List ℕ → Option Content) (name : List ℕ) (old new : List Source) (fault : Fault) → 0 < length old → OpensNothing told laid old new name fault → source_at new 0 ≡ source_at old 0
-missing_untouched told laid name old new fault some (from.broke at number lies is) = ap (λ those. source_at those 0) is ∙ first_source old (missing ∷ []) some
-missing_untouched told laid name old new fault some (from.no_room is) = ap (λ those. source_at those 0) is
-
-pub dash_is_none : (name : List ℕ) (first again : Source) → is_dash name ≡ true → is_dash name ≡ false → first ≡ again
-dash_is_none name first again dash differs = absurd (false≢true (sym differs ∙ dash))
+pub fresh_counts : (sources : List Source) (names : List (List ℕ)) → IsFresh sources → length sources ≤ count_after 1 names
+fresh_counts sources names fresh = let more : 1 ≤ count_after 1 names = count_more 1 names in omega (arith, ap length fresh.only, more)
 
 -- what a loop over names has left of standard input
 pub record Untouched (names left : List (List ℕ)) (start now : List Source) : Type 0 where

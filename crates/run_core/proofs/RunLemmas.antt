@@ -2,6 +2,7 @@
 use Rattle.std.proofs.Common.{◌≡◌, ℕ, Bool, true, false, if◌then◌else◌, List, [], ◌∷◌, ◌++◌, Ok, Err, refl, sym, ◌∙◌, ap, subst, lit≤}
 use mir.Val.{bool_byte}
 use Rattle.ports_core.specs.Slot.{Slot, is_open, slot_at}
+use Rattle.ports_core.specs.Source.{Source}
 use Rattle.ports_core.specs.Swept.{Swept}
 use Rattle.ports_core.specs.Text.{message_of}
 use Rattle.ports_core.specs.Message.{SaysAll, SaysOn, output_named}
@@ -9,7 +10,7 @@ use Rattle.ports_core.specs.declared.tool.Tool.{Tool}
 use Rattle.ports_core.specs.declared.fault.Fault.{Fault}
 use Rattle.ports_core.proofs.MessageLemmas.{says_more, all_said_state}
 use Rattle.run_core.specs.Input.{Input, World}
-use Rattle.run_core.specs.RunEnds.{standard_output, standard_error, largest_piece, EndsAs, as_defined, stopped, no_room, RunsOver}
+use Rattle.run_core.specs.RunEnds.{standard_output, standard_error, EndsAs, as_defined, stopped, no_room, RunsOver}
 use Rattle.run_core.specs.RunSteps.{TookAll, all, stopped_at, not_begun}
 use Rattle.run_core.specs.Task.{Task, made_by}
 use Rattle.run_core.proofs.StopLemmas.{error_open, stop_error, stop_swept, message_some}
@@ -21,39 +22,39 @@ pub from_over : (told_in : Bool) (world : World) (names : List (List ℕ)) (P : 
 from_over told_in world names P Q more (found, finds, holds) = more found holds
 
 -- the run that reached the end of its inputs
-pub ran_through : (told : Bool) (task : Task) (found : List Input) (new : List Slot) (failed : Bool) (status : ℕ) → status ≡ (if failed then 1 else 0) → TookAll told task largest_piece found new (Ok failed) → EndsAs told task found new status
-ran_through told task found new failed status is (all _ error reached same says at swept) =
-    as_defined error reached says at swept (is ∙ ap (λ (b : Bool). if b then 1 else 0) same)
+pub ran_through : (told_in told : Bool) (task : Task) (found : List Input) (sources : List Source) (new : List Slot) (failed : Bool) (status : ℕ) → status ≡ (if failed then 1 else 0) → TookAll told_in told task found sources new (Ok failed) → EndsAs told_in told task found sources new status
+ran_through told_in told task found sources new failed status is (all _ error reached same says at swept done) =
+    as_defined error reached says at swept done (is ∙ ap (λ (b : Bool). if b then 1 else 0) same)
 
 swept_open : (clears : Bool) (reached new : List Slot) → is_open (slot_at reached 1).state ≡ true → Swept clears 2 reached new → is_open (slot_at new 1).state ≡ true
 swept_open false reached new opened same = ap (λ those. is_open (slot_at those 1).state) same ∙ opened
 swept_open true reached new opened swept = ap (λ (slot : Slot). is_open slot.state) (swept.before 1 (lit≤ tt)) ∙ opened
 
 -- standard error is there for the fault that stopped the run
-pub stop_open : (told : Bool) (task : Task) (most : ℕ) (found : List Input) (new : List Slot) (fault : Fault) → TookAll told task most found new (Err fault) → is_open (slot_at new 1).state ≡ true
-stop_open told task most found new fault (stopped_at _ before input after error low high reached among step stops says stop swept) =
-    swept_open task.work.clears reached new (error_open reached (stop_error told standard_output error low high fault reached (ap is_open (all_said_state told task.tool (made_by task before).messages standard_error error says)) stop)) swept
-stop_open told task most found new _ (not_begun is) = ap (λ slots. is_open (slot_at slots 1).state) is
+pub stop_open : (told_in told : Bool) (task : Task) (found : List Input) (sources : List Source) (new : List Slot) (fault : Fault) → TookAll told_in told task found sources new (Err fault) → is_open (slot_at new 1).state ≡ true
+stop_open told_in told task found sources new fault (stopped_at _ before input after error step reached among done untouched is_step stops says stop swept) =
+    swept_open task.work.clears reached new (error_open reached (stop_error told standard_output error step.low step.high fault reached (ap is_open (all_said_state told task.tool (made_by task before).messages standard_error error says)) stop)) swept
+stop_open told_in told task found sources new _ (not_begun is untouched) = ap (λ slots. is_open (slot_at slots 1).state) is
 
 -- the run that a fault stopped
-pub ran_into : (told : Bool) (task : Task) (found : List Input) (mid new : List Slot) (fault : Fault) → TookAll told task largest_piece found mid (Err fault) → SaysOn told task.tool (message_of task.tool fault (output_named mid fault)) mid new
-    → EndsAs told task found new 1
-ran_into told task found mid new fault (stopped_at _ before input after error low high reached among step stops said stop swept) says =
+pub ran_into : (told_in told : Bool) (task : Task) (found : List Input) (sources : List Source) (mid new : List Slot) (fault : Fault) → TookAll told_in told task found sources mid (Err fault) → SaysOn told task.tool (message_of task.tool fault (output_named mid fault)) mid new
+    → EndsAs told_in told task found sources new 1
+ran_into told_in told task found sources mid new fault (stopped_at _ before input after error step reached among done untouched is_step stops said stop swept) says =
     let text = message_of task.tool fault (output_named mid fault) in
-    let told_so = stop_swept told task.tool text task.work largest_piece input.content task.work.clears standard_output error low high fault reached mid new 2 (message_some task.tool fault (output_named mid fault)) (lit≤ tt)
+    let told_so = stop_swept told task.tool text step task.work.clears standard_output error step.low step.high fault reached mid new 2 (message_some task.tool fault (output_named mid fault)) (lit≤ tt)
     (ap is_open (all_said_state told task.tool (made_by task before).messages standard_error error said)) stop stops swept says in
-    stopped fault before input after told_so.after low high told_so.reached among step told_so.why
+    stopped fault before input after told_so.after step told_so.reached among done untouched is_step told_so.why told_so.stop told_so.swept
     (subst (λ name. SaysAll told task.tool ((made_by task before).messages ++ message_of task.tool fault name ∷ []) standard_error told_so.after) (sym told_so.named)
     (says_more told task.tool (made_by task before).messages text standard_error error told_so.after said told_so.says))
-    told_so.stop told_so.swept refl
-ran_into told task found mid new _ (not_begun at_first) says =
+    refl
+ran_into told_in told task found sources mid new _ (not_begun at_first untouched) says =
     let said = says standard_output standard_error [] at_first in
-    no_room said.0 (said.0, said.1, refl) said.2 refl
+    no_room said.0 (said.0, said.1, refl) said.2 untouched refl
 
 -- what was said by the name that a tool gives itself
-pub ran_into_as : (told : Bool) (task : Task) (tool : Tool) (found : List Input) (mid new : List Slot) (fault : Fault) → tool ≡ task.tool → TookAll told task largest_piece found mid (Err fault) → SaysOn told tool (message_of tool fault (output_named mid fault)) mid new
-    → EndsAs told task found new 1
-ran_into_as told task tool found mid new fault is took says = ran_into told task found mid new fault took (subst (λ those. SaysOn told those (message_of those fault (output_named mid fault)) mid new) is says)
+pub ran_into_as : (told_in told : Bool) (task : Task) (tool : Tool) (found : List Input) (sources : List Source) (mid new : List Slot) (fault : Fault) → tool ≡ task.tool → TookAll told_in told task found sources mid (Err fault) → SaysOn told tool (message_of tool fault (output_named mid fault)) mid new
+    → EndsAs told_in told task found sources new 1
+ran_into_as told_in told task tool found sources mid new fault is took says = ran_into told_in told task found sources mid new fault took (subst (λ those. SaysOn told those (message_of those fault (output_named mid fault)) mid new) is says)
 
 pub as_status : (failed : Bool) → bool_byte failed ≡ (if failed then 1 else 0)
 as_status true = refl

@@ -1,6 +1,6 @@
 -- Lemmas on outputs that a fault stopped, and on the message that tells it: standard error is the slot after the first, and what
 -- was opened comes after both.
-use Rattle.std.proofs.Common.{Option, ◌≡◌, ℕ, ◌<◌, ◌≤◌, zero, suc, drop, get_or, Bool, true, false, List, [], ◌∷◌, ◌++◌, length, codes, arith, length-append, inl, refl, sym, ◌∙◌, ap, subst, lit<}
+use Rattle.std.proofs.Common.{◌≡◌, ℕ, ◌<◌, ◌≤◌, zero, suc, drop, get_or, Bool, true, false, List, [], ◌∷◌, ◌++◌, length, codes, arith, length-append, inl, refl, sym, ◌∙◌, ap, subst, lit<}
 use Rattle.std.proofs.lemmas.List.{append-nil}
 use Rattle.std.proofs.lemmas.Bool.{false≢true}
 use Rattle.ports_core.specs.Slot.{Slot, is_open, slot_at, adds, breaks, told_of, unopened, with_broken}
@@ -10,10 +10,8 @@ use Rattle.ports_core.specs.declared.tool.Tool.{Tool}
 use Rattle.ports_core.specs.declared.fault.Fault.{Fault}
 use Rattle.ports_core.specs.declared.fault.Fault.TheVariants.{Memory, Write, Read, Open, Suffixes, NoMatch, Range, Usage, Failed, TooLong}
 use Rattle.ports_core.proofs.WriteLemmas.{told_of-nil}
-use Rattle.ports_core.specs.Source.{Content}
-use Rattle.ports_core.specs.Work.{Work}
 use Rattle.ports_core.specs.Swept.{Swept, SweptFrom, Cleared}
-use Rattle.run_core.specs.Feeding.{Stops}
+use Rattle.run_core.specs.Feeding.{Step, Stops}
 use Rattle.ports_core.specs.Message.{Prints, whole, cut, passed, Says, SaysOn, output_named}
 
 -- a line that tells a fault isn't empty: it ends with a newline
@@ -168,18 +166,18 @@ still_broken told tool text mid new (suc (suc place)) has says broken =
     let said = says has.output has.error has.since has.are in
     ap (λ slots. (slot_at slots (suc (suc place))).is_broken) said.2 ∙ sym (ap (λ slots. (slot_at slots (suc (suc place))).is_broken) has.are) ∙ broken
 
--- what stopped a run did so after the message too
-pub stops_still : (told : Bool) (tool : Tool) (text : List ℕ) (work : Work) (most : ℕ) (content : Option Content) (mid new : List Slot) (fault : Fault) → HasError mid → SaysOn told tool text mid new → Stops work most content mid fault → Stops work most content new fault
-stops_still told tool text work most content mid new (Write slot) has says stops = (stops.0, still_broken told tool text mid new slot has says stops.1)
-stops_still told tool text work most content mid new Memory has says stops = stops
-stops_still told tool text work most content mid new (Open slot) has says stops = stops
-stops_still told tool text work most content mid new TooLong has says stops = stops
-stops_still told tool text work most content mid new (Read slot) has says stops = stops
-stops_still told tool text work most content mid new Suffixes has says stops = stops
-stops_still told tool text work most content mid new (NoMatch operand repetition) has says stops = stops
-stops_still told tool text work most content mid new (Range operand repetition) has says stops = stops
-stops_still told tool text work most content mid new (Usage kind word) has says stops = stops
-stops_still told tool text work most content mid new Failed has says stops = stops
+-- what stopped a step did so after the message too
+pub stops_still : (told : Bool) (tool : Tool) (text : List ℕ) (step : Step) (mid new : List Slot) (fault : Fault) → HasError mid → SaysOn told tool text mid new → Stops step mid fault → Stops step new fault
+stops_still told tool text step mid new (Write slot) has says stops = (stops.0, stops.1, still_broken told tool text mid new slot has says stops.2)
+stops_still told tool text step mid new Memory has says stops = stops
+stops_still told tool text step mid new (Open slot) has says stops = stops
+stops_still told tool text step mid new TooLong has says stops = stops
+stops_still told tool text step mid new (Read slot) has says stops = stops
+stops_still told tool text step mid new Suffixes has says stops = stops
+stops_still told tool text step mid new (NoMatch operand repetition) has says stops = stops
+stops_still told tool text step mid new (Range operand repetition) has says stops = stops
+stops_still told tool text step mid new (Usage kind word) has says stops = stops
+stops_still told tool text step mid new Failed has says stops = stops
 
 -- what is said after files were removed
 
@@ -263,29 +261,29 @@ named_same Failed output error after since is = refl
 named_same TooLong output error after since is = refl
 
 -- what a fault left, once its files were removed and its message was said
-pub record ToldStop (told : Bool) (tool : Tool) (text : List ℕ) (work : Work) (most : ℕ) (content : Option Content) (output error : Slot) (low high : Part) (fault : Fault) (clears : Bool) (first : ℕ) (mid new : List Slot) : Type 0 where
+pub record ToldStop (told : Bool) (tool : Tool) (text : List ℕ) (step : Step) (output error : Slot) (low high : Part) (fault : Fault) (clears : Bool) (first : ℕ) (mid new : List Slot) : Type 0 where
   pub after : Slot
   pub says : Says told tool text error after
   pub reached : List Slot
   pub stop : StoppedBetween told (output ∷ after ∷ []) low high fault reached
-  pub why : Stops work most content reached fault
+  pub why : Stops step reached fault
   pub swept : Swept clears first reached new
   pub named : output_named new fault ≡ output_named mid fault
 
-pub stop_swept : (told : Bool) (tool : Tool) (text : List ℕ) (work : Work) (most : ℕ) (content : Option Content) (clears : Bool) (output error : Slot) (low high : Part) (fault : Fault) (reached mid new : List Slot) (first : ℕ) → 0 < length text → 2 ≤ first → is_open error.state ≡ true
-    → StoppedBetween told (output ∷ error ∷ []) low high fault reached → Stops work most content reached fault → Swept clears first reached mid → SaysOn told tool text mid new → ToldStop told tool text work most content output error low high fault clears first mid new
-stop_swept told tool text work most content false output error low high fault reached mid new first some behind opened stop why same says =
+pub stop_swept : (told : Bool) (tool : Tool) (text : List ℕ) (step : Step) (clears : Bool) (output error : Slot) (low high : Part) (fault : Fault) (reached mid new : List Slot) (first : ℕ) → 0 < length text → 2 ≤ first → is_open error.state ≡ true
+    → StoppedBetween told (output ∷ error ∷ []) low high fault reached → Stops step reached fault → Swept clears first reached mid → SaysOn told tool text mid new → ToldStop told tool text step output error low high fault clears first mid new
+stop_swept told tool text step false output error low high fault reached mid new first some behind opened stop why same says =
     let here = subst (λ slots. StoppedBetween told (output ∷ error ∷ []) low high fault slots) (sym same) stop in
     let told_so = stop_told told tool text some output error low high fault mid new here says in record {
       after = told_so.0;
       says = told_so.1;
       reached = new;
       stop = told_so.2;
-      why = stops_still told tool text work most content mid new fault (stop_error told output error low high fault mid opened here) says (subst (λ slots. Stops work most content slots fault) (sym same) why);
+      why = stops_still told tool text step mid new fault (stop_error told output error low high fault mid opened here) says (subst (λ slots. Stops step slots fault) (sym same) why);
       swept = refl;
       named = told_so.3;
     }
-stop_swept told tool text work most content true output error low high fault reached mid new first some behind opened stop why swept says =
+stop_swept told tool text step true output error low high fault reached mid new first some behind opened stop why swept says =
     let has = stop_error told output error low high fault reached opened stop in
     let first_swept = subst (λ slots. SweptFrom first slots mid) has.are swept in
     let left = streams_left has.output has.error has.since mid first behind first_swept in
@@ -297,7 +295,7 @@ stop_swept told tool text work most content true output error low high fault rea
       says = told_so.1;
       reached = now;
       stop = told_so.2;
-      why = stops_still told tool text work most content reached now fault has too why;
+      why = stops_still told tool text step reached now fault has too why;
       swept = subst (λ slots. SweptFrom first now slots) (sym said.2) (swept_streams has.output has.error said.0 has.since left.0 first behind (subst (λ slots. SweptFrom first (has.output ∷ has.error ∷ has.since) slots) left.1 first_swept));
       named = ap (λ slots. output_named slots fault) said.2 ∙ named_same fault has.output has.error said.0 left.0 (printed_named told said.1.said has.error said.0 said.1.printed) ∙ sym (ap (λ slots. output_named slots fault) left.1);
     }

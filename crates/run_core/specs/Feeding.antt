@@ -4,7 +4,7 @@ use Rattle.ports_core.specs.Slot.{Slot, slot_at}
 use Rattle.ports_core.specs.Source.{Content, Source, source_at}
 use Rattle.ports_core.specs.Part.{Part, OutputsAt, StoppedBetween, nothing}
 use Rattle.ports_core.specs.Swept.{Swept}
-use Rattle.ports_core.specs.Work.{Work, Judges}
+use Rattle.ports_core.specs.Work.{Work, Needs, Judges}
 use Rattle.ports_core.specs.Engine.{Finishes, EndsShort, EndsThere, IsCaused, IsMet, is_verdict}
 use Rattle.ports_core.specs.declared.fault.Fault.{Fault}
 use Rattle.run_core.specs.declared.feeding.Fed.{Fed}
@@ -19,58 +19,68 @@ is_enough work content = not content.breaks_off || work.is_complete content.byte
 abbrev pub made_of : Work → Content → Part
 made_of work content = if is_enough work content then work.whole content.bytes else work.settled content.bytes
 
--- More bytes came in than any tool takes: the output of those before the last piece, of at most `most` bytes, was not complete.
-pub record IsLong (is_complete : List ℕ → Bool) (most : ℕ) (bytes : List ℕ) : Type 0 where
-  pub before : List ℕ
-  pub piece : List ℕ
-  pub rest : List ℕ
-  pub cut : bytes ≡ (before ++ piece) ++ rest
-  pub within : length piece ≤ most
-  pub going : is_complete before ≡ false
-  pub long : 2 ^ 63 ≤ length (before ++ piece)
+-- One step of a run at an input: what was written before it and what with it, what it may use for that, and what of the input came in.
+pub record Step : Type 0 where
+  pub low : Part
+  pub high : Part
+  -- it writes to standard output, or to files that it opens
+  pub output : Bool
+  pub files : Bool
+  -- it may want memory, or open files
+  pub needs : Needs
+  pub read : List ℕ
 
-abbrev pub HasLong : (List ℕ → Bool) → ℕ → Option Content → Type 0
-HasLong is_complete most None = ⊥
-HasLong is_complete most (Some content) = IsLong is_complete most content.bytes
-
--- What stops a tool at an input before all that it makes of it is written, where the outputs are left so: no memory, an output
--- broke, a file could not be opened, more input than any tool takes. A tool writes to standard output or to files as its means say.
-abbrev pub Stops : Work → ℕ → Option Content → List Slot → Fault → Type 0
-Stops work most content now Memory = Unit {0}
-Stops work most content now (Write slot) = (work.means.files ≡ false → slot ≡ 0) × ((slot_at now slot).is_broken ≡ true)
-Stops work most content now (Open slot) = work.means.files ≡ true
-Stops work most content now TooLong = HasLong work.is_complete most content
-Stops work most content now (Read slot) = ⊥
-Stops work most content now Suffixes = ⊥
-Stops work most content now (NoMatch operand repetition) = ⊥
-Stops work most content now (Range operand repetition) = ⊥
-Stops work most content now (Usage kind word) = ⊥
-Stops work most content now Failed = ⊥
+-- What stops a step, where the outputs are left so: no memory, an output broke, a file could not be opened, more input than any tool
+-- takes; each only where the step can meet it.
+abbrev pub Stops : Step → List Slot → Fault → Type 0
+Stops step now Memory = step.needs.memory ≡ true
+Stops step now (Write slot) = (slot ≡ 0 → step.output ≡ true) × (step.files ≡ false → slot ≡ 0) × ((slot_at now slot).is_broken ≡ true)
+Stops step now (Open slot) = (step.files ≡ true) × (step.needs.files ≡ true)
+Stops step now TooLong = 2 ^ 63 ≤ length step.read
+Stops step now (Read slot) = ⊥
+Stops step now Suffixes = ⊥
+Stops step now (NoMatch operand repetition) = ⊥
+Stops step now (Range operand repetition) = ⊥
+Stops step now (Usage kind word) = ⊥
+Stops step now Failed = ⊥
 
 -- the engine has got all of an input that it needs: the input ended, or nothing more could follow
 pub data HasAll (work : Work) (content : Content) (x : List ℕ) : Type 0 where
   to_end : content.breaks_off ≡ false → content.bytes ≡ x → HasAll work content x
   enough : (rest : List ℕ) → content.bytes ≡ x ++ rest → work.is_complete x ≡ true → HasAll work content x
 
--- One call of an engine over this input, fed by pieces of at most `most` bytes: what was settled before it, and what after it.
-pub data IsStep (work : Work) (most : ℕ) (content : Content) : Part → Part → Type 0 where
-  opening : IsStep work most content nothing (work.settled [])
-  feeding : (x piece rest : List ℕ) → content.bytes ≡ (x ++ piece) ++ rest → length piece ≤ most → work.is_complete x ≡ false → IsStep work most content (work.settled x) (work.settled (x ++ piece))
-  closing : (x : List ℕ) → HasAll work content x → IsStep work most content (work.settled x) (work.whole x)
+-- a call of an engine, which may need this
+abbrev pub call_of : Work → Needs → List ℕ → Part → Part → Step
+call_of work needs read low high = record { low = low; high = high; output = work.means.output; files = work.means.files; needs = needs; read = read }
+
+-- One call of an engine over this input, fed by pieces of at most `most` bytes: it is opened, takes a piece, or is closed.
+pub data IsCall (work : Work) (opening : Needs) (most : ℕ) (content : Content) : Step → Type 0 where
+  opens : IsCall work opening most content (call_of work opening [] nothing (work.settled []))
+  feeds : (x piece rest : List ℕ) → content.bytes ≡ (x ++ piece) ++ rest → length piece ≤ most → work.is_complete x ≡ false
+      → IsCall work opening most content (call_of work work.means.feeding (x ++ piece) (work.settled x) (work.settled (x ++ piece)))
+  closes : (x : List ℕ) → HasAll work content x → IsCall work opening most content (call_of work work.means.closing x (work.settled x) (work.whole x))
 
 -- How feeding an input by pieces of at most `most` bytes ends, from the outputs as they were before: it ended, or nothing more could
 -- follow; or it broke off before that, and the files go if the work clears them; or the work itself ends with a fault, and the files
--- go likewise; or a fault stopped one call, and then the files go.
-pub data FedAs (told : Bool) (before : List Slot) (work : Work) (most : ℕ) (content : Content) (new : List Slot) : Result Fed Fault → Type 0 where
-  whole : content.breaks_off ≡ false → work.is_complete content.bytes ≡ false → work.verdict content.bytes ≡ None → OutputsAt told before (work.whole content.bytes) new → FedAs told before work most content new (Ok Whole)
-  had_enough : work.is_complete content.bytes ≡ true → work.verdict content.bytes ≡ None → OutputsAt told before (work.whole content.bytes) new → FedAs told before work most content new (Ok Enough)
-  broke_off : content.breaks_off ≡ true → work.is_complete content.bytes ≡ false → (reached : List Slot) → OutputsAt told before (work.settled content.bytes) reached → Swept work.clears (length before) reached new → FedAs told before work most content new (Ok Broken)
-  judged : (fault : Fault) → is_verdict fault ≡ true → is_enough work content ≡ true → Judges work content.bytes fault → (reached : List Slot) → OutputsAt told before (work.whole content.bytes) reached → Swept work.clears (length before) reached new → FedAs told before work most content new (Err fault)
-  stopped : (fault : Fault) → is_verdict fault ≡ false → (low high : Part) → IsStep work most content low high → (reached : List Slot) → Stops work most (Some content) reached fault → StoppedBetween told before low high fault reached → Swept work.clears (length before) reached new → FedAs told before work most content new (Err fault)
+-- go likewise; or a fault stopped one call, nothing was read after it (`WasRead` says what was), and then the files go.
+pub data FedAs (told : Bool) (before : List Slot) (work : Work) (opening : Needs) (most : ℕ) (content : Content) (WasRead : List ℕ → Type 0) (new : List Slot) : Result Fed Fault → Type 0 where
+  whole : content.breaks_off ≡ false → work.is_complete content.bytes ≡ false → work.verdict content.bytes ≡ None → OutputsAt told before (work.whole content.bytes) new → FedAs told before work opening most content WasRead new (Ok Whole)
+  had_enough : work.is_complete content.bytes ≡ true → work.verdict content.bytes ≡ None → OutputsAt told before (work.whole content.bytes) new → FedAs told before work opening most content WasRead new (Ok Enough)
+  broke_off : content.breaks_off ≡ true → work.is_complete content.bytes ≡ false → (reached : List Slot) → OutputsAt told before (work.settled content.bytes) reached → Swept work.clears (length before) reached new → FedAs told before work opening most content WasRead new (Ok Broken)
+  judged : (fault : Fault) → is_verdict fault ≡ true → is_enough work content ≡ true → Judges work content.bytes fault → (reached : List Slot) → OutputsAt told before (work.whole content.bytes) reached → Swept work.clears (length before) reached new → FedAs told before work opening most content WasRead new (Err fault)
+  stopped : (fault : Fault) → is_verdict fault ≡ false → (call : Step) → IsCall work opening most content call → WasRead call.read → (reached : List Slot) → Stops call reached fault → StoppedBetween told before call.low call.high fault reached → Swept work.clears (length before) reached new → FedAs told before work opening most content WasRead new (Err fault)
 
 -- an input that tells its bytes had this content; of others it is known no further than their reads gave it
 abbrev pub OfContent : Bool → Content → (Content → Type 0) → Type 0
 OfContent told there P = (content : Content) × (told ≡ true → content ≡ there) × P content
+
+-- of an input that tells its bytes, this was read
+abbrev pub LeavesOf : Bool → Content → Source → List ℕ → Type 0
+LeavesOf told content source read = told ≡ true → content.bytes ≡ read ++ source.left.bytes
+
+-- an input that doesn't tell its bytes is one that breaks off only where a read of it failed
+abbrev pub BreaksOnly : Bool → Content → Source → Type 0
+BreaksOnly told content source = told ≡ false → content.breaks_off ≡ true → source.is_broken ≡ true
 
 -- no input but this one was touched
 pub record KeepsOthers (slot : ℕ) (old new : List Source) : Type 0 where

@@ -1,5 +1,6 @@
 pub mod Feeding
 pub mod Input
+pub mod Reading
 pub mod Task
 pub mod RunEnds
 pub mod RunSteps

@@ -1,17 +1,18 @@
 -- How a run over its inputs ends, from the streams as it found them.
-use Rattle.std.specs.Prelude.{◌≡◌, ℕ, Bool, List, [], ◌∷◌, ◌++◌, Option, Some, codes}
+use Rattle.std.specs.Prelude.{◌≡◌, ℕ, ◌≤◌, Bool, true, false, List, [], ◌∷◌, ◌++◌, length, Option, Some, codes}
 use Rattle.ports_core.specs.Slot.{Slot, opened}
-use Rattle.ports_core.specs.Source.{Content}
+use Rattle.ports_core.specs.Source.{Content, Source}
 use Rattle.ports_core.specs.declared.slot.Mode.TheVariants.{Append}
 use Rattle.ports_core.specs.Part.{Part, OutputsAt, StoppedBetween, only_out}
 use Rattle.ports_core.specs.Swept.{Swept}
-use Rattle.ports_core.specs.Work.{Work}
+use Rattle.ports_core.specs.Work.{Needs}
 use Rattle.ports_core.specs.Text.{message_of}
 use Rattle.ports_core.specs.Message.{SaysAll, output_named}
 use Rattle.ports_core.specs.declared.fault.Fault.{Fault}
 use Rattle.ports_core.specs.declared.fault.Fault.TheVariants.{Memory}
-use Rattle.run_core.specs.Feeding.{IsStep, Stops}
+use Rattle.run_core.specs.Feeding.{IsCall, Step, Stops}
 use Rattle.run_core.specs.Input.{Input, World, Finds}
+use Rattle.run_core.specs.Reading.{AreDone, AreUntouched, Leaves}
 use Rattle.run_core.specs.Task.{Task, made_by, after_part, header_text, are_missing, status_of}
 
 abbrev pub standard_output : Slot
@@ -28,29 +29,43 @@ streams_with error = standard_output ∷ error ∷ []
 abbrev pub largest_piece : ℕ
 largest_piece = 65536
 
--- One step at an input, after what was written before it: its header, or one call of its engine.
-pub data RunStep (work : Work) (most : ℕ) (so_far : Part) (header : List ℕ) : Option Content → Part → Part → Type 0 where
-  heading : (content : Option Content) → RunStep work most so_far header content so_far (after_part so_far (only_out header))
-  calling : (content : Content) (low high : Part) → IsStep work most content low high
-      → RunStep work most so_far header (Some content) (after_part (after_part so_far (only_out header)) low) (after_part (after_part so_far (only_out header)) high)
+-- memory, and no files
+abbrev pub needs_memory : Needs
+needs_memory = record { memory = true; files = false }
+
+-- a step after what was written before it
+abbrev pub step_after : Part → Step → Step
+step_after first step = record step { low = after_part first step.low; high = after_part first step.high }
+
+-- One step at an input, after what was written before it: there is no room to open it; or its header is written, where headers are; or
+-- its engine is called. Nothing of the input was read but what came in by then.
+pub data RunStep (told : Bool) (task : Task) (most : ℕ) (so_far : Part) (header : List ℕ) (slot : Option ℕ) (sources : List Source) : Option Content → Step → Type 0 where
+  unopened : (content : Option Content) (place : ℕ) → slot ≡ Some place → length sources ≤ place
+      → RunStep told task most so_far header slot sources content (record { low = so_far; high = so_far; output = false; files = false; needs = needs_memory; read = [] })
+  heading : (content : Content) → task.with_header ≡ true → Leaves told content slot sources []
+      → RunStep told task most so_far header slot sources (Some content) (record { low = so_far; high = after_part so_far (only_out header); output = true; files = false; needs = needs_memory; read = [] })
+  calling : (content : Content) (call : Step) → IsCall task.work task.opening most content call → Leaves told content slot sources call.read
+      → RunStep told task most so_far header slot sources (Some content) (step_after (after_part so_far (only_out header)) call)
 
 -- A run ended so: its outcome is written, its files were removed if that is due, and standard error was left as `error`; or a fault
--- stopped it within one step at an input, when those before it were done and told: then the outputs lie between what was written
--- before that step and what with it, the files were removed if the work clears them, the fault was told after the messages for those
--- inputs, and the status is 1; or there was no memory before the first input was opened, and nothing is written.
-pub data EndsAs (told : Bool) (task : Task) (inputs : List Input) (new : List Slot) (status : ℕ) : Type 0 where
+-- stopped it within one step at an input, when those before it were done and told, and those after it were not touched: then the
+-- outputs lie between what was written before that step and what with it, the files were removed if the work clears them, the fault
+-- was told after the messages for those inputs, and the status is 1; or there was no memory before the first input was opened, and
+-- nothing is read or written.
+pub data EndsAs (told_in told : Bool) (task : Task) (inputs : List Input) (sources : List Source) (new : List Slot) (status : ℕ) : Type 0 where
   as_defined : (error : Slot) (reached : List Slot) → SaysAll told task.tool (made_by task inputs).messages standard_error error
-      → OutputsAt told (streams_with error) (made_by task inputs).part reached → Swept (made_by task inputs).sweeps 2 reached new → status ≡ status_of (made_by task inputs)
-      → EndsAs told task inputs new status
-  stopped : (fault : Fault) (before : List Input) (input : Input) (after : List Input) (error : Slot) (low high : Part) (reached : List Slot)
-      → inputs ≡ before ++ input ∷ after → RunStep task.work largest_piece (made_by task before).part (header_text task.with_header (are_missing before) input.name) input.content low high
-      → Stops task.work largest_piece input.content reached fault
-      → SaysAll told task.tool ((made_by task before).messages ++ message_of task.tool fault (output_named new fault) ∷ []) standard_error error
-      → StoppedBetween told (streams_with error) low high fault reached → Swept task.work.clears 2 reached new → status ≡ 1
-      → EndsAs told task inputs new status
+      → OutputsAt told (streams_with error) (made_by task inputs).part reached → Swept (made_by task inputs).sweeps 2 reached new
+      → AreDone told_in task.work.is_complete largest_piece inputs sources → status ≡ status_of (made_by task inputs)
+      → EndsAs told_in told task inputs sources new status
+  stopped : (fault : Fault) (before : List Input) (input : Input) (after : List Input) (error : Slot) (step : Step) (reached : List Slot)
+      → inputs ≡ before ++ input ∷ after → AreDone told_in task.work.is_complete largest_piece before sources → AreUntouched after sources
+      → RunStep told_in task largest_piece (made_by task before).part (header_text task.with_header (are_missing before) input.name) input.slot sources input.content step
+      → Stops step reached fault → StoppedBetween told (streams_with error) step.low step.high fault reached → Swept task.work.clears 2 reached new
+      → SaysAll told task.tool ((made_by task before).messages ++ message_of task.tool fault (output_named new fault) ∷ []) standard_error error → status ≡ 1
+      → EndsAs told_in told task inputs sources new status
   no_room : (error : Slot) → SaysAll told task.tool (message_of task.tool Memory [] ∷ []) standard_error error
-      → new ≡ streams_with error → status ≡ 1
-      → EndsAs told task inputs new status
+      → new ≡ streams_with error → AreUntouched inputs sources → status ≡ 1
+      → EndsAs told_in told task inputs sources new status
 
 -- the inputs that a run found, and how it ended with them
 abbrev pub RunsOver : Bool → World → List (List ℕ) → (List Input → Type 0) → Type 0

@@ -2,7 +2,7 @@
 use Rattle.std.specs.Prelude.{ℕ, ◌||◌, ◌&&◌, Bool, true, false, List, [], ◌∷◌, ◌++◌, Option, Some, None, if◌then◌else◌}
 use Rattle.ports_core.specs.Part.{Part, nothing, only_out}
 use Rattle.ports_core.specs.Source.{Content}
-use Rattle.ports_core.specs.Work.{Work}
+use Rattle.ports_core.specs.Work.{Work, Needs}
 use Rattle.ports_core.specs.Text.{message_of, header_of}
 use Rattle.ports_core.specs.declared.tool.Tool.{Tool}
 use Rattle.ports_core.specs.declared.fault.Fault.{Fault}
@@ -15,6 +15,8 @@ pub record Task : Type 0 where
   pub tool : Tool
   -- what it makes of one input
   pub work : Work
+  -- what opening its engine may need
+  pub opening : Needs
   -- what the message of a fault with which that work ends speaks of
   pub subject : Fault → List ℕ
   -- whether a header goes before each input

@@ -3,9 +3,10 @@ ghost use Rattle.std.specs.Prelude.{◌≡◌, ◌^◌, ◌<◌, ◌≤◌, ℕ,
 ghost use Rattle.ports_core.specs.Slot.{Slot};
 ghost use Rattle.ports_core.specs.Source.{source_at, is_readable};
 ghost use Rattle.ports_core.specs.Part.{OutputsAt};
+ghost use Rattle.ports_core.specs.Work.{Needs};
 ghost use Rattle.ports_core.specs.Engine.{Clears, KeepsOwn, is_verdict};
 ghost use Rattle.run_core.specs.Input.{empty};
-ghost use Rattle.run_core.specs.Feeding.{EndsSo, FedAs, KeepsOthers, OfContent, ReadsFor};
+ghost use Rattle.run_core.specs.Feeding.{BreaksOnly, EndsSo, FedAs, KeepsOthers, LeavesOf, OfContent, ReadsFor};
 
 use ports_core::{Engine, Fault, Inputs, Outs};
 
@@ -40,8 +41,10 @@ pub fn feed_input<E: Engine, I: Inputs, O: Outs>(
     requires input { IsTrue (is_readable (I.sources inputs.old) slot) }
     requires output { E.Ready engine.old (O.slots outs.old) }
     requires owns { (first : ℕ) × E.Owns engine.old first (O.slots outs.old) }
-    ensures ends { (before : List Slot) → E.Owns engine.old (length before) (O.slots outs.old) → OutputsAt O.told before ((E.work engine.old).settled []) (O.slots outs.old)
-        → OfContent I.told (source_at (I.sources inputs.old) slot).left (λ content. FedAs O.told before (E.work engine.old) (length buffer.old) content (O.slots outs.new) result) }
+    ensures ends { (before : List Slot) (opening : Needs) → E.Owns engine.old (length before) (O.slots outs.old) → OutputsAt O.told before ((E.work engine.old).settled []) (O.slots outs.old)
+        → OfContent I.told (source_at (I.sources inputs.old) slot).left
+        (λ content. FedAs O.told before (E.work engine.old) opening (length buffer.old) content (LeavesOf I.told content (source_at (I.sources inputs.new) slot)) (O.slots outs.new) result
+        × BreaksOnly I.told content (source_at (I.sources inputs.new) slot)) }
     ensures reads { I.told ≡ true → ReadsFor (E.work engine.old).is_complete (length buffer.old) (source_at (I.sources inputs.old) slot).left (source_at (I.sources inputs.new) slot).left }
     ensures asked { (source_at (I.sources inputs.old) slot).asked ≤ length buffer.old → (source_at (I.sources inputs.new) slot).asked ≤ length buffer.old }
     ensures broke { IfOk result (λ fed. fed ≡ Fed.Broken → (source_at (I.sources inputs.new) slot).is_broken ≡ true) }
@@ -77,8 +80,8 @@ pub fn feed_nothing<E: Engine, O: Outs>(engine: &mut E, outs: &mut O) -> Result<
     requires bound { E.fed engine.old < 2 ^ 63 }
     requires output { E.Ready engine.old (O.slots outs.old) }
     requires owns { (first : ℕ) × E.Owns engine.old first (O.slots outs.old) }
-    ensures ends { (before : List Slot) (most : ℕ) → E.Owns engine.old (length before) (O.slots outs.old) → OutputsAt O.told before ((E.work engine.old).settled []) (O.slots outs.old)
-        → FedAs O.told before (E.work engine.old) most empty (O.slots outs.new) result }
+    ensures ends { (before : List Slot) (opening : Needs) (most : ℕ) → E.Owns engine.old (length before) (O.slots outs.old) → OutputsAt O.told before ((E.work engine.old).settled []) (O.slots outs.old)
+        → FedAs O.told before (E.work engine.old) opening most empty (λ read. Unit {0}) (O.slots outs.new) result }
 {
     if engine.done() {
         return end(engine, Fed::Enough, outs);

@@ -1,13 +1,14 @@
 //! The inputs of a run, one after another.
-ghost use Rattle.std.specs.Prelude.{◌≡◌, ◌<◌, ◌≤◌, ◌||◌, ℕ, List, Some, None, true, false, map, length, IfOk, IfErr, IfSome, OnOk, IsTrue};
+ghost use Rattle.std.specs.Prelude.{◌≡◌, ◌<◌, ◌≤◌, ◌||◌, ℕ, List, Some, None, true, false, map, length, IfOk, IfErr, IfSome, OnOk, OnErr, IsTrue};
 ghost use Rattle.ports_core.specs.Slot.{Slot, is_open, slot_at, is_writable, streams, told_of, with_written};
 ghost use Rattle.ports_core.specs.Source.{source_at, is_readable, IsFresh};
 ghost use Rattle.ports_core.specs.Part.{Part, OutputsAt};
 ghost use Rattle.ports_core.specs.Engine.{is_verdict};
-ghost use Rattle.run_core.specs.Feeding.{FedAs, ReadsFor};
-ghost use Rattle.run_core.specs.Input.{has_dash, is_dash};
+ghost use Rattle.run_core.specs.Feeding.{FedAs};
+ghost use Rattle.run_core.specs.Input.{has_dash, is_dash, next_slot};
+ghost use Rattle.run_core.specs.Reading.{AsksAtMost, IsDone, Leaves, TakesOne, count_after};
 ghost use Rattle.run_core.specs.RunEnds.{EndsAs, RunsOver, streams_with, largest_piece};
-ghost use Rattle.run_core.specs.RunSteps.{HasStreams, HeaderFails, KeepsOther, OfName, OfSource, OpensOne, ReadsSource, ReadsStandard, TookAll, TookInput, standard_source, world_of};
+ghost use Rattle.run_core.specs.RunSteps.{HasStreams, HeaderFails, KeepsOther, OfName, OfSource, TookAll, TookInput, is_unopened, standard_source, world_of};
 ghost use Rattle.run_core.specs.Task.{Task, header_text, of_content, of_input};
 
 use crate::adapter::Adapter;
@@ -51,9 +52,10 @@ pub fn run_inputs<A: Adapter, I: Inputs, O: Outs>(
     requires outputs { O.slots outs.old ≡ streams }
     requires alone { (A.task adapter.now).work.clears ≡ true → length (map (λ name. name.now) names.now) ≤ 1 }
     ensures untouched { has_dash (map (λ name. name.now) names.now) ≡ false → source_at (I.sources inputs.new) 0 ≡ source_at (I.sources inputs.old) 0 }
-    ensures reads { I.told ≡ true → ReadsFor (A.task adapter.now).work.is_complete largest_piece (source_at (I.sources inputs.old) 0).left (source_at (I.sources inputs.new) 0).left }
     ensures ends { RunsOver I.told (world_of (I.laid inputs.old) (I.sources inputs.old)) (map (λ name. name.now) names.now)
-        (λ found. EndsAs O.told (A.task adapter.now) found (O.slots outs.new) result) }
+        (λ found. EndsAs I.told O.told (A.task adapter.now) found (I.sources inputs.new) (O.slots outs.new) result) }
+    ensures opened { length (I.sources inputs.new) ≤ count_after 1 (map (λ name. name.now) names.now) }
+    ensures asked { AsksAtMost largest_piece (I.sources inputs.new) }
 {
     let job = Job { alloc, adapter };
     match take_inputs(&job, names, inputs, outs) {
@@ -80,9 +82,10 @@ fn take_inputs<A: Adapter, I: Inputs, O: Outs>(
     requires outputs { O.slots outs.old ≡ streams }
     requires alone { (A.task job.now.adapter.now).work.clears ≡ true → length (map (λ name. name.now) names.now) ≤ 1 }
     ensures took { RunsOver I.told (world_of (I.laid inputs.old) (I.sources inputs.old)) (map (λ name. name.now) names.now)
-        (λ found. TookAll O.told (A.task job.now.adapter.now) largest_piece found (O.slots outs.new) result) }
+        (λ found. TookAll I.told O.told (A.task job.now.adapter.now) found (I.sources inputs.new) (O.slots outs.new) result) }
+    ensures opened { length (I.sources inputs.new) ≤ count_after 1 (map (λ name. name.now) names.now) }
+    ensures asked { AsksAtMost largest_piece (I.sources inputs.new) }
     ensures untouched { has_dash (map (λ name. name.now) names.now) ≡ false → source_at (I.sources inputs.new) 0 ≡ source_at (I.sources inputs.old) 0 }
-    ensures reads { I.told ≡ true → ReadsFor (A.task job.now.adapter.now).work.is_complete largest_piece (source_at (I.sources inputs.old) 0).left (source_at (I.sources inputs.new) 0).left }
 {
     let mut buffer = match vec![in job.alloc; 0u8; PIECE] {
         Ok(buffer) => buffer,
@@ -108,9 +111,10 @@ fn take_names<A: Adapter, I: Inputs, O: Outs>(
     requires outputs { O.slots outs.old ≡ streams }
     requires alone { (A.task job.now.adapter.now).work.clears ≡ true → length (map (λ name. name.now) names.now) ≤ 1 }
     ensures took { RunsOver I.told (world_of (I.laid inputs.old) (I.sources inputs.old)) (map (λ name. name.now) names.now)
-        (λ found. TookAll O.told (A.task job.now.adapter.now) largest_piece found (O.slots outs.new) result) }
+        (λ found. TookAll I.told O.told (A.task job.now.adapter.now) found (I.sources inputs.new) (O.slots outs.new) result) }
+    ensures opened { length (I.sources inputs.new) ≤ count_after 1 (map (λ name. name.now) names.now) }
+    ensures asked { AsksAtMost largest_piece (I.sources inputs.new) }
     ensures untouched { has_dash (map (λ name. name.now) names.now) ≡ false → source_at (I.sources inputs.new) 0 ≡ source_at (I.sources inputs.old) 0 }
-    ensures reads { I.told ≡ true → ReadsFor (A.task job.now.adapter.now).work.is_complete largest_piece (source_at (I.sources inputs.old) 0).left (source_at (I.sources inputs.new) 0).left }
 {
     let mut progress = Progress {
         was_read: false,
@@ -147,10 +151,9 @@ fn take_name<A: Adapter, I: Inputs, O: Outs>(
     requires outputs { HasStreams O.told (O.slots outs.old) }
     ensures took { (so_far : Part) (error : Slot) → is_open error.state ≡ true → OutputsAt O.told (streams_with error) so_far (O.slots outs.old)
         → OfName I.told (world_of (I.laid inputs.old) (I.sources inputs.old)) progress.was_read (length (I.sources inputs.old)) name.now
-        (λ input. TookInput O.told (A.task job.now.adapter.now) (length buffer.old) (of_input (A.task job.now.adapter.now) progress.is_first input) (header_text (A.task job.now.adapter.now).with_header progress.is_first input.name) input.content progress (progress.was_read || is_dash name.now) so_far error (length (O.slots outs.old)) (O.slots outs.new) result) }
-    ensures reads { I.told ≡ true → ReadsStandard (A.task job.now.adapter.now).work.is_complete (length buffer.old) progress.was_read (I.sources inputs.old) (I.sources inputs.new) }
-    ensures untouched { is_dash name.now ≡ false → source_at (I.sources inputs.new) 0 ≡ source_at (I.sources inputs.old) 0 }
-    ensures opens { OnOk result (OpensOne name.now (I.sources inputs.old) (I.sources inputs.new)) }
+        (λ input. TookInput I.told O.told (A.task job.now.adapter.now) (length buffer.old) (of_input (A.task job.now.adapter.now) progress.is_first input) (header_text (A.task job.now.adapter.now).with_header progress.is_first input.name) input.slot input.content progress (progress.was_read || is_dash name.now) so_far error (length (O.slots outs.old)) (I.sources inputs.new) (O.slots outs.new) result) }
+    ensures takes { TakesOne (length buffer.old) progress.was_read name.now (I.sources inputs.old) (I.sources inputs.new) }
+    ensures opens { OnOk result (length (I.sources inputs.new) ≡ next_slot (length (I.sources inputs.old)) name.now) }
     ensures laid { I.laid inputs.new ≡ I.laid inputs.old }
 {
     if is_dash(name) {
@@ -171,21 +174,24 @@ fn take_name<A: Adapter, I: Inputs, O: Outs>(
     }
     match inputs.open(name) {
         Ok(slot) => take_input(job, name, Some(slot), progress, buffer, inputs, outs),
-        Err(Fault::Open(slot)) => {
-            say(
-                job.alloc,
-                job.adapter.tool(),
-                &Fault::Open(slot),
-                name,
-                outs,
-            );
+        Err(fault) => {
+            if !is_unopened(&fault) {
+                return Err(fault);
+            }
+            say(job.alloc, job.adapter.tool(), &fault, name, outs);
             Ok(Progress {
                 failed: true,
                 ..progress
             })
         }
-        Err(_) => Err(Fault::Memory),
     }
+}
+
+/// Whether a fault is that of a file that can't be opened.
+fn is_unopened(fault: &Fault) -> bool
+    ensures { result ≡ is_unopened fault.now }
+{
+    matches!(fault, Fault::Open(_))
 }
 
 /// Whether the operand stands for standard input.
@@ -222,8 +228,8 @@ fn take_input<A: Adapter, I: Inputs, O: Outs>(
     requires outputs { HasStreams O.told (O.slots outs.old) }
     ensures took { (so_far : Part) (error : Slot) → is_open error.state ≡ true → OutputsAt O.told (streams_with error) so_far (O.slots outs.old)
         → OfSource I.told source (I.sources inputs.old)
-        (λ content. TookInput O.told (A.task job.now.adapter.now) (length buffer.old) (of_content (A.task job.now.adapter.now) progress.is_first name.now (Some content)) (header_text (A.task job.now.adapter.now).with_header progress.is_first name.now) (Some content) progress progress.was_read so_far error (length (O.slots outs.old)) (O.slots outs.new) result) }
-    ensures reads { I.told ≡ true → ReadsSource (A.task job.now.adapter.now).work.is_complete (length buffer.old) source (I.sources inputs.old) (I.sources inputs.new) }
+        (λ content. TookInput I.told O.told (A.task job.now.adapter.now) (length buffer.old) (of_content (A.task job.now.adapter.now) progress.is_first name.now (Some content)) (header_text (A.task job.now.adapter.now).with_header progress.is_first name.now) source (Some content) progress progress.was_read so_far error (length (O.slots outs.old)) (I.sources inputs.new) (O.slots outs.new) result) }
+    ensures asked { AsksAtMost (length buffer.old) (I.sources inputs.old) → AsksAtMost (length buffer.old) (I.sources inputs.new) }
     ensures others { KeepsOther source (I.sources inputs.old) (I.sources inputs.new) }
     ensures laid { I.laid inputs.new ≡ I.laid inputs.old }
 {
@@ -272,6 +278,7 @@ fn put_header<A: Adapter, O: Outs>(
 ) -> Result<(), Fault>
     requires { IsTrue (is_writable (O.slots outs.old) 0) }
     ensures ok { OnOk result (O.slots outs.new ≡ with_written 0 (told_of O.told (header_text (A.task job.now.adapter.now).with_header is_first name.now)) (O.slots outs.old)) }
+    ensures due { OnErr result ((A.task job.now.adapter.now).with_header ≡ true) }
     ensures err { IfErr result (HeaderFails O.told (header_text (A.task job.now.adapter.now).with_header is_first name.now) (O.slots outs.old) (O.slots outs.new)) }
 {
     if !job.adapter.with_header() {
@@ -304,8 +311,9 @@ fn feed_source<A: Adapter, I: Inputs, O: Outs>(
     requires streams { 2 ≤ length (O.slots outs.old) }
     requires output { IsTrue (is_writable (O.slots outs.old) 0) }
     ensures fed { OfSource I.told source (I.sources inputs.old)
-        (λ content. FedAs O.told (O.slots outs.old) (A.task job.now.adapter.now).work (length buffer.old) content (O.slots outs.new) result) }
-    ensures reads { I.told ≡ true → ReadsSource (A.task job.now.adapter.now).work.is_complete (length buffer.old) source (I.sources inputs.old) (I.sources inputs.new) }
+        (λ content. FedAs O.told (O.slots outs.old) (A.task job.now.adapter.now).work (A.task job.now.adapter.now).opening (length buffer.old) content (Leaves I.told content source (I.sources inputs.new)) (O.slots outs.new) result
+        × IsDone I.told (A.task job.now.adapter.now).work.is_complete (length buffer.old) source (Some content) (I.sources inputs.new)) }
+    ensures asked { AsksAtMost (length buffer.old) (I.sources inputs.old) → AsksAtMost (length buffer.old) (I.sources inputs.new) }
     ensures others { KeepsOther source (I.sources inputs.old) (I.sources inputs.new) }
     ensures laid { I.laid inputs.new ≡ I.laid inputs.old }
 {

@@ -2,29 +2,25 @@ use Rattle.std.proofs.Common.{◌∙◌, sym, ap, Result, ℕ, List, map, refl, 
 use Rattle.ports_core.specs.declared.fault.Fault.{Fault}
 use Rattle.words_core.specs.declared.settings.Settings.{Settings}
 use Rattle.run_core.specs.Input.{has_dash}
-use Rattle.ports_core.specs.Source.{source_at}
-use Rattle.words_core.specs.Words.{settings_of}
 use Rattle.ports_core.specs.Text.{message_of}
 use Rattle.ports_core.specs.declared.tool.Tool.{Tool}
 use Rattle.ports_core.specs.Message.{SaysOn}
 use Rattle.cutters.specs.Outcome.{names_at, speaker}
-use Rattle.cutters.proofs.RunLemmas.{tool_runs, refused_or_memory, reads_by, unread, asked_or_none}
+use Rattle.cutters.proofs.RunLemmas.{tool_runs, refused_or_memory, asked_or_none}
 use Rattle.cutters.proofs.run.run.Goals as goal
 
 pub returns-in-Ok : goal.returns-in-Ok
 returns-in-Ok g c = record {
   untouched = λ none. c.run_tool.ensures.untouched (sym (ap (λ (meant : Result Settings Fault). has_dash (names_at meant)) c.in-Ok.ensures.ok) ∙ none);
   unopened = λ none. absurd (asked_or_none (map (λ word. word.now) c.args.words.now) c.in-Ok.settings none.0 c.in-Ok.ensures.ok none.1);
-  ends = tool_runs _ _ _ _ _ _ _ c.in-Ok.ensures.ok c.run_tool.ensures.ends;
-  reads = λ told. reads_by (map (λ word. word.now) c.args.words.now) c.in-Ok.settings (source_at (g.I.Inputs.sources c.args.inputs.now) 0).left (source_at (g.I.Inputs.sources c.run_tool.new.inputs) 0).left c.in-Ok.ensures.ok (c.run_tool.ensures.reads told);
+  ends = tool_runs _ _ _ _ _ _ _ _ c.in-Ok.ensures.ok c.run_tool.ensures.ends;
 }
 
 pub returns-in-Err : goal.returns-in-Err
 returns-in-Err g c = record {
   untouched = λ none. refl;
   unopened = λ none. refl;
-  ends = refused_or_memory _ _ _ (map (λ word. word.now) c.args.words.now) c.in-Err.fault _ _ c.in-Err.ensures.err c.requires.outputs
+  ends = refused_or_memory _ _ _ _ (map (λ word. word.now) c.args.words.now) c.in-Err.fault _ _ c.requires.inputs c.in-Err.ensures.err c.requires.outputs
       (subst (λ (name : List ℕ). SaysOn g.O.Outs.told (speaker (map (λ word. word.now) c.args.words.now)) (message_of (speaker (map (λ word. word.now) c.args.words.now)) c.in-Err.fault name) (g.O.Outs.slots c.args.outs.now) (g.O.Outs.slots c.say.new.outs)) c.word_of.ensures
       (subst (λ (tool : Tool). SaysOn g.O.Outs.told tool (message_of tool c.in-Err.fault c.word_of.result.now) (g.O.Outs.slots c.args.outs.now) (g.O.Outs.slots c.say.new.outs)) c.speaker.ensures c.say.ensures));
-  reads = λ told. unread (settings_of (map (λ word. word.now) c.args.words.now)) (source_at (g.I.Inputs.sources c.args.inputs.now) 0).left;
 }

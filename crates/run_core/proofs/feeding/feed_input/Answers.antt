@@ -1,7 +1,9 @@
 use Rattle.std.proofs.Common.{◌≡◌, ◌≤◌, length, ◌++◌, ◌∙◌, [], true, false, sym, ap, refl, take, arith}
 use Rattle.std.proofs.lemmas.List.{append-nil}
+use Rattle.std.proofs.lemmas.Bool.{false≢true}
+use Rattle.ports_core.specs.Source.{source_at}
 use Rattle.ports_core.specs.Work.{Work}
-use Rattle.run_core.proofs.FeedingLemmas.{begins, nothing_read, keeps_itself, keeps_again, keeps_others, read_broken, broken_off, of_content, still_readable, read_more, read_failed, goes_on, stopped_feeding, read_to_end, ended, needed_none, needed_more, piece_within, asked_again, asked_at_end, broken_now, ends_sound, given_so, Laws}
+use Rattle.run_core.proofs.FeedingLemmas.{begins, nothing_read, read_none_more, keeps_itself, keeps_again, keeps_others, read_broken, broken_off, of_content, still_readable, read_more, read_failed, goes_on, stopped_feeding, read_to_end, ended, needed_none, needed_more, piece_within, asked_again, asked_at_end, broken_now, ends_sound, given_so, Laws}
 use Rattle.run_core.proofs.feeding.feed_input.Goals as goal
 
 pub pieces-init : goal.pieces-init
@@ -26,13 +28,14 @@ pub abandon-requires : goal.abandon-requires
 abandon-requires g c = (c.requires.owns.0, c.pieces.invariant.feeds.owns c.requires.owns.0 c.requires.owns.1)
 
 pub returns-in-Err-clause-ends : goal.returns-in-Err-clause-ends
-returns-in-Err-clause-ends g c before own at =
+returns-in-Err-clause-ends g c before opening own at =
     let so_far = c.pieces.invariant in
     let going : (g.E.Engine.work c.pieces.engine).is_complete so_far.fed ≡ false = sym (c.done.ensures so_far.fed so_far.feeds.holds) ∙ c.pieces-test.true in
-    of_content g.I.Inputs.told _ (record { bytes = so_far.fed; breaks_off = true }) _
+    of_content g.I.Inputs.told _ (record { bytes = so_far.fed; breaks_off = true }) (source_at (g.I.Inputs.sources c.read.new.self) c.args.slot) _
     (λ told. let broke = read_broken _ _ _ _ (so_far.read told) (c.in-Err.ensures.break_off told) in
-    broken_off _ _ _ _ _ _ _ _ _ _ so_far.fed _ _ _ before so_far.feeds own at broke.0 broke.1 going c.abandon.ensures.swept)
-    (broken_off _ _ _ _ _ _ _ _ _ _ so_far.fed _ _ _ before so_far.feeds own at refl refl going c.abandon.ensures.swept)
+    broken_off _ _ _ _ _ _ opening _ _ _ _ _ so_far.fed _ _ _ before so_far.feeds own at broke.0 broke.1 going c.abandon.ensures.swept)
+    (λ _. broken_off _ _ _ _ _ _ opening _ _ _ _ _ so_far.fed _ _ _ before so_far.feeds own at refl refl going c.abandon.ensures.swept)
+    (λ _. broken_now _ _ _ _ so_far.readable c.in-Err.ensures.err.1)
 
 pub returns-in-Err-clause-others : goal.returns-in-Err-clause-others
 returns-in-Err-clause-others g c = keeps_again _ _ _ _ c.pieces.invariant.others (keeps_others _ _ _ _ c.in-Err.ensures.err.1)
@@ -53,17 +56,19 @@ pub end-requires-clause-owns : goal.end-requires-clause-owns
 end-requires-clause-owns g c = (c.requires.owns.0, c.pieces.invariant.feeds.owns c.requires.owns.0 c.requires.owns.1)
 
 pub returns-then-n-eq0-clause-ends : goal.returns-then-n-eq0-clause-ends
-returns-then-n-eq0-clause-ends g c before own at =
+returns-then-n-eq0-clause-ends g c before opening own at =
     let so_far = c.pieces.invariant in
     let going : (g.E.Engine.work c.pieces.engine).is_complete so_far.fed ≡ false = sym (c.done.ensures so_far.fed so_far.feeds.holds) ∙ c.pieces-test.true in
     let laws : Laws g.E.Engine.Holds g.E.Engine.Owns g.E.Engine.work g.E.Engine.is_over g.E.Engine.fed
     = record { live = g.met.E.Engine.live; counts = g.met.E.Engine.counts; lawful = g.met.E.Engine.lawful } in
-    of_content g.I.Inputs.told _ (record { bytes = so_far.fed; breaks_off = false }) _
+    of_content g.I.Inputs.told _ (record { bytes = so_far.fed; breaks_off = false }) (source_at (g.I.Inputs.sources c.read.new.self) c.args.slot) _
     (λ told. let at_end = (c.in-Ok.ensures.bytes told).ended c.if-n-eq0.true (omega (arith, c.requires.room)) in
-    ended _ _ _ _ _ laws _ _ _ _ _ so_far.fed _ _ _ before _ c.end.result so_far.feeds own at
+    ended _ _ _ _ _ laws _ opening _ _ _ _ _ so_far.fed _ _ _ before _ c.end.result so_far.feeds own at
     (let all = read_to_end _ _ _ _ (so_far.read told) at_end.0 at_end.1 in (all.0, going, all.1))
+    (λ _. read_none_more _ _ _ _ _ _ c.in-Ok.n (so_far.read told) so_far.readable c.if-n-eq0.true c.in-Ok.ensures.rest)
     c.end.ensures)
-    (ended _ _ _ _ _ laws _ _ _ _ _ so_far.fed _ _ _ before _ c.end.result so_far.feeds own at (refl, going, refl) c.end.ensures)
+    (λ untold. ended _ _ _ _ _ laws _ opening _ _ _ _ _ so_far.fed _ _ _ before _ c.end.result so_far.feeds own at (refl, going, refl) (λ told. absurd (false≢true (sym untold ∙ told))) c.end.ensures)
+    (λ breaks. absurd (false≢true breaks))
 
 pub returns-then-n-eq0-clause-others : goal.returns-then-n-eq0-clause-others
 returns-then-n-eq0-clause-others g c = keeps_again _ _ _ _ c.pieces.invariant.others (keeps_others _ _ _ _ c.in-Ok.ensures.rest)
@@ -104,18 +109,20 @@ pub given_up-requires : goal.given_up-requires
 given_up-requires g c unjudged = (c.requires.owns.0, c.in-Err-feed.ensures.owned unjudged c.requires.owns.0 (c.pieces.invariant.feeds.owns c.requires.owns.0 c.requires.owns.1))
 
 pub returns-in-Err-feed-clause-ends : goal.returns-in-Err-feed-clause-ends
-returns-in-Err-feed-clause-ends g c before own at =
+returns-in-Err-feed-clause-ends g c before opening own at =
     let so_far = c.pieces.invariant in
     let within : length (take c.in-Ok.n c.read.new.buffer) ≤ length c.args.buffer.now = piece_within c.in-Ok.n _ c.read.new.buffer (omega (arith, c.in-Ok.ensures.bound)) in
     let going : (g.E.Engine.work c.pieces.engine).is_complete so_far.fed ≡ false = sym (c.done.ensures so_far.fed so_far.feeds.holds) ∙ c.pieces-test.true in
     let laws : Laws g.E.Engine.Holds g.E.Engine.Owns g.E.Engine.work g.E.Engine.is_over g.E.Engine.fed
     = record { live = g.met.E.Engine.live; counts = g.met.E.Engine.counts; lawful = g.met.E.Engine.lawful } in
-    of_content g.I.Inputs.told _ (record { bytes = so_far.fed ++ take c.in-Ok.n c.read.new.buffer; breaks_off = false }) _
-    (λ told. given_so _ _ _ _ _ _ _ _ c.given_up.ensures.same (stopped_feeding _ _ _ _ _ laws _ _ _ _ _ _ _ so_far.fed (take c.in-Ok.n c.read.new.buffer) _ _ _ _ _ before c.in-Err-feed.fault so_far.feeds own at
-    (read_more _ _ _ _ _ _ _ _ _ (so_far.read told) so_far.readable (c.in-Ok.ensures.bytes told) c.in-Ok.ensures.rest).bytes within going
+    of_content g.I.Inputs.told _ (record { bytes = so_far.fed ++ take c.in-Ok.n c.read.new.buffer; breaks_off = false }) (source_at (g.I.Inputs.sources c.read.new.self) c.args.slot) _
+    (λ told. let more = (read_more _ _ _ _ _ _ _ _ _ (so_far.read told) so_far.readable (c.in-Ok.ensures.bytes told) c.in-Ok.ensures.rest).bytes in
+    given_so _ _ _ _ opening _ _ _ _ _ c.given_up.ensures.same (stopped_feeding _ _ _ _ _ laws _ opening _ _ _ _ _ _ _ so_far.fed (take c.in-Ok.n c.read.new.buffer) _ _ _ _ _ before c.in-Err-feed.fault so_far.feeds own at
+    more within going (λ _. more)
     c.in-Err-feed.ensures.cut c.in-Err-feed.ensures.refused c.feed.ensures.same c.in-Err-feed.ensures.owned c.given_up.ensures.judged c.given_up.ensures.swept))
-    (given_so _ _ _ _ _ _ _ _ c.given_up.ensures.same (stopped_feeding _ _ _ _ _ laws _ _ _ _ _ _ _ so_far.fed (take c.in-Ok.n c.read.new.buffer) [] _ _ _ _ before c.in-Err-feed.fault so_far.feeds own at
-    (sym (append-nil _)) within going c.in-Err-feed.ensures.cut c.in-Err-feed.ensures.refused c.feed.ensures.same c.in-Err-feed.ensures.owned c.given_up.ensures.judged c.given_up.ensures.swept))
+    (λ untold. given_so _ _ _ _ opening _ _ _ _ _ c.given_up.ensures.same (stopped_feeding _ _ _ _ _ laws _ opening _ _ _ _ _ _ _ so_far.fed (take c.in-Ok.n c.read.new.buffer) [] _ _ _ _ before c.in-Err-feed.fault so_far.feeds own at
+    (sym (append-nil _)) within going (λ told. absurd (false≢true (sym untold ∙ told))) c.in-Err-feed.ensures.cut c.in-Err-feed.ensures.refused c.feed.ensures.same c.in-Err-feed.ensures.owned c.given_up.ensures.judged c.given_up.ensures.swept))
+    (λ breaks. absurd (false≢true breaks))
 
 pub returns-in-Err-feed-clause-others : goal.returns-in-Err-feed-clause-others
 returns-in-Err-feed-clause-others g c = keeps_again _ _ _ _ c.pieces.invariant.others (keeps_others _ _ _ _ c.in-Ok.ensures.rest)
@@ -140,14 +147,15 @@ pub returns-clause-broke : goal.returns-clause-broke
 returns-clause-broke g c = ends_sound _ _ _ _ _ _ _ _ _ _ c.end-2.result _ (λ is. cc) c.end-2.ensures
 
 pub returns-clause-ends : goal.returns-clause-ends
-returns-clause-ends g c before own at =
+returns-clause-ends g c before opening own at =
     let so_far = c.pieces.invariant in
     let done : (g.E.Engine.work c.pieces.engine).is_complete so_far.fed ≡ true = sym (c.done.ensures so_far.fed so_far.feeds.holds) ∙ c.pieces-test.false in
     let laws : Laws g.E.Engine.Holds g.E.Engine.Owns g.E.Engine.work g.E.Engine.is_over g.E.Engine.fed
     = record { live = g.met.E.Engine.live; counts = g.met.E.Engine.counts; lawful = g.met.E.Engine.lawful } in
-    of_content g.I.Inputs.told _ (record { bytes = so_far.fed; breaks_off = false }) _
-    (λ told. ended _ _ _ _ _ laws _ _ _ _ _ so_far.fed _ _ _ before _ c.end-2.result so_far.feeds own at (done, (_, (so_far.read told).bytes)) c.end-2.ensures)
-    (ended _ _ _ _ _ laws _ _ _ _ _ so_far.fed _ _ _ before _ c.end-2.result so_far.feeds own at (done, ([], sym (append-nil so_far.fed))) c.end-2.ensures)
+    of_content g.I.Inputs.told _ (record { bytes = so_far.fed; breaks_off = false }) (source_at (g.I.Inputs.sources c.pieces.inputs) c.args.slot) _
+    (λ told. ended _ _ _ _ _ laws _ opening _ _ _ _ _ so_far.fed _ _ _ before _ c.end-2.result so_far.feeds own at (done, (_, (so_far.read told).bytes)) (λ _. (so_far.read told).bytes) c.end-2.ensures)
+    (λ untold. ended _ _ _ _ _ laws _ opening _ _ _ _ _ so_far.fed _ _ _ before _ c.end-2.result so_far.feeds own at (done, ([], sym (append-nil so_far.fed))) (λ told. absurd (false≢true (sym untold ∙ told))) c.end-2.ensures)
+    (λ breaks. absurd (false≢true breaks))
 
 pub returns-clause-reads : goal.returns-clause-reads
 returns-clause-reads g c told =

@@ -1,7 +1,5 @@
-use Rattle.std.proofs.Common.{◌∙◌, refl}
-use Rattle.ports_core.specs.Source.{source_at}
-use Rattle.run_core.proofs.FeedingLemmas.{reads_none}
-use Rattle.run_core.proofs.NamesLemmas.{walk_begins, walk_streams, walk_readable, walk_goes_on_at, walk_stops_at, walk_ends, reads_on_at, untouched_at_first, untouched_on, untouched_by, none_left, some_left}
+use Rattle.std.proofs.Common.{◌∙◌}
+use Rattle.run_core.proofs.NamesLemmas.{walk_begins, walk_streams, walk_readable, walk_goes_on_at, walk_stops_at, walk_ends, walk_counts, walk_within_at, asks_on_at, untouched_at_first, untouched_on, untouched_by, none_left, some_left}
 use Rattle.run_core.proofs.inputs.take_names.Goals as goal
 
 pub loop-left-init : goal.loop-left-init
@@ -9,7 +7,6 @@ loop-left-init g c = record {
   walked = walk_begins _ _ _ _ _ _ _ c.requires.fresh c.requires.outputs c.requires.alone;
   untouched = untouched_at_first _ _;
   room = c.requires.room;
-  reads = λ told. let there = (source_at (g.I.Inputs.sources c.args.inputs.now) 0).left in reads_none _ _ there there refl;
 }
 
 pub take_name-requires-clause-some : goal.take_name-requires-clause-some
@@ -23,24 +20,32 @@ take_name-requires-clause-outputs g c = walk_streams _ _ _ _ _ _ _ _ _ _ (some_l
 
 pub returns-in-Err-clause-took : goal.returns-in-Err-clause-took
 returns-in-Err-clause-took g c =
-    walk_stops_at _ _ _ _ _ _ _ _ c.loop-left.left.now c.loop-left.progress _ _ _ _ c.in-Err.fault c.loop-left.invariant.room c.in-len1-up.len_at_least c.loop-left.invariant.walked c.in-Err.ensures.took
+    walk_stops_at _ _ _ _ _ _ _ c.loop-left.left.now c.loop-left.progress _ _ _ _ _ c.in-Err.fault c.loop-left.invariant.room c.in-len1-up.len_at_least c.loop-left.invariant.walked c.in-Err.ensures.took c.take_name.ensures.takes
 
 pub loop-left-preserved : goal.loop-left-preserved
 loop-left-preserved g c = record {
-  walked = walk_goes_on_at _ _ _ _ _ _ _ c.loop-left.left.now c.loop-left.progress c.in-Ok.next _ _ _ _ _ _ c.in-len1-up.len_at_least c.loop-left.invariant.walked c.in-Ok.ensures.took c.in-Ok.ensures.opens c.in-Ok.ensures.laid;
-  untouched = untouched_on _ _ c.loop-left.left.now _ _ _ c.in-len1-up.len_at_least c.loop-left.invariant.untouched c.in-Ok.ensures.untouched;
+  walked = walk_goes_on_at _ _ _ _ _ _ _ c.loop-left.left.now c.loop-left.progress c.in-Ok.next _ _ _ _ _ _ c.loop-left.invariant.room c.in-len1-up.len_at_least c.loop-left.invariant.walked c.in-Ok.ensures.took c.take_name.ensures.takes c.in-Ok.ensures.opens c.in-Ok.ensures.laid;
+  untouched = untouched_on _ _ c.loop-left.left.now _ _ _ c.in-len1-up.len_at_least c.loop-left.invariant.untouched c.take_name.ensures.takes.unasked;
   room = c.take_name.auto.buffer ∙ c.loop-left.invariant.room;
-  reads = λ told. reads_on_at (g.A.Adapter.task c.args.job.now.adapter.now).work.is_complete _ _ c.loop-left.progress.was_read (source_at (g.I.Inputs.sources c.args.inputs.now) 0).left _ _ c.loop-left.invariant.room c.loop-left.invariant.walked.standard (c.loop-left.invariant.reads told) (c.in-Ok.ensures.reads told);
 }
 
 pub returns-clause-took : goal.returns-clause-took
-returns-clause-took g c = walk_ends _ _ _ _ _ _ _ _ _ _ _ (none_left c.loop-left.left.now c.in_default.len_below) c.loop-left.invariant.walked
-
-pub returns-in-Err-clause-reads : goal.returns-in-Err-clause-reads
-returns-in-Err-clause-reads g c told = reads_on_at (g.A.Adapter.task c.args.job.now.adapter.now).work.is_complete _ _ c.loop-left.progress.was_read (source_at (g.I.Inputs.sources c.args.inputs.now) 0).left _ _ c.loop-left.invariant.room c.loop-left.invariant.walked.standard (c.loop-left.invariant.reads told) (c.in-Err.ensures.reads told)
+returns-clause-took g c = walk_ends _ _ _ _ _ _ _ _ _ _ (none_left c.loop-left.left.now c.in_default.len_below) c.loop-left.invariant.walked
 
 pub returns-in-Err-clause-untouched : goal.returns-in-Err-clause-untouched
-returns-in-Err-clause-untouched g c = untouched_by _ _ c.loop-left.left.now (g.I.Inputs.sources c.args.inputs.now) (g.I.Inputs.sources c.loop-left.inputs) (g.I.Inputs.sources c.take_name.new.inputs) c.in-len1-up.len_at_least c.loop-left.invariant.untouched c.in-Err.ensures.untouched
+returns-in-Err-clause-untouched g c = untouched_by _ _ c.loop-left.left.now (g.I.Inputs.sources c.args.inputs.now) (g.I.Inputs.sources c.loop-left.inputs) (g.I.Inputs.sources c.take_name.new.inputs) c.in-len1-up.len_at_least c.loop-left.invariant.untouched c.take_name.ensures.takes.unasked
 
 pub returns-clause-untouched : goal.returns-clause-untouched
 returns-clause-untouched g c = c.loop-left.invariant.untouched.same
+
+pub returns-in-Err-clause-opened : goal.returns-in-Err-clause-opened
+returns-in-Err-clause-opened g c = walk_within_at _ _ _ _ _ _ _ c.loop-left.left.now c.loop-left.progress _ _ _ _ c.loop-left.invariant.room c.in-len1-up.len_at_least c.loop-left.invariant.walked c.take_name.ensures.takes
+
+pub returns-in-Err-clause-asked : goal.returns-in-Err-clause-asked
+returns-in-Err-clause-asked g c = asks_on_at _ _ _ _ _ c.loop-left.invariant.room c.loop-left.invariant.walked.asked c.take_name.ensures.takes
+
+pub returns-clause-opened : goal.returns-clause-opened
+returns-clause-opened g c = walk_counts _ _ _ _ _ _ _ _ _ _ (none_left c.loop-left.left.now c.in_default.len_below) c.loop-left.invariant.walked
+
+pub returns-clause-asked : goal.returns-clause-asked
+returns-clause-asked g c = c.loop-left.invariant.walked.asked

@@ -1,6 +1,4 @@
-use Rattle.std.proofs.Common.{◌≡◌, length, map, true}
-use Rattle.ports_core.specs.Source.{source_at}
-use Rattle.run_core.specs.Feeding.{ReadsFor}
+use Rattle.std.proofs.Common.{◌≡◌, length, map}
 use Rattle.run_core.specs.RunEnds.{largest_piece}
 use Rattle.run_core.specs.RunSteps.{world_of}
 use Rattle.run_core.proofs.NamesLemmas.{Untouched, Walked}
@@ -13,7 +11,6 @@ invariant-loop-left g l = record {
       l.progress (g.I.Inputs.laid l.inputs) (g.I.Inputs.sources l.inputs) (g.O.Outs.slots l.outs);
   untouched : Untouched (map (λ name. name.now) l.names) (map (λ name. name.now) l.left) (g.I.Inputs.sources l.fn.inputs) (g.I.Inputs.sources l.inputs);
   room : length l.buffer ≡ largest_piece;
-  reads : g.I.Inputs.told ≡ true → ReadsFor (g.A.Adapter.task l.job.adapter.now).work.is_complete largest_piece (source_at (g.I.Inputs.sources l.fn.inputs) 0).left (source_at (g.I.Inputs.sources l.inputs) 0).left;
 }
 
 abbrev pub decreases-loop-left : goal.decreases-loop-left

@@ -1,0 +1,232 @@
+-- Lemmas on what a run leaves of its inputs.
+use Rattle.std.proofs.Common.{◌≡◌, ℕ, ◌+◌, ◌<◌, ◌≤◌, zero, suc, Bool, true, false, not, ◌&&◌, ◌||◌, IsTrue, if◌then◌else◌, List, [], ◌∷◌, ◌++◌, length, Option, Some, None, IfSome, arith, length-append, inl, inr, refl, sym, ◌∙◌, ap, subst}
+use Rattle.std.proofs.lemmas.Bool.{false≢true}
+use mathlib.Core.Logic.{dite}
+use native.Mathlib.Decide.{ℕ_discrete}
+use Rattle.ports_core.specs.Source.{Content, Source, source_at, source_of, is_readable, missing, Opens, OpensNothing, IsFresh}
+use Rattle.ports_core.specs.Source as from
+use Rattle.ports_core.specs.declared.fault.Fault.{Fault}
+use Rattle.ports_core.specs.declared.fault.Fault.TheVariants.{Open}
+use Rattle.run_core.specs.Feeding.{BreaksOnly, KeepsOthers, OfContent, ReadsFor}
+use Rattle.run_core.specs.Input.{Input, World, IsFor, is_dash, input_of, inputs_from, next_slot, empty}
+use Rattle.run_core.specs.Reading.{AreDone, AreUntouched, AsksAtMost, IsDone, IsLeft, IsUntouched, Leaves, TakesOne, count_after}
+use Rattle.run_core.specs.RunSteps.{KeepsOther, OfSource, standard_source}
+use Rattle.run_core.proofs.FeedingLemmas.{readable_within, reads_none}
+
+-- one input more
+
+pub last_source : (sources : List Source) (source : Source) → source_at (sources ++ source ∷ []) (length sources) ≡ source
+last_source [] source = refl
+last_source (first ∷ sources) source = last_source sources source
+
+front_source : (sources : List Source) (source : Source) (place : ℕ) → place < length sources → source_at (sources ++ source ∷ []) place ≡ source_at sources place
+front_source [] source place within = absurd (omega arith)
+front_source (first ∷ sources) source zero within = refl
+front_source (first ∷ sources) source (suc place) within = front_source sources source place (omega arith)
+
+one_more : (sources : List Source) (source : Source) → length (sources ++ source ∷ []) ≡ length sources + 1
+one_more sources source = length-append sources (source ∷ [])
+
+-- how many bytes reads asked for
+
+asks_more : (most : ℕ) (sources : List Source) (source : Source) → source.asked ≤ most → AsksAtMost most sources → AsksAtMost most (sources ++ source ∷ [])
+asks_more most [] source little asked zero = little
+asks_more most [] source little asked (suc place) = asked place
+asks_more most (first ∷ sources) source little asked zero = asked 0
+asks_more most (first ∷ sources) source little asked (suc place) = asks_more most sources source little (λ those. asked (suc those)) place
+
+asks_there : (most slot : ℕ) (old new : List Source) → KeepsOthers slot old new → ((source_at old slot).asked ≤ most → (source_at new slot).asked ≤ most) → AsksAtMost most old → AsksAtMost most new
+asks_there most slot old new keeps there asked place =
+    dite (ℕ_discrete place slot) (λ is. subst (λ n. (source_at new n).asked ≤ most) (sym is) (there (asked slot)))
+    (λ differs. subst (λ (source : Source). source.asked ≤ most) (sym (keeps.others place differs)) (asked place))
+
+pub asks_from : (most slot : ℕ) (source : Option ℕ) (old new : List Source) → source ≡ Some slot → KeepsOthers slot old new → ((source_at old slot).asked ≤ most → (source_at new slot).asked ≤ most) → AsksAtMost most old → AsksAtMost most new
+asks_from most slot source old new is keeps there = asks_there most slot old new keeps there
+
+-- what is left of the input of a source
+
+-- an input of which nothing was read
+pub unread_source : (told : Bool) (is_complete : List ℕ → Bool) (most : ℕ) (source : Option ℕ) (sources : List Source) (Q : Content → Type 0) → IfSome source (λ slot. IsTrue (is_readable sources slot))
+    → ((content : Content) → Leaves told content source sources [] → IsDone told is_complete most source (Some content) sources → Q content) → OfSource told source sources Q
+unread_source told is_complete most None sources Q can holds = holds empty tt tt
+unread_source true is_complete most (Some slot) sources Q can holds =
+    let there = (source_at sources slot).left in
+    (there, λ t. refl, holds there (λ t. refl) (readable_within sources slot can, (λ t. reads_none is_complete most there there refl, λ untold. absurd (false≢true (sym untold)))))
+unread_source false is_complete most (Some slot) sources Q can holds =
+    (empty, λ t. absurd (false≢true t), holds empty (λ t. absurd (false≢true t)) (readable_within sources slot can, (λ t. absurd (false≢true t), λ untold breaks. absurd (false≢true breaks))))
+
+-- an input that could be read is still there
+pub still_within : (source : Option ℕ) (slot : ℕ) (old new : List Source) → source ≡ Some slot → IfSome source (λ slot. IsTrue (is_readable old slot)) → KeepsOthers slot old new → slot < length new
+still_within source slot old new is can keeps =
+    let within : slot < length old = readable_within old slot (subst (λ from. IfSome from (λ slot. IsTrue (is_readable old slot))) is can) in
+    omega (arith, within, keeps.count)
+
+-- an input that was fed to an engine
+pub left_of : (told : Bool) (is_complete : List ℕ → Bool) (most slot : ℕ) (there : Content) (sources : List Source) (P : Content → Type 0) → slot < length sources → (told ≡ true → ReadsFor is_complete most there (source_at sources slot).left)
+    → OfContent told there (λ content. P content × BreaksOnly told content (source_at sources slot)) → OfContent told there (λ content. P content × IsDone told is_complete most (Some slot) (Some content) sources)
+left_of told is_complete most slot there sources P within reads (content, is, holds) =
+    (content, is, (holds.0, (within, (λ t. subst (λ (those : Content). ReadsFor is_complete most those (source_at sources slot).left) (sym (is t)) (reads t), holds.1))))
+
+-- what taking a name leaves
+
+takes_dash_at : (most : ℕ) (was : Bool) (name : List ℕ) (old new : List Source) → is_dash name ≡ true → KeepsOther (standard_source was) old new → (AsksAtMost most old → AsksAtMost most new) → TakesOne most was name old new
+takes_dash_at most true name old new dash same asked = record {
+  grown = omega (arith, ap length same);
+  within = let here : next_slot (length old) name ≡ length old = ap (λ (b : Bool). if b then length old else length old + 1) dash in omega (arith, here, ap length same);
+  files = λ place some within. ap (λ those. source_at those place) same;
+  unasked = λ differs. absurd (false≢true (sym differs ∙ dash));
+  again = λ was. ap (λ those. source_at those 0) same;
+  asked = asked;
+}
+takes_dash_at most false name old new dash keeps asked = record {
+  grown = omega (arith, keeps.count);
+  within = let here : next_slot (length old) name ≡ length old = ap (λ (b : Bool). if b then length old else length old + 1) dash in omega (arith, here, keeps.count);
+  files = λ place some within. keeps.others place (λ is. omega (arith, some, is));
+  unasked = λ differs. absurd (false≢true (sym differs ∙ dash));
+  again = λ was. absurd (false≢true was);
+  asked = asked;
+}
+
+pub takes_dash : (most : ℕ) (was_read : Bool) (source : Option ℕ) (name : List ℕ) (old new : List Source) → source ≡ standard_source was_read → is_dash name ≡ true → KeepsOther source old new → (AsksAtMost most old → AsksAtMost most new) → TakesOne most was_read name old new
+takes_dash most was_read source name old new is dash keeps asked = takes_dash_at most was_read name old new dash (subst (λ those. KeepsOther those old new) is keeps) asked
+
+-- another source stands after those that were there
+takes_more : (most : ℕ) (was_read : Bool) (name : List ℕ) (old mid new : List Source) (source : Source) → is_dash name ≡ false → 0 < length old → source.asked ≤ most → mid ≡ old ++ source ∷ [] → KeepsOthers (length old) mid new → (AsksAtMost most mid → AsksAtMost most new) → TakesOne most was_read name old new
+takes_more most was_read name old mid new source differs some little is keeps asked =
+    let count : length new ≡ length old + 1 = keeps.count ∙ ap length is ∙ one_more old source in
+    let here : next_slot (length old) name ≡ length old + 1 = ap (λ (b : Bool). if b then length old else length old + 1) differs in
+    let front : (place : ℕ) → place < length old → source_at new place ≡ source_at old place
+    = λ place within. keeps.others place (λ same. omega (arith, within, same)) ∙ ap (λ those. source_at those place) is ∙ front_source old source place within in record {
+      grown = omega (arith, count);
+      within = omega (arith, count, here);
+      files = λ place _ within. front place within;
+      unasked = λ _. front 0 some;
+      again = λ _. front 0 some;
+      asked = λ before. asked (subst (AsksAtMost most) (sym is) (asks_more most old source little before));
+    }
+
+pub takes_file : (told : Bool) (laid : ℕ → List ℕ → Option Content) (most : ℕ) (was_read : Bool) (name : List ℕ) (old mid new : List Source) (slot : ℕ) → is_dash name ≡ false → 0 < length old → Opens told laid old mid name slot → KeepsOthers slot mid new → (AsksAtMost most mid → AsksAtMost most new)
+    → TakesOne most was_read name old new
+takes_file told laid most was_read name old mid new slot differs some opens keeps asked =
+    takes_more most was_read name old mid new (source_of opens.content) differs some (omega arith) opens.sources (subst (λ n. KeepsOthers n mid new) opens.number keeps) asked
+
+keeps_all : (slot : ℕ) (sources : List Source) → KeepsOthers slot sources sources
+keeps_all slot sources = record { count = refl; others = λ place differs. refl }
+
+takes_none : (most : ℕ) (was_read : Bool) (name : List ℕ) (old new : List Source) → new ≡ old → TakesOne most was_read name old new
+takes_none most was_read name old new same = record {
+  grown = omega (arith, ap length same);
+  within = at_least (is_dash name);
+  files = λ place _ within. ap (λ those. source_at those place) same;
+  unasked = λ _. ap (λ those. source_at those 0) same;
+  again = λ _. ap (λ those. source_at those 0) same;
+  asked = subst (AsksAtMost most) (sym same);
+} where
+  at_least : (d : Bool) → length new ≤ (if d then length old else length old + 1)
+  at_least true = omega (arith, ap length same)
+  at_least false = omega (arith, ap length same)
+
+pub takes_missing : (told : Bool) (laid : ℕ → List ℕ → Option Content) (most : ℕ) (was_read : Bool) (name : List ℕ) (old new : List Source) (fault : Fault) → is_dash name ≡ false → 0 < length old → OpensNothing told laid old new name fault → TakesOne most was_read name old new
+takes_missing told laid most was_read name old new fault differs some (from.broke at number lies is) = takes_more most was_read name old new new missing differs some (omega arith) is (keeps_all (length old) new) (λ asked. asked)
+takes_missing told laid most was_read name old new fault differs some (from.no_room is) = takes_none most was_read name old new is
+
+-- a file that could not be opened is not open
+pub missing_done : (told : Bool) (is_complete : List ℕ → Bool) (most : ℕ) (old new : List Source) → new ≡ old ++ missing ∷ [] → IsDone told is_complete most (Some (length old)) None new
+missing_done told is_complete most old new is = (
+  omega (arith, ap length is, one_more old missing),
+  ap (λ those. (source_at those (length old)).is_open) is ∙ ap (λ (source : Source). source.is_open) (last_source old missing),
+)
+
+-- the inputs that were done stay so
+
+abbrev pub StaysDone : Bool → (List ℕ → Bool) → ℕ → Bool → Option ℕ → Option Content → List Source → Type 0
+StaysDone told is_complete most was_read None content sources = Unit {0}
+StaysDone told is_complete most was_read (Some slot) content sources = (slot ≡ 0 → was_read ≡ true) × IsDone told is_complete most (Some slot) content sources
+
+abbrev pub StayDone : Bool → (List ℕ → Bool) → ℕ → Bool → List Input → List Source → Type 0
+StayDone told is_complete most was_read [] sources = Unit {0}
+StayDone told is_complete most was_read (input ∷ inputs) sources = StaysDone told is_complete most was_read input.slot input.content sources × StayDone told is_complete most was_read inputs sources
+
+still_done_at : (told : Bool) (is_complete : List ℕ → Bool) (most room : ℕ) (was_read now_read : Bool) (name : List ℕ) (slot : Option ℕ) (content : Option Content) (old new : List Source) → (was_read ≡ true → now_read ≡ true) → TakesOne room was_read name old new
+    → StaysDone told is_complete most was_read slot content old → StaysDone told is_complete most now_read slot content new
+still_done_at told is_complete most room was_read now_read name None content old new reads takes done = tt
+still_done_at told is_complete most room was_read now_read name (Some zero) content old new reads takes done =
+    let is_read : was_read ≡ true = done.0 refl in
+    let grown : length old ≤ length new = takes.grown in
+    let within : 0 < length old = done.1.0 in
+    (λ _. reads is_read, (omega (arith, grown, within), subst (IsLeft told is_complete most content) (sym (takes.again is_read)) done.1.1))
+still_done_at told is_complete most room was_read now_read name (Some (suc slot)) content old new reads takes done =
+    let grown : length old ≤ length new = takes.grown in
+    let within : suc slot < length old = done.1.0 in
+    (λ is. absurd (omega (arith, is)), (omega (arith, grown, within), subst (IsLeft told is_complete most content) (sym (takes.files (suc slot) (omega arith) within)) done.1.1))
+
+pub still_done : (told : Bool) (is_complete : List ℕ → Bool) (most room : ℕ) (was_read now_read : Bool) (name : List ℕ) (inputs : List Input) (old new : List Source) → (was_read ≡ true → now_read ≡ true) → TakesOne room was_read name old new
+    → StayDone told is_complete most was_read inputs old → StayDone told is_complete most now_read inputs new
+still_done told is_complete most room was_read now_read name [] old new reads takes done = tt
+still_done told is_complete most room was_read now_read name (input ∷ inputs) old new reads takes done =
+    (still_done_at told is_complete most room was_read now_read name input.slot input.content old new reads takes done.0, still_done told is_complete most room was_read now_read name inputs old new reads takes done.1)
+
+pub done_more : (told : Bool) (is_complete : List ℕ → Bool) (most : ℕ) (was_read : Bool) (inputs : List Input) (input : Input) (sources : List Source) → StayDone told is_complete most was_read inputs sources → StaysDone told is_complete most was_read input.slot input.content sources
+    → StayDone told is_complete most was_read (inputs ++ input ∷ []) sources
+done_more told is_complete most was_read [] input sources done one = (one, tt)
+done_more told is_complete most was_read (first ∷ inputs) input sources done one = (done.0, done_more told is_complete most was_read inputs input sources done.1 one)
+
+done_at : (told : Bool) (is_complete : List ℕ → Bool) (most : ℕ) (was_read : Bool) (slot : Option ℕ) (content : Option Content) (sources : List Source) → StaysDone told is_complete most was_read slot content sources → IsDone told is_complete most slot content sources
+done_at told is_complete most was_read None content sources done = tt
+done_at told is_complete most was_read (Some slot) content sources done = done.1
+
+pub all_done : (told : Bool) (is_complete : List ℕ → Bool) (most : ℕ) (was_read : Bool) (inputs : List Input) (sources : List Source) → StayDone told is_complete most was_read inputs sources → AreDone told is_complete most inputs sources
+all_done told is_complete most was_read [] sources done = tt
+all_done told is_complete most was_read (input ∷ inputs) sources done = (done_at told is_complete most was_read input.slot input.content sources done.0, all_done told is_complete most was_read inputs sources done.1)
+
+pub all_done_nil : (told : Bool) (is_complete : List ℕ → Bool) (most : ℕ) (inputs : List Input) (sources : List Source) → AreDone told is_complete most inputs sources → AreDone told is_complete most (inputs ++ []) sources
+all_done_nil told is_complete most [] sources done = tt
+all_done_nil told is_complete most (input ∷ inputs) sources done = (done.0, all_done_nil told is_complete most inputs sources done.1)
+
+-- the input of a name that was taken stays done
+done_for : (told : Bool) (is_complete : List ℕ → Bool) (most : ℕ) (world : World) (was_read : Bool) (count : ℕ) (name : List ℕ) (dash : Bool) (sources : List Source) → 0 < count
+    → (let input = input_of world was_read count name dash in IsDone told is_complete most input.slot input.content sources → StaysDone told is_complete most (was_read || dash) input.slot input.content sources)
+done_for told is_complete most world true count name true sources some done = tt
+done_for told is_complete most world false count name true sources some done = (λ _. refl, done)
+done_for told is_complete most world was_read count name false sources some done = (λ is. absurd (omega (arith, some, is)), done)
+
+pub done_with : (told : Bool) (is_complete : List ℕ → Bool) (most : ℕ) (was_read : Bool) (count : ℕ) (name : List ℕ) (input : Input) (sources : List Source) → IsFor was_read count name input → 0 < count
+    → IsDone told is_complete most input.slot input.content sources → StaysDone told is_complete most (was_read || is_dash name) input.slot input.content sources
+done_with told is_complete most was_read count name input sources (world, is) some done =
+    subst (λ (those : Input). StaysDone told is_complete most (was_read || is_dash name) those.slot those.content sources) (sym is)
+    (done_for told is_complete most world was_read count name (is_dash name) sources some (subst (λ (those : Input). IsDone told is_complete most those.slot those.content sources) is done))
+
+-- the inputs after the place where a run was stopped were not touched
+
+pub rest_untouched : (world : World) (was_read : Bool) (slot : ℕ) (names : List (List ℕ)) (sources : List Source) → (was_read ≡ false → source_at sources 0 ≡ source_of world.standard) → length sources ≤ slot
+    → AreUntouched (inputs_from world was_read slot names) sources
+rest_untouched world was_read slot [] sources unread few = tt
+rest_untouched world was_read slot (name ∷ names) sources unread few =
+    (by_name was_read (is_dash name) unread, rest_untouched world (was_read || is_dash name) (next_slot slot name) names sources (λ none. unread (or_left was_read (is_dash name) none)) (at_least (is_dash name))) where
+      by_name : (was dash : Bool) → (was ≡ false → source_at sources 0 ≡ source_of world.standard) → (let input = input_of world was slot name dash in IsUntouched input.slot input.content sources)
+      by_name true true at_first = tt
+      by_name false true at_first = inr (world.standard, refl, at_first refl)
+      by_name was false at_first = inl few
+
+      or_left : (a b : Bool) → (a || b) ≡ false → a ≡ false
+      or_left false b is = refl
+      or_left true b is = absurd (false≢true (sym is))
+
+      at_least : (dash : Bool) → length sources ≤ (if dash then slot else slot + 1)
+      at_least true = few
+      at_least false = omega (arith, few)
+
+-- how many names there can be
+
+pub count_more : (count : ℕ) (names : List (List ℕ)) → count ≤ count_after count names
+count_more count [] = omega arith
+count_more count (name ∷ names) = let rest : next_slot count name ≤ count_after (next_slot count name) names = count_more (next_slot count name) names in at_least (is_dash name) (count_after (next_slot count name) names) rest where
+  at_least : (dash : Bool) (most : ℕ) → (if dash then count else count + 1) ≤ most → count ≤ most
+  at_least true most less = less
+  at_least false most less = omega (arith, less)
+
+pub fresh_asks : (most : ℕ) (sources : List Source) → IsFresh sources → AsksAtMost most sources
+fresh_asks most sources fresh = subst (AsksAtMost most) (sym fresh.only) nothing_asked where
+  nothing_asked : AsksAtMost most (source_of fresh.standard ∷ [])
+  nothing_asked zero = omega arith
+  nothing_asked (suc place) = omega arith
