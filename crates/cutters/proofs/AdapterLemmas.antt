@@ -1,10 +1,10 @@
 -- Lemmas on opening a tool's engine.
-use Rattle.std.proofs.Common.{◌≡◌, ℕ, ◌+◌, ◌-◌, ◌<◌, ◌≤◌, ◌^◌, zero, suc, Bool, true, false, if◌then◌else◌, List, [], length, None, ◌⊎◌, inl, inr, IsTrue, Result, Ok, Err, IfOk, IfErr, OnOk, refl, sym, ◌∙◌, ap, subst, arith}
+use Rattle.std.proofs.Common.{◌≡◌, ℕ, ◌+◌, ◌-◌, ◌<◌, ◌≤◌, ◌^◌, zero, suc, Bool, true, false, not, if◌then◌else◌, List, [], length, ◌⊎◌, inl, inr, IsTrue, Result, Ok, Err, IfOk, IfErr, OnOk, refl, sym, ◌∙◌, ap, subst, arith}
 use Rattle.ports_core.specs.Name.{Naming}
 use Rattle.ports_core.specs.Slot.{Slot, Rose, slot_at, is_writable}
 use Rattle.ports_core.specs.Part.{Part, OutputsAt, StoppedBetween, nothing, only_out}
 use Rattle.ports_core.specs.Swept.{Swept}
-use Rattle.ports_core.specs.Work.{Work}
+use Rattle.ports_core.specs.Work.{Work, Needs}
 use Rattle.ports_core.specs.Engine.{is_verdict}
 use Rattle.ports_core.specs.Guard.{GuardState, HoldsIn}
 use Rattle.ports_core.specs.declared.alphabet.Alphabet.{Alphabet}
@@ -20,7 +20,7 @@ use Rattle.ends_core.specs.Tail.{tail_work}
 use Rattle.split_core.specs.declared.cut.Cut.{Cut}
 use Rattle.split_core.specs.Sharing.{CannotOpen}
 use Rattle.split_core.specs.Split.{Plan, settled_by, split_work}
-use Rattle.run_core.specs.Feeding.{Stops}
+use Rattle.run_core.specs.Feeding.{Stops, call_of}
 use Rattle.run_core.specs.RunSteps.{Opens, OpensShort}
 use Rattle.seg_core.specs.declared.count.Count.{Count}
 use Rattle.words_core.specs.EndsAsked.{EndsAsked}
@@ -54,11 +54,11 @@ pub tail_starts : (told : Bool) (unit : Counted) (from_nth : Bool) (n : ℕ) (sl
 tail_starts told unit from_nth n slots two = subst (λ part. OutputsAt told slots part slots) (sym (tail_begins from_nth unit n)) (nothing_out told slots (some_there slots two))
 
 -- an engine without files for which there was no memory
-pub no_memory : (told : Bool) (work : Work) (slots : List Slot) (fault : Fault) → work.clears ≡ false → 2 ≤ length slots → fault ≡ Memory → OpensShort work told slots slots fault
-no_memory told work slots fault keeps two is = subst (OpensShort work told slots slots) (sym is) (record {
+pub no_memory : (told : Bool) (work : Work) (opening : Needs) (slots : List Slot) (fault : Fault) → work.clears ≡ false → opening.memory ≡ true → 2 ≤ length slots → fault ≡ Memory → OpensShort work opening told slots slots fault
+no_memory told work opening slots fault keeps may two is = subst (OpensShort work opening told slots slots) (sym is) (record {
   unjudged = refl;
   reached = slots;
-  why = tt;
+  why = may;
   stop = stopped_here told slots nothing _ Memory slots slots (nothing_out told slots (some_there slots two)) (nothing_begins_part _) refl tt;
   swept = none_swept work.clears keeps;
 }) where
@@ -76,24 +76,24 @@ plan_is asked cut alphabet width auto elide input prefix names made is =
 pub split_starts : (told : Bool) (plan : Plan) (old new : List Slot) → 2 ≤ length old → ((before : List Slot) → OutputsAt told before nothing old → OutputsAt told before (settled_by plan []) new) → OutputsAt told old ((split_work plan).settled []) new
 split_starts told plan old new two puts = puts old (nothing_out told old (some_there old two))
 
-split_stops : (told : Bool) (plan : Plan) (old new : List Slot) (fault : Fault) → 2 ≤ length old → ((before : List Slot) → OutputsAt told before nothing old → StoppedBetween told before nothing (settled_by plan []) fault new) → CannotOpen old new fault → OpensShort (split_work plan) told old new fault
-split_stops told plan old new fault two stop (inl is) = record {
+split_stops : (told : Bool) (plan : Plan) (opening : Needs) (old new : List Slot) (fault : Fault) → opening.memory ≡ true → opening.files ≡ true → 2 ≤ length old → ((before : List Slot) → OutputsAt told before nothing old → StoppedBetween told before nothing (settled_by plan []) fault new) → CannotOpen old new fault → OpensShort (split_work plan) opening told old new fault
+split_stops told plan opening old new fault may opens two stop (inl is) = record {
   unjudged = ap is_verdict is;
   reached = new;
-  why = subst (Stops (split_work plan) 0 None new) (sym is) tt;
+  why = subst (Stops (call_of (split_work plan) opening [] nothing (settled_by plan [])) new) (sym is) may;
   stop = stop old (nothing_out told old (some_there old two));
   swept = refl;
 }
-split_stops told plan old new fault two stop (inr (slot, is, rose)) = record {
+split_stops told plan opening old new fault may opens two stop (inr (slot, is, rose)) = record {
   unjudged = ap is_verdict is;
   reached = new;
-  why = subst (Stops (split_work plan) 0 None new) (sym is) refl;
+  why = subst (Stops (call_of (split_work plan) opening [] nothing (settled_by plan [])) new) (sym is) (refl, opens);
   stop = stop old (nothing_out told old (some_there old two));
   swept = refl;
 }
 
-pub split_short : (told : Bool) (plan asked : Plan) (old new : List Slot) (fault : Fault) → plan ≡ asked → 2 ≤ length old → ((before : List Slot) → OutputsAt told before nothing old → StoppedBetween told before nothing (settled_by plan []) fault new) → CannotOpen old new fault → OpensShort (split_work asked) told old new fault
-split_short told plan asked old new fault is two stop why = subst (λ those. OpensShort (split_work those) told old new fault) is (split_stops told plan old new fault two stop why)
+pub split_short : (told : Bool) (plan asked : Plan) (opening : Needs) (old new : List Slot) (fault : Fault) → opening.memory ≡ true → opening.files ≡ true → plan ≡ asked → 2 ≤ length old → ((before : List Slot) → OutputsAt told before nothing old → StoppedBetween told before nothing (settled_by plan []) fault new) → CannotOpen old new fault → OpensShort (split_work asked) opening told old new fault
+split_short told plan asked opening old new fault may opens is two stop why = subst (λ those. OpensShort (split_work those) opening told old new fault) is (split_stops told plan opening old new fault may opens two stop why)
 
 -- an engine that was opened from outputs that are left as they were
 
@@ -111,9 +111,17 @@ pub whatever : {E : Type 0} (P : E → Type 0) (result : Result E Fault) → ((e
 whatever P (Ok e) all = all e
 whatever P (Err fault) all = tt
 
-pub no_memory_for : {E : Type 0} (told : Bool) (work : Work) (slots : List Slot) (result : Result E Fault) (P : Type 0) → work.clears ≡ false → 2 ≤ length slots → IfErr result (λ fault. (fault ≡ Memory) × P) → IfErr result (OpensShort work told slots slots)
-no_memory_for told work slots (Ok e) P keeps two err = tt
-no_memory_for told work slots (Err fault) P keeps two err = no_memory told work slots fault keeps two err.0
+pub no_memory_for : {E : Type 0} (told : Bool) (work : Work) (opening : Needs) (slots : List Slot) (result : Result E Fault) (P : Type 0) → work.clears ≡ false → (P → opening.memory ≡ true) → 2 ≤ length slots → IfErr result (λ fault. (fault ≡ Memory) × P) → IfErr result (OpensShort work opening told slots slots)
+no_memory_for told work opening slots (Ok e) P keeps may two err = tt
+no_memory_for told work opening slots (Err fault) P keeps may two err = no_memory told work opening slots fault keeps (may err.1) two err.0
+
+-- what opening may need
+
+pub head_opening : (asked : EndsAsked) (unit : Counted) (count : Count) (headers : Headers) (names : List (List ℕ)) (minus : Bool) → record { unit = unit; count = count; headers = headers; names = names } ≡ asked → minus ≡ is_minus count.sign → minus ≡ true → (head_task asked).opening.memory ≡ true
+head_opening asked unit count headers names minus is signed may = sym (ap (λ (those : EndsAsked). is_minus those.count.sign) is) ∙ sym signed ∙ may
+
+pub tail_opening : (asked : EndsAsked) (unit : Counted) (count : Count) (headers : Headers) (names : List (List ℕ)) (plus : Bool) → record { unit = unit; count = count; headers = headers; names = names } ≡ asked → plus ≡ is_plus count.sign → plus ≡ false → (tail_task asked).opening.memory ≡ true
+tail_opening asked unit count headers names plus is signed may = ap not (sym (ap (λ (those : EndsAsked). is_plus those.count.sign) is) ∙ sym signed ∙ may)
 
 -- the work that is asked for
 
@@ -133,7 +141,7 @@ split_opened Holds Owns work Ready fed plan asked told old new (Ok e) is two fre
     (record { fresh = fresh; does = does; bound = bound; ready = ready; owns = owns; outputs = split_starts told plan old new two puts })
 split_opened Holds Owns work Ready fed plan asked told old new (Err fault) is two fresh does bound ready owns puts = tt
 
-pub split_short_if : {E : Type 0} (told : Bool) (plan asked : Plan) (old new : List Slot) (result : Result E Fault) → plan ≡ asked → 2 ≤ length old
-    → IfErr result (λ fault. (before : List Slot) → OutputsAt told before nothing old → StoppedBetween told before nothing (settled_by plan []) fault new) → IfErr result (CannotOpen old new) → IfErr result (OpensShort (split_work asked) told old new)
-split_short_if told plan asked old new (Ok e) is two stop why = tt
-split_short_if told plan asked old new (Err fault) is two stop why = split_short told plan asked old new fault is two stop why
+pub split_short_if : {E : Type 0} (told : Bool) (plan asked : Plan) (opening : Needs) (old new : List Slot) (result : Result E Fault) → opening.memory ≡ true → opening.files ≡ true → plan ≡ asked → 2 ≤ length old
+    → IfErr result (λ fault. (before : List Slot) → OutputsAt told before nothing old → StoppedBetween told before nothing (settled_by plan []) fault new) → IfErr result (CannotOpen old new) → IfErr result (OpensShort (split_work asked) opening told old new)
+split_short_if told plan asked opening old new (Ok e) may opens is two stop why = tt
+split_short_if told plan asked opening old new (Err fault) may opens is two stop why = split_short told plan asked opening old new fault may opens is two stop why

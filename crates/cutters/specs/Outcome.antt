@@ -9,7 +9,7 @@ use Rattle.ports_core.specs.declared.tool.Tool.TheVariants as tool
 use Rattle.ports_core.specs.declared.fault.Fault.{Fault}
 use Rattle.ports_core.specs.declared.fault.Fault.TheVariants.{Memory, Write, Read, Open, Suffixes, NoMatch, Range, Usage, Failed, TooLong}
 use Rattle.run_core.specs.Input.{Input}
-use Rattle.run_core.specs.RunEnds.{RunsAs, standard_error, streams_with}
+use Rattle.run_core.specs.RunEnds.{EndsAs, standard_error, streams_with}
 use Rattle.words_core.specs.declared.settings.Settings.{Settings}
 use Rattle.words_core.specs.Words.{tool_named, settings_of}
 use Rattle.cutters.specs.Tasks.{task_of, names_of}
@@ -44,7 +44,7 @@ pub record Refuses (told : Bool) (tool : Tool) (text : List ℕ) (new : List Slo
   pub failed : status ≡ 1
 
 abbrev pub RunEndsAt : Bool → Bool → List (List ℕ) → List Input → List Source → List Slot → ℕ → Result Settings Fault → Type 0
-RunEndsAt told_in told words inputs sources new status (Ok settings) = RunsAs told_in told (task_of settings) (names_of settings) inputs sources new status
+RunEndsAt told_in told words inputs sources new status (Ok settings) = EndsAs told_in told (task_of settings) inputs sources new status
 RunEndsAt told_in told words inputs sources new status (Err fault) = Refuses told (speaker words) (message_of (speaker words) fault (word_of words fault)) new status
 
 -- a run of these words on these inputs left inputs and outputs so, and returned this status

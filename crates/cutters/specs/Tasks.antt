@@ -1,6 +1,6 @@
 -- What each tool does with its inputs, where words ask for it: POSIX.1-2017, XCU head, tail and split; several files for tail, headers
 -- and their options, bytes, and all but the last are GNU's, and so is what split does where an input breaks off.
-use Rattle.std.specs.Prelude.{ℕ, nat_lt, Bool, true, false, List, [], ◌∷◌, length, codes}
+use Rattle.std.specs.Prelude.{ℕ, nat_lt, Bool, true, false, not, List, [], ◌∷◌, length, codes}
 use Rattle.ports_core.specs.Name.{Naming}
 use Rattle.ports_core.specs.declared.fault.Fault.{Fault}
 use Rattle.ports_core.specs.declared.tool.Tool.TheVariants as tool
@@ -42,6 +42,7 @@ abbrev pub head_task : EndsAsked → Task
 head_task asked = record {
   tool = tool.Head;
   work = head_work asked.unit (is_minus asked.count.sign) asked.count.amount;
+  opening = record { memory = is_minus asked.count.sign; files = false };
   subject = of_nothing;
   with_header = has_headers asked.headers asked.names;
 }
@@ -51,6 +52,7 @@ abbrev pub tail_task : EndsAsked → Task
 tail_task asked = record {
   tool = tool.Tail;
   work = tail_work asked.unit (is_plus asked.count.sign) asked.count.amount;
+  opening = record { memory = not (is_plus asked.count.sign); files = false };
   subject = of_nothing;
   with_header = has_headers asked.headers asked.names;
 }
@@ -70,7 +72,13 @@ plan_of asked = record { cut = asked.cut; elide = asked.elide; names = naming_of
 
 -- `split`: the input cut into files
 abbrev pub split_task : SplitAsked → Task
-split_task asked = record { tool = tool.Split; work = split_work (plan_of asked); subject = of_nothing; with_header = false }
+split_task asked = record {
+  tool = tool.Split;
+  work = split_work (plan_of asked);
+  opening = record { memory = true; files = true };
+  subject = of_nothing;
+  with_header = false;
+}
 
 -- what a tool does with each of its inputs
 abbrev pub task_of : Settings → Task

@@ -1,9 +1,10 @@
 //! One whole run: from words and inputs to outputs and a status.
-ghost use Rattle.std.specs.Prelude.{◌≡◌, false, map};
+ghost use Rattle.std.specs.Prelude.{◌≡◌, ◌≤◌, false, length, map};
 ghost use Rattle.ports_core.specs.Slot.{streams};
 ghost use Rattle.ports_core.specs.Source.{source_at, IsFresh};
 ghost use Rattle.run_core.specs.Input.{has_dash};
-ghost use Rattle.run_core.specs.RunEnds.{RunsAs, RunsOver};
+ghost use Rattle.run_core.specs.Reading.{AsksAtMost, count_after};
+ghost use Rattle.run_core.specs.RunEnds.{EndsAs, RunsOver, largest_piece};
 ghost use Rattle.run_core.specs.RunSteps.{world_of};
 ghost use Rattle.cutters.specs.Outcome.{AreNone, RunEnds, names_read, speaker, word_of};
 ghost use Rattle.cutters.specs.Tasks.{names_of, task_of};
@@ -23,6 +24,8 @@ pub fn run<I: Inputs, O: Outs>(alloc: Global, words: &[&str], inputs: &mut I, ou
     requires outputs { O.slots outs.old ≡ streams }
     ensures ends { RunsOver I.told (world_of (I.laid inputs.old) (I.sources inputs.old)) (names_read (map (λ word. word.now) words.now))
         (λ found. RunEnds I.told O.told (map (λ word. word.now) words.now) found (I.sources inputs.new) (O.slots outs.new) result) }
+    ensures opened { length (I.sources inputs.new) ≤ count_after 1 (names_read (map (λ word. word.now) words.now)) }
+    ensures asked { AsksAtMost largest_piece (I.sources inputs.new) }
     ensures unopened { AreNone (map (λ word. word.now) words.now) → I.sources inputs.new ≡ I.sources inputs.old }
     ensures untouched { has_dash (names_read (map (λ word. word.now) words.now)) ≡ false → source_at (I.sources inputs.new) 0 ≡ source_at (I.sources inputs.old) 0 }
 {
@@ -45,7 +48,9 @@ fn run_tool<I: Inputs, O: Outs>(
     requires outputs { O.slots outs.old ≡ streams }
     requires can { CanRun settings.now }
     ensures ends { RunsOver I.told (world_of (I.laid inputs.old) (I.sources inputs.old)) (names_of settings.now)
-        (λ found. RunsAs I.told O.told (task_of settings.now) (names_of settings.now) found (I.sources inputs.new) (O.slots outs.new) result) }
+        (λ found. EndsAs I.told O.told (task_of settings.now) found (I.sources inputs.new) (O.slots outs.new) result) }
+    ensures opened { length (I.sources inputs.new) ≤ count_after 1 (names_of settings.now) }
+    ensures asked { AsksAtMost largest_piece (I.sources inputs.new) }
     ensures untouched { has_dash (names_of settings.now) ≡ false → source_at (I.sources inputs.new) 0 ≡ source_at (I.sources inputs.old) 0 }
 {
     match settings {

@@ -5,8 +5,10 @@ use Rattle.run_core.specs.Input.{has_dash}
 use Rattle.ports_core.specs.Text.{message_of}
 use Rattle.ports_core.specs.declared.tool.Tool.{Tool}
 use Rattle.ports_core.specs.Message.{SaysOn}
-use Rattle.cutters.specs.Outcome.{names_at, speaker}
-use Rattle.cutters.proofs.RunLemmas.{tool_runs, refused_or_memory, asked_or_none}
+use Rattle.cutters.specs.Outcome.{names_at, names_read, speaker}
+use Rattle.cutters.proofs.RunLemmas.{tool_runs, refused_or_memory, asked_or_none, counts_by}
+use Rattle.run_core.proofs.NamesLemmas.{fresh_counts}
+use Rattle.run_core.proofs.ReadingLemmas.{fresh_asks}
 use Rattle.cutters.proofs.run.run.Goals as goal
 
 pub returns-in-Ok : goal.returns-in-Ok
@@ -14,6 +16,8 @@ returns-in-Ok g c = record {
   untouched = λ none. c.run_tool.ensures.untouched (sym (ap (λ (meant : Result Settings Fault). has_dash (names_at meant)) c.in-Ok.ensures.ok) ∙ none);
   unopened = λ none. absurd (asked_or_none (map (λ word. word.now) c.args.words.now) c.in-Ok.settings none.0 c.in-Ok.ensures.ok none.1);
   ends = tool_runs _ _ _ _ _ _ _ _ c.in-Ok.ensures.ok c.run_tool.ensures.ends;
+  opened = counts_by _ (map (λ word. word.now) c.args.words.now) c.in-Ok.settings c.in-Ok.ensures.ok c.run_tool.ensures.opened;
+  asked = c.run_tool.ensures.asked;
 }
 
 pub returns-in-Err : goal.returns-in-Err
@@ -23,4 +27,6 @@ returns-in-Err g c = record {
   ends = refused_or_memory _ _ _ _ (map (λ word. word.now) c.args.words.now) c.in-Err.fault _ _ c.requires.inputs c.in-Err.ensures.err c.requires.outputs
       (subst (λ (name : List ℕ). SaysOn g.O.Outs.told (speaker (map (λ word. word.now) c.args.words.now)) (message_of (speaker (map (λ word. word.now) c.args.words.now)) c.in-Err.fault name) (g.O.Outs.slots c.args.outs.now) (g.O.Outs.slots c.say.new.outs)) c.word_of.ensures
       (subst (λ (tool : Tool). SaysOn g.O.Outs.told tool (message_of tool c.in-Err.fault c.word_of.result.now) (g.O.Outs.slots c.args.outs.now) (g.O.Outs.slots c.say.new.outs)) c.speaker.ensures c.say.ensures));
+  opened = fresh_counts _ (names_read (map (λ word. word.now) c.args.words.now)) c.requires.inputs;
+  asked = fresh_asks _ _ c.requires.inputs;
 }

@@ -1,6 +1,6 @@
 use Rattle.std.proofs.Common.{refl}
 use Rattle.cutters.specs.Tasks.{is_plus}
-use Rattle.cutters.proofs.AdapterLemmas.{tail_starts, if_does, opened_of, whatever, no_memory_for, tail_asked}
+use Rattle.cutters.proofs.AdapterLemmas.{tail_starts, if_does, opened_of, whatever, no_memory_for, tail_asked, tail_opening}
 use Rattle.cutters.proofs.ends.TailAdapterAdapter.open.Goals as goal
 
 pub returns-clause-ok : goal.returns-clause-ok
@@ -10,4 +10,4 @@ returns-clause-ok g c =
     c.open.ensures.bound (whatever _ c.open.result (λ engine. c.requires.output)) (whatever _ c.open.result (λ engine. tt)) (tail_starts g.O.Outs.told c.args.self.now.settings.now.unit (is_plus c.args.self.now.settings.now.count.sign) c.args.self.now.settings.now.count.amount _ c.requires.streams)
 
 pub returns-clause-err : goal.returns-clause-err
-returns-clause-err g c = no_memory_for _ _ _ c.open.result _ refl c.requires.streams c.open.ensures.err
+returns-clause-err g c = no_memory_for _ _ _ _ c.open.result _ refl (tail_opening _ _ c.settings.inside.count _ _ c.is_plus.result c.settings.view_is c.is_plus.ensures) c.requires.streams c.open.ensures.err

@@ -3,7 +3,7 @@ use Rattle.cutters.proofs.AdapterLemmas.{no_memory, plan_is, split_opened, split
 use Rattle.cutters.proofs.split.SplitAdapterAdapter.open.Goals as goal
 
 pub returns-in-Err-clause-err : goal.returns-in-Err-clause-err
-returns-in-Err-clause-err g c = no_memory _ _ _ c.in-Err.fault refl c.requires.streams c.in-Err.ensures.err
+returns-in-Err-clause-err g c = no_memory _ _ _ _ c.in-Err.fault refl refl c.requires.streams c.in-Err.ensures.err
 
 pub returns-clause-ok : goal.returns-clause-ok
 returns-clause-ok g c =
@@ -13,4 +13,4 @@ returns-clause-ok g c =
 pub returns-clause-err : goal.returns-clause-err
 returns-clause-err g c =
     let same = plan_is _ c.settings.inside.cut _ _ _ c.settings.inside.elide _ _ c.in-Ok.names c.in-Ok.ensures.ok c.settings.view_is in
-    split_short_if _ _ _ _ _ c.open.result same c.requires.streams c.open.ensures.cut c.open.ensures.refused
+    split_short_if _ _ _ _ _ _ c.open.result refl refl same c.requires.streams c.open.ensures.cut c.open.ensures.refused
