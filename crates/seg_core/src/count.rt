@@ -29,7 +29,7 @@ pub struct Count {
 /// Why a text isn't a count: the first of these that holds.
 #[derive(Clone, Copy, Debug, PartialEq, Eq, Error)]
 pub enum CountFault {
-    /// No digit stands first, or first behind the sign.
+    /// No digit stands first, or first after the sign.
     #[error("no digits")]
     NoDigits,
     /// What follows the digits is no suffix.
