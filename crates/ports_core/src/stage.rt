@@ -59,7 +59,8 @@ pub trait Stage {
         ensures cut { IfErr result (EndsShort Holds Owns work self.old O.told (O.slots outs.old) (O.slots outs.new)) }
         ensures met { IfErr result (IsMet (work self.old).means (work self.old).means.closing (Unit {0}) (EndsThere Holds work self.old) (O.slots outs.old) (O.slots outs.new)) };
 
-    /// Removes the files that it made, in order, if its work clears them; a removal that fails is passed over.
+    /// Removes the files that it made, in order, if its work clears them. One that can't be removed is broken and
+    /// closed, and the next is tried.
     fn clear<O: Outs>(&mut self, outs: &mut O)
         requires { (first : ℕ) × Owns self.old first (O.slots outs.old) }
         ensures same { work self.new ≡ work self.old }
