@@ -53,7 +53,7 @@ head_begins told unit but_last n slots two = subst (λ bytes. OutputsAt told slo
 pub tail_starts : (told : Bool) (unit : Counted) (from_nth : Bool) (n : ℕ) (slots : List Slot) → 2 ≤ length slots → OutputsAt told slots ((tail_work unit from_nth n).settled []) slots
 tail_starts told unit from_nth n slots two = subst (λ part. OutputsAt told slots part slots) (sym (tail_begins from_nth unit n)) (nothing_out told slots (some_there slots two))
 
--- an engine without files for which there was no memory
+-- an engine without files, for which there was no memory
 pub no_memory : (told : Bool) (work : Work) (slots : List Slot) (fault : Fault) → work.clears ≡ false → 2 ≤ length slots → fault ≡ Memory → OpensShort work told slots slots fault
 no_memory told work slots fault keeps two is = subst (OpensShort work told slots slots) (sym is) (record {
   unjudged = refl;
@@ -95,7 +95,7 @@ split_stops told plan old new fault two stop (inr (slot, is, rose)) = record {
 pub split_short : (told : Bool) (plan asked : Plan) (old new : List Slot) (fault : Fault) → plan ≡ asked → 2 ≤ length old → ((before : List Slot) → OutputsAt told before nothing old → StoppedBetween told before nothing (settled_by plan []) fault new) → CannotOpen old new fault → OpensShort (split_work asked) told old new fault
 split_short told plan asked old new fault is two stop why = subst (λ those. OpensShort (split_work those) told old new fault) is (split_stops told plan old new fault two stop why)
 
--- an engine that was opened from outputs that are left as they were
+-- an engine that was opened, and left the outputs as they were
 
 pub if_does : {E : Type 0} (work : E → Work) (first asked : Work) (result : Result E Fault) → IfOk result (λ e. work e ≡ first) → first ≡ asked → IfOk result (λ e. work e ≡ asked)
 if_does work first asked (Ok e) does is = does ∙ is

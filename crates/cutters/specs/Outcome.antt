@@ -48,7 +48,7 @@ abbrev pub RunEndsAt : Bool → List (List ℕ) → List Input → List Slot →
 RunEndsAt told words inputs new status (Ok settings) = EndsAs told (task_of settings) inputs new status
 RunEndsAt told words inputs new status (Err fault) = Refuses told (speaker words) (message_of (speaker words) fault (word_of words fault)) new status
 
--- a run of these words on these inputs left the outputs so, and returned this status
+-- a run of these words on these inputs left these outputs, and returned this status
 abbrev pub RunEnds : Bool → List (List ℕ) → List Input → List Slot → ℕ → Type 0
 RunEnds told words inputs new status = RunEndsAt told words inputs new status (settings_of words)
 
