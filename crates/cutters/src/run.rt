@@ -19,7 +19,8 @@ use words_core::{Settings, find_tool, read_words};
 
 /// Runs the tool that the words name, the first being the tool's name. It reads the inputs that they name, writes
 /// what the tool makes of them, and says what went wrong on standard error. It returns the status: 0, or 1 where
-/// there was any fault.
+/// there was any fault. It takes memory for what the words ask for, for a buffer of 64 KiB, and for what the tool's
+/// engine, headers and messages need.
 pub fn run<I: Inputs, O: Outs>(alloc: Global, words: &[&str], inputs: &mut I, outs: &mut O) -> u8
     requires inputs { IsFresh (I.sources inputs.old) }
     requires outputs { O.slots outs.old ≡ streams }

@@ -20,8 +20,8 @@ pub fn say<O: Outs>(alloc: Global, tool: Tool, fault: &Fault, name: &str, outs: 
     print_message(tool, message(alloc, tool, fault, name), outs)
 }
 
-/// Says what went wrong as `say` does. Where the fault speaks of an output, the name is that output's; else there is
-/// none.
+/// Says what went wrong as `say` does, with the same memory. Where the fault speaks of an output, the name is that
+/// output's; else there is none.
 pub fn tell<O: Outs>(alloc: Global, tool: Tool, fault: &Fault, outs: &mut O)
     requires { is_open (slot_at (O.slots outs.old) 1).state ≡ true }
     ensures { SaysOn O.told tool (message_of tool fault.now (output_named (O.slots outs.old) fault.now)) (O.slots outs.old) (O.slots outs.new) }

@@ -9,9 +9,13 @@ use crate::count::CountFault;
 /// The greatest number and the greatest amount of a count, 2^63 - 1.
 pub const GREATEST: u64 = 0x7fff_ffff_ffff_ffff;
 
-/// Reads a number: one or more digits and nothing else, at most 2^63 - 1. Where the text is empty
-/// or has any other byte, the fault is `NoDigits`; there is no `Suffix`. It takes no memory, and
+/// Reads a number: one or more digits and nothing else, at most 2^63 - 1. It takes no memory, and
 /// time linear in the text.
+///
+/// # Errors
+///
+/// `NoDigits` where the text is empty or has any other byte, `TooLarge` where the number is above
+/// 2^63 - 1. It takes no suffix, so `Suffix` never comes.
 pub fn read_digits(text: &[u8]) -> Result<u64, CountFault>
     ensures { result ≡ digits_of text.now }
 {
