@@ -11,7 +11,7 @@ pub record File : Type 0 where
   pub name : List ℕ
   pub mode : Mode
   pub bytes : List ℕ
-  -- whether it is still open
+  -- open, closed or removed, or it could never be opened
   pub state : State
   pub is_broken : Bool
 

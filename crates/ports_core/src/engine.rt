@@ -9,7 +9,7 @@ use crate::{Fault, Outs};
 /// no further input can change. Most of it is the same for all tools: write what is the tool's own as a `Stage`, and
 /// `Guarded` makes an engine of it.
 pub trait Engine {
-    /// The engine can have been fed these bytes.
+    /// Whether the engine can have been fed these bytes.
     ghost Holds: { Self → List ℕ → Type 0 };
 
     /// What it makes of its input.
@@ -18,16 +18,16 @@ pub trait Engine {
     /// How many bytes came in.
     ghost fed: { Self → ℕ };
 
-    /// A fault came, or the end.
+    /// Whether a fault came, or the end.
     ghost is_over: { Self → Bool };
 
-    /// There may be no memory for a piece.
+    /// Whether there may be no memory for a piece.
     ghost may_lack: { Self → List ℕ → Bool };
 
-    /// The outputs that it goes on with can be written.
+    /// Whether the outputs that it goes on with can be written.
     ghost Ready: { Self → List Slot → Type 0 };
 
-    /// The slots from this place on are those that it opened.
+    /// Whether the slots from a place on are those that it opened.
     ghost Owns: { Self → ℕ → List Slot → Type 0 };
 
     /// Takes the next piece of the input, and writes what is settled with it.
