@@ -93,6 +93,6 @@ EndsShort Holds Owns work engine told old new fault = (before : List Slot) (x : 
 abbrev pub KeepsOwn : {E : Type 0} → (E → ℕ → List Slot → Type 0) → E → E → List Slot → List Slot → Type 0
 KeepsOwn Owns old new before after = (first : ℕ) → Owns old first before → Owns new first after
 
--- its files are cleared away if the work clears them, and stay else
+-- its files are cleared away if the work clears them, and else stay
 abbrev pub Clears : {E : Type 0} → (E → ℕ → List Slot → Type 0) → (E → Work) → E → List Slot → List Slot → Type 0
 Clears Owns work engine old new = (first : ℕ) → Owns engine first old → Swept (work engine).clears first old new

@@ -55,8 +55,8 @@ pub trait Engine {
         ensures failed { is_over self.old ≡ true → IsErrOf result Fault.Failed × (self.new ≡ self.old) × (O.slots outs.new ≡ O.slots outs.old) }
         ensures over { OnErr result (is_over self.new ≡ true) };
 
-    /// Ends the input, and writes what waited. Where the work writes to standard output, that can still be written to
-    /// afterwards.
+    /// Ends the input, and writes what waited. Where the work writes to standard output and nothing failed, that can
+    /// still be written to afterwards.
     ///
     /// # Errors
     ///

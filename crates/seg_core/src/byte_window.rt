@@ -114,7 +114,7 @@ impl ByteWindow {
         self.ring.truncate_front(left);
     }
 
-    /// Appends a piece to what it holds. Both together must fit.
+    /// Appends a piece to what it holds. Both together must have no more than `most` bytes.
     ///
     /// # Errors
     ///

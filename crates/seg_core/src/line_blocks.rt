@@ -175,7 +175,8 @@ fn end_of(block: &Block, lines: u64) -> u64
 {
     let behind = block.newlines() as u64 - lines;
     if behind < lines {
-        // The place is nearer to the block's end, so it is looked for from there.
+        // The place is nearer to the block's end, so it is looked for from there: the last of these
+        // lines ends with the newline that has `behind` others after it.
         return match reach_back(block.bytes(), behind + 1) {
             ReachBack::Begins(at) => at as u64,
             ReachBack::Short(_) => unreachable!(),

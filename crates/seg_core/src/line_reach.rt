@@ -3,19 +3,19 @@
 /// Where a number of lines ends in a text.
 #[derive(Clone, Copy, Debug, PartialEq, Eq)]
 pub enum Reach {
-    /// The text has this many complete lines or more. Together they are its first bytes, as many as
-    /// this.
+    /// The text has at least as many complete lines as were asked for. They are its first bytes,
+    /// this many.
     Ends(usize),
     /// The text has fewer newlines. It has this many.
     Short(usize),
 }
 
-/// Where the part of a text begins that follows a newline, which is given by its number from the
-/// end.
+/// Where the part of a text begins that follows a newline, which is asked for by its number from
+/// the end.
 #[derive(Clone, Copy, Debug, PartialEq, Eq)]
 pub enum ReachBack {
-    /// The text has this many newlines or more. The part begins at this place, just after the
-    /// newline.
+    /// The text has at least as many newlines. The part begins at this place, just after the one
+    /// that was asked for.
     Begins(usize),
     /// The text has fewer newlines. It has this many.
     Short(usize),

@@ -114,7 +114,7 @@ sees_further x ahead passed width mask sees none is wide marked = record {
   marked = marked ∙ ap newline_mask (narrowed 64 0 (drop passed x) ∙ ap (λ n. take n (drop passed x)) (sym (wide ∙ ap (min 64) (sym (length-drop passed x)))));
 }
 
--- where all of the text is known, it has no newline
+-- where all of the text is known and no bit is set, it has no newline
 pub none_seen : (x : List ℕ) (ahead : Ahead) → Sees x ahead → ahead.mask ≡ 0 → ahead.passed + ahead.width ≡ length x → newlines x ≡ 0
 none_seen x ahead sees none all = no_newlines x (subst HasNoNewline (take_all (ahead.passed + ahead.width) x (omega arith)) (all_passed x ahead sees none))
 

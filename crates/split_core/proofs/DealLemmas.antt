@@ -179,7 +179,7 @@ ends_open n start piece gathered now next reached reached_now left line so_far s
     ended n start piece now next reached_now
     (open_line n start piece gathered now next reached reached_now line (subst (λ those. Dealing n start piece gathered next reached those) (sym same) so_far) (ap newlines same ∙ none) (omega (arith, more)) is reached_is)
 
--- a line that is the first of what was left has its first bytes
+-- a line that is the first of what was left stands at its beginning
 pub first_taken : (left x line rest : List ℕ) → IsFirstLine x line rest → left ≡ x → take (length line) left ≡ line
 first_taken left x line rest cut same = ap (take (length line)) (same ∙ cut.whole) ∙ take_at line rest (length line) refl
 

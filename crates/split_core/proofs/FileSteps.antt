@@ -395,7 +395,7 @@ pub sent_owned : (told : Bool) (files between : FilesState) (old mid new : List 
 sent_owned told files between old mid new place slot bytes n before cut first owns =
     owned_same between mid new (ap length cut.slots ∙ length-changed_at slot breaks _ ∙ length-changed_at slot (adds (told_of told (take n bytes))) mid) first (before.owned first owns)
 
--- the file couldn't be reached, so nothing was written to it
+-- a file that couldn't be reached stops the write to it as well
 pub sent_unreached : (told : Bool) (files : FilesState) (old new : List Slot) (place : ℕ) (bytes : List ℕ) (why : Fault) → StopsAt told files (filled (place + 1)) place old new why → StopsAt told files (λ these. changed_at place (λ had. had ++ bytes) (filled (place + 1) these)) place old new why
 sent_unreached told files old new place bytes why stops before these at =
     Rattle.split_core.proofs.FilesLemmas.halted_wider told before new files.names files.names these these (filled (place + 1) these) _ place why refl (stops before these at) (all_begin_themselves these) (changed_begin place bytes (filled (place + 1) these)) refl

@@ -175,9 +175,9 @@ closed_all (bytes ∷ these) = ap (λ rest. share Closed bytes ∷ rest) (closed
 pub renamed : (told : Bool) (before now : List Slot) (names others : Naming) (these : List (List ℕ)) → from_start others ≡ from_start names → OutputsAt told before (open_part others these) now → OutputsAt told before (open_part names these) now
 renamed told before now names others these same at = subst (λ those. OutputsAt told before (only_files (filed those 0 (map (share Open) these))) now) same at
 
--- outputs that are broken stay broken
+-- Outputs
 
--- broken ones stay so
+-- outputs that are broken stay broken
 
 broken_same : (place : ℕ) (change : Slot → Slot) (slots : List Slot) (slot : ℕ) → ((one : Slot) → (change one).is_broken ≡ one.is_broken) → (slot_at (changed_at place change slots) slot).is_broken ≡ (slot_at slots slot).is_broken
 broken_same place change [] slot keeps = refl

@@ -124,7 +124,7 @@ last_from told names shares one before old slot is last at =
     let files : length (named names 0 (shares ++ one ∷ [])) ≡ length (named names 0 shares) + 1 = ap length (named_last names shares one is) ∙ length-append (named names 0 shares) (file_at names (length shares) one ∷ []) in
     let all : length (named names 0 shares) ≡ length shares = all_named names shares is in omega arith
 
--- a fault that comes where the outputs stand already
+-- a fault that comes while the outputs still have the lower shares
 pub halts_here : (told : Bool) (names : Naming) (low high : List Share) (old new : List Slot) (fault : Fault) (place : ℕ) → SharesBegin low high → InTurn (named names 0 low) place → Marks (IsNext (part_of names low) (part_of names high)) fault old new
     → ((before : List Slot) → OutputsAt told before (part_of names low) old → IsAt fault (length before) place (length (named names 0 low))) → Halts told names low high old new fault
 halts_here told names low high old new fault place begins turn marks from before at = record {

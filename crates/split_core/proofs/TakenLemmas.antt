@@ -290,7 +290,7 @@ waits_on told parts next piece old new n leads ready count is same =
 
 -- a fault
 
--- what came in is written in turn
+-- the files of what came in are reached in turn
 turn_by : (names : Naming) (shares : List Share) (begun : List ℕ) → AllShut shares → are_named names (length (shares ++ begun_share begun)) ≡ true → (place : ℕ) × InTurn (named names 0 (shares ++ begun_share begun)) place
 turn_by names shares [] shut enough = (_, subst (λ those. InTurn (named names 0 those) (length (named names 0 shares))) (sym (append-nil shares)) (turn_next _ (move.shut_files names 0 shares shut)))
 turn_by names shares (byte ∷ begun) shut enough =

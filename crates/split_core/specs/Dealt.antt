@@ -12,6 +12,6 @@ dealt_piece n place piece = map (λ file. dealt n file place (lines_of piece)) (
 abbrev pub reached_by : ℕ → ℕ → List ℕ → ℕ
 reached_by n place piece = min n (place + line_count piece)
 
--- what the files at those places get
+-- what these first files get
 abbrev pub dealt_first : ℕ → ℕ → List ℕ → List (List ℕ)
 dealt_first n place piece = map (λ file. dealt n file place (lines_of piece)) (range_with_len 0 (reached_by n place piece))

@@ -19,7 +19,7 @@ pub enum State {
     First(Choice, Kind),
     /// Options and operands.
     Reading,
-    /// The value of this option, which stands in the word at this place.
+    /// The value of this option. The option stands in the word at this place.
     Awaiting(Choice, Kind, usize),
     /// An operand, whatever it begins with.
     OnlyOperands,
