@@ -1,6 +1,7 @@
 pub mod Chains
 pub mod Counts
 pub mod Existence
+pub mod Intervals
 pub mod Leaves
 pub mod Lists
 pub mod Matching
@@ -14,5 +15,6 @@ pub mod Repeats
 pub mod Searching
 pub mod Sets
 pub mod SoFar
+pub mod Spelled
 pub mod Tokens
 pub mod Trees

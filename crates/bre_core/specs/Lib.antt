@@ -14,5 +14,6 @@ pub mod PlainState
 pub mod Refusal
 pub mod Search
 pub mod Spans
+pub mod Spelled
 pub mod Steps
 pub mod Token

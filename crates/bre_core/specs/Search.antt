@@ -8,7 +8,7 @@ abbrev pub any_below : ℕ → (ℕ → Bool) → Bool
 any_below zero test = false
 any_below (suc bound) test = any_below bound test || test bound
 
--- whether so many parts of a kind lead from one place to another, each beginning where the one before it ends
+-- whether a number of parts of a kind lead from one place to another, each beginning where the one before it ends
 abbrev pub has_parts : (ℕ → ℕ → Bool) → ℕ → ℕ → ℕ → Bool
 has_parts part zero from to = from == to
 has_parts part (suc count) from to = any_below (suc to) (λ middle. has_parts part count from middle && part middle to)

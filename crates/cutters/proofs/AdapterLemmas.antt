@@ -95,7 +95,7 @@ split_stops told plan opening old new fault may opens two stop (inr (slot, is, r
 pub split_short : (told : Bool) (plan asked : Plan) (opening : Needs) (old new : List Slot) (fault : Fault) → opening.memory ≡ true → opening.files ≡ true → plan ≡ asked → 2 ≤ length old → ((before : List Slot) → OutputsAt told before nothing old → StoppedBetween told before nothing (settled_by plan []) fault new) → CannotOpen old new fault → OpensShort (split_work asked) opening told old new fault
 split_short told plan asked opening old new fault may opens is two stop why = subst (λ those. OpensShort (split_work those) opening told old new fault) is (split_stops told plan opening old new fault may opens two stop why)
 
--- an engine that was opened from outputs that are left as they were
+-- an engine that was opened, and left the outputs as they were
 
 pub if_does : {E : Type 0} (work : E → Work) (first asked : Work) (result : Result E Fault) → IfOk result (λ e. work e ≡ first) → first ≡ asked → IfOk result (λ e. work e ≡ asked)
 if_does work first asked (Ok e) does is = does ∙ is

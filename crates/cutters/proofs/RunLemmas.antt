@@ -34,7 +34,7 @@ pub for_settings : (told_in told : Bool) (world : World) (settings same : Settin
 for_settings told_in told world settings same sources new status is runs =
     subst (λ those. RunsOver told_in world (names_of those) (λ found. EndsAs told_in told (task_of those) found sources new status)) (sym is) runs
 
--- the same by another list of the same names
+-- the same for an equal list of names
 pub runs_names : (told_in : Bool) (world : World) (names same : List (List ℕ)) (P : List Input → Type 0) → names ≡ same → RunsOver told_in world names P → RunsOver told_in world same P
 runs_names told_in world names same P is runs = subst (λ those. RunsOver told_in world those P) is runs
 

@@ -1,5 +1,5 @@
-//! `head` and `tail`: the same part of each input, one after another (POSIX.1-2017, XCU head and tail; several files for
-//! `tail`, and when headers go before them, are GNU's).
+//! `head` and `tail`: the same part of each input, one after another (POSIX.1-2017, XCU head and tail; several files
+//! for `tail`, and when headers go before them, are GNU's).
 ghost use Rattle.std.specs.Prelude.{◌≡◌, map};
 ghost use Rattle.cutters.specs.Tasks.{has_headers, head_task, is_minus, is_plus, tail_task};
 
@@ -13,12 +13,14 @@ use words_core::{EndsSettings, Headers};
 /// What a run knows of `head`.
 #[derive(Clone, Copy)]
 pub struct HeadAdapter<'a, 'b> {
+    /// What the words ask of it.
     pub settings: &'a EndsSettings<'b>,
 }
 
 /// What a run knows of `tail`.
 #[derive(Clone, Copy)]
 pub struct TailAdapter<'a, 'b> {
+    /// What the words ask of it.
     pub settings: &'a EndsSettings<'b>,
 }
 

@@ -29,8 +29,8 @@ const STANDARD_ERROR: usize = 1;
 /// Runs the tool that the program's words name, over standard input, standard output and standard error.
 fn main(rt: HostRuntime) -> ExitCode {
     let alloc = rt.alloc();
-    // A standard stream that was closed would be the first file that is opened. A folder that stands in its place can be
-    // neither read nor written, so the stream fails as it should.
+    // A standard stream that was closed would be the first file that is opened. A folder that stands in its place can
+    // be neither read nor written, so the stream fails as it should.
     let _places = [fs::open(&rt, "/"), fs::open(&rt, "/"), fs::open(&rt, "/")];
     let mut outs = DirOut::new(rt, alloc, rt.stdout(), rt.stderr());
     let status = match read_args(&rt, alloc) {

@@ -17,8 +17,10 @@ use run_core::run_inputs;
 use std::alloc::Global;
 use words_core::{Settings, find_tool, read_words};
 
-/// Runs the tool that the words name, the first being the tool's name: reads the inputs that they name, puts out what the
-/// tool makes of them, says what went wrong on standard error, and returns the status: 0, or 1 where any fault was met.
+/// Runs the tool that the words name, the first being the tool's name. It reads the inputs that they name, writes
+/// what the tool makes of them, and says what went wrong on standard error. It returns the status: 0, or 1 where
+/// there was any fault. It takes memory for what the words ask for, for a buffer of 64 KiB, and for what the tool's
+/// engine, headers and messages need.
 pub fn run<I: Inputs, O: Outs>(alloc: Global, words: &[&str], inputs: &mut I, outs: &mut O) -> u8
     requires inputs { IsFresh (I.sources inputs.old) }
     requires outputs { O.slots outs.old ≡ streams }
@@ -78,7 +80,7 @@ fn run_tool<I: Inputs, O: Outs>(
     }
 }
 
-/// Who refuses words: their tool, or the program where they name none.
+/// Who refuses words: the tool that they name, or the program where they name none.
 fn speaker(words: &[&str]) -> Tool
     ensures { result ≡ speaker (map (λ word. word.now) words.now) }
 {

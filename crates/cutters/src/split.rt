@@ -12,6 +12,7 @@ use words_core::SplitSettings;
 /// What a run knows of `split`.
 #[derive(Clone, Copy)]
 pub struct SplitAdapter<'a, 'b> {
+    /// What the words ask of it.
     pub settings: &'a SplitSettings<'b>,
     ghost can: { CanSplit settings.now } by { CanSplit-prop settings.now },
 }

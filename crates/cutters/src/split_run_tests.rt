@@ -1,5 +1,5 @@
-//! Whole runs of `split` over memory, which no clause can show to succeed: files with their names, messages and status.
-//! What is wanted of runs without a fault is what GNU's split makes of the same words and bytes.
+//! Whole runs of `split` over memory, which no clause can show to succeed: files with their names, messages and
+//! status. What is wanted of runs without a fault is what GNU's split makes of the same words and bytes.
 ghost use Rattle.std.specs.Prelude.{◌≡◌, IfOk};
 ghost use Rattle.ports_core.specs.Slot.{streams};
 ghost use Rattle.ports_core.specs.Source.{IsFresh};
@@ -61,7 +61,7 @@ fn check(
     check_over(rt, alloc, words, inputs, MemOut::new(alloc)?, left)
 }
 
-/// Standard input of these bytes and the file `f`; the input of this number breaks off.
+/// Standard input with these bytes, and the file `f`. Input number `slot` breaks off after `at` bytes.
 fn broken_at(alloc: Global, bytes: &[u8], slot: usize, at: usize) -> Result<MemIn, Fault>
     ensures { IfOk result (λ inputs. IsFresh inputs.sources) }
 {

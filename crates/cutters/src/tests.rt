@@ -13,13 +13,20 @@ use std::test::Fail;
 /// A name and what lies there.
 pub type File<'a> = (&'a str, &'a [u8]);
 
+/// A run: what it is given, and what it is to leave.
 #[derive(Clone, Copy)]
 pub struct Row<'a> {
+    /// The words, from the tool's name on.
     pub words: &'a [&'a str],
+    /// The files that lie there before.
     pub files: &'a [File<'a>],
+    /// The bytes of standard input.
     pub input: &'a [u8],
+    /// What is to be on standard output.
     pub output: &'a [u8],
+    /// What is to be on standard error.
     pub messages: &'a [u8],
+    /// The status that it is to return.
     pub status: u8,
 }
 
@@ -75,7 +82,7 @@ pub fn check_over(
     Ok(())
 }
 
-/// Checks words that put something out, and find no fault.
+/// Checks words with which a run writes something and meets no fault.
 pub fn puts_out(
     rt: &impl Abort,
     alloc: Global,

@@ -25,7 +25,7 @@ use Rattle.ends_core.proofs.StopLemmas as stop
 pub same_work : (old new : HeadState) → new.unit ≡ old.unit → new.but_last ≡ old.but_last → new.count ≡ old.count → work new ≡ work old
 same_work old new unit but_last count = ap (λ u. head_work u new.but_last new.count) unit ∙ ap (λ b. head_work old.unit b new.count) but_last ∙ ap (head_work old.unit old.but_last) count
 
--- what goes out with a piece is what the head has more
+-- what is written with a piece is what the head gains by it
 went_out : (way : Way) (x piece : List ℕ) → Holds (state_of way) x
     → record ((work (state_of way)).settled x) { out = ((work (state_of way)).settled x).out ++ due way piece } ≡ (work (state_of way)).settled (x ++ piece)
 went_out (First count front) x piece holds =
@@ -49,7 +49,7 @@ cuts_off told lacks way head piece old new fault is stops =
 minus_both : (n a b : ℕ) → (n - a) - b ≡ n - (a + b)
 minus_both n a b = omega arith
 
--- what waits behind the piece
+-- what waits after the piece
 waits_next : (way : Way) (x piece : List ℕ) → Holds (state_of way) x → left_waiting way piece ≡ head_waiting (unit_of way) (is_but_last way) (count_of way) (x ++ piece)
 waits_next (First count front) x piece holds = refl
 waits_next (ButLast kept) x piece holds =
@@ -109,7 +109,7 @@ met told way head piece bytes old new fault is can stops =
     subst (λ (those : HeadState). IsMet (work those).means (work those).means.feeding (those.may_lack ≡ true) (EndsWith Holds work those piece) old new fault) is
     (stop.met (work (state_of way)).means (work (state_of way)).means.feeding (may_lack way ≡ true) (EndsWith Holds work (state_of way) piece) told (may_lack way) bytes old new fault refl (λ lacking. (keeps way lacking, lacking)) can stops)
 
--- what a call owes by its result, from what the call within it gave
+-- what a call owes for its result, from what the call within it gave
 
 pub on_ok : {P Q : Type 0} (result : Result (Unit {0}) Fault) → (P → Q) → OnOk result P → OnOk result Q
 on_ok (Ok u) also is = also is

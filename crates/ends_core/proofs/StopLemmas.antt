@@ -40,7 +40,7 @@ broke_later told old mid new first then behind n one cut = record {
   taken : (first : List ℕ) (n : ℕ) (then behind : List ℕ) → n ≤ length then → take (length first + n) (first ++ (then ++ behind)) ≡ first ++ take n then
   taken first n then behind within = take-append-add first (then ++ behind) n ∙ ap (λ z. first ++ z) (take-append-le n then behind within)
 
--- what stops among few bytes stops among all
+-- what stops a write of some bytes stops a write of more
 pub stops_later : (told lacks : Bool) (old mid new : List Slot) (first then behind : List ℕ) (fault : Fault) → mid ≡ with_written 0 (told_of told first) old → Stops told false then mid new fault → Stops told lacks (first ++ (then ++ behind)) old new fault
 stops_later told lacks old mid new first then behind _ one (broke n cut) = broke (length first + n) (broke_later told old mid new first then behind n one cut)
 stops_later told lacks old mid new first then behind _ one (no_room never wrote) = absurd (false≢true never)
@@ -102,7 +102,7 @@ met means needs Lacks Ends told lacks bytes old new _ writes room can (broke n b
 )
 met means needs Lacks Ends told lacks bytes old new _ writes room can (no_room lacking wrote) = room lacking
 
--- the bytes in which it broke, by another name
+-- the bytes among which it broke, in another form
 pub broke_in : (told lacks : Bool) (some bytes : List ℕ) (old new : List Slot) (n : ℕ) → some ≡ bytes → BrokeAfter told old new 0 some n → Stops told lacks bytes old new (fault.Write 0)
 broke_in told lacks some bytes old new n same cut = broke n (subst (λ those. BrokeAfter told old new 0 those n) same cut)
 

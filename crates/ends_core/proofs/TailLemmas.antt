@@ -25,14 +25,14 @@ use Rattle.ends_core.proofs.StopLemmas as stop
 pub same_work : (old new : TailState) → new.unit ≡ old.unit → new.from_nth ≡ old.from_nth → new.count ≡ old.count → work new ≡ work old
 same_work old new unit from_nth count = ap (λ u. tail_work u new.from_nth new.count) unit ∙ ap (λ b. tail_work old.unit b new.count) from_nth ∙ ap (tail_work old.unit old.from_nth) count
 
--- what goes out with a piece is what the tail has more
+-- what is written with a piece is what the tail gains by it
 went_out : (way : Way) (x piece : List ℕ) → Holds (state_of way) x
     → record ((work (state_of way)).settled x) { out = ((work (state_of way)).settled x).out ++ due way piece } ≡ (work (state_of way)).settled (x ++ piece)
 went_out (FromNth count front) x piece holds =
     ap (λ left. only_out (behind_of front.unit (count - 1) x ++ behind_of front.unit left piece)) (holds.left refl) ∙ ap only_out (sym (behind_of-append front.unit (count - 1) x piece))
 went_out (Last kept) x piece holds = refl
 
--- what waited is what it still lacks at the end
+-- what waited is what is still to be written at the end
 rest_out : (way : Way) (x : List ℕ) → Holds (state_of way) x
     → record ((work (state_of way)).settled x) { out = ((work (state_of way)).settled x).out ++ waiting_of way } ≡ (work (state_of way)).whole x
 rest_out (FromNth count front) x holds = ap only_out (append-nil (behind_of front.unit (count - 1) x))
@@ -65,7 +65,7 @@ ends_short told lacks way tail old new fault is stops =
 minus_both : (n a b : ℕ) → (n - a) - b ≡ n - (a + b)
 minus_both n a b = omega arith
 
--- what waits behind the piece
+-- what waits after the piece
 waits_next : (way : Way) (x piece : List ℕ) → Holds (state_of way) x → left_waiting way piece ≡ tail_waiting (unit_of way) (is_from_nth way) (count_of way) (x ++ piece)
 waits_next (FromNth count front) x piece holds = refl
 waits_next (Last kept) x piece holds =
@@ -124,7 +124,7 @@ pub no_room : (told : Bool) (way : Way) (kept : Kept) (piece : List ℕ) (slots 
 no_room told way kept piece slots result is err =
     subst (λ those. IfErr result (Stops told (may_lack those) (due those piece) slots slots)) (sym is) (stop.no_room_here told (may_lack_of kept) slots result err)
 
--- what a call owes by its result, from what the call within it gave
+-- what a call owes for its result, from what the call within it gave
 
 pub on_ok : {P Q : Type 0} (result : Result (Unit {0}) Fault) → (P → Q) → OnOk result P → OnOk result Q
 on_ok (Ok u) also is = also is

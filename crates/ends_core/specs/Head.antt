@@ -1,4 +1,4 @@
--- The first part of an input, as an engine puts it out: POSIX.1-2017, XCU head; the option -c is GNU's.
+-- The first part of an input, as an engine writes it: POSIX.1-2017, XCU head; the option -c is GNU's.
 use Rattle.std.specs.Prelude.{◌≡◌, ℕ, ◌-◌, ◌++◌, ◌&&◌, not, nat_le, Bool, false, List, [], length, if◌then◌else◌}
 use Rattle.seg_core.specs.Line.{AreBytes}
 use Rattle.ports_core.specs.Part.{only_out}
@@ -7,8 +7,8 @@ use Rattle.ports_core.specs.Work.{Work, on_output, always_well}
 use Rattle.ends_core.specs.Ends.{measure, last_of, head_of}
 use Rattle.ends_core.specs.HeadState.{HeadState}
 
--- What a head makes of its input: what belongs to the head of all that may still come is written at once, and nothing at the end.
--- The first n are complete once they came in. It takes memory where all but the last are asked for, which then wait.
+-- What a head makes of its input: what belongs to the head whatever may still come is written at once, and nothing at the
+-- end. Of the first n it is complete once n came in. It takes memory where all but the last are asked for, since those wait.
 abbrev pub head_work : Counted → Bool → ℕ → Work
 head_work unit but_last n = record {
   settled = λ x. only_out (head_of unit but_last n x);
@@ -19,7 +19,7 @@ head_work unit but_last n = record {
   means = on_output but_last;
 }
 
--- the work of the head that goes so
+-- the work of a head in this state
 abbrev pub work : HeadState → Work
 work head = head_work head.unit head.but_last head.count
 

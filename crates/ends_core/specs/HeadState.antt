@@ -4,9 +4,9 @@ use Rattle.ends_core.specs.declared.unit.Unit.{Unit as Counted}
 
 pub record HeadState : Type 0 where
   pub unit : Counted
-  -- all but the last are put out, and not the first
+  -- all but the last are written, and not the first
   pub but_last : Bool
-  -- how many lines or bytes those are
+  -- how many lines or bytes were asked for
   pub count : ℕ
   -- how many of the first are still to come
   pub left : ℕ

@@ -39,7 +39,7 @@ abbrev pub due : Way → List ℕ → List ℕ
 due (First count front) piece = first_of front.unit front.left piece
 due (ButLast kept) piece = but_last_of (kept_unit kept) (most_of kept) (held_of kept ++ piece)
 
--- what waits then
+-- what waits after the piece
 abbrev pub left_waiting : Way → List ℕ → List ℕ
 left_waiting (First count front) piece = []
 left_waiting (ButLast kept) piece = last_of (kept_unit kept) (most_of kept) (held_of kept ++ piece)
@@ -54,7 +54,7 @@ pub record SameWay (old new : Way) : Type 0 where
   pub but_last : is_but_last new ≡ is_but_last old
   pub count : count_of new ≡ count_of old
 
--- what contracts see of a head that goes this way
+-- what contracts see of a head of this way
 abbrev pub state_of : Way → HeadState
 state_of way = record {
   unit = unit_of way;

@@ -1,4 +1,4 @@
--- The last part of an input, as an engine puts it out: POSIX.1-2017, XCU tail.
+-- The last part of an input, as an engine writes it: POSIX.1-2017, XCU tail.
 use Rattle.std.specs.Prelude.{◌≡◌, ℕ, ◌-◌, Bool, not, true, false, List, [], length, if◌then◌else◌}
 use Rattle.ports_core.specs.Part.{nothing, only_out}
 use Rattle.ports_core.specs.Work.{Work, on_output, always_well}
@@ -6,8 +6,8 @@ use Rattle.ends_core.specs.declared.unit.Unit.{Unit as Counted}
 use Rattle.ends_core.specs.Ends.{measure, last_of, tail_of}
 use Rattle.ends_core.specs.TailState.{TailState}
 
--- What a tail makes of its input: all that it has from the nth on is written at once, and the last at the end. There is always more
--- that can come. It takes memory where the last are asked for, which wait.
+-- What a tail makes of its input: from the nth on, all that it has is written at once; the last are written at the end.
+-- There is always more that can come. It takes memory where the last are asked for, since those wait.
 abbrev pub tail_work : Counted → Bool → ℕ → Work
 tail_work unit from_nth n = record {
   settled = λ x. if from_nth then only_out (tail_of unit true n x) else nothing;
@@ -18,7 +18,7 @@ tail_work unit from_nth n = record {
   means = on_output (not from_nth);
 }
 
--- the work of the tail that goes so
+-- the work of a tail in this state
 abbrev pub work : TailState → Work
 work tail = tail_work tail.unit tail.from_nth tail.count
 

@@ -4,9 +4,9 @@ use Rattle.ends_core.specs.declared.unit.Unit.{Unit as Counted}
 
 pub record TailState : Type 0 where
   pub unit : Counted
-  -- all from the nth on are put out, and not the last
+  -- all from the nth on are written, and not the last
   pub from_nth : Bool
-  -- which n that is, or how many the last are
+  -- which n that is, or how many of the last were asked for
   pub count : ℕ
   -- how many are still to be passed over, before the nth
   pub left : ℕ

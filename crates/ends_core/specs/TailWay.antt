@@ -39,7 +39,7 @@ abbrev pub due : Way → List ℕ → List ℕ
 due (FromNth count front) piece = behind_of front.unit front.left piece
 due (Last kept) piece = []
 
--- what waits then
+-- what waits after the piece
 abbrev pub left_waiting : Way → List ℕ → List ℕ
 left_waiting (FromNth count front) piece = []
 left_waiting (Last kept) piece = last_of (kept_unit kept) (most_of kept) (held_of kept ++ piece)
@@ -49,7 +49,7 @@ pub record SameWay (old new : Way) : Type 0 where
   pub from_nth : is_from_nth new ≡ is_from_nth old
   pub count : count_of new ≡ count_of old
 
--- what contracts see of a tail that goes this way
+-- what contracts see of a tail of this way
 abbrev pub state_of : Way → TailState
 state_of way = record {
   unit = unit_of way;

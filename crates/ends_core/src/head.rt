@@ -17,24 +17,24 @@ use ports_core::{Engine, Fault, Guarded, Outs, Stage};
 use std::alloc::Global;
 use std::marker::Model;
 
-/// Puts out the first lines or bytes of an input, or all but the last, each as soon as nothing that follows can change it
-/// (POSIX.1-2017, XCU head; bytes and all but the last are GNU's). The first take no memory; all but the last take as much
-/// as the last lines or bytes of what came in.
+/// Writes the first lines or bytes of an input, or all but the last, each as soon as nothing that follows can change
+/// it (POSIX.1-2017, XCU head; bytes and all but the last are GNU's). For the first it takes no memory. For all but
+/// the last it takes as much as the last lines or bytes of what came in.
 #[derive(Drop)]
 pub struct Head {
     engine: Guarded<HeadStage>,
 }
 
-/// A head while it is live.
+/// The stage of a head: what it does as long as no fault and no end came.
 #[derive(Drop)]
 struct HeadStage {
     way: Way,
 }
 
-/// What of the input goes out.
+/// Which part of the input is written.
 #[derive(Drop)]
 enum Way {
-    /// The first of them, this many, and what of these is still to come.
+    /// The first lines or bytes: how many were asked for, and those that are still to come.
     First(u64, Front),
     /// All but the last, which are kept.
     ButLast(Kept),
@@ -53,8 +53,8 @@ impl Model for HeadStage {
 }
 
 impl Head {
-    /// A head of the first lines or bytes, this many, or of all but as many at the end. A count of 0 is none, or all but
-    /// none.
+    /// A head of the first `count` lines or bytes, or, with `but_last`, of all but the last `count`. With a count of
+    /// 0 it writes nothing, or everything.
     ///
     /// # Errors
     ///
@@ -156,7 +156,7 @@ impl Stage for HeadStage {
         Ok(())
     }
 
-    /// There are no files.
+    /// It has no files to remove.
     fn clear<O: Outs>(&mut self, outs: &mut O) {
         let _ = outs;
     }
@@ -172,7 +172,7 @@ impl Stage for HeadStage {
 }
 
 impl Way {
-    /// Takes in a piece, and writes to standard output what of it and of what waited is decided now.
+    /// Takes in a piece, and writes to standard output what is decided now, of what waited and of the piece.
     ///
     /// # Errors
     ///

@@ -7,9 +7,9 @@ ghost use Rattle.ends_core.specs.Tail.{tail_waiting};
 
 use crate::Unit;
 
-/// What a head has of a text and of what follows it: of the first lines or bytes their part of the text, and of the rest as
-/// much as is still to come; of all but the last those of the text, and then those of what waited and the rest. So what
-/// is written never changes.
+/// What a head has of a text x and of y that follows it. Of the first lines or bytes it has those of x, and then
+/// those of y that are still to come. Of all but the last it has all but the last of x, and then all but the last of
+/// what waited with y after it. So what is written never changes.
 pub fn head_goes_on(unit: Unit)
     ensures first { (n : ℕ) (x y : List ℕ) → first_of unit n (x ++ y) ≡ first_of unit n x ++ first_of unit (n - measure unit x) y }
     ensures but_last { (n : ℕ) (x y : List ℕ) → but_last_of unit n (x ++ y) ≡ but_last_of unit n x ++ but_last_of unit n (last_of unit n x ++ y) }
@@ -17,8 +17,8 @@ pub fn head_goes_on(unit: Unit)
     let _ = unit;
 }
 
-/// The first of a text and what stands after them are the text, and so are all but the last and the last. Where all but
-/// the last are asked for, what is written and what waits are together what came in.
+/// The first lines or bytes of a text and what stands after them are together the text, and so are all but the last
+/// and the last. Where all but the last are asked for, what is written and what waits are together what came in.
 pub fn nothing_is_lost(unit: Unit)
     ensures first { (n : ℕ) (x : List ℕ) → first_of unit n x ++ behind_of unit n x ≡ x }
     ensures last { (n : ℕ) (x : List ℕ) → but_last_of unit n x ++ last_of unit n x ≡ x }
@@ -27,9 +27,9 @@ pub fn nothing_is_lost(unit: Unit)
     let _ = unit;
 }
 
-/// What a tail has of a text and of what follows it. From the nth on it is what it has of the text, and of the rest what
-/// stands after those that are still to be passed over. The last are the last of what waited and the rest: so what waits,
-/// the last of what came in, is all that has to be kept, and it is no more than was asked for.
+/// What a tail has of a text x and of y that follows it. From the nth on it has what it has of x, and then what
+/// stands in y after those that are still to be passed over. The last are the last of what waited with y after it. So
+/// what waits, the last of what came in, is all that has to be kept, and it is no more than was asked for.
 pub fn tail_goes_on(unit: Unit)
     ensures from_nth { (n : ℕ) (x y : List ℕ) → tail_of unit true n (x ++ y) ≡ tail_of unit true n x ++ behind_of unit (n - 1 - measure unit x) y }
     ensures last { (n : ℕ) (x y : List ℕ) → last_of unit n (x ++ y) ≡ last_of unit n (last_of unit n x ++ y) }
@@ -39,7 +39,7 @@ pub fn tail_goes_on(unit: Unit)
     let _ = unit;
 }
 
-/// How many lines a text has, by its newlines and its end.
+/// How many lines a text has: as many as newlines, and one more if its last line is open.
 pub fn lines_are_counted()
     ensures ended { (x : List ℕ) → ends_with_newline x ≡ true → line_count x ≡ newlines x }
     ensures open { (x : List ℕ) → 0 < length x → ends_with_newline x ≡ false → line_count x ≡ newlines x + 1 }

@@ -17,24 +17,24 @@ use ports_core::{Engine, Fault, Guarded, Outs, Stage};
 use std::alloc::Global;
 use std::marker::Model;
 
-/// Puts out the last lines or bytes of an input at its end, or all from the nth on, each piece's as it comes
-/// (POSIX.1-2017, XCU tail). From the nth on it takes no memory; the last take as much as the last lines or bytes of what
-/// came in.
+/// Writes the last lines or bytes of an input at its end, or all from the nth on, those of each piece as it comes
+/// (POSIX.1-2017, XCU tail). From the nth on it takes no memory. For the last it takes as much as the last lines or
+/// bytes of what came in.
 #[derive(Drop)]
 pub struct Tail {
     engine: Guarded<TailStage>,
 }
 
-/// A tail while it is live.
+/// The stage of a tail: what it does as long as no fault and no end came.
 #[derive(Drop)]
 struct TailStage {
     way: Way,
 }
 
-/// What of the input goes out.
+/// Which part of the input is written.
 #[derive(Drop)]
 enum Way {
-    /// All from the nth on: which n that is, and what is still to be passed over.
+    /// All from the nth on: which n that is, and those that are still to be passed over.
     FromNth(u64, Front),
     /// The last, which are kept.
     Last(Kept),
@@ -53,7 +53,8 @@ impl Model for TailStage {
 }
 
 impl Tail {
-    /// A tail of the last lines or bytes, this many, or of all from that one on. The first is number 1, and 0 is read as 1.
+    /// A tail of the last `count` lines or bytes, or, with `from_nth`, of all from number `count` on. The first is
+    /// number 1, and 0 is read as 1.
     ///
     /// # Errors
     ///
@@ -157,7 +158,7 @@ impl Stage for TailStage {
         self.way.end(outs)
     }
 
-    /// There are no files.
+    /// It has no files to remove.
     fn clear<O: Outs>(&mut self, outs: &mut O) {
         let _ = outs;
     }
@@ -170,8 +171,8 @@ impl Stage for TailStage {
 }
 
 impl Way {
-    /// Takes in a piece: from the nth on what of it belongs there goes out, else it waits, and what no longer does is
-    /// dropped.
+    /// Takes in a piece. From the nth on, the bytes of the piece that belong there are written. For the last, the
+    /// piece waits, and what no longer has to wait is dropped.
     ///
     /// # Errors
     ///

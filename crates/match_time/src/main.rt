@@ -1,5 +1,6 @@
 //! Times matching: finds the lines of standard input, without and with matching each against the pattern of the first
-//! word, in rounds that take turns, and prints the best of each in nanoseconds, with how many lines match and the steps.
+//! word, in rounds that take turns, and prints the best of each in nanoseconds, with how many lines match and the
+//! steps.
 #![tactic(auto)]
 
 ghost use Rattle.std.specs.Prelude.{◌≡◌};

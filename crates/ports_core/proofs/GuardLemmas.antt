@@ -69,7 +69,7 @@ module _ {S : Type 0} (Holds : S → List ℕ → Type 0) (Owns : S → ℕ → 
       subst (λ (those : GuardState S). IsCaused (IsMet (guard_work those).means (guard_work those).means.feeding (lack those.stage piece ≡ true) (EndsWith (HoldsIn Holds) guard_work those piece) old new) those.is_over those.fed (length piece) old new f) is
       (met f going (met_by (work state.stage).means (work state.stage).means.feeding (lack state.stage piece ≡ true) (EndsWith Holds work state.stage piece) (EndsWith (HoldsIn Holds) guard_work state piece) old new f (λ g ends x holds. ends x holds.within) why))
 
-  -- and at the end
+  -- and the same at the end
   pub caused_end : (state guard : GuardState S) (old new : List Slot) (result : Result (Unit {0}) Fault) → state ≡ guard → state.is_over ≡ false
       → IfErr result (IsMet (work state.stage).means (work state.stage).means.closing (Unit {0}) (EndsThere Holds work state.stage) old new)
       → IfErr result (IsCaused (IsMet (guard_work guard).means (guard_work guard).means.closing (Unit {0}) (EndsThere (HoldsIn Holds) guard_work guard) old new) guard.is_over guard.fed 0 old new)

@@ -33,7 +33,7 @@ says_memory_on told tool text said old new is prints output error since shape =
     let printed = prints output error since shape in
     (printed.0, record { said = said; is = inr is; printed = printed.1 }, printed.2)
 
--- one text more behind others
+-- one text more after others
 pub says_more : (told : Bool) (tool : Tool) (texts : List (List ℕ)) (text : List ℕ) (old mid new : Slot) → SaysAll told tool texts old mid → Says told tool text mid new → SaysAll told tool (texts ++ text ∷ []) old new
 says_more told tool [] text old mid new so_far says = (new, subst (λ slot. Says told tool text slot new) so_far says, refl)
 says_more told tool (first ∷ texts) text old mid new so_far says = (so_far.0, so_far.1, says_more told tool texts text so_far.0 mid new so_far.2 says)

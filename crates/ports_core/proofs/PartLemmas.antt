@@ -55,12 +55,12 @@ part_begins_itself part = record { out = begins_itself part.out; files = files_b
 pub part_trans : (low middle high : Part) → Begins low middle → Begins middle high → Begins low high
 part_trans low middle high first second = record { out = begins_trans _ _ _ first.out second.out; files = files_trans _ _ _ first.files second.files }
 
--- outputs that only standard output has
+-- parts that have bytes on standard output alone
 
 pub out_begins : (low high : List ℕ) → IsBeginning low high → Begins (only_out low) (only_out high)
 out_begins low high begins = record { out = begins; files = tt }
 
--- standard output got more, behind what it had
+-- standard output got more, after what it had
 pub out_more : (told : Bool) (before : List Slot) (part : Part) (old new : List Slot) (more : List ℕ) → OutputsAt told before part old → new ≡ with_written 0 (told_of told more) old → OutputsAt told before (record part { out = part.out ++ more }) new
 out_more told before part old new more at wrote = record {
   standard = at.standard;
@@ -71,7 +71,7 @@ out_more told before part old new more at wrote = record {
   files = at.files;
 }
 
--- nothing was put out yet
+-- nothing was written yet
 pub nothing_out : (told : Bool) (before : List Slot) → 0 < length before → OutputsAt told before nothing before
 nothing_out told before standard = record {
   standard = standard;
@@ -84,7 +84,7 @@ nothing_out told before standard = record {
 pub still_in_order : (files : List File) → InOrder files files files 0
 still_in_order files = record { done = refl; untouched = refl }
 
--- a write of which the beginning went out before the output broke
+-- a write of which the beginning was written before the output broke
 pub out_cut : (told : Bool) (before : List Slot) (part : Part) (old new : List Slot) (more : List ℕ) (n : ℕ) → OutputsAt told before part old → BrokeAfter told old new 0 more n → StoppedBetween told before part (record part { out = part.out ++ more }) (Write 0) new
 out_cut told before part old new more n at broke = record {
   part = record part { out = part.out ++ take n more };
@@ -104,7 +104,7 @@ out_cut told before part old new more n at broke = record {
       let all : length old ≡ length (with_written 0 (told_of told part.out) before) + length at.since = ap length at.slots ∙ length-append (with_written 0 (told_of told part.out) before) at.since in
       let front : length (with_written 0 (told_of told part.out) before) ≡ length before = length-changed_at 0 _ before in omega arith
 
--- a fault that came before anything went out, and from no output
+-- a fault that came before anything was written, and from no output
 pub stopped_here : (told : Bool) (before : List Slot) (low high : Part) (fault : Fault) (old new : List Slot) → OutputsAt told before low old → Begins low high → Marks (IsNext low high) fault old new → IsAt fault (length before) 0 (length low.files) → StoppedBetween told before low high fault new
 stopped_here told before low high fault old new at begins marks from = record {
   part = low;
@@ -163,7 +163,7 @@ next_wider part high more begins name next =
     let found = next_in part name next.front next.file next.rest more.files (subst (λ files. FilesBegin files more.files) next.files begins.files) (length part.files) next.place next.name_is in
     record { front = found.0; file = found.1; rest = found.2; files = found.3; place = found.4; name_is = found.5 }
 
--- what stopped between two parts in turn, stopped between those that one begins and that the other is begun by
+-- what stopped in turn between two parts stopped between one that begins the lower and one that the higher begins
 pub turn_between : (told : Bool) (before : List Slot) (less low high more : Part) (fault : Fault) (now : List Slot) → Begins less low → StoppedInTurn told before low high fault now → Begins high more → StoppedInTurn told before less more fault now
 turn_between told before less low high more fault now lower stop wider = record {
   part = stop.part;

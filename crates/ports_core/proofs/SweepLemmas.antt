@@ -7,7 +7,7 @@ use Rattle.ports_core.specs.declared.fault.Fault.{Fault}
 use Rattle.ports_core.specs.declared.fault.Fault.TheVariants as fault
 use Rattle.ports_core.proofs.SlotLemmas.{length-changed_at, changed_at-again}
 
--- those from the first to this one were cleared away
+-- the files from the first to this place were cleared away
 pub record Sweeping (first place : ℕ) (old now : List Slot) : Type 0 where
   pub size : length now ≡ length old
   pub before : (other : ℕ) → other < first → slot_at now other ≡ slot_at old other

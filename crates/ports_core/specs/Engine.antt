@@ -1,5 +1,5 @@
--- What each call of an engine owes. `Holds engine x` says that the engine can have been fed x, `work engine` what it makes of
--- that, and `Owns engine first slots` that the slots from `first` on are those that it opened.
+-- What each call of an engine owes. `Holds engine x` says that the engine can have been fed x, `work engine` is what it
+-- makes of its input, and `Owns engine first slots` says that the slots from `first` on are those that it opened.
 use Rattle.std.specs.Prelude.{◌≡◌, ℕ, ◌+◌, ◌≤◌, ◌^◌, Bool, true, false, List, ◌++◌, None, length}
 use Rattle.ports_core.specs.Slot.{Slot, Rose}
 use Rattle.ports_core.specs.Part.{Part, OutputsAt, StoppedBetween}
@@ -13,7 +13,7 @@ use Rattle.ports_core.specs.declared.fault.Fault.TheVariants as fault_is
 abbrev pub TakesIn : {E : Type 0} → (E → List ℕ → Type 0) → List ℕ → E → E → Type 0
 TakesIn Holds piece old new = (x : List ℕ) → Holds old x → Holds new (x ++ piece)
 
--- an engine that opens no file
+-- what an engine that opens no file owns: nothing is asked of the slots
 abbrev pub OwnsNone : {E : Type 0} → E → ℕ → List Slot → Type 0
 OwnsNone engine first slots = Unit {0}
 
@@ -93,6 +93,6 @@ EndsShort Holds Owns work engine told old new fault = (before : List Slot) (x : 
 abbrev pub KeepsOwn : {E : Type 0} → (E → ℕ → List Slot → Type 0) → E → E → List Slot → List Slot → Type 0
 KeepsOwn Owns old new before after = (first : ℕ) → Owns old first before → Owns new first after
 
--- what it may remove is cleared away
+-- its files are cleared away if the work clears them, and else stay
 abbrev pub Clears : {E : Type 0} → (E → ℕ → List Slot → Type 0) → (E → Work) → E → List Slot → List Slot → Type 0
 Clears Owns work engine old new = (first : ℕ) → Owns engine first old → Swept (work engine).clears first old new

@@ -12,7 +12,7 @@ pub data Prints (told : Bool) (text : List ℕ) (old new : Slot) : Type 0 where
   cut : old.is_broken ≡ false → (n : ℕ) → n < length text → new ≡ breaks (adds (told_of told (take n text)) old) → Prints told text old new
   passed : old.is_broken ≡ true → new ≡ old → Prints told text old new
 
--- standard error, behind standard output, got the text so, and no other output changed
+-- standard error, the slot after standard output, got the text in that way, and no other output changed
 abbrev pub PrintsOn : Bool → List ℕ → List Slot → List Slot → Type 0
 PrintsOn told text old new = (output error : Slot) (since : List Slot) → old ≡ output ∷ error ∷ since
     → (after : Slot) × Prints told text error after × (new ≡ output ∷ after ∷ since)
@@ -28,7 +28,7 @@ abbrev pub SaysAll : Bool → Tool → List (List ℕ) → Slot → Slot → Typ
 SaysAll told tool [] old new = new ≡ old
 SaysAll told tool (text ∷ texts) old new = (mid : Slot) × Says told tool text old mid × SaysAll told tool texts mid new
 
--- standard error, behind standard output, got the text, and no other output changed
+-- standard error, the slot after standard output, got the text, and no other output changed
 abbrev pub SaysOn : Bool → Tool → List ℕ → List Slot → List Slot → Type 0
 SaysOn told tool text old new = (output error : Slot) (since : List Slot) → old ≡ output ∷ error ∷ since
     → (after : Slot) × Says told tool text error after × (new ≡ output ∷ after ∷ since)

@@ -1,4 +1,4 @@
--- What a tool has put out by a moment: bytes on standard output, and files in the order in which they were opened.
+-- What a tool has written at some moment: bytes on standard output, and files in the order in which they were opened.
 use Rattle.std.specs.Prelude.{◌≡◌, ℕ, ◌+◌, ◌<◌, ◌≤◌, suc, Bool, List, [], ◌∷◌, ◌++◌, ◌⊎◌, length, map, take, drop}
 use Rattle.ports_core.specs.Slot.{Slot, with_written, with_broken, unopened, told_of}
 use Rattle.ports_core.specs.declared.slot.Mode.{Mode}
@@ -11,7 +11,7 @@ pub record File : Type 0 where
   pub name : List ℕ
   pub mode : Mode
   pub bytes : List ℕ
-  -- whether it is still open
+  -- open, closed or removed, or it could never be opened
   pub state : State
   pub is_broken : Bool
 

@@ -1,4 +1,4 @@
--- What a tool makes of an input, whatever engine does it: what it has put out once some bytes came in, and what at the end.
+-- What a tool makes of an input, whatever engine does it: what is written once some bytes came in, and what at the end.
 use Rattle.std.specs.Prelude.{◌≡◌, Bool, true, false, List, ◌++◌, ℕ, Option, Some, None}
 use Rattle.ports_core.specs.Part.{Part, Begins}
 use Rattle.ports_core.specs.declared.fault.Fault.{Fault}

@@ -5,11 +5,11 @@ ghost use Rattle.ports_core.specs.Engine.{TakesIn, PutsOut, CutsOff, Finishes, E
 
 use crate::{Fault, Outs};
 
-/// A tool's work on one input: it takes the input's pieces as they come, and after each its outputs have exactly what no
-/// further input can change. Most of it is the same for all tools: write what is the tool's own as a `Stage`, and
+/// A tool's work on one input: it takes the input's pieces as they come, and after each its outputs have exactly what
+/// no further input can change. Most of it is the same for all tools: write what is the tool's own as a `Stage`, and
 /// `Guarded` makes an engine of it.
 pub trait Engine {
-    /// The engine can have been fed these bytes.
+    /// Whether the engine can have been fed these bytes.
     ghost Holds: { Self → List ℕ → Type 0 };
 
     /// What it makes of its input.
@@ -18,27 +18,27 @@ pub trait Engine {
     /// How many bytes came in.
     ghost fed: { Self → ℕ };
 
-    /// A fault came, or the end.
+    /// Whether a fault came, or the end.
     ghost is_over: { Self → Bool };
 
-    /// There may be no memory for a piece.
+    /// Whether there may be no memory for a piece.
     ghost may_lack: { Self → List ℕ → Bool };
 
-    /// The outputs that it goes on with can be written.
+    /// Whether the outputs that it goes on with can be written.
     ghost Ready: { Self → List Slot → Type 0 };
 
-    /// The slots from this place on are those that it opened.
+    /// Whether the slots from a place on are those that it opened.
     ghost Owns: { Self → ℕ → List Slot → Type 0 };
 
     /// Takes the next piece of the input, and writes what is settled with it.
     ///
     /// # Errors
     ///
-    /// `Write` where an output broke, `Open` where a file can't be opened, `Memory` where there is no room for bytes that
-    /// wait or for a name, `TooLong` where the input has more than 2^63-1 bytes: nothing of this piece is written then.
-    /// After these the outputs have a beginning of what is settled. `Suffixes`, `NoMatch` and `Range` where the work ends
-    /// so whatever comes: then the outputs have all that is settled, and the files are removed if the work clears them.
-    /// After a fault, and after `close`, `Failed`: nothing is changed.
+    /// `Write` where an output broke, `Open` where a file can't be opened, `Memory` where there is no room for bytes
+    /// that wait or for a name, `TooLong` where the input has more than 2^63-1 bytes: nothing of this piece is
+    /// written then. After these the outputs have a beginning of what is settled. `Suffixes`, `NoMatch` and `Range`
+    /// where the work ends so whatever comes: then the outputs have all that is settled, and the files are removed if
+    /// the work clears them. After a fault, and after `close`, `Failed`: nothing is changed.
     fn feed<O: Outs>(&mut self, piece: &[u8], outs: &mut O) -> Result<(), Fault>
         requires { is_over self.old ≡ false → Ready self.old (O.slots outs.old) }
         ensures same { work self.new ≡ work self.old }
@@ -55,13 +55,15 @@ pub trait Engine {
         ensures failed { is_over self.old ≡ true → IsErrOf result Fault.Failed × (self.new ≡ self.old) × (O.slots outs.new ≡ O.slots outs.old) }
         ensures over { OnErr result (is_over self.new ≡ true) };
 
-    /// Ends the input, and writes what waited. An engine that writes to standard output leaves it to be written on.
+    /// Ends the input, and writes what waited. Where the work writes to standard output and nothing failed, that can
+    /// still be written to afterwards.
     ///
     /// # Errors
     ///
-    /// `Write` where an output broke, `Open` and `Memory` where its means at the end say so. `Suffixes`, `NoMatch` and
-    /// `Range` where the work ends so: then the outputs have all of it, and the files are removed if the work clears them.
-    /// `Failed` after a fault or after `close`: nothing is changed.
+    /// `Write` where an output broke. `Open` where a file can't be opened and `Memory` where there is none, each only
+    /// where the work's means say that `close` may need it. `Suffixes`, `NoMatch` and `Range` where the work ends so:
+    /// then the outputs have all of it, and the files are removed if the work clears them. `Failed` after a fault or
+    /// after `close`: nothing is changed.
     fn close<O: Outs>(&mut self, outs: &mut O) -> Result<(), Fault>
         requires { is_over self.old ≡ false → Ready self.old (O.slots outs.old) }
         ensures same { work self.new ≡ work self.old }

@@ -1,5 +1,5 @@
-//! What all engines share: they count what comes in, take no more than 2^63-1 bytes, and return `Failed` once a fault or
-//! the end came.
+//! What all engines share: they count what comes in, take no more than 2^63-1 bytes, and return `Failed` once a fault
+//! or the end came.
 ghost use Rattle.std.specs.Prelude.{◌≡◌, ◌+◌, ◌^◌, ◌<◌, ◌≤◌, true, false};
 ghost use Rattle.ports_core.specs.Work.{Work};
 ghost use Rattle.ports_core.specs.Guard.{GuardState, HoldsIn};
@@ -7,7 +7,7 @@ ghost use Rattle.ports_core.specs.Guard.{GuardState, HoldsIn};
 use crate::{Engine, Fault, Outs, Stage, fed_with};
 use std::marker::Model;
 
-/// A stage as an engine.
+/// A stage made into an engine.
 #[derive(Drop)]
 pub struct Guarded<S: Stage> {
     stage: S,
@@ -24,7 +24,7 @@ impl<S: Stage> Model for Guarded<S> {
 }
 
 impl<S: Stage> Guarded<S> {
-    /// An engine of this stage, which was fed nothing.
+    /// An engine of this stage, which has been fed nothing.
     pub fn new(stage: S) -> Guarded<S>
         requires { S.held stage ≡ 0 }
         ensures { result ≡ record { stage = stage; fed = 0; is_over = false } }
@@ -36,7 +36,7 @@ impl<S: Stage> Guarded<S> {
         }
     }
 
-    /// What is the tool's own.
+    /// The stage: what is the tool's own.
     pub fn stage(&self) -> &S
         ensures { result.now ≡ self.now.stage }
     {

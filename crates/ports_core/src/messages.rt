@@ -10,9 +10,9 @@ use std::alloc::Global;
 /// The output for messages.
 const STANDARD_ERROR: usize = 1;
 
-/// Says what went wrong. The name is that of the file or the word that the fault speaks of. Where there is no memory for
-/// the message, the line that says so stands in its place; where it can't be written, it is passed over. Takes memory for
-/// the message, and gives it back.
+/// Says what went wrong. The name is that of the file or the word that the fault speaks of. Where there is no memory
+/// for the message, the line that says so stands in its place. Where standard error can't be written, the message is
+/// passed over. It takes memory for the message, and gives it back.
 pub fn say<O: Outs>(alloc: Global, tool: Tool, fault: &Fault, name: &str, outs: &mut O)
     requires { is_open (slot_at (O.slots outs.old) 1).state ≡ true }
     ensures { SaysOn O.told tool (message_of tool fault.now name.now) (O.slots outs.old) (O.slots outs.new) }
@@ -20,7 +20,8 @@ pub fn say<O: Outs>(alloc: Global, tool: Tool, fault: &Fault, name: &str, outs: 
     print_message(tool, message(alloc, tool, fault, name), outs)
 }
 
-/// Says what went wrong as `say` does. Where the fault speaks of an output, the name is that output's; else there is none.
+/// Says what went wrong as `say` does, with the same memory. Where the fault speaks of an output, the name is that
+/// output's; else there is none.
 pub fn tell<O: Outs>(alloc: Global, tool: Tool, fault: &Fault, outs: &mut O)
     requires { is_open (slot_at (O.slots outs.old) 1).state ≡ true }
     ensures { SaysOn O.told tool (message_of tool fault.now (output_named (O.slots outs.old) fault.now)) (O.slots outs.old) (O.slots outs.new) }

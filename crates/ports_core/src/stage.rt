@@ -7,22 +7,22 @@ use crate::{Fault, Outs};
 
 /// What is a tool's own in its engine, as long as no fault and no end came: `Guarded` adds what all engines share.
 pub trait Stage {
-    /// The stage can have been fed these bytes.
+    /// Whether the stage can have been fed these bytes.
     ghost Holds: { Self → List ℕ → Type 0 };
 
     /// What it makes of its input.
     ghost work: { Self → Work };
 
-    /// How many bytes wait in it.
+    /// How many bytes wait in it; 0 where its own limit bounds them, so that nothing need count them.
     ghost held: { Self → ℕ };
 
-    /// There may be no memory for a piece.
+    /// Whether there may be no memory for a piece.
     ghost may_lack: { Self → List ℕ → Bool };
 
-    /// The outputs that it goes on with can be written.
+    /// Whether the outputs that it goes on with can be written.
     ghost Ready: { Self → List Slot → Type 0 };
 
-    /// The slots from this place on are those that it opened.
+    /// Whether the slots from a place on are those that it opened.
     ghost Owns: { Self → ℕ → List Slot → Type 0 };
 
     /// Takes the next piece, and writes what is settled with it.
@@ -59,7 +59,8 @@ pub trait Stage {
         ensures cut { IfErr result (EndsShort Holds Owns work self.old O.told (O.slots outs.old) (O.slots outs.new)) }
         ensures met { IfErr result (IsMet (work self.old).means (work self.old).means.closing (Unit {0}) (EndsThere Holds work self.old) (O.slots outs.old) (O.slots outs.new)) };
 
-    /// Removes the files that it made, in order, if its work clears them; a removal that fails is passed over.
+    /// Removes the files that it made, in order, if its work clears them. One that can't be removed is broken and
+    /// closed, and the next is tried.
     fn clear<O: Outs>(&mut self, outs: &mut O)
         requires { (first : ℕ) × Owns self.old first (O.slots outs.old) }
         ensures same { work self.new ≡ work self.old }

@@ -44,7 +44,7 @@ begins_behind x i n seen one here so_far is fewer full =
       counted = omega arith;
     }
 
--- the newlines of a stretch that ends at `end`, and those behind it
+-- the newlines of a stretch that ends at `end`, and those after it
 pub stretch_back : (x : List ℕ) (end width n more : ℕ) → width ≤ end → n ≡ newlines (drop end x) → more ≡ newlines (take (end - (end - width)) (drop (end - width) x)) → n + more ≡ newlines (drop (end - width) x)
 stretch_back x end width n more fits so_far is =
     let all : end - (end - width) ≡ width = omega arith in

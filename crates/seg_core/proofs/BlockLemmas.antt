@@ -9,13 +9,13 @@ use Rattle.seg_core.proofs.LineCounts.{line_count-drop}
 use Rattle.seg_core.proofs.LastLines.{few_from_nothing}
 use Rattle.seg_core.proofs.FirstLines.{first_lines-append, first_lines-full, first_lines-short, joined-append}
 
--- one more block behind
+-- one more block at the end
 pub joined_push : (blocks : List (List ℕ)) (block rest : List ℕ) → joined (blocks ++ block ∷ []) ++ rest ≡ joined blocks ++ (block ++ rest)
 joined_push blocks block rest =
     ap (λ x. x ++ rest) (joined-append blocks (block ∷ []) ∙ ap (λ x. joined blocks ++ x) (append-nil block))
     ∙ append_assoc (joined blocks) block rest
 
--- bytes put behind those of the last block
+-- bytes appended to those of the last block
 pub joined_set : (blocks : List (List ℕ)) (n : ℕ) (last new part : List ℕ) → n + 1 ≡ length blocks → last ≡ get_or blocks n last → new ≡ last ++ part → joined (set blocks n new) ≡ joined blocks ++ part
 joined_set [] n last new part is was now = absurd (omega arith)
 joined_set (block ∷ []) zero last new part is was now =
@@ -49,7 +49,7 @@ taken_first [] first n some is fits = absurd (omega arith)
 taken_first (block ∷ blocks) first n some is fits =
     sym (ap (λ b. newlines (take n (b ++ joined blocks))) (sym is) ∙ ap newlines (take-append-le n first (joined blocks) fits))
 
--- of a text in front of which a block stands: the lines that end behind the block, or in it
+-- a block stands before a text: the lines end after the block, or in it
 pub lines_pass : (n : ℕ) (block rest : List ℕ) → newlines block < n → length (first_lines n (block ++ rest)) ≡ length block + length (first_lines (n - newlines block) rest)
 lines_pass n block rest fewer =
     ap length (first_lines-append n block rest ∙ ap (λ x. x ++ first_lines (n - newlines block) rest) (first_lines-short n block fewer))
@@ -78,7 +78,7 @@ first_goes n text first (block ∷ blocks) bytes count some is fits so_far =
       counted = omega arith;
     }
 
--- so many newlines are in the text
+-- the newlines counted so far and those of the first block are no more than the text's bytes
 pub gone_fits : (n : ℕ) (text : List ℕ) (blocks : List (List ℕ)) (bytes count : ℕ) → Gone n text blocks bytes count → count + newlines (first_of blocks) ≤ length text
 gone_fits n text blocks bytes count so_far =
     let counted = so_far.counted in
@@ -116,7 +116,7 @@ part_counted x start n count part is of =
     let rest = ap newlines (drop-drop n start x) in
     omega arith
 
--- bytes behind those of a block of which the front has left
+-- bytes after those of a block of which the front has left
 pub block_grows : (x part new : List ℕ) (start count more : ℕ) → start ≤ length x → count ≡ newlines (drop start x) → more ≡ newlines part → new ≡ x ++ part
     → (start ≤ length new) × (count + more ≡ newlines (drop start new))
 block_grows x part new start count more within is of grown =
@@ -143,7 +143,7 @@ counted_drop most n text new len count gone so_far within left is =
     let fits = so_far.fits in
     record { few = omega arith; fits = omega arith; long = omega arith; counted = omega arith }
 
--- and once a piece comes behind
+-- and once a piece is appended
 pub counted_put : (most : ℕ) (text piece new : List ℕ) (len count more : ℕ) → IsCounted most text len count → len + length piece < 2 ^ 63 → but_last_lines most (text ++ piece) ≡ [] → new ≡ text ++ piece → more ≡ newlines piece
     → IsCounted most new (len + length piece) (count + more)
 counted_put most text piece new len count more so_far fits within grown is =
@@ -155,7 +155,7 @@ counted_put most text piece new len count more so_far fits within grown is =
     let both = ap newlines grown ∙ newlines-append text piece in
     record { few = omega arith; fits = omega arith; long = omega arith; counted = omega arith }
 
--- fresh blocks behind those of which the last was filled
+-- fresh blocks after those of which the last was filled
 pub extended : (old mid filled fresh new : List (List ℕ)) (near far piece : List ℕ) → new ≡ filled ++ fresh → joined filled ≡ joined mid ++ near → joined fresh ≡ far → mid ≡ old → piece ≡ near ++ far
     → joined new ≡ joined old ++ piece
 extended old mid filled fresh new near far piece all fill_is of same split =

@@ -29,7 +29,7 @@ AreLines-drop (suc zero) (line ∷ []) each = tt
 AreLines-drop (suc (suc k)) (line ∷ []) each = tt
 AreLines-drop (suc k) (line ∷ next ∷ lines) (complete, each) = AreLines-drop k (next ∷ lines) each
 
--- the lines of what stands behind the first lines
+-- the lines of what stands after the first lines
 pub lines_of-behind_lines : (k : ℕ) (x : List ℕ) → lines_of (behind_lines k x) ≡ drop k (lines_of x)
 lines_of-behind_lines k x = lines_of-joined (drop k (lines_of x)) (AreLines-drop k (lines_of x) (AreLines-lines_of x))
 
@@ -59,7 +59,7 @@ pub left_alone : (n : ℕ) (held piece : List ℕ) (over more : ℕ) → over �
 left_alone n held piece over more is beyond =
     sym (drop-append-add held piece more) ∙ ap (λ k. drop k (held ++ piece)) (sym beyond ∙ is) ∙ last_lines-is_drop n (held ++ piece)
 
--- so it has room for the piece, or for its end, once that left at the front
+-- so it has room for the piece, or for the end of the piece, once what is over has left at the front
 pub fits_behind : (n : ℕ) (held piece : List ℕ) (over : ℕ) → over ≡ length (but_last_lines n (held ++ piece)) → over ≤ length held → but_last_lines n (drop over held ++ piece) ≡ []
 fits_behind n held piece over is within = ap (but_last_lines n) (left_behind n held piece over is within) ∙ but_last_lines-last n (held ++ piece)
 
@@ -106,7 +106,7 @@ last_lines-zero x = ap joined (drop_all (line_count x - 0) (lines_of x) (omega a
 carried_in : (n : ℕ) (x y : List ℕ) → x ++ y ≡ but_last_lines n x ++ (last_lines n x ++ y)
 carried_in n x y = sym (sym (append_assoc (but_last_lines n x) (last_lines n x) y) ∙ ap (λ z. z ++ y) (but_last_then_last n x))
 
--- what stands before the last lines of a text that goes on: what stood before them so far, and what its last lines let go
+-- what stands before the last lines of a text that goes on is what stood before them so far, and then what its last lines drop
 pub but_last_lines-append : (n : ℕ) (x y : List ℕ) → but_last_lines n (x ++ y) ≡ but_last_lines n x ++ but_last_lines n (last_lines n x ++ y)
 but_last_lines-append zero x y =
     but_last_lines-zero (x ++ y)
@@ -122,7 +122,7 @@ but_last_lines-append (suc n) x y =
     ap (but_last_lines (suc n)) (carried_in (suc n) x y)
     ∙ but_last_complete (suc n) k (first_lines k x) w lines counted (λ (some : 0 < k). omega arith)
 
--- its last lines are those of what its last lines go on to
+-- the last lines of a text that goes on are those of its last lines with what follows
 pub last_lines-carried : (n : ℕ) (x y : List ℕ) → last_lines n (last_lines n x ++ y) ≡ last_lines n (x ++ y)
 last_lines-carried n x y =
     let c = but_last_lines n x in

@@ -69,7 +69,7 @@ not_all_digits : (text : List ℕ) → prefix_len is_ascii_digit text < length t
 not_all_digits [] fewer = absurd (omega arith)
 not_all_digits (byte ∷ text) fewer = not_all_step (is_ascii_digit byte) (list_all is_ascii_digit text) (prefix_len is_ascii_digit text) (length text) (not_all_digits text) fewer
 
--- the digits that the text begins with aren't one or more, or aren't all of it
+-- the text doesn't begin with a digit, or its digits aren't all of it
 pub digits_of-none : (text : List ℕ) (end : ℕ) → end ≡ prefix_len is_ascii_digit text → (end ≡ 0) ⊎ (end < length text) → digits_of text ≡ Err NoDigits
 unfolding digits_of
 digits_of-none [] end is either = refl
@@ -78,7 +78,7 @@ digits_of-none (byte ∷ text) end is either =
     ap (λ (c : Bool). cond c (cond (leb (value_of (byte ∷ text)) greatest) (Ok (value_of (byte ∷ text))) (Err TooLarge)) (Err NoDigits))
     (and_right (ltb 0 (length (byte ∷ text))) (list_all is_ascii_digit (byte ∷ text)) (not_all_digits (byte ∷ text) fewer))
 
--- they are all of it
+-- the digits are all of the text
 pub digits_of-some : (text : List ℕ) (end : ℕ) → end ≡ prefix_len is_ascii_digit text → (end ≡ 0 → ⊥) → length text ≤ end
     → digits_of text ≡ cond (leb (value_of text) greatest) (Ok (value_of text)) (Err TooLarge)
 unfolding digits_of

@@ -20,7 +20,7 @@ pub line_count_near : (x : List ℕ) → (newlines x ≤ line_count x) × (line_
 line_count_near [] = (omega arith, omega arith)
 line_count_near (byte ∷ x) = let near = line_count_near x in near_step (eqb byte 10) byte (newlines x) (lines_of x) near.0 near.1
 
--- the lines of what stands behind the first lines, where they are complete
+-- the lines of what stands after the first lines, where these are complete
 pub lines_of-behind_lines : (n : ℕ) (x y : List ℕ) → n ≤ newlines x → lines_of (behind_lines n x ++ y) ≡ drop n (lines_of (x ++ y))
 lines_of-behind_lines n x y enough =
     let more : n ≤ newlines (x ++ y) = (let e = newlines-append x y in omega arith) in
@@ -29,7 +29,7 @@ lines_of-behind_lines n x y enough =
     ∙ ap (λ z. lines_of (drop (length z) (x ++ y))) (sym (first_lines-full n x y enough))
     ∙ lines_of-behind n (x ++ y) more
 
--- once n lines are complete, a text that goes on goes on behind them
+-- once n lines are complete, what follows the text is added to what stands after them
 pub behind_lines-append : (n : ℕ) (x y : List ℕ) → n ≤ newlines x → behind_lines n x ++ y ≡ behind_lines n (x ++ y)
 behind_lines-append n x y enough = sym (joined-lines_of (behind_lines n x ++ y)) ∙ ap joined (lines_of-behind_lines n x y enough)
 
@@ -46,14 +46,14 @@ pub line_count-grows : (x y : List ℕ) → line_count x ≤ line_count (x ++ y)
 line_count-grows [] y = omega arith
 line_count-grows (byte ∷ x) y = grows_step (eqb byte 10) byte (lines_of x) (lines_of (x ++ y)) (line_count-grows x y)
 
--- of no lines at all nothing is left
+-- the last 0 lines are nothing
 pub last_lines-zero : (x : List ℕ) → last_lines 0 x ≡ []
 last_lines-zero x = ap joined (drop_all (line_count x - 0) (lines_of x) (omega arith))
 
 pub behind_lines-past : (n : ℕ) (x : List ℕ) → newlines x < n → behind_lines n x ≡ []
 behind_lines-past n x past = ap joined (drop_all n (lines_of x) (let near = (line_count_near x).1 in omega arith))
 
--- how many lines stand behind n complete ones
+-- how many lines stand after n complete ones
 count_behind : (n : ℕ) (x y : List ℕ) → n ≤ newlines x → line_count (behind_lines n x ++ y) ≡ line_count (x ++ y) - n
 count_behind n x y enough = ap length (lines_of-behind_lines n x y enough) ∙ length-drop n (lines_of (x ++ y))
 

@@ -18,7 +18,7 @@ HasNoNewline-drop (suc k) (byte ∷ x) none = HasNoNewline-drop k x (λ i low hi
 pub newlines-behind : (k : ℕ) (x : List ℕ) → Nowhere (Passes (is_byte 10) x) k (length x) → newlines (drop k x) ≡ 0
 newlines-behind k x none = newlines-none (drop k x) (HasNoNewline-drop k x none)
 
--- a newline behind which no other stands
+-- a newline after which there is no other
 pub last_ends : (x : List ℕ) (k : ℕ) → k < length x → eqb (get_or x k 0) 10 ≡ true → Nowhere (Passes (is_byte 10) x) (k + 1) (length x) → LastEndsAt x (k + 1)
 last_ends x k here is none =
     let behind = newlines-behind (k + 1) x none in

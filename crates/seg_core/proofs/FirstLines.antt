@@ -17,7 +17,7 @@ first_lines-nil (suc n) = refl
 pub first_lines-zero : (x : List ℕ) → first_lines 0 x ≡ []
 first_lines-zero x = refl
 
--- what is left of the first lines behind a byte, which may be a newline
+-- what is left of the first lines after a byte, which may be a newline
 cut : (is_newline : Bool) (byte n : ℕ) (lines : List (List ℕ))
     → joined (take (suc n) (cond is_newline ((byte ∷ []) ∷ lines) (onto_first byte lines)))
     ≡ byte ∷ cond is_newline (joined (take n lines)) (joined (take (suc n) lines))
@@ -124,7 +124,7 @@ newlines-first_lines (suc n) (byte ∷ x) h =
     ap newlines (first_lines-cons byte n x)
     ∙ full_step (eqb byte 10) n x h (newlines-first_lines n x) (newlines-first_lines (suc n) x)
 
--- where a byte brings the count to n, n lines end behind it
+-- where a byte brings the count to n, the n lines end after it
 pub EndsAt_counted : (n : ℕ) (x : List ℕ) (i : ℕ) → i < length x → newlines (take i x) < n → newlines (take (i + 1) x) ≡ n → EndsAt n x (i + 1)
 EndsAt_counted n x i h few counted =
     let enough : n ≤ newlines (take (i + 1) x) = omega arith in
@@ -185,7 +185,7 @@ lines_of-behind (suc n) (byte ∷ x) h =
     ap (λ z. lines_of (drop (length z) (byte ∷ x))) (first_lines-cons byte n x)
     ∙ rest_step (eqb byte 10) byte n x h (lines_of-behind n x) (lines_of-behind (suc n) x)
 
--- the same by where they end
+-- the same, with the place where they end
 pub EndsAt-rest : (n : ℕ) (x : List ℕ) (end : ℕ) → EndsAt n x end → lines_of (drop end x) ≡ drop n (lines_of x)
 EndsAt-rest n x end ends =
     let long : end ≡ length (first_lines n x) = sym (length-take-le end x ends.within) ∙ ap length ends.lines in

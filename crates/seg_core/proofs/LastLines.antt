@@ -43,7 +43,7 @@ pub first_lines-whole : (x y : List ℕ) (n : ℕ) → ends_with_newline x ≡ t
 first_lines-whole x y n ends is =
     first_lines-full n x y (omega arith) ∙ first_lines-all n x (omega (arith, line_count-closed x ends))
 
--- how many bytes stand before the last n lines of what is held and a piece behind it: the piece is empty
+-- the number of bytes before the last n lines of what is held and a piece after it, where the piece is empty
 pub over_none : (n : ℕ) (held piece : List ℕ) → length piece ≡ 0 → line_count held ≤ n → 0 ≡ length (but_last_lines n (held ++ piece))
 over_none n held [] none few = sym (ap (λ x. length (but_last_lines n x)) (append-nil held) ∙ ap length (but_last_lines-few n held few))
 over_none n held (byte ∷ piece) none few = absurd (omega arith)
@@ -68,13 +68,13 @@ over_begins n held piece front at is lines begins =
     ∙ ap (λ k. length held + k) (length-take-le at front begins.within)
     )
 
--- it hasn't: the lines that go are complete in what is held
+-- the piece has fewer lines: the lines that go are complete in what is held
 pub over_short : (n : ℕ) (held piece : List ℕ) (lines : ℕ) → line_count (held ++ piece) ≡ lines → lines - n ≤ newlines held
     → length (first_lines (lines - n) held) ≡ length (but_last_lines n (held ++ piece))
 over_short n held piece lines is enough =
     sym (ap (λ k. length (first_lines (k - n) (held ++ piece))) is ∙ ap length (first_lines-full (lines - n) held piece enough))
 
--- what stands behind the last newlines of a text, by the lines before it
+-- what stands after the last newlines of a text, by the number of lines before it
 pub begins_first : (n lines : ℕ) (x : List ℕ) (at : ℕ) → n + lines ≡ newlines x + 1 → BeginsAt n x at → at ≡ length (first_lines lines x)
 begins_first n lines x at is begins =
     let cut = newlines-take-drop at x in

@@ -100,7 +100,7 @@ ends_with_newline-last (byte ∷ []) (suc n) last = absurd (omega arith)
 ends_with_newline-last (byte ∷ next ∷ x) zero last = absurd (omega arith)
 ends_with_newline-last (byte ∷ next ∷ x) (suc n) last = ends_with_newline-last (next ∷ x) n (omega arith)
 
--- without its last newline a text has one less
+-- without its last newline a text has one newline less
 pub closed_newlines : (x : List ℕ) (n : ℕ) → n + 1 ≡ length x → get_or x n 0 ≡ 10 → newlines x ≡ newlines (take n x) + (length x - length (take n x))
 closed_newlines x n last is =
     let one = newlines-one_yes (get_or x n 0) (eq-eqb (get_or x n 0) 10 is) in

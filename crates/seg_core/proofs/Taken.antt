@@ -9,7 +9,7 @@ take_further at n x within =
     ∙ sym (ap (λ k. take (k + n) (take at x ++ drop at x)) (length-take-le at x within))
     ∙ take-append-add (take at x) (drop at x) n
 
--- behind the first `at` bytes of what was held, n more of a stretch that stands next
+-- after the first `at` bytes of what was held, n more bytes of the stretch that follows them
 pub taken_more : (held front rest before out : List ℕ) (at n : ℕ) → at ≤ length held → drop at held ≡ front ++ rest → n ≤ length front → out ≡ take at held ++ drop at before
     → take at out ++ (take n front ++ drop (at + n) out) ≡ take (at + n) held ++ drop (at + n) before
 taken_more held front rest before out at n within next fits so_far =

@@ -6,8 +6,8 @@ abbrev pub first_of : List (List ℕ) → List ℕ
 first_of [] = []
 first_of (block ∷ blocks) = block
 
--- of a text of which n bytes are to go, whole blocks are gone: these are left, and of the n bytes so many; what is gone had
--- this many newlines
+-- of a text of which n bytes are to go, whole blocks are gone: `blocks` are left, `bytes` of the n bytes are still to go,
+-- and what is gone had `count` newlines
 pub record Gone (n : ℕ) (text : List ℕ) (blocks : List (List ℕ)) (bytes count : ℕ) : Type 0 where
   pub gone : List ℕ
   pub whole : text ≡ gone ++ joined blocks

@@ -61,12 +61,12 @@ behind_sign (byte ∷ text) = if byte == 43 then text else (if byte == 45 then t
 abbrev pub sized : Sign → ℕ → Result Count CountFault
 sized sign amount = if nat_le amount greatest then Ok (record { sign = sign; amount = amount }) else Err TooLarge
 
--- the same of digits before a suffix, whose factor is missing where the table hasn't the suffix
+-- the count of digits and a suffix, whose factor is missing where the table hasn't the suffix
 abbrev pub scaled : Sign → List ℕ → Option ℕ → Result Count CountFault
 scaled sign digits None = Err Suffix
 scaled sign digits (Some factor) = sized sign (value_of digits * factor)
 
--- the same of a text behind its sign
+-- the count of a text that follows its sign
 abbrev pub unsigned : Sign → List ℕ → Result Count CountFault
 unsigned sign text = if length (leading_digits text) == 0 then Err NoDigits else scaled sign (leading_digits text) (factor_of (behind_digits text))
 

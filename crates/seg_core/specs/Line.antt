@@ -61,7 +61,7 @@ first_lines n x = joined (take n (lines_of x))
 abbrev pub line_count : List ℕ → ℕ
 line_count x = length (lines_of x)
 
--- what stands behind the first n lines of a text
+-- what stands after the first n lines of a text
 abbrev pub behind_lines : ℕ → List ℕ → List ℕ
 behind_lines n x = joined (drop n (lines_of x))
 
@@ -69,7 +69,7 @@ behind_lines n x = joined (drop n (lines_of x))
 abbrev pub last_lines : ℕ → List ℕ → List ℕ
 last_lines n x = behind_lines (line_count x - n) x
 
--- what stands before them
+-- what stands before the last n lines of a text
 abbrev pub but_last_lines : ℕ → List ℕ → List ℕ
 but_last_lines n x = first_lines (line_count x - n) x
 
@@ -79,7 +79,7 @@ pub record EndsAt (n : ℕ) (x : List ℕ) (end : ℕ) : Type 0 where
   pub lines : take end x ≡ first_lines n x
   pub complete : newlines (take end x) ≡ n
 
--- the text has fewer complete lines than n: this many
+-- the text has fewer complete lines than n: it has `count`
 pub record FallsShort (n : ℕ) (x : List ℕ) (count : ℕ) : Type 0 where
   pub counted : count ≡ newlines x
   pub fewer : count < n
@@ -89,18 +89,18 @@ abbrev pub Reaches : ℕ → List ℕ → Reach → Type 0
 Reaches n x (Ends end) = EndsAt n x end
 Reaches n x (Short count) = FallsShort n x count
 
--- behind the n-th newline from the end, the text goes on at `at`
+-- the n-th newline from the end is the last byte before `at`
 pub record BeginsAt (n : ℕ) (x : List ℕ) (at : ℕ) : Type 0 where
   pub within : at ≤ length x
   pub behind : ends_with_newline (take at x) ≡ true
   pub counted : newlines (drop at x) + 1 ≡ n
 
--- where the text begins behind n newlines, counted from the end
+-- where the part of a text begins that follows its n-th newline from the end
 abbrev pub ReachesBack : ℕ → List ℕ → ReachBack → Type 0
 ReachesBack n x (back.Begins at) = BeginsAt n x at
 ReachesBack n x (back.Short count) = FallsShort n x count
 
--- the last newline of the text ends at `end`: its complete lines stand before that place, and an open last line or nothing behind it
+-- the last newline of the text ends at `end`: its complete lines stand before that place, and an open last line or nothing after it
 pub record LastEndsAt (x : List ℕ) (end : ℕ) : Type 0 where
   pub some : 0 < end
   pub within : end ≤ length x

@@ -17,7 +17,7 @@ pub record ByteWindowState : Type 0 where
   -- it once held `most` bytes
   pub grown : Bool
 
--- the window behind a put
+-- the window after a put
 abbrev pub with_put : ByteWindowState → List ℕ → ByteWindowState
 with_put window piece = record {
   most = window.most;
@@ -25,10 +25,10 @@ with_put window piece = record {
   grown = window.grown || (length (window.held ++ piece) == window.most);
 }
 
--- the window once n bytes left at the front
+-- the window after n bytes have left at the front
 abbrev pub without_front : ByteWindowState → ℕ → ByteWindowState
 without_front window n = record { most = window.most; held = drop n window.held; grown = window.grown }
 
--- the same of a window over lines
+-- the same for a window over lines
 abbrev pub without_first : Window → ℕ → Window
 without_first window n = record { most = window.most; held = drop n window.held }

@@ -7,7 +7,7 @@ use circular_buffer::HeapCircularBuffer;
 use std::alloc::{AllocError, Global};
 use std::marker::Model;
 
-// How many bytes a window asks room for at first, where it is to keep as many.
+// How many bytes of room a window asks for at first, if it is to keep that many.
 const FIRST_ROOM: usize = 65_536;
 
 /// A window over bytes: it keeps the last `most` of what came in. It takes as much memory as it
@@ -77,15 +77,16 @@ impl ByteWindow {
         self.grown
     }
 
-    /// How many bytes must leave at the front so that, with `len` more behind, the last `most` stay.
-    /// It may be more than it holds.
+    /// How many bytes must leave at the front so that the last `most` stay once `len` more come
+    /// after them. It may be more than the window holds.
     pub fn over(&self, len: u64) -> u64
         ensures { result ≡ (length self.now.held + len) - self.now.most }
     {
         len.saturating_sub(self.most - self.len())
     }
 
-    /// The longest stretch at the front that stands together, empty only where it holds nothing.
+    /// The longest run of bytes at the front that lie in one slice. It is empty only where the
+    /// window holds nothing.
     pub fn front(&self) -> &[u8]
         ensures front { (rest : List ℕ) × (self.now.held ≡ result.now ++ rest) }
         ensures some { 0 < length self.now.held → 0 < length result.now }
@@ -94,7 +95,8 @@ impl ByteWindow {
         if front.is_empty() { back } else { front }
     }
 
-    /// Moves out as many bytes at the front as there are and fit, and says how many.
+    /// Moves bytes from the front to the beginning of `out`, as many as there are and fit, and
+    /// returns how many these are.
     pub fn take_front(&mut self, out: &mut [u8]) -> usize
         ensures count { result ≡ min (length out.old) (length self.old.held) }
         ensures out { out.new ≡ take result self.old.held ++ drop result out.old }
@@ -112,7 +114,7 @@ impl ByteWindow {
         self.ring.truncate_front(left);
     }
 
-    /// Puts a piece behind what it holds, where both fit.
+    /// Appends a piece to what it holds. Both together must have no more than `most` bytes.
     ///
     /// # Errors
     ///
@@ -141,8 +143,8 @@ impl ByteWindow {
     }
 }
 
-// How much room to ask for where this much is needed: twice what there was, but no more than `most`
-// bytes.
+// How many bytes of room to ask for where `needed` are needed: twice the room so far, or more, but
+// no more than `most`.
 fn room_for(room: usize, needed: usize, most: u64) -> usize
     requires fits { needed ≤ most }
     ensures enough { needed ≤ result }
@@ -156,7 +158,7 @@ fn room_for(room: usize, needed: usize, most: u64) -> usize
     }
 }
 
-// The same bytes with more room.
+// A ring with the same bytes and more room.
 fn enlarged(
     alloc: Global,
     ring: &HeapCircularBuffer<u8>,

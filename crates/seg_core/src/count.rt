@@ -29,7 +29,7 @@ pub struct Count {
 /// Why a text isn't a count: the first of these that holds.
 #[derive(Clone, Copy, Debug, PartialEq, Eq, Error)]
 pub enum CountFault {
-    /// No digit stands first, or first behind the sign.
+    /// No digit stands first, or first after the sign.
     #[error("no digits")]
     NoDigits,
     /// What follows the digits is no suffix.
@@ -63,6 +63,12 @@ const SUFFIXES: [(&[u8], u64); 17] = [
 
 /// Reads a count: an optional `+` or `-`, one or more digits, and a suffix. It takes no memory,
 /// and time linear in the text.
+///
+/// # Errors
+///
+/// The first of these that holds: `NoDigits` where no digit stands first, or first after the sign;
+/// `Suffix` where what follows the digits is no suffix; `TooLarge` where the amount is above
+/// 2^63 - 1.
 pub fn read_count(text: &[u8]) -> Result<Count, CountFault>
     ensures { result ≡ count_of text.now }
 {

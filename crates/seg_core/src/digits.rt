@@ -9,9 +9,13 @@ use crate::count::CountFault;
 /// The greatest number and the greatest amount of a count, 2^63 - 1.
 pub const GREATEST: u64 = 0x7fff_ffff_ffff_ffff;
 
-/// Reads a number: one or more digits and nothing else, at most 2^63 - 1. Where there is another
-/// byte, or none, it has no digits; it has no suffix. It takes no memory, and time linear in the
-/// text.
+/// Reads a number: one or more digits and nothing else, at most 2^63 - 1. It takes no memory, and
+/// time linear in the text.
+///
+/// # Errors
+///
+/// `NoDigits` where the text is empty or has any other byte, `TooLarge` where the number is above
+/// 2^63 - 1. It takes no suffix, so `Suffix` never comes.
 pub fn read_digits(text: &[u8]) -> Result<u64, CountFault>
     ensures { result ≡ digits_of text.now }
 {
@@ -27,7 +31,7 @@ pub fn read_digits(text: &[u8]) -> Result<u64, CountFault>
 }
 
 // The value of the digits that a text begins with, or the greatest `u64` where it is above that,
-// and how many digits they are.
+// and the number of these digits.
 pub(crate) fn leading_number(text: &[u8]) -> (u64, usize)
     ensures value { result.0 ≡ min (value_of (take result.1 text.now)) (2 ^ 64 - 1) }
     ensures digits { result.1 ≡ prefix_len is_ascii_digit text.now }

@@ -2,7 +2,7 @@
 
 use thiserror::Error;
 
-/// What a window answers where it finds no room.
+/// The fault of a window that finds no room.
 #[derive(Clone, Copy, Debug, PartialEq, Eq, Error)]
 pub enum Fault {
     /// Memory was asked for and refused.

@@ -24,7 +24,7 @@ pub fn lines(bytes: &[u8]) -> Lines<'_>
     Lines::new(bytes)
 }
 
-/// The first line of `bytes`, empty where `bytes` is, and the rest. It takes no memory.
+/// The first line of `bytes`, which is empty where `bytes` is, and the rest. It takes no memory.
 pub fn next_line(bytes: &[u8]) -> (&[u8], &[u8])
     ensures joined { bytes.now ≡ result.0.now ++ result.1.now }
     ensures first { 0 < length bytes.now → lines_of bytes.now ≡ result.0.now ∷ lines_of result.1.now }
@@ -66,7 +66,7 @@ fn count_in_run(run: &[u8]) -> usize
     sum_of(lanes) as usize + count_one_by_one(left)
 }
 
-// A lane of 1 for each newline among the first bytes, and of 0 for each other.
+// A vector with 1 in its lane for each newline among the first bytes, and 0 for each other byte.
 #[inline(always)]
 fn newlines_in_step(bytes: &[u8]) -> u8x64
     requires { STEP ≤ length bytes.now }
@@ -110,8 +110,9 @@ pub fn reach(bytes: &[u8], lines: u64) -> Reach
     reach_from(bytes, at, count, lines)
 }
 
-// Passes stretches of some width behind the first `from` bytes, which have `before` newlines, as long
-// as the last of the lines ends behind them: how many bytes in all, and how many newlines they have.
+// Passes stretches of `width` bytes after the first `from` bytes, which have `before` newlines, as
+// long as the last of the lines ends after them. Returns how many bytes were passed in all, and how
+// many newlines they have.
 fn skip(bytes: &[u8], from: usize, before: usize, lines: u64, width: usize) -> (usize, usize)
     requires some { 0 < width }
     requires within { from ≤ length bytes.now }
@@ -134,7 +135,8 @@ fn skip(bytes: &[u8], from: usize, before: usize, lines: u64, width: usize) -> (
     (at, count)
 }
 
-// Where the lines end that go past the first `at` bytes, which have `count` newlines, byte by byte.
+// Where the first `lines` lines end, which is after the first `at` bytes, which have `count`
+// newlines. It goes byte by byte.
 fn reach_from(bytes: &[u8], at: usize, count: usize, lines: u64) -> Reach
     requires within { at ≤ length bytes.now }
     requires counted { count ≡ newlines (take at bytes.now) }

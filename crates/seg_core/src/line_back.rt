@@ -6,8 +6,8 @@ use crate::line::{RUN, STEP, count_newlines};
 use crate::line_reach::ReachBack;
 use memchr::memrchr;
 
-/// The text without its last newline, if it ends with one: each newline that is left then ends a
-/// line that another one follows. It takes no memory.
+/// The text without its last newline, if it ends with one. Each newline that is left then ends a
+/// line after which another one follows. It takes no memory.
 pub fn last_newline_off(text: &[u8]) -> &[u8]
     requires { 0 < length text.now }
     ensures front { result.now ≡ take (length result.now) text.now }
@@ -23,8 +23,8 @@ pub fn last_newline_off(text: &[u8]) -> &[u8]
     }
 }
 
-/// Where the last newline of `bytes` ends, if there is one: its complete lines stand before that
-/// place, and an open last line or nothing behind it. It takes no memory.
+/// Where the last newline of `bytes` ends, if there is one. The complete lines stand before that
+/// place, and an open last line or nothing after it. It takes no memory.
 pub fn last_newline_end(bytes: &[u8]) -> Option<usize>
     ensures some { IfSome result (λ end. LastEndsAt bytes.now end) }
     ensures none { IfNone result (newlines bytes.now ≡ 0) }
@@ -32,8 +32,8 @@ pub fn last_newline_end(bytes: &[u8]) -> Option<usize>
     Some(memrchr(b'\n', bytes)? + 1)
 }
 
-/// Where the text begins that stands behind a number of newlines, counted from the end of `bytes`.
-/// It looks less than 4096 bytes further back than that, and takes no memory.
+/// Where the part of `bytes` begins that follows its newline number `newlines`, counted from the
+/// end. It looks at fewer than 4096 bytes before that place, and takes no memory.
 pub fn reach_back(bytes: &[u8], newlines: u64) -> ReachBack
     requires { 0 < newlines }
     ensures { ReachesBack newlines bytes.now result }
@@ -43,8 +43,9 @@ pub fn reach_back(bytes: &[u8], newlines: u64) -> ReachBack
     reach_back_from(bytes, end, count, newlines)
 }
 
-// Passes stretches of some width before `from`, behind which `behind` newlines stand, as long as the
-// newlines begin before them: where it comes to, and how many newlines stand behind that.
+// Passes stretches of `width` bytes before `from`, after which there are `behind` newlines, as long
+// as the wanted newline stands before them. Returns the place that it comes to, and how many
+// newlines there are after it.
 fn skip_back(bytes: &[u8], from: usize, behind: usize, wanted: u64, width: usize) -> (usize, usize)
     requires some { 0 < width }
     requires within { from ≤ length bytes.now }
@@ -67,7 +68,7 @@ fn skip_back(bytes: &[u8], from: usize, behind: usize, wanted: u64, width: usize
     (end, count)
 }
 
-// The same before `end`, behind which `count` newlines stand, byte by byte.
+// The same before `end`, after which there are `count` newlines. It goes byte by byte.
 fn reach_back_from(bytes: &[u8], end: usize, count: usize, wanted: u64) -> ReachBack
     requires within { end ≤ length bytes.now }
     requires counted { count ≡ newlines (drop end bytes.now) }

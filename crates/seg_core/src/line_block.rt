@@ -28,7 +28,8 @@ impl Model for Block {
 }
 
 impl Block {
-    /// A block that holds these bytes, of which so many are newlines. It has room for as many as a block.
+    /// A block that holds these bytes, of which `count` are newlines. It has room for `BLOCK`
+    /// bytes, or for these if they are more.
     pub(crate) fn holding(alloc: Global, bytes: &[u8], count: usize) -> Result<Block, AllocError>
         requires { count ≡ newlines bytes.now }
         ensures { IfOk result (λ block. block ≡ bytes.now) }
@@ -49,7 +50,7 @@ impl Block {
         &self.bytes[self.start..]
     }
 
-    /// How many they are.
+    /// How many bytes it holds.
     pub(crate) fn len(&self) -> usize
         ensures { result ≡ length self.now }
     {
@@ -68,7 +69,8 @@ impl Block {
         BLOCK.saturating_sub(self.bytes.len())
     }
 
-    /// Puts bytes behind the others, of which so many are newlines, or leaves them as they were.
+    /// Appends bytes, of which `count` are newlines. Where there is no memory, the block stays as
+    /// it was.
     pub(crate) fn append(&mut self, part: &[u8], count: usize) -> Result<(), AllocError>
         requires { count ≡ newlines part.now }
         ensures ok { OnOk result (self.new ≡ self.old ++ part.now) }
@@ -79,7 +81,7 @@ impl Block {
         Ok(())
     }
 
-    /// Drops this many bytes at the front, and says how many newlines they had.
+    /// Drops `n` bytes at the front, and returns how many newlines they had.
     pub(crate) fn drop_front(&mut self, n: usize) -> usize
         requires { n ≤ length self.old }
         ensures left { self.new ≡ drop n self.old }
@@ -93,7 +95,8 @@ impl Block {
     }
 }
 
-/// How many newlines the first part of a text has, of which both parts together have so many: the shorter part is counted.
+/// How many newlines the first part of a text has, where both parts together have `count`. Only the
+/// shorter part is looked at.
 pub(crate) fn count_first(first: &[u8], others: &[u8], count: usize) -> usize
     requires { count ≡ newlines first.now + newlines others.now }
     ensures { result ≡ newlines first.now }

@@ -1,4 +1,5 @@
-//! A queue of bytes in blocks: it grows behind and goes at the front, and nothing in it moves.
+//! A queue of bytes in blocks: bytes are added at its end and dropped at its front, and none of
+//! them is moved.
 ghost use Rattle.std.specs.Prelude.{◌≡◌, ℕ, ◌+◌, ◌^◌, ◌≤◌, ◌<◌, List, [], ◌++◌, length, take, drop, IfOk, OnOk, OnErr};
 ghost use Rattle.std.specs.VecDeque.{deque_len, deque_capacity};
 ghost use Rattle.seg_core.specs.Line.{joined, newlines, first_lines};
@@ -11,15 +12,16 @@ use crate::line_reach::{Reach, ReachBack};
 use std::alloc::{AllocError, Global};
 use std::collections::VecDeque;
 
-/// What is left to drop once whole blocks are gone, and how many newlines those had.
+/// How many bytes are still to be dropped once whole blocks are gone, and how many newlines those
+/// blocks had.
 #[derive(Clone, Copy)]
 pub(crate) struct Left {
     pub(crate) bytes: u64,
     pub(crate) newlines: u64,
 }
 
-/// Puts a piece behind the others, which has so many newlines. Room for all of it is found before
-/// anything is changed.
+/// Appends a piece that has `count` newlines. Room for all of it is found before anything is
+/// changed.
 pub(crate) fn extend(
     queue: &mut VecDeque<Block>,
     alloc: Global,
@@ -41,7 +43,7 @@ pub(crate) fn extend(
     }
 }
 
-// The room in the last block.
+// How many more bytes the last block has room for.
 fn room_behind(queue: &VecDeque<Block>) -> usize
     ensures { deque_len queue.now ≡ 0 → result ≡ 0 }
 {
@@ -51,7 +53,7 @@ fn room_behind(queue: &VecDeque<Block>) -> usize
     }
 }
 
-// Fresh blocks of these bytes, of which so many are newlines.
+// New blocks that hold these bytes, of which `count` are newlines.
 fn blocks_of(alloc: Global, bytes: &[u8], count: usize) -> Result<VecDeque<Block>, AllocError>
     requires { count ≡ newlines bytes.now }
     ensures { IfOk result (λ fresh. joined fresh.items ≡ bytes.now) }
@@ -73,7 +75,7 @@ fn blocks_of(alloc: Global, bytes: &[u8], count: usize) -> Result<VecDeque<Block
     Ok(queue)
 }
 
-// Puts bytes behind those of the last block, of which so many are newlines.
+// Appends bytes, of which `count` are newlines, to those of the last block.
 fn fill(queue: &mut VecDeque<Block>, part: &[u8], count: usize) -> Result<(), AllocError>
     requires none { deque_len queue.old ≡ 0 → part.now ≡ [] }
     requires counted { count ≡ newlines part.now }
@@ -88,7 +90,7 @@ fn fill(queue: &mut VecDeque<Block>, part: &[u8], count: usize) -> Result<(), Al
     }
 }
 
-/// The bytes of the first block that has any.
+/// The bytes of the first block that has any; none where no block has.
 pub(crate) fn front_of(queue: &VecDeque<Block>) -> &[u8]
     ensures front { (rest : List ℕ) × (joined queue.now.items ≡ result.now ++ rest) }
     ensures some { 0 < length (joined queue.now.items) → 0 < length result.now }
@@ -102,7 +104,7 @@ pub(crate) fn front_of(queue: &VecDeque<Block>) -> &[u8]
     &[]
 }
 
-/// Drops this many bytes at the front, and says how many newlines they had.
+/// Drops `n` bytes at the front, and returns how many newlines they had.
 pub(crate) fn drop_front(queue: &mut VecDeque<Block>, n: u64) -> u64
     requires within { n ≤ length (joined queue.old.items) }
     requires fits { length (joined queue.old.items) < 2 ^ 64 }
@@ -113,7 +115,7 @@ pub(crate) fn drop_front(queue: &mut VecDeque<Block>, n: u64) -> u64
     left.newlines + drop_within(queue, left.bytes)
 }
 
-// Drops the blocks that lie within the first n bytes.
+// Drops the blocks that lie within the first `n` bytes.
 fn drop_whole(queue: &mut VecDeque<Block>, n: u64) -> Left
     requires fits { length (joined queue.old.items) < 2 ^ 64 }
     ensures gone { Gone n (joined queue.old.items) queue.new.items result.bytes result.newlines }
@@ -134,7 +136,7 @@ fn drop_whole(queue: &mut VecDeque<Block>, n: u64) -> Left
     left
 }
 
-// Drops bytes at the front of the first block, and says how many newlines they had.
+// Drops `n` bytes at the front of the first block, and returns how many newlines they had.
 fn drop_within(queue: &mut VecDeque<Block>, n: u64) -> u64
     requires { n ≤ length (first_of queue.old.items) }
     ensures left { joined queue.new.items ≡ drop n (joined queue.old.items) }
@@ -146,7 +148,7 @@ fn drop_within(queue: &mut VecDeque<Block>, n: u64) -> u64
     }
 }
 
-/// Where the first `lines` lines end, which are complete.
+/// Where the first `lines` lines end, all of which are complete.
 pub(crate) fn reach_in(queue: &VecDeque<Block>, lines: u64) -> u64
     requires some { 0 < lines }
     requires enough { lines ≤ newlines (joined queue.now.items) }
@@ -166,14 +168,15 @@ pub(crate) fn reach_in(queue: &VecDeque<Block>, lines: u64) -> u64
     unreachable!()
 }
 
-// Where complete lines end in a block.
+// Where the first `lines` lines of a block end, all of which are complete.
 fn end_of(block: &Block, lines: u64) -> u64
     requires { lines ≤ newlines block.now }
     ensures { result ≡ length (first_lines lines block.now) }
 {
     let behind = block.newlines() as u64 - lines;
     if behind < lines {
-        // Nearer to the block's end: behind them is what stands behind its last newlines but these.
+        // The place is nearer to the block's end, so it is looked for from there: the last of these
+        // lines ends with the newline that has `behind` others after it.
         return match reach_back(block.bytes(), behind + 1) {
             ReachBack::Begins(at) => at as u64,
             ReachBack::Short(_) => unreachable!(),

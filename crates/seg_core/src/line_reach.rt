@@ -3,17 +3,20 @@
 /// Where a number of lines ends in a text.
 #[derive(Clone, Copy, Debug, PartialEq, Eq)]
 pub enum Reach {
-    /// The text has that many complete lines: they are its first bytes, this many.
+    /// The text has at least as many complete lines as were asked for. They are its first bytes,
+    /// this many.
     Ends(usize),
-    /// The text has fewer newlines than that: this many.
+    /// The text has fewer newlines. It has this many.
     Short(usize),
 }
 
-/// Where the text begins that stands behind a number of newlines, counted from the end.
+/// Where the part of a text begins that follows a newline, which is asked for by its number from
+/// the end.
 #[derive(Clone, Copy, Debug, PartialEq, Eq)]
 pub enum ReachBack {
-    /// The text has that many newlines: behind the first of these, at this place.
+    /// The text has at least as many newlines. The part begins at this place, just after the one
+    /// that was asked for.
     Begins(usize),
-    /// The text has fewer newlines than that: this many.
+    /// The text has fewer newlines. It has this many.
     Short(usize),
 }

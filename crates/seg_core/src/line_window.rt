@@ -19,7 +19,7 @@ const MOST_HELD: u64 = 0x7fff_ffff_ffff_ffff;
 /// What must leave a window over lines so that a piece can come in.
 #[derive(Clone, Copy, Debug, PartialEq, Eq)]
 pub struct Over {
-    /// How many bytes must leave at the front, of what the window holds and of the piece behind it.
+    /// How many bytes must leave at the front, of what the window holds and of the piece after it.
     pub bytes: u64,
     /// How many newlines the piece has, if all of it stays and they were counted.
     pub newlines: Option<usize>,
@@ -83,16 +83,16 @@ impl LineWindow {
         self.len == 0
     }
 
-    /// How many bytes stand before the last `most` lines of what it holds and the piece behind it:
-    /// so many must leave at the front. It may be more than it holds.
+    /// How many bytes stand before the last `most` lines of what it holds and the piece together:
+    /// this many must leave at the front. It may be more than it holds.
     pub fn over(&self, piece: &[u8]) -> u64
         ensures { result ≡ length (but_last_lines self.now.most (self.now.held ++ piece.now)) }
     {
         self.count_over(piece).bytes
     }
 
-    /// The same, and how many newlines the piece has if they were counted meanwhile, so that
-    /// `put_counted` needn't count them again.
+    /// What `over` returns, and how many newlines the piece has if they were counted meanwhile, so
+    /// that `put_counted` needn't count them again.
     pub fn count_over(&self, piece: &[u8]) -> Over
         ensures bytes { result.bytes ≡ length (but_last_lines self.now.most (self.now.held ++ piece.now)) }
         ensures newlines { IfSome result.newlines (λ count. (count ≡ newlines piece.now) × (result.bytes ≤ length self.now.held)) }
@@ -117,7 +117,7 @@ impl LineWindow {
         }
     }
 
-    // Where the first `lines` lines end, which are complete.
+    // Where the first `lines` lines end, all of which are complete.
     fn end_of_first(&self, lines: u64) -> u64
         requires { lines ≤ newlines self.now.held }
         ensures end { result ≡ length (first_lines lines self.now.held) }
@@ -130,7 +130,8 @@ impl LineWindow {
         reach_in(&self.blocks, lines)
     }
 
-    /// The longest stretch at the front that stands together, empty only where it holds nothing.
+    /// The longest run of bytes at the front that lie in one slice. It is empty only where the
+    /// window holds nothing.
     pub fn front(&self) -> &[u8]
         ensures front { (rest : List ℕ) × (self.now.held ≡ result.now ++ rest) }
         ensures some { 0 < length self.now.held → 0 < length result.now }
@@ -138,7 +139,8 @@ impl LineWindow {
         front_of(&self.blocks)
     }
 
-    /// Moves out as many bytes at the front as there are and fit, and says how many.
+    /// Moves bytes from the front to the beginning of `out`, as many as there are and fit, and
+    /// returns how many these are.
     pub fn take_front(&mut self, out: &mut [u8]) -> usize
         ensures count { result ≡ min (length out.old) (length self.old.held) }
         ensures out { out.new ≡ take result self.old.held ++ drop result out.old }
@@ -162,12 +164,12 @@ impl LineWindow {
         self.len -= n;
     }
 
-    /// Puts a piece behind what it holds, where no more lines than `most` come of it.
+    /// Appends a piece to what it holds. Both together must have no more than `most` lines.
     ///
     /// # Errors
     ///
-    /// `Memory` where there is no room for it, as for more than 2^63-1 bytes in all, and the window
-    /// stays as it was.
+    /// `Memory` where there is no room for it, or where both together have more than 2^63-1 bytes.
+    /// The window then stays as it was.
     pub fn put(&mut self, piece: &[u8]) -> Result<(), Fault>
         requires { but_last_lines self.old.most (self.old.held ++ piece.now) ≡ [] }
         ensures ok { OnOk result (self.new ≡ record { most = self.old.most; held = self.old.held ++ piece.now }) }
@@ -177,12 +179,12 @@ impl LineWindow {
         self.put_counted(piece, count_newlines(piece))
     }
 
-    /// The same, of a piece that has `count` newlines.
+    /// Appends a piece that has `count` newlines, as `put` does.
     ///
     /// # Errors
     ///
-    /// `Memory` where there is no room for it, as for more than 2^63-1 bytes in all, and the window
-    /// stays as it was.
+    /// `Memory` where there is no room for it, or where both together have more than 2^63-1 bytes.
+    /// The window then stays as it was.
     pub fn put_counted(&mut self, piece: &[u8], count: usize) -> Result<(), Fault>
         requires within { but_last_lines self.old.most (self.old.held ++ piece.now) ≡ [] }
         requires counted { count ≡ newlines piece.now }
@@ -206,7 +208,7 @@ impl LineWindow {
     }
 }
 
-// So many bytes must leave, and no newlines were counted.
+// What must leave is this many bytes, and no newlines were counted.
 fn uncounted(bytes: u64) -> Over
     ensures bytes { result.bytes ≡ bytes }
     ensures newlines { result.newlines ≡ None }
@@ -217,7 +219,8 @@ fn uncounted(bytes: u64) -> Over
     }
 }
 
-// Copies bytes to a slice from `at` on, as many as there are and fit.
+// Copies bytes into a slice from `at` on, as many as there are and fit, and returns how many these
+// are.
 fn copy_front(from: &[u8], to: &mut [u8], at: usize) -> usize
     requires { at ≤ length to.old }
     ensures count { result ≡ min (length to.old - at) (length from.now) }

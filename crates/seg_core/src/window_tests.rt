@@ -10,7 +10,7 @@ use std::process::Abort;
 
 const LETTERS: &[u8; 26] = b"abcdefghijklmnopqrstuvwxyz";
 
-// Takes a piece in, and lets go what is over.
+// Drops what is over at the front, and puts a piece into the window.
 fn keep_lines(window: &mut LineWindow, piece: &[u8]) -> Result<(), Fault>
     ensures { OnOk result (window.new.held ≡ last_lines window.old.most (window.old.held ++ piece.now)) }
 {
@@ -87,7 +87,7 @@ fn keeps_lines(rt: HostRuntime) {
     assert_eq!(rt; out, [b'\n', b'4', 0, 0]);
 }
 
-// Lines of 0 to 99 bytes, of which the last is open, but for one of 70,000 in the middle.
+// Lines of 0 to 99 bytes, but for one of 70,000 bytes in the middle. The last line is open.
 fn long_text(rt: &impl Abort, alloc: Global) -> Vec<u8> {
     let mut text: Vec<u8> = Vec::new(alloc);
     let mut state: u32 = 1;

@@ -63,7 +63,7 @@ half : (is : Bool) (rest : ℕ) → (cond is 1 0 + 2 * rest) / 2 ≡ rest
 half true rest = omega arith
 half false rest = omega arith
 
--- the mask behind a byte
+-- the mask after a byte
 pub mask_behind : (at : ℕ) (x : List ℕ) → newline_mask x / 2 ^ at / 2 ≡ newline_mask (drop (suc at) x)
 mask_behind at [] = ap (λ n. n / 2) (zero-div (2 ^ at)) ∙ zero-div 2
 mask_behind zero (byte ∷ x) = ap (λ n. n / 2) (div-one _) ∙ half (eqb byte 10) (newline_mask x)
@@ -95,7 +95,7 @@ first_line x at first = record {
 pub sees_nothing : (x : List ℕ) → Sees x (record { passed = 0; width = 0; mask = 0 })
 sees_nothing x = record { within = omega arith; narrow = omega arith; none = tt; marked = refl }
 
--- all that is known has no newline
+-- none of the known bytes is a newline
 all_passed : (x : List ℕ) (ahead : Ahead) → Sees x ahead → ahead.mask ≡ 0 → HasNoNewline (take (ahead.passed + ahead.width) x)
 all_passed x ahead sees none =
     subst HasNoNewline (sym (take-add ahead.passed ahead.width x)) (none_append (take ahead.passed x) (take ahead.width (drop ahead.passed x)) sees.none (unmarked _ (sym sees.marked ∙ none)))
@@ -114,11 +114,11 @@ sees_further x ahead passed width mask sees none is wide marked = record {
   marked = marked ∙ ap newline_mask (narrowed 64 0 (drop passed x) ∙ ap (λ n. take n (drop passed x)) (sym (wide ∙ ap (min 64) (sym (length-drop passed x)))));
 }
 
--- there is none
+-- where all of the text is known and no bit is set, it has no newline
 pub none_seen : (x : List ℕ) (ahead : Ahead) → Sees x ahead → ahead.mask ≡ 0 → ahead.passed + ahead.width ≡ length x → newlines x ≡ 0
 none_seen x ahead sees none all = no_newlines x (subst HasNoNewline (take_all (ahead.passed + ahead.width) x (omega arith)) (all_passed x ahead sees none))
 
--- the first one
+-- the first newline
 
 get_or-behind : (k at : ℕ) (x : List ℕ) → get_or (drop k x) at 0 ≡ get_or x (k + at) 0
 get_or-behind zero at x = let same : at ≡ 0 + at = omega arith in ap (λ n. get_or x n 0) same
@@ -174,7 +174,7 @@ sees_rest x ahead at mask sees inside is = record {
       ∙ drop-take (suc at) (ahead.width - (at + 1)) (drop ahead.passed x)
       ∙ ap (take (ahead.width - (at + 1))) (drop-drop (suc at) ahead.passed x ∙ ap (λ n. drop n x) place)
 
--- bytes that are no newlines behind others leave the mask as it is
+-- zeros after a text leave the mask as it is
 pub mask_padded : (x : List ℕ) (n : ℕ) → newline_mask (x ++ replicate n 0) ≡ newline_mask x
 mask_padded [] zero = refl
 mask_padded [] (suc n) = let rest = mask_padded [] n in omega arith

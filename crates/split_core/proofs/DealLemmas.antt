@@ -59,7 +59,7 @@ get_or-changed (suc place) line (x ∷ xs) (suc file) inside = get_or-changed pl
     | inr differs ↦ ne_eqb one other differs ∙ sym (ne_eqb (suc one) (suc other) (λ is. differs (omega (arith, is))))
   ]
 
--- the line came to what its file had
+-- a line was appended to what its file had
 came : (gets : Bool) (had line rest : List ℕ) → cond gets (had ++ line) had ++ rest ≡ had ++ cond gets (line ++ rest) rest
 came true had line rest = append_assoc had line rest
 came false had line rest = refl
@@ -76,7 +76,7 @@ shares_next n next place gathered line lines file count within inside same =
 counted : (left line rest : List ℕ) → lines_of left ≡ line ∷ lines_of rest → line_count left ≡ suc (line_count rest)
 counted left line rest cut = ap length cut
 
--- one line more
+-- one line more was gathered
 complete_line : (n start : ℕ) (piece : List ℕ) (gathered now : List (List ℕ)) (next reached reached_now : ℕ) (left line rest : List ℕ) → Dealing n start piece gathered next reached left
     → lines_of left ≡ line ∷ lines_of rest → newlines left ≡ newlines rest + 1 → now ≡ changed_at next (λ had. had ++ line) gathered → reached_now ≡ max reached (next + 1)
     → Dealing n start piece now ((next + 1) % n) reached_now rest
@@ -107,7 +107,7 @@ pub line_more : (n start : ℕ) (piece : List ℕ) (gathered now : List (List �
 line_more n start piece gathered now next reached reached_now size place left line rest so_far cut is reached_is same goes =
     rw (goes, same) (complete_line n start piece gathered now next reached reached_now left line rest so_far cut.first cut.counted is reached_is)
 
--- no complete line is left: behind the open one nothing is
+-- no complete line is left: there is nothing after the open line
 open_line : (n start : ℕ) (piece : List ℕ) (gathered now : List (List ℕ)) (next reached reached_now : ℕ) (line : List ℕ) → Dealing n start piece gathered next reached line
     → newlines line ≡ 0 → 0 < length line → now ≡ changed_at next (λ had. had ++ line) gathered → reached_now ≡ max reached (next + 1) → Dealing n start piece now next reached_now []
 open_line n start piece gathered now next reached reached_now line so_far none some is reached_is = record {
@@ -150,7 +150,7 @@ pub appended : (gathered : List (List ℕ)) (place : ℕ) (had now line : List �
 appended gathered place had now line (Ok u) within at is = ap (set gathered place) is ∙ set-changed gathered place (λ those. those ++ line) had within at
 appended gathered place had now line (Err fault) within at is = tt
 
--- what the gathering answers, where nothing is left
+-- what `gather` owes where nothing is left
 pub record Gathers (n start : ℕ) (piece : List ℕ) (gathered : List (List ℕ)) (next reached : ℕ) : Type 0 where
   pub gathered_is : gathered ≡ dealt_piece n start piece
   pub next_is : next ≡ (start + newlines piece) % n
@@ -179,7 +179,7 @@ ends_open n start piece gathered now next reached reached_now left line so_far s
     ended n start piece now next reached_now
     (open_line n start piece gathered now next reached reached_now line (subst (λ those. Dealing n start piece gathered next reached those) (sym same) so_far) (ap newlines same ∙ none) (omega (arith, more)) is reached_is)
 
--- a line that is the first of what was left
+-- a line that is the first of what was left stands at its beginning
 pub first_taken : (left x line rest : List ℕ) → IsFirstLine x line rest → left ≡ x → take (length line) left ≡ line
 first_taken left x line rest cut same = ap (take (length line)) (same ∙ cut.whole) ∙ take_at line rest (length line) refl
 

@@ -80,7 +80,7 @@ owned_opened files next old new name drawn made is first owns = rw (made, is) (r
   stand place (inl before) within = output_before files.outputs (length old) place before ∙ owns.stand place before
   stand place (inr past) within = let all = owns.last drawn in let here : length old ≡ first + place = omega arith in last_output files.outputs (length old) place (omega arith) ∙ here
 
--- it could not be opened: then a name was drawn for it, or nothing changed
+-- the file could not be opened: then a name was drawn for it, or nothing changed
 owned_unopened : (files next : FilesState) (old new : List Slot) (why : Fault) → files.names.drawn ≡ length files.outputs → FailsToFollow files old next new why → KeepsFiles files old next new
 owned_unopened files next old new _ drawn (could_not why fails made) first owns = rw made (record {
   stand = owns.stand;
@@ -123,7 +123,7 @@ became_opened told files next old new place ready made is here = record {
   further : suc (length files.outputs) ≡ place + 1
   further = omega arith
 
--- it is open
+-- the file is open already
 pub became_same : (told : Bool) (files : FilesState) (old : List Slot) (place : ℕ) → AreReady files old → place < length files.outputs → Became told files (filled (place + 1)) (place + 1) old files old
 became_same told files old place ready within = record {
   ready = ready;
@@ -195,7 +195,7 @@ ready_written files slot bytes old new ready is = rw is (record {
   closable = λ place within. ((ready.closable place within).0, writable-written old slot (output_at files place) bytes ∙ (ready.closable place within).1);
 })
 
--- as many slots
+-- there are as many slots as before
 pub owned_same : (files : FilesState) (old new : List Slot) → length new ≡ length old → KeepsFiles files old files new
 owned_same files old new size first owns = record { stand = owns.stand; last = λ drawn. owns.last drawn ∙ sym size }
 
@@ -245,7 +245,7 @@ rose_written told files old new place bytes n ready within cut = (
 
 -- Closing
 
--- so many are closed, and the others can be
+-- the files before this place are closed, and the others can be
 pub record Closing (told : Bool) (files : FilesState) (place : ℕ) (old now : List Slot) : Type 0 where
   pub size : length now ≡ length old
   pub left : (other : ℕ) → place ≤ other → other < length files.outputs → is_closable now (output_at files other)
@@ -369,7 +369,7 @@ sent told files between old mid new place slot bytes before slot_is is =
       within : place < length between.outputs
       within = let count : length between.outputs ≡ max (length files.outputs) (place + 1) = before.opened in omega arith
 
--- there is such a file then
+-- there is such a file once it was reached
 pub sent_within : (told : Bool) (files between : FilesState) (old mid : List Slot) (place : ℕ) → Became told files (filled (place + 1)) (place + 1) old between mid → place < length between.outputs
 sent_within told files between old mid place before = let count : length between.outputs ≡ max (length files.outputs) (place + 1) = before.opened in omega arith
 
@@ -395,7 +395,7 @@ pub sent_owned : (told : Bool) (files between : FilesState) (old mid new : List 
 sent_owned told files between old mid new place slot bytes n before cut first owns =
     owned_same between mid new (ap length cut.slots ∙ length-changed_at slot breaks _ ∙ length-changed_at slot (adds (told_of told (take n bytes))) mid) first (before.owned first owns)
 
--- where the file that couldn't be reached was to be written as well
+-- a file that couldn't be reached stops the write to it as well
 pub sent_unreached : (told : Bool) (files : FilesState) (old new : List Slot) (place : ℕ) (bytes : List ℕ) (why : Fault) → StopsAt told files (filled (place + 1)) place old new why → StopsAt told files (λ these. changed_at place (λ had. had ++ bytes) (filled (place + 1) these)) place old new why
 sent_unreached told files old new place bytes why stops before these at =
     Rattle.split_core.proofs.FilesLemmas.halted_wider told before new files.names files.names these these (filled (place + 1) these) _ place why refl (stops before these at) (all_begin_themselves these) (changed_begin place bytes (filled (place + 1) these)) refl

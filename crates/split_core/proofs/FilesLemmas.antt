@@ -98,7 +98,7 @@ take_begin zero more = tt
 take_begin (suc n) [] = tt
 take_begin (suc n) (next ∷ more) = (begins_itself next, take_begin n more)
 
--- fewer of what is to be added
+-- where fewer of the new bytes are added, files begin those that get all
 pub added_fewer : (n : ℕ) (these more : List (List ℕ)) → AllBegin (added these (take n more)) (added these more)
 added_fewer n [] more = take_begin n more
 added_fewer zero (bytes ∷ these) more = added_begin (bytes ∷ these) more
@@ -177,7 +177,7 @@ renamed told before now names others these same at = subst (λ those. OutputsAt 
 
 -- Outputs
 
--- broken ones stay so
+-- outputs that are broken stay broken
 
 broken_same : (place : ℕ) (change : Slot → Slot) (slots : List Slot) (slot : ℕ) → ((one : Slot) → (change one).is_broken ≡ one.is_broken) → (slot_at (changed_at place change slots) slot).is_broken ≡ (slot_at slots slot).is_broken
 broken_same place change [] slot keeps = refl
@@ -227,7 +227,7 @@ pub drop_no_lists : (n : ℕ) → drop n no_lists ≡ []
 drop_no_lists zero = refl
 drop_no_lists (suc n) = refl
 
--- the first ones have all that was added, once so many got theirs
+-- the first files have all that is added to them, once this many got theirs
 pub added_before : (place : ℕ) (these more : List (List ℕ)) → take place (added these (take place more)) ≡ take place (added these more)
 added_before zero these more = refl
 added_before (suc place) [] [] = refl
@@ -235,7 +235,7 @@ added_before (suc place) [] (next ∷ more) = ap (λ rest. next ∷ rest) (added
 added_before (suc place) (bytes ∷ these) [] = refl
 added_before (suc place) (bytes ∷ these) (next ∷ more) = ap (λ rest. (bytes ++ next) ∷ rest) (added_before place these more)
 
--- and the others what they had
+-- and the others have what they had
 pub added_behind : (place : ℕ) (these more : List (List ℕ)) → place < length more → drop place (added these (take place more)) ≡ drop place these
 added_behind place these [] within = absurd (omega arith)
 added_behind zero [] (next ∷ more) within = refl
@@ -347,7 +347,7 @@ nothing_made told files makes slots ready same = record {
   sound = stay_broken slots;
 }
 
--- where they stand after a step
+-- where the files stand after a step
 pub stand_then : (told : Bool) (files between : FilesState) (makes : List (List ℕ) → List (List ℕ)) (count : ℕ) (old mid before : List Slot) (these : List (List ℕ)) → Became told files makes count old between mid → StandAt told files before these old → StandAt told between before (makes these) mid
 stand_then told files between makes count old mid before these became at = record {
   count = became.lengths these at.count;
@@ -368,8 +368,8 @@ became_then told files first second both one two count old mid new between next 
   sound = stay_later old mid new before.sound after.sound;
 }
 
--- A fault of a later step, on the way from what was there at first to all that was to be: the files before its place have all by
--- then, and those after it what they had.
+-- A fault of a later step, on the way from what was there at first to all that was to be. By then the files before its place
+-- have all, and those after it have what they had.
 pub halted_wider : (told : Bool) (start now : List Slot) (names others : Naming) (these low high all : List (List ℕ)) (place : ℕ) (why : Fault) → from_start others ≡ from_start names → HaltedAt told start others low high place why now
     → AllBegin these low → AllBegin high all → drop (suc place) low ≡ drop (suc place) these → take place high ≡ take place all → HaltedAt told start names these all place why now
 halted_wider told start now names others these low high all place why same stop above below behind before = record {
@@ -392,7 +392,7 @@ halts_then told files first second all one place old mid new between why before 
     halted_wider told start new files.names between.names these (first these) (second (first these)) (all these) place why before.names
     (stops start (first these) (stand_then told files between first one old mid start these before at)) (low these) (high these) (behind these) (done these at.count)
 
--- and so it is in order
+-- so the files are in order where the fault stopped them
 pub stops_in_order : (told : Bool) (files : FilesState) (makes : List (List ℕ) → List (List ℕ)) (place : ℕ) (old new : List Slot) (why : Fault) → StopsAt told files makes place old new why → StopsShort told files makes old new why
 stops_in_order told files makes place old new why stops before these at =
     let stop = stops before these at in

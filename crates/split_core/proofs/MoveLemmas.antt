@@ -27,7 +27,7 @@ named_before names place more is less = by (is_named names place) refl where
   by true e = e
   by false e = absurd (false≢true (sym (no_more names place more e less) ∙ is))
 
--- the files of shares that all have names, and of those behind them
+-- the files of shares that all have names, and then the files of those after them
 pub named_on : (names : Naming) (place : ℕ) (front rest : List Share) → is_named names (place + length front) ≡ true → named names place (front ++ rest) ≡ named names place front ++ named names (place + length front) rest
 named_on names place [] rest is = ap (λ n. named names n rest) (same place) where
   same : (n : ℕ) → n ≡ n + 0
@@ -51,7 +51,7 @@ named_last names front one is =
       none : (n : ℕ) → 0 + n ≡ n
       none n = omega arith
 
--- how many were drawn doesn't matter
+-- the files don't depend on how many names were drawn
 pub named_drawn : (names : Naming) (drawn place : ℕ) (shares : List Share) → named (record names { drawn = drawn }) place shares ≡ named names place shares
 named_drawn names drawn place [] = refl
 named_drawn names drawn place (one ∷ shares) = ap (λ files. cond (is_named names place) (file_at names place one ∷ files) []) (named_drawn names drawn (place + 1) shares)
@@ -124,7 +124,7 @@ last_from told names shares one before old slot is last at =
     let files : length (named names 0 (shares ++ one ∷ [])) ≡ length (named names 0 shares) + 1 = ap length (named_last names shares one is) ∙ length-append (named names 0 shares) (file_at names (length shares) one ∷ []) in
     let all : length (named names 0 shares) ≡ length shares = all_named names shares is in omega arith
 
--- a fault that comes where the outputs are
+-- a fault that comes while the outputs still have the lower shares
 pub halts_here : (told : Bool) (names : Naming) (low high : List Share) (old new : List Slot) (fault : Fault) (place : ℕ) → SharesBegin low high → InTurn (named names 0 low) place → Marks (IsNext (part_of names low) (part_of names high)) fault old new
     → ((before : List Slot) → OutputsAt told before (part_of names low) old → IsAt fault (length before) place (length (named names 0 low))) → Halts told names low high old new fault
 halts_here told names low high old new fault place begins turn marks from before at = record {
@@ -218,7 +218,7 @@ open_halts told names shares more one old new (Usage kind word) shut drawn none 
 open_halts told names shares more one old new Failed shut drawn none = absurd none
 open_halts told names shares more one old new TooLong shut drawn none = absurd none
 
--- what was broken stays so
+-- outputs that were broken stay broken
 
 flag_stays : (change : Slot → Slot) → ((slot : Slot) → (change slot).is_broken ≡ slot.is_broken) → (place other : ℕ) (slots : List Slot) → (slot_at (changed_at place change slots) other).is_broken ≡ (slot_at slots other).is_broken
 flag_stays change same place other [] = refl
@@ -250,7 +250,7 @@ sound_before (slot ∷ slots) one (suc place) sound = sound_before slots one pla
 pub keeps_open : (one : Slot) (old new : List Slot) → new ≡ old ++ one ∷ [] → KeepsBroken old new
 keeps_open one old new is place sound = sound_before old one place (ap (λ those. (slot_at those place).is_broken) (sym is) ∙ sound)
 
--- and what breaks was sound
+-- and one that breaks was sound
 
 broken_there : (place : ℕ) (slots : List Slot) → place < length slots → (slot_at (with_broken place slots) place).is_broken ≡ true
 broken_there place [] within = absurd (omega (arith, within))
@@ -329,16 +329,16 @@ owns_last current first slots owns = at_end_so current first slots owns
 pub owned_again : (one two three : Option ℕ) (old mid new : List Slot) → KeepsFile one old two mid → KeepsFile two mid three new → KeepsFile one old three new
 owned_again one two three old mid new before after first owns = after first (before first owns)
 
--- there are as many outputs
+-- there are as many outputs as before
 pub owned_same : (current : Option ℕ) (old new : List Slot) → length new ≡ length old → KeepsFile current old current new
 owned_same None old new same first owns = let above : first ≤ length old = owns in omega (arith, same)
 owned_same (Some slot) old new same first owns = (owns.0, owns.1 ∙ sym same)
 
--- it ended
+-- the file ended
 pub owned_ended : (slot : ℕ) (old new : List Slot) → length new ≡ length old → KeepsFile (Some slot) old None new
 owned_ended slot old new same first owns = let above : first ≤ slot = owns.0 in let last : suc slot ≡ length old = owns.1 in omega (arith, same)
 
--- it was opened
+-- the file was opened
 pub owned_opened : (slot : ℕ) (one : Slot) (old new : List Slot) → slot ≡ length old → new ≡ old ++ one ∷ [] → KeepsFile None old (Some slot) new
 owned_opened slot one old new at is first owns =
     let above : first ≤ length old = owns in
@@ -347,7 +347,7 @@ owned_opened slot one old new at is first owns =
 more_slots : (one : Slot) (old new : List Slot) (first : ℕ) → first ≤ length old → new ≡ old ++ one ∷ [] → first ≤ length new
 more_slots one old new first above is = let size : length new ≡ length old + 1 = ap length is ∙ length-append old (one ∷ []) in omega arith
 
--- it could not be opened
+-- the file could not be opened
 pub owned_unopened : (names : Naming) (old new : List Slot) (fault : Fault) → OpensNone names old new fault → KeepsFile None old None new
 owned_unopened names old new Memory none first owns = owned_same None old new (ap length none.1) first owns
 owned_unopened names old new (Open slot) none first owns = more_slots (unopened none.2.0) old new first owns none.2.2

@@ -79,7 +79,7 @@ module _ (told : Bool) (state next : PartsState) (piece : List ℕ) (old new : L
   still_owns (Ok done) passes = passes.owned
   still_owns (Err f) passes = passes.owned
 
-  -- names ran out: what has a name is out, and nothing can change that
+  -- names ran out: the files that have a name are written, and nothing can change that
   settles : Stopped told state piece old new next Suffixes → EndsWith Stands work state piece Suffixes
   settles stop x stands =
       let none = have_names state (x ++ piece) false (stop.short refl x stands).0 in

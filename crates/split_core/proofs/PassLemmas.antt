@@ -79,7 +79,7 @@ stopped_again told state mid next first more old wet new f one other = record {
       );
 }
 
--- the piece is what was taken and what is left
+-- the piece is what was taken of it and what is left
 
 abbrev pub Passed : Bool → PartsState → List ℕ → List ℕ → List Slot → List Slot → PartsState → Type 0
 Passed told state piece left old now next = (done : List ℕ) × (piece ≡ done ++ left) × Took told state done old now next
@@ -213,7 +213,7 @@ module _ (told : Bool) (state : PartsState) (old : List Slot) (ready : IsReady s
         (move.close_halts told state.names (full_shares x) [] (rest_bytes x) wet new slot (shut_map (cut_up state.limit x).full) (named_here x slot stands is) (move.written_last old wet slot _ (last_slot slot is at_end) wrote) err.1))),
   )
 
--- its file ended
+-- the file of the part that was begun ended
 pub end_owned : (state : PartsState) (slot : ℕ) (old wet new : List Slot) (result : Result (Unit {0}) Fault) → state.current ≡ Some slot → length wet ≡ length old → OnOk result (new ≡ changed_at slot closes wet)
     → IfErr result (λ f. (f ≡ fault.Write slot) × (new ≡ with_broken slot (changed_at slot closes wet))) → KeepsFile state.current old None new
 end_owned state slot old wet new result is size ok err = subst (λ current. KeepsFile current old None new) (sym is) (move.owned_ended slot old new (closed_size result ok err ∙ size)) where

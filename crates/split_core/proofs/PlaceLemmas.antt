@@ -1,4 +1,4 @@
--- Where each line of a text goes that is dealt: the lines of a file by their places in the text.
+-- Where each line of a text is dealt to: the lines of a file by their places in the text.
 use Rattle.std.proofs.Common.{◌≡◌, ℕ, ◌+◌, ◌-◌, ◌*◌, ◌%◌, ◌<◌, ◌≤◌, zero, suc, min, List, [], ◌∷◌, ◌++◌, length, take, map, get_or, Bool, true, false, cond, eqb, if◌then◌else◌, ◌==◌, inl, inr, refl, sym, ◌∙◌, ap, arith, length-append}
 use Rattle.std.proofs.Math.Nat.{suc-mul, zero-mul, mod-lt, mod-add-mod, mod-eq_of_lt, add-mod_right}
 use Rattle.std.specs.List.{range_with_len}
@@ -11,7 +11,7 @@ use Rattle.split_core.specs.Parts.{dealt, round_robin}
 use Rattle.split_core.specs.Split.{dealt_files}
 use Rattle.split_core.specs.DealLaws.{share_of, dealt_files_are}
 
--- the lines that one of n files gets; the first of them stands at this place
+-- the lines that one of n files gets, where the first of all lines stands at this place
 abbrev pub lines_dealt : ℕ → ℕ → ℕ → List (List ℕ) → List (List ℕ)
 lines_dealt n file place [] = []
 lines_dealt n file place (line ∷ lines) = if place % n == file then line ∷ lines_dealt n file (place + 1) lines else lines_dealt n file (place + 1) lines
@@ -24,7 +24,7 @@ dealt_are : (n file place : ℕ) (lines : List (List ℕ)) → dealt n file plac
 dealt_are n file place [] = refl
 dealt_are n file place (line ∷ lines) = joined_step (eqb (place % n) file) line _ _ (dealt_are n file (place + 1) lines)
 
--- they are still lines
+-- what the file gets still consists of lines
 
 others : (line : List ℕ) (lines : List (List ℕ)) → AreLines (line ∷ lines) → AreLines lines
 others line [] each = tt
@@ -94,7 +94,7 @@ nth_dealt : (n file place : ℕ) (lines : List (List ℕ)) (left k : ℕ) → le
 nth_dealt n file place [] left k few at = refl
 nth_dealt n file place (line ∷ lines) left k few at = nth_step n file place left k line lines (eqb (place % n) file) few at refl (λ left k few at. nth_dealt n file (place + 1) lines left k few at)
 
--- line k of a file is the line at its place and k times n
+-- line k of the file at a place is the line of the text at that place plus k times n
 pub line_at : (n file k : ℕ) (x : List ℕ) → file < n → get_or (lines_of (get_or (round_robin n x) file [])) k [] ≡ get_or (lines_of x) (file + k * n) []
 line_at n file k x within =
     let here : 0 + file ≡ file = omega arith in

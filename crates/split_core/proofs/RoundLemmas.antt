@@ -48,7 +48,7 @@ named_before names one other few is =
     either_more names.auto (nat_lt other (name_count names.alphabet names.width)) (nat_lt one (name_count names.alphabet names.width))
     (nat_lt_less one other (name_count names.alphabet names.width) few) is
 
--- where so many have names, each of them has
+-- where this many files have names, each of them has one
 named_at : (names : Naming) (count place : ℕ) → are_named names count ≡ true → place < count → is_named names place ≡ true
 named_at names zero place are within = absurd (omega arith)
 named_at names (suc last) place are within = named_before names place last (omega arith) are
@@ -82,7 +82,7 @@ filed_are state names elide n x are =
     ∙ all_filed names n 0 (map (share state) (files_of elide n x)) are
     (let long = length-map (files_of elide n x) (share state) in let count = length-files_of elide n x in let most = opened_by-most elide n x in omega arith)
 
--- what must be out is what the files that are open have
+-- what must be written is what the files that are open have
 pub settled_is : (names : Naming) (elide : Bool) (n : ℕ) (x : List ℕ) → are_named names n ≡ true → settled_by (round_plan n elide (from_start names)) x ≡ open_part names (files_of elide n x)
 settled_is names elide n x are = ap only_files (filed_are Open names elide n x are)
 
@@ -99,7 +99,7 @@ never_short names elide n x are =
     let most = opened_by-most elide n x in
     sym (ap not (named_fewer names (length (map (share Closed) (dealt_files elide n x))) n are (omega arith)))
 
--- A piece more
+-- One more piece
 
 added_maps : (f more whole : ℕ → List ℕ) (start m b : ℕ) → ((file : ℕ) → start + m ≤ file → file < start + b → f file ≡ []) → ((file : ℕ) → start + b ≤ file → file < start + m → more file ≡ []) → ((file : ℕ) → f file ++ more file ≡ whole file)
     → added (map f (range_with_len start m)) (map more (range_with_len start b)) ≡ map whole (range_with_len start (max m b))
@@ -122,7 +122,7 @@ added_maps f more whole start (suc m) (suc b) none no_more both =
     let rest = added_maps f more whole (start + 1) m b (λ file past within. none file (omega arith) (omega arith)) (λ file past within. no_more file (omega arith) (omega arith)) both in
     ap (λ bytes. bytes ∷ added (map f (range_with_len (start + 1) m)) (map more (range_with_len (start + 1) b))) (both start) ∙ ap (λ those. whole start ∷ those) rest ∙ ap (λ n. map whole (range_with_len start n)) count
 
--- beyond those that are open no file has anything
+-- files that aren't open yet have nothing
 none_yet : (elide : Bool) (n : ℕ) (x : List ℕ) (file : ℕ) → opened_by elide n x ≤ file → file < n → share_of n x file ≡ []
 none_yet true n x file past within = share_none n x file (omega arith) within
 none_yet false n x file past within = absurd (omega arith)
@@ -345,7 +345,7 @@ opens_short told elide names n count files old new why is fresh are counted stop
 pub opens_own : (told : Bool) (names : Naming) (count : ℕ) (files next : FilesState) (old new : List Slot) → files ≡ no_files names → Became told files (filled count) count old next new → OwnsFiles next (length old) new
 opens_own told names count files next old new is became = became.owned (length old) (subst (λ (those : FilesState). OwnsFiles those (length old) old) (sym is) (none_owned names old))
 
--- where all files have names, it is what was asked
+-- where all files have names, the work is what was asked for
 pub does_all : (names others : Naming) (elide : Bool) (n : ℕ) → names.drawn ≡ 0 → are_named names n ≡ true → from_start others ≡ from_start names → round_work (round_plan n elide (from_start others)) ≡ split_work (round_plan n elide names)
 does_all names others elide n fresh are same =
     ap (λ those. round_work (round_plan n elide those)) (same ∙ ap (λ drawn. record names { drawn = drawn }) (sym fresh))

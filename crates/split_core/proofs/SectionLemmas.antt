@@ -1,4 +1,4 @@
--- The parts of a text in other words: runs of lines or bytes, and whole lines within so many bytes.
+-- The parts of a text in other words: runs of lines or bytes, and whole lines within a number of bytes.
 use Rattle.std.proofs.Common.{◌≡◌, ℕ, ◌+◌, ◌-◌, ◌*◌, ◌<◌, ◌≤◌, zero, suc, List, [], ◌∷◌, ◌++◌, length, take, drop, map, get_or, false, refl, sym, ◌∙◌, ap, subst, arith, append_assoc, length-append, length-drop}
 use Rattle.std.proofs.Math.ListN.{get_or-map}
 use Rattle.std.proofs.Math.Nat.{suc-mul, zero-mul}
@@ -35,14 +35,14 @@ runs_bound (suc low) (suc high) n (x ∷ xs) some few little =
     let left : length (drop n (x ∷ xs)) ≡ suc (length xs) - n = length-drop n (x ∷ xs) in
     ap (λ runs. take n (x ∷ xs) ∷ runs) (runs_bound low high n (drop n (x ∷ xs)) some (omega arith) (omega arith))
 
--- a run, and those of what stands behind it
+-- a run, and then the runs of what stands after it
 pub runs_next : {X : Type 0} (n : ℕ) (xs : List X) → 0 < n → 0 < length xs → runs_of n xs ≡ take n xs ∷ runs_of n (drop n xs)
 runs_next n [] some has = absurd (omega arith)
 runs_next n (x ∷ xs) some has =
     let left : length (drop n (x ∷ xs)) ≡ suc (length xs) - n = length-drop n (x ∷ xs) in
     ap (λ runs. take n (x ∷ xs) ∷ runs) (runs_bound (length xs) (length (drop n (x ∷ xs))) n (drop n (x ∷ xs)) some (omega arith) (omega arith))
 
--- no more than n are one run
+-- n members or fewer are one run
 pub runs_last : {X : Type 0} (n : ℕ) (xs : List X) → 0 < length xs → length xs ≤ n → runs_of n xs ≡ xs ∷ []
 runs_last n [] has few = absurd (omega arith)
 runs_last n (x ∷ xs) has few =
@@ -70,7 +70,7 @@ run_within (suc bound) n (suc i) (x ∷ xs) some few =
 pub run_at : {X : Type 0} (n i : ℕ) (xs : List X) → 0 < n → get_or (runs_of n xs) i [] ≡ take n (drop (i * n) xs)
 run_at n i xs some = run_within (length xs) n i xs some (omega arith)
 
--- so many runs of n hold all of so many members, and one less doesn't
+-- this many runs of n hold all members, and one run less doesn't
 abbrev AreFewest : ℕ → ℕ → ℕ → Type 0
 AreFewest runs n all = (all ≤ runs * n) × (runs * n < all + n)
 
@@ -93,7 +93,7 @@ count_within (suc bound) n (x ∷ xs) some few =
     one_more (length (runs_within bound n (drop n (x ∷ xs)))) n (length (drop n (x ∷ xs))) (suc (length xs)) left (omega arith)
     (count_within bound n (drop n (x ∷ xs)) some (omega arith))
 
--- they are as few as can hold all
+-- there are as few runs as can hold all members
 pub runs_count : {X : Type 0} (n : ℕ) (xs : List X) → 0 < n → AreFewest (length (runs_of n xs)) n (length xs)
 runs_count n xs some = count_within (length xs) n xs some (omega arith)
 

@@ -49,7 +49,7 @@ some_all [] [] some = absurd (omega (arith, some))
 some_all [] (byte ∷ more) some = refl
 some_all (byte ∷ rest) more some = refl
 
--- a text cut so, and what comes of it
+-- a text that is cut in this way, and what follows from that
 
 module _ (parts : PartsState) (x taken : List ℕ) where
   -- the parts of a text that goes on, by those of what was left
@@ -66,7 +66,7 @@ module _ (parts : PartsState) (x taken : List ℕ) where
       shares_by [] (rest_of parts x ++ taken) (cut_none parts.limit (rest_of parts x ++ taken) leads.short)
       ∙ ap (λ begun. full_of parts x ++ begun_share begun) leads.settled ∙ ap (λ more. full_of parts x ++ more) (some_share (rest_of parts x ++ taken) (some_all (rest_of parts x) taken some))
 
-  -- it is full, and the next has begun
+  -- the part is full, and the next has begun
   shares_turn : (first next : List ℕ) → IsTurned parts.limit (rest_of parts x ++ taken) first next → settled_parts parts.limit (x ++ taken) ≡ full_of parts x ++ share file_state.Closed first ∷ begun_share next
   shares_turn first next leads =
       shares_by (first ∷ []) next (cut_two parts.limit (rest_of parts x ++ taken) first next leads.full leads.first_is leads.both leads.begun.short)
@@ -77,7 +77,7 @@ module _ (parts : PartsState) (x taken : List ℕ) where
   shares_wait left has_line leads =
       shares_by [] (rest_of parts x ++ taken) (cut_none parts.limit (rest_of parts x ++ taken) leads.short) ∙ ap (λ begun. full_of parts x ++ begun_share begun) leads.settled
 
--- x came in, by how it is cut
+-- x can be what came in, by how it is cut
 stands_at : (next : PartsState) (x : List ℕ) (full : List (List ℕ)) (rest : List ℕ) → cut_up next.limit x ≡ cut_so full rest → next.names.drawn ≡ length (settled_parts next.limit x) → are_named next.names (length (settled_parts next.limit x)) ≡ true
     → Lacks next.limit rest next.left next.has_line → next.waiting ≡ waiting_rest next.limit rest → is_given next.current ≡ is_some (settled_rest next.limit rest) → Stands next x
 stands_at next x full rest is drawn enough lacks waits given = record {
@@ -91,7 +91,7 @@ stands_at next x full rest is drawn enough lacks waits given = record {
 count_last : (shares : List Share) (one : Share) → length (shares ++ one ∷ []) ≡ suc (length shares)
 count_last shares one = count_one shares one
 
--- the whole piece, behind what was taken
+-- the whole piece: what was taken of it, and what stands after that
 piece_behind : (x piece : List ℕ) (bytes : ℕ) → (x ++ take bytes piece) ++ drop bytes piece ≡ x ++ piece
 piece_behind x piece bytes = append_assoc x (take bytes piece) (drop bytes piece) ∙ ap (λ those. x ++ those) (take-append-drop bytes piece)
 
@@ -101,7 +101,7 @@ grown limit x piece bytes = subst (λ all. SharesBegin (settled_parts limit (x +
 taken_some : (piece : List ℕ) (bytes : ℕ) → 0 < bytes → bytes ≤ length piece → 0 < length (take bytes piece)
 taken_some piece bytes some within = let all : length (take bytes piece) ≡ bytes = length-take-le bytes piece within in omega arith
 
--- names that ran out before the part behind so many full ones
+-- names ran out before the part after some full ones
 
 short_by : (told : Bool) (parts : PartsState) (x piece taken behind : List ℕ) (full : List (List ℕ)) (rest : List ℕ) (old new : List Slot) → taken ++ behind ≡ piece → cut_up parts.limit (x ++ taken) ≡ cut_so full rest → 0 < length (rest ++ behind)
     → is_named parts.names (length full) ≡ false → (IsAtEnd parts.current old → Moves told parts.names (settled_parts parts.limit x) (map (share file_state.Closed) full) old new)
@@ -290,7 +290,7 @@ waits_on told parts next piece old new n leads ready count is same =
 
 -- a fault
 
--- what came in is out in turn
+-- the files of what came in are reached in turn
 turn_by : (names : Naming) (shares : List Share) (begun : List ℕ) → AllShut shares → are_named names (length (shares ++ begun_share begun)) ≡ true → (place : ℕ) × InTurn (named names 0 (shares ++ begun_share begun)) place
 turn_by names shares [] shut enough = (_, subst (λ those. InTurn (named names 0 those) (length (named names 0 shares))) (sym (append-nil shares)) (turn_next _ (move.shut_files names 0 shares shut)))
 turn_by names shares (byte ∷ begun) shut enough =
@@ -323,7 +323,7 @@ no_room told parts next piece old new f is same slots =
         is_memory fault.Failed = false
         is_memory fault.TooLong = false
 
--- no file for the part that was begun: nothing of it is out
+-- there is no file for the part that was begun: nothing of it is written
 short_begun : (told : Bool) (parts : PartsState) (x piece : List ℕ) (old new : List Slot) → 0 < length piece → Stands parts x → (parts.current ≡ None) × (has_next parts.names ≡ false) × (new ≡ old)
     → (are_named parts.names (length (Rattle.split_core.specs.Parts.parts parts.limit (x ++ piece))) ≡ false) × (IsAtEnd parts.current old → Moves told parts.names (settled_parts parts.limit x) (settled_parts parts.limit (x ++ piece)) old new)
 short_begun told state x piece old new some stands why =

@@ -28,7 +28,7 @@ pub record ClosedFacts (told : Bool) (parts : PartsState) (old mid : List Slot) 
   pub owned : KeepsFile parts.current old next.current mid
   pub moves : (shares : List Share) (begun : List ℕ) → IsLast parts shares → is_given parts.current ≡ true → IsAtEnd parts.current old → Moves told parts.names (shares ++ share state.Open begun ∷ []) (shares ++ share state.Closed begun ∷ []) old mid
 
--- its file ended
+-- the file of that part ended
 file_ended : (parts next : PartsState) (slot : ℕ) (old mid : List Slot) → parts.current ≡ Some slot → next.current ≡ None → length mid ≡ length old → KeepsFile parts.current old next.current mid
 file_ended parts next slot old mid is none size = subst (λ current. KeepsFile current old next.current mid) (sym is) (subst (λ current. KeepsFile (Some slot) old current mid) (sym none) (move.owned_ended slot old mid size))
 
@@ -76,7 +76,7 @@ turns_not_closed told parts bytes old new next _ ready (failed slot is next_is c
       short = λ is_short. absurd (no_write slot is_short);
     }
 
--- nothing follows
+-- nothing follows the part
 
 no_share : (bytes : List ℕ) → bytes ≡ [] → begun_share bytes ≡ []
 no_share bytes none = ap begun_share none

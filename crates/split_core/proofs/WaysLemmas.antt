@@ -12,7 +12,7 @@ use Rattle.split_core.specs.PartState as part
 use Rattle.split_core.specs.Ways.{Holds, Owns, work}
 use Rattle.split_core.proofs.PartStageLemmas.{never_done}
 
--- as long as it goes on, all files have names
+-- as long as the engine goes on, all files have names
 pub all_named : (way : Ways) (x : List ℕ) → Holds way x → (work way).is_complete x ≡ false
 all_named (Parts parts) x holds = sym (never_done parts x holds)
 all_named (Round round) x holds = refl

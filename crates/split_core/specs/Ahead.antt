@@ -8,7 +8,7 @@ use Rattle.split_core.specs.declared.complete_lines.Ahead.{Ahead}
 abbrev pub newline_mask : List ℕ → ℕ
 newline_mask bytes = mask_l (map (λ byte. eqb byte 10) bytes)
 
--- behind bytes that have no newline, the mask tells the newlines of those that follow
+-- the first bytes have no newline, and the mask tells which of the bytes after them are newlines
 pub record Sees (x : List ℕ) (ahead : Ahead) : Type 0 where
   pub within : ahead.passed + ahead.width ≤ length x
   pub narrow : ahead.width ≤ 64

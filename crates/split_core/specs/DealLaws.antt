@@ -47,7 +47,7 @@ dealt_append n file place (byte ∷ x) y =
 next_same : (n one other : ℕ) → one % n ≡ other % n → (one + 1) % n ≡ (other + 1) % n
 next_same n one other same = sym (mod-add-mod one n 1) ∙ ap (λ place. (place + 1) % n) same ∙ mod-add-mod other n 1
 
--- places that leave the same remainder are the same to the dealing
+-- places that leave the same remainder are dealt alike
 pub dealt_same : (n file one other : ℕ) (lines : List (List ℕ)) → one % n ≡ other % n → dealt n file one lines ≡ dealt n file other lines
 dealt_same n file one other [] same = refl
 dealt_same n file one other (line ∷ lines) same =
@@ -113,7 +113,7 @@ share_none n x file short within = dealt_none n file 0 (lines_of x) (omega arith
 pub share_some : (n : ℕ) (x : List ℕ) (file : ℕ) → file < line_count x → file < n → is_some (share_of n x file) ≡ true
 share_some n x file before within = is_some_of _ (dealt_some n file 0 (lines_of x) (each_line x) (omega arith) (omega arith) within)
 
--- of members that are some up to a place, and none from there on, those up to that place are left
+-- where members up to a place aren't empty and those from there on are, the filter leaves those up to that place
 filter_next : (f : ℕ → List ℕ) (start n end : ℕ) → (start < end → is_some (f start) ≡ true) → (end ≤ start → f start ≡ []) → (rest : List (List ℕ))
     → rest ≡ map f (range_with_len (start + 1) (min n (end - (start + 1)))) → cond (is_some (f start)) (f start ∷ rest) rest ≡ map f (range_with_len start (min (suc n) (end - start)))
 filter_next f start n end some none rest are = elim (cases_lt start end) [
@@ -147,7 +147,7 @@ dealt_files_are true n x =
     ∙ ap (λ lines. map (share_of n x) (range_with_len 0 (min n lines))) all
 dealt_files_are false n x = refl
 
--- more files are never fewer
+-- a text that goes on opens no fewer files
 
 onto_some : (byte : ℕ) (lines : List (List ℕ)) → 0 < length lines → length (onto_first byte lines) ≡ length lines
 onto_some byte [] some = absurd (omega arith)

@@ -8,10 +8,10 @@ use Rattle.split_core.specs.Parts.{dealt}
 abbrev pub dealt_piece : ℕ → ℕ → List ℕ → List (List ℕ)
 dealt_piece n place piece = map (λ file. dealt n file place (lines_of piece)) (range_with_len 0 n)
 
--- it goes to files at the places below this one
+-- how many of the first files a piece can go to, whose first byte goes to the file at this place
 abbrev pub reached_by : ℕ → ℕ → List ℕ → ℕ
 reached_by n place piece = min n (place + line_count piece)
 
--- what the files at those places get
+-- what these first files get
 abbrev pub dealt_first : ℕ → ℕ → List ℕ → List (List ℕ)
 dealt_first n place piece = map (λ file. dealt n file place (lines_of piece)) (range_with_len 0 (reached_by n place piece))

@@ -3,7 +3,7 @@ use Rattle.std.specs.Prelude.{ℕ, List}
 use Rattle.ports_core.specs.Name.{Naming}
 
 pub record FilesState : Type 0 where
-  -- their names, of which so many were drawn
+  -- their names, and how many of these were drawn
   pub names : Naming
   -- the outputs of those that are open, in order
   pub outputs : List ℕ

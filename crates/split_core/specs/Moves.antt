@@ -21,11 +21,11 @@ part_of names shares = only_files (named names 0 shares)
 abbrev pub Moves : Bool → Naming → List Share → List Share → List Slot → List Slot → Type 0
 Moves told names low high old new = (before : List Slot) → OutputsAt told before (part_of names low) old → OutputsAt told before (part_of names high) new
 
--- a fault stopped them between
+-- a fault stopped them between the two
 abbrev pub Halts : Bool → Naming → List Share → List Share → List Slot → List Slot → Fault → Type 0
 Halts told names low high old new fault = (before : List Slot) → OutputsAt told before (part_of names low) old → StoppedInTurn told before (part_of names low) (part_of names high) fault new
 
--- no output is sound again that was broken
+-- no output that was broken is sound again
 abbrev pub KeepsBroken : List Slot → List Slot → Type 0
 KeepsBroken old new = (place : ℕ) → (slot_at new place).is_broken ≡ false → (slot_at old place).is_broken ≡ false
 
@@ -63,7 +63,7 @@ OpensNone names old new TooLong = ⊥
 pub data WritesShort (told : Bool) (slot : ℕ) (bytes : List ℕ) (old new : List Slot) : Fault → Type 0 where
   broke : (n : ℕ) → BrokeAfter told old new slot bytes n → WritesShort told slot bytes old new (Write slot)
 
--- these bytes were taken in, and what is settled with them is out
+-- these bytes were taken in, and what is settled with them is written
 pub record Took (told : Bool) (parts : PartsState) (bytes : List ℕ) (old new : List Slot) (next : PartsState) : Type 0 where
   pub limit_same : next.limit ≡ parts.limit
   pub names_same : next.names ≡ record parts.names { drawn = next.names.drawn }
@@ -73,7 +73,7 @@ pub record Took (told : Bool) (parts : PartsState) (bytes : List ℕ) (old new :
   pub owned : KeepsFile parts.current old next.current new
   pub ready : IsReady next.current new
 
--- where names ran out: the input needs more, and what has a name is out
+-- where names ran out: the input needs more, and the files that have a name are written
 abbrev pub RunsShort : Bool → PartsState → List ℕ → List Slot → List Slot → Type 0
 RunsShort told state bytes old new = (x : List ℕ) → Stands state x
     → (are_named state.names (length (parts state.limit (x ++ bytes))) ≡ false) × (IsAtEnd state.current old → Moves told state.names (settled_parts state.limit x) (settled_parts state.limit (x ++ bytes)) old new)
@@ -92,7 +92,7 @@ abbrev pub Steps : Bool → PartsState → List ℕ → List Slot → List Slot 
 Steps told parts piece old new next (Ok n) = (0 < n) × (n ≤ length piece) × Took told parts (take n piece) old new next
 Steps told parts piece old new next (Err fault) = Stopped told parts piece old new next fault
 
--- and so all of it
+-- all of the piece was taken in, or a fault came
 abbrev pub Passes : Bool → PartsState → List ℕ → List Slot → List Slot → PartsState → Result (Unit {0}) Fault → Type 0
 Passes told parts piece old new next (Ok done) = Took told parts piece old new next
 Passes told parts piece old new next (Err fault) = Stopped told parts piece old new next fault
@@ -114,7 +114,7 @@ pub data HasFile (parts : PartsState) (old new : List Slot) (next : PartsState) 
   made : parts.current ≡ None → slot ≡ length old → IsTrue (has_next parts.names) → next ≡ record parts { names = with_one_drawn parts.names; current = Some slot }
       → new ≡ old ++ opened (next_name parts.names) Fresh ∷ [] → HasFile parts old new next slot
 
--- it couldn't be opened
+-- the file of the part that was begun couldn't be opened
 pub record HasNone (parts : PartsState) (old new : List Slot) (next : PartsState) (fault : Fault) : Type 0 where
   pub none : parts.current ≡ None
   pub opens : OpensNone parts.names old new fault
@@ -125,7 +125,7 @@ abbrev pub FindsFile : PartsState → List Slot → List Slot → PartsState →
 FindsFile parts old new next (Ok slot) = HasFile parts old new next slot
 FindsFile parts old new next (Err fault) = HasNone parts old new next fault
 
--- behind these shares one part is begun, and no name was drawn for another
+-- after these shares one part is begun, and no name was drawn for another
 pub record IsLast (parts : PartsState) (shares : List Share) : Type 0 where
   pub drawn : parts.names.drawn ≡ suc (length shares)
   pub named : is_named parts.names (length shares) ≡ true
@@ -141,7 +141,7 @@ pub record Extended (told : Bool) (parts : PartsState) (bytes : List ℕ) (old n
   pub owned : KeepsFile parts.current old next.current new
   pub ready : IsReady (Some slot) new
 
--- a fault came among them
+-- a fault came while these went to the part that was begun
 pub record Interrupted (told : Bool) (parts : PartsState) (bytes : List ℕ) (old new : List Slot) (next : PartsState) (fault : Fault) : Type 0 where
   pub limit_same : next.limit ≡ parts.limit
   pub names_same : next.names ≡ record parts.names { drawn = next.names.drawn }
@@ -173,7 +173,7 @@ pub record Turned (told : Bool) (parts : PartsState) (bytes : List ℕ) (old new
   pub owned : KeepsFile parts.current old next.current new
   pub ready : IsReady next.current new
 
--- a fault came meanwhile
+-- a fault came while the part ended and the next began
 pub record TurnsNot (told : Bool) (parts : PartsState) (bytes : List ℕ) (old new : List Slot) (next : PartsState) (fault : Fault) : Type 0 where
   pub limit_same : next.limit ≡ parts.limit
   pub names_same : next.names ≡ record parts.names { drawn = next.names.drawn }
@@ -188,7 +188,7 @@ abbrev pub Turns : Bool → PartsState → List ℕ → List Slot → List Slot 
 Turns told parts bytes old new next (Ok done) = Turned told parts bytes old new next
 Turns told parts bytes old new next (Err fault) = TurnsNot told parts bytes old new next fault
 
--- the input ended, and all of it is out; or a file broke meanwhile
+-- the input ended, and all of it is written; or a file broke meanwhile
 abbrev pub Finishes : Bool → PartsState → List Slot → List Slot → Result (Unit {0}) Fault → Type 0
 Finishes told parts old new (Ok done) = (x : List ℕ) → Stands parts x → IsAtEnd parts.current old → Moves told parts.names (settled_parts parts.limit x) (whole_parts parts.limit x) old new
 Finishes told parts old new (Err fault) = ((slot : ℕ) × (fault ≡ Write slot) × (2 ≤ slot) × Rose slot old new)

@@ -10,7 +10,7 @@ use Rattle.split_core.specs.Parts.{parts}
 use Rattle.split_core.specs.Split.{share, named, are_named, from_start, only_files, settled_parts, split_means}
 use Rattle.split_core.specs.PartsState.{PartsState, IsReady, OwnsFile}
 
--- what `split` makes of an input by this limit, whatever else it is asked
+-- what `split` makes of an input by this limit, whatever else is asked of it
 abbrev pub parts_work : Limit → Naming → Work
 parts_work limit names = record {
   settled = λ x. only_files (named names 0 (settled_parts limit x));
@@ -21,7 +21,7 @@ parts_work limit names = record {
   means = split_means;
 }
 
--- how many names were drawn is no matter
+-- the work of a state: it doesn't depend on how many names were drawn
 abbrev pub work : PartsState → Work
 work state = parts_work state.limit (from_start state.names)
 

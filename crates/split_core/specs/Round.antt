@@ -16,7 +16,7 @@ round_plan count elide names = record { cut = Round count; elide = elide; names 
 abbrev pub plan_of : RoundState → Plan
 plan_of round = round_plan round.count round.elide (from_start round.files.names)
 
--- what `split` makes of an input so, where all files have names
+-- what `split` makes of an input whose lines it deals, where all files have names
 abbrev pub round_work : Plan → Work
 round_work plan = record {
   settled = settled_by plan;
@@ -30,7 +30,7 @@ round_work plan = record {
 abbrev pub work : RoundState → Work
 work round = round_work (plan_of round)
 
--- so many files are open once x came in: all of them, or those that have a line
+-- how many files are open once x came in: all of them, or those that have a line
 abbrev pub opened_by : Bool → ℕ → List ℕ → ℕ
 opened_by elide n x = if elide then min n (line_count x) else n
 
@@ -56,8 +56,8 @@ pub record AreReady (files : FilesState) (slots : List Slot) : Type 0 where
 abbrev pub Ready : RoundState → List Slot → Type 0
 Ready round slots = AreReady round.files slots
 
--- the files that are open stand in order from this place on, and as long as each name that was drawn is that of one, they are the
--- last outputs
+-- the files that are open stand in order from this place on; and as long as each name that was drawn is the name of one of
+-- them, they are the last outputs
 pub record OwnsFiles (files : FilesState) (first : ℕ) (slots : List Slot) : Type 0 where
   pub stand : (place : ℕ) → place < length files.outputs → output_at files place ≡ first + place
   pub last : files.names.drawn ≡ length files.outputs → first + length files.outputs ≡ length slots

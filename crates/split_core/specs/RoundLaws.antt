@@ -18,7 +18,7 @@ begin_step : (is : Bool) (file high : File) (files wholes : List File) → file.
 begin_step true file high files wholes name mode sound open_yet bytes rest = (name, mode, sound, inl open_yet, bytes, rest)
 begin_step false file high files wholes name mode sound open_yet bytes rest = tt
 
--- where the bytes begin others, so do the files
+-- where the bytes of some files begin the bytes of others, those files begin these
 pub named_begin : (names : Naming) (place : ℕ) (high : State) (these those : List (List ℕ)) → AllBegin these those → FilesBegin (named names place (map (share Open) these)) (named names place (map (share high) those))
 named_begin names place high [] those begin = tt
 named_begin names place high (bytes ∷ these) [] begin = absurd begin

@@ -33,7 +33,7 @@ shares_trans (share ∷ low) [] high first second = absurd first
 shares_trans (share ∷ low) (mid ∷ middle) [] first second = absurd second
 shares_trans (share ∷ low) (mid ∷ middle) (whole ∷ high) first second = (kept_trans (λ (those : Share). those.state) share mid whole first.0 second.0, begins_trans _ _ _ first.1 second.1, shares_trans low middle high first.2 second.2)
 
--- what begins behind the same
+-- shares that begin others still do after the same front
 pub shares_behind : (front low high : List Share) → SharesBegin low high → SharesBegin (front ++ low) (front ++ high)
 shares_behind [] low high begins = begins
 shares_behind (share ∷ front) low high begins = (inr refl, begins_itself share.bytes, shares_behind front low high begins)
@@ -42,7 +42,7 @@ pub shares_more : (shares more : List Share) → SharesBegin shares (shares ++ m
 shares_more [] more = tt
 shares_more (share ∷ shares) more = (inr refl, begins_itself share.bytes, shares_more shares more)
 
--- the last one grew
+-- the last share grew
 pub last_grows : (front more : List Share) (one other : Share) → (one.state ≡ Open) ⊎ (one ≡ other) → IsBeginning one.bytes other.bytes → SharesBegin (front ++ one ∷ []) (front ++ other ∷ more)
 last_grows front more one other kept begins = shares_behind front (one ∷ []) (other ∷ more) (kept, begins, tt)
 
@@ -121,7 +121,7 @@ take_begins_long n [] y short = (take n y, refl)
 take_begins_long zero (byte ∷ x) y short = absurd (omega arith)
 take_begins_long (suc n) (byte ∷ x) y short = let behind = take_begins_long n x y (omega arith) in (behind.0, ap (λ rest. byte ∷ rest) behind.1)
 
--- what is settled of a text without a full part begins what comes of it
+-- what is settled of a text without a full part begins the first part of the text that goes on
 
 settled_in_full : (limit : Limit) (x y : List ℕ) → measure limit x < most limit → IsBeginning (settled_rest limit x) (first_part limit (x ++ y))
 settled_in_full (Lines n) x y short = (_, first_lines-append n x y ∙ ap (λ front. front ++ first_lines (n - newlines x) y) (first_lines-short n x short))
@@ -137,7 +137,7 @@ settled_in_rest (LineBytes n) x y = whole_begins x y
 pub settled_in_whole : (limit : Limit) (x : List ℕ) → IsBeginning (settled_rest limit x) x
 settled_in_whole limit x = (_, sym (settled_then_waiting limit x))
 
--- what files get of a text that goes on: the full parts of the text, and then what comes of the rest
+-- what files get of a text that goes on: the full parts of the text, and then what they get of the rest and what follows
 
 pub settled_on : (limit : Limit) (x y : List ℕ) → settled_parts limit (x ++ y) ≡ map (share Closed) (cut_up limit x).full ++ settled_parts limit ((cut_up limit x).rest ++ y)
 settled_on limit x y =
@@ -207,7 +207,7 @@ pub shut_more : (shares : List Share) (one : Share) → AllShut shares → one.s
 shut_more [] one shut is = (is, tt)
 shut_more (share ∷ shares) one shut is = (shut.0, shut_more shares one shut.1 is)
 
--- as many files are written as the text has parts
+-- there are as many shares as the text has parts
 
 unless_count : (low high : List ℕ) → (0 < length high → 0 < length low) → (0 < length low → 0 < length high) → length (unless_empty low) ≡ length (unless_empty high)
 unless_count [] [] some back = refl
@@ -281,7 +281,7 @@ some_by (part ∷ full) rest x is some = omega arith
 pub parts_some : (limit : Limit) (x : List ℕ) → 0 < length x → 0 < length (parts limit x)
 parts_some limit x some = some_by (cut_up limit x).full (cut_up limit x).rest x (cut_all limit x) some
 
--- a part that was begun, or not yet, begins it with more bytes
+-- a part that was begun, or wasn't yet, begins the same part with more bytes
 pub begun_grows : (front : List Share) (begun more : List ℕ) → IsBeginning begun more → SharesBegin (front ++ map (share Open) (unless_empty begun)) (front ++ share Open more ∷ [])
 begun_grows front [] more begins = shares_behind front [] (share Open more ∷ []) tt
 begun_grows front (byte ∷ begun) more begins = shares_behind front (share Open (byte ∷ begun) ∷ []) (share Open more ∷ []) (inl refl, begins, tt)

@@ -10,19 +10,19 @@ use Rattle.split_core.specs.Split.{Share, share, name_of, from_start, file_at, o
 use Rattle.split_core.specs.FilesState.{FilesState}
 use Rattle.split_core.specs.Round.{AreReady, OwnsFiles}
 
--- each begins the one at its place, and there may be more of these
+-- each begins the one at its place, and there may be more of the others
 abbrev pub AllBegin : List (List ℕ) → List (List ℕ) → Type 0
 AllBegin [] wholes = Unit {0}
 AllBegin (bytes ∷ these) [] = ⊥
 AllBegin (bytes ∷ these) (whole ∷ wholes) = IsBeginning bytes whole × AllBegin these wholes
 
--- each has more behind it; where there is more than there are of these, they are new ones
+-- each gets the bytes at its place of the second list; what that list has beyond them is new
 abbrev pub added : List (List ℕ) → List (List ℕ) → List (List ℕ)
 added [] more = more
 added (bytes ∷ these) [] = bytes ∷ these
 added (bytes ∷ these) (next ∷ more) = (bytes ++ next) ∷ added these more
 
--- at least so many of them: what is lacking is empty
+-- at least n of them: those that are lacking are empty
 abbrev pub filled : ℕ → List (List ℕ) → List (List ℕ)
 filled zero these = these
 filled (suc n) [] = [] ∷ filled n []
@@ -37,7 +37,7 @@ filed names place (one ∷ shares) = file_at names place one ∷ filed names (pl
 abbrev pub open_part : Naming → List (List ℕ) → Part
 open_part names these = only_files (filed (from_start names) 0 (map (share state.Open) these))
 
--- so many of them are closed
+-- the first n of them are closed
 abbrev pub closed_first : ℕ → List (List ℕ) → List Share
 closed_first zero these = map (share state.Open) these
 closed_first (suc n) [] = []
@@ -56,7 +56,7 @@ pub record StandAt (told : Bool) (files : FilesState) (before : List Slot) (thes
   pub owns : OwnsFiles files (length before) now
   pub outputs : OutputsAt told before (open_part files.names these) now
 
--- the files stay where they stand
+-- the files still stand where they stood
 abbrev pub KeepsFiles : FilesState → List Slot → FilesState → List Slot → Type 0
 KeepsFiles files old next new = (first : ℕ) → OwnsFiles files first old → OwnsFiles next first new
 
@@ -64,7 +64,7 @@ KeepsFiles files old next new = (first : ℕ) → OwnsFiles files first old → 
 abbrev pub Makes : Bool → FilesState → (List (List ℕ) → List (List ℕ)) → List Slot → List Slot → Type 0
 Makes told files makes old new = (before : List Slot) (these : List (List ℕ)) → StandAt told files before these old → OutputsAt told before (open_part files.names (makes these)) new
 
--- the files became these: at least so many are open, and they have what was made of them
+-- the files became these: at least `count` are open, and they have what was made of them
 pub record Became (told : Bool) (files : FilesState) (makes : List (List ℕ) → List (List ℕ)) (count : ℕ) (old : List Slot) (next : FilesState) (new : List Slot) : Type 0 where
   pub ready : AreReady next new
   pub opened : length next.outputs ≡ max (length files.outputs) count
@@ -74,12 +74,12 @@ pub record Became (told : Bool) (files : FilesState) (makes : List (List ℕ) �
   pub owned : KeepsFiles files old next new
   pub sound : StayBroken old new
 
--- after the files of one list the next has this name, and is one of another
+-- after the files of one list, the next file of the other is due, and it has this name
 abbrev pub IsDue : Naming → List (List ℕ) → List (List ℕ) → List ℕ → Type 0
 IsDue names part those name = (name ≡ name_of (from_start names) (length part)) × (length part < length those)
 
--- A fault at the file at this place stopped them on the way from these bytes to those. The files before it have theirs, and those after
--- it what they had.
+-- A fault at the file at this place stopped them on the way from these bytes to those. The files before it have those
+-- already, and the files after it still have these.
 pub record HaltedAt (told : Bool) (before : List Slot) (names : Naming) (these those : List (List ℕ)) (place : ℕ) (fault : Fault) (now : List Slot) : Type 0 where
   pub part : List (List ℕ)
   pub above : AllBegin these part
@@ -99,12 +99,12 @@ abbrev pub StopsShort : Bool → FilesState → (List (List ℕ) → List (List 
 StopsShort told files makes old new fault = (before : List Slot) (these : List (List ℕ)) → StandAt told files before these old
     → StoppedBetween told before (open_part files.names these) (open_part files.names (makes these)) fault new
 
--- and so many of them were to be closed
+-- a fault came before the first `count` of them were closed
 abbrev pub ClosesShort : Bool → FilesState → ℕ → List Slot → List Slot → Fault → Type 0
 ClosesShort told files count old new fault = (before : List Slot) (these : List (List ℕ)) → StandAt told files before these old
     → StoppedBetween told before (open_part files.names these) (closing_part files.names count these) fault new
 
--- so many of them were closed
+-- the first `count` of them were closed
 abbrev pub HaveClosed : Bool → FilesState → ℕ → List Slot → List Slot → Type 0
 HaveClosed told files count old new = (before : List Slot) (these : List (List ℕ)) → StandAt told files before these old → OutputsAt told before (closing_part files.names count these) new
 

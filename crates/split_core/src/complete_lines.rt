@@ -9,7 +9,7 @@ use std::simd::prelude::*;
 /// How many bytes are looked at in one step.
 const STEP: usize = 64;
 
-/// The complete lines of a text, one after another, and what is left behind the last. It takes no memory. Newlines are
+/// The complete lines of a text, one after another, and what is left after the last. It takes no memory. Newlines are
 /// found for many bytes at once, so that a short line takes no search of its own.
 #[derive(Drop)]
 pub(crate) struct CompleteLines<'a> {
@@ -20,11 +20,11 @@ pub(crate) struct CompleteLines<'a> {
 /// What was seen of the text that is left.
 #[derive(Clone, Copy)]
 struct Ahead {
-    /// So many first bytes have no newline.
+    /// This many bytes at the front have no newline.
     passed: usize,
-    /// So many bytes behind those are known.
+    /// This many bytes after those are known.
     width: usize,
-    /// Which of these are newlines; the first is the lowest bit.
+    /// Which of the known bytes are newlines; the first byte is the lowest bit.
     mask: u64,
 }
 
@@ -105,7 +105,7 @@ fn find(text: &[u8], ahead: Ahead) -> Ahead
     ahead
 }
 
-/// Which of the first bytes are newlines, of as many as a step looks at.
+/// Which of the first `STEP` bytes are newlines: the first byte is the lowest bit.
 #[inline(always)]
 fn mask_of(bytes: &[u8]) -> u64
     ensures { result ≡ newline_mask (take STEP bytes.now) }
@@ -116,7 +116,7 @@ fn mask_of(bytes: &[u8]) -> u64
     mask_of_step(&padded(bytes))
 }
 
-/// The bytes, and zeros behind them.
+/// The bytes, with zeros after them.
 fn padded(bytes: &[u8]) -> [u8; STEP]
     requires { length bytes.now < STEP }
     ensures { result ≡ bytes.now ++ replicate (STEP - length bytes.now) 0 }

@@ -28,7 +28,7 @@ impl Model for Deal {
 }
 
 impl Deal {
-    /// For so many files, the first of which gets the first line.
+    /// Deals to `count` files, the first of which gets the first line.
     pub(crate) fn new(alloc: Global, count: u64) -> Result<Deal, AllocError>
         requires { 0 < count }
         ensures count { IfOk result (λ deal. length deal.gathered ≡ count) }
@@ -41,7 +41,7 @@ impl Deal {
         Ok(Deal { gathered, next: 0 })
     }
 
-    /// What was gathered for the files at the places below this one.
+    /// What was gathered for the first `count` files.
     pub(crate) fn first(&self, count: usize) -> &[Gathered]
         requires { count ≤ length self.now.gathered }
         ensures { result.now ≡ take count self.now.gathered }
@@ -49,8 +49,8 @@ impl Deal {
         &self.gathered[..count]
     }
 
-    /// Gathers the lines of a piece, each for its file, in place of what was gathered before. A line that was open goes on
-    /// in its file. It answers below which place all files are that any byte went to.
+    /// Gathers the lines of a piece, each for its file, in place of what was gathered before. A line that was open
+    /// goes on in its file. It returns a number n: only the first n files got any byte.
     pub(crate) fn gather(&mut self, piece: &[u8]) -> Result<usize, AllocError>
         ensures count { length self.new.gathered ≡ length self.old.gathered }
         ensures gathered { OnOk result (self.new.gathered ≡ dealt_piece (length self.old.gathered) self.old.next piece.now) }
@@ -86,7 +86,7 @@ fn clear(gathered: &mut Vec<Gathered>)
     }
 }
 
-/// Gathers the first bytes of a text for one file.
+/// Gathers the first `count` bytes of a text for the file at a place.
 #[inline(always)]
 fn append_to(
     gathered: &mut Vec<Gathered>,
@@ -102,7 +102,7 @@ fn append_to(
     gathered[place].append(text, count)
 }
 
-/// The place behind one, of so many places in turn.
+/// The place after this one, of `count` places in turn.
 fn after(place: usize, count: usize) -> usize
     requires { place < count }
     ensures { result ≡ (place + 1) % count }

@@ -10,7 +10,7 @@ const CHUNK: usize = 16;
 #[derive(Drop)]
 pub(crate) struct Gathered {
     room: Vec<u8>,
-    /// How many first bytes of the room are taken.
+    /// How many bytes at the front of the room are taken.
     len: usize,
 }
 
@@ -25,7 +25,7 @@ impl Model for Gathered {
 }
 
 impl Gathered {
-    /// It takes no memory yet.
+    /// An empty one, which takes no memory yet.
     pub(crate) fn new(alloc: Global) -> Gathered
         ensures { result ≡ [] }
     {
@@ -41,7 +41,7 @@ impl Gathered {
         &self.room[..self.len]
     }
 
-    /// Puts the first bytes of a text behind the others, this many.
+    /// Appends the first `count` bytes of a text.
     #[inline(always)]
     pub(crate) fn append(&mut self, text: &[u8], count: usize) -> Result<(), AllocError>
         requires { count ≤ length text.now }
@@ -74,7 +74,7 @@ impl Gathered {
     }
 }
 
-/// Finds room for this many bytes, and for twice as many where it has to grow.
+/// Finds room for `count` bytes, or for twice as many where it has to grow.
 fn make_room(room: &mut Vec<u8>, count: usize) -> Result<(), AllocError>
     ensures more { OnOk result (count ≤ length room.new.items) }
     ensures kept { (n : ℕ) → n ≤ length room.old.items → take n room.new.items ≡ take n room.old.items }
@@ -86,7 +86,7 @@ fn make_room(room: &mut Vec<u8>, count: usize) -> Result<(), AllocError>
     room.resize(count.saturating_mul(2).max(CHUNK), 0)
 }
 
-/// Copies a chunk to a place. How much of it counts is up to the caller.
+/// Copies a chunk to a place. Which of its bytes count is up to the caller.
 #[inline(always)]
 fn copy_chunk(room: &mut Vec<u8>, at: usize, text: &[u8])
     requires within { at + CHUNK ≤ length room.old.items }

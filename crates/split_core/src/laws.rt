@@ -12,8 +12,9 @@ ghost use Rattle.split_core.specs.declared.ways.Ways.{Ways};
 
 use crate::Limit;
 
-/// Parts of n lines, or of n bytes, are runs: part i has the lines, or the bytes, at the places from i * n to less than
-/// (i + 1) * n. There are as many parts as hold all of them, and no more (POSIX.1-2017, XCU split, `-l` and `-b`).
+/// Parts of n lines, or of n bytes, are runs: part i has the lines, or the bytes, at the places from i * n to less
+/// than (i + 1) * n. There are as many parts as hold all of them, and no more (POSIX.1-2017, XCU split, `-l` and
+/// `-b`).
 pub fn parts_are_runs()
     ensures lines { (n : ℕ) (x : List ℕ) → 0 < n → parts (Lines n) x ≡ line_parts n x }
     ensures bytes { (n : ℕ) (x : List ℕ) → 0 < n → parts (Bytes n) x ≡ byte_parts n x }
@@ -25,17 +26,17 @@ pub fn parts_are_runs()
     ensures few_by_bytes { (n : ℕ) (x : List ℕ) → 0 < n → length (parts (Bytes n) x) * n < length x + n }
 {}
 
-/// Parts of whole lines within n bytes are those of the definition by what remains, and no other list is. None is empty, and
-/// none has more than n bytes (GNU coreutils manual, split, `-C`).
+/// Parts of whole lines within n bytes are those of the definition by what remains, and no other list is. None is
+/// empty, and none has more than n bytes (GNU coreutils manual, split, `-C`).
 pub fn line_byte_parts()
     ensures are { (n : ℕ) (x : List ℕ) → 0 < n → AreLineByteParts n x (parts (LineBytes n) x) }
     ensures once { (n : ℕ) (x : List ℕ) (those : List (List ℕ)) → 0 < n → AreLineByteParts n x those → those ≡ parts (LineBytes n) x }
     ensures within { (n : ℕ) (x : List ℕ) → 0 < n → All (λ part. (0 < length part) × (length part ≤ n)) (parts (LineBytes n) x) }
 {}
 
-/// What a text and what follows it are cut into: the parts that the text has in full, and then those of what is left of it and
-/// what follows. So a part that is full never changes. Nothing is lost: the parts are together the text, and what is settled and
-/// what waits are together what came in. What waits is shorter than a part.
+/// What a text and what follows it are cut into: the parts that the text has in full, and then those of what is left
+/// of it and what follows. So a part that is full never changes. Nothing is lost: the parts are together the text,
+/// and what is settled and what waits are together what came in. What waits is shorter than a part.
 pub fn parts_go_on(limit: Limit)
     ensures parts { (x y : List ℕ) → parts limit (x ++ y) ≡ (cut_up limit x).full ++ parts limit ((cut_up limit x).rest ++ y) }
     ensures settled { (x y : List ℕ) → settled_parts limit (x ++ y) ≡ map (share Closed) (cut_up limit x).full ++ settled_parts limit ((cut_up limit x).rest ++ y) }
@@ -47,10 +48,10 @@ pub fn parts_go_on(limit: Limit)
     let _ = limit;
 }
 
-/// Lines that are dealt in turn to n files: line k of a file is the line of the text at the file's place and k times n, and
-/// no byte is lost. What a file has of a text that goes on is what it has of the text, and then of what follows, dealt from
-/// behind the text's last newline. Where files that get no line are left out, the first ones are left: as many as there are
-/// lines (GNU coreutils manual, split, `-n r/N` and `-e`).
+/// Lines that are dealt in turn to n files: line k of the file at a place is the line of the text at that place plus
+/// k times n, and no byte is lost. What a file has of a text that goes on is what it has of the text, and then its
+/// lines of what follows, in the turn that comes after the text's last newline. Where files that get no line are left
+/// out, the first ones are left: as many as there are lines (GNU coreutils manual, split, `-n r/N` and `-e`).
 pub fn lines_are_dealt()
     ensures at { (n file k : ℕ) (x : List ℕ) → file < n → get_or (lines_of (get_or (round_robin n x) file [])) k [] ≡ get_or (lines_of x) (file + k * n) [] }
     ensures all { (n : ℕ) (x : List ℕ) → 0 < n → length (joined (round_robin n x)) ≡ length x }

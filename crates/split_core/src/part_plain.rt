@@ -6,7 +6,7 @@ use std::alloc::{AllocError, Global};
 ///
 /// # Errors
 ///
-/// Where there is no room for them.
+/// `AllocError` where there is no room for them.
 pub fn plain_parts<'a>(
     alloc: Global,
     limit: Limit,
@@ -43,7 +43,7 @@ fn first_size(limit: Limit, text: &[u8]) -> usize {
     }
 }
 
-/// How many bytes the first so many lines have.
+/// How many bytes the first `most` lines have.
 fn lines_size(most: u64, text: &[u8]) -> usize {
     let mut size = 0usize;
     let mut lines = 0u64;
@@ -70,7 +70,7 @@ fn bytes_size(most: u64, text: &[u8]) -> usize {
     size
 }
 
-/// Where the last newline of the first so many bytes ends, or so many where none is among them.
+/// Where the last newline among the first `most` bytes ends, or `most` where there is none.
 fn whole_lines_size(most: usize, text: &[u8]) -> usize {
     let mut end = most;
     let mut size = 0usize;

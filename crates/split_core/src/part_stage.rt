@@ -1,5 +1,5 @@
-//! Parts that follow one another, as a stage (POSIX.1-2017, XCU split; `-C` is GNU's). It takes memory for names, and for the
-//! bytes that wait: fewer than a part has, and only under a limit of bytes for whole lines.
+//! Parts that follow one another, as a stage (POSIX.1-2017, XCU split; `-C` is GNU's). It takes memory for names, and
+//! for the bytes that wait: fewer than a part has, and only under a limit of bytes for whole lines.
 ghost use Rattle.std.specs.Prelude.{◌≡◌, true};
 ghost use Rattle.split_core.specs.PartState.{Owns, Ready, work};
 ghost use Rattle.split_core.specs.PartStateLaws.{lawful};

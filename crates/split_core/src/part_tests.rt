@@ -1,4 +1,4 @@
-//! Cutting into parts that follow one another: what each file has got on rows that no clause shows, and each short text, cut into
+//! Cutting into parts that follow one another: what each file gets, row by row, and each short text, cut into
 //! pieces in each way, beside the plain program.
 ghost use Rattle.std.specs.Prelude.{◌≡◌, ◌≤◌, false, length, IfOk};
 ghost use Rattle.split_core.specs.Ways.{Ready};
@@ -182,7 +182,7 @@ fn stops_at_a_broken_file(rt: HostRuntime) -> Result<(), Fail> {
     Ok(())
 }
 
-/// A line of the first file is an open, a write and a close; the next file is opened behind them.
+/// A line of the first file takes an open, a write and a close; the next file is opened after these.
 #[test]
 fn closes_a_file_before_it_opens_the_next(rt: HostRuntime) -> Result<(), Fail> {
     let rows: [(u64, Fault, &[&[u8]]); 4] = [
@@ -269,7 +269,8 @@ fn has_files(outs: &MemOut, files: &[&[u8]]) -> bool {
     outs.name(slot).is_empty()
 }
 
-/// For each size of a text how many texts there are of two letters and a newline, and how many ways to cut one into pieces.
+/// For each size of a text: how many texts there are of two letters and a newline, and how many ways to cut one
+/// into pieces.
 const SIZES: [(usize, u32, u32); 7] = [
     (0, 1, 1),
     (1, 3, 1),
@@ -350,7 +351,7 @@ fn agrees_on_size(
     Ok(true)
 }
 
-/// A text with this number: its bytes are the digits.
+/// The text with this number: its bytes stand for the number's digits.
 fn text_of(number: u32) -> [u8; 6] {
     let mut text = [b'\n'; 6];
     let mut left = number;
@@ -393,8 +394,8 @@ fn agrees_under(alloc: Global, limit: Limit, text: &[u8], ways: u32) -> Result<b
     Ok(true)
 }
 
-/// Feeds a text in pieces: one ends behind each byte whose bit in `cuts` is set. Whether after each what came in is in these files,
-/// but for what waits.
+/// Feeds a text in pieces: a piece ends after each byte whose bit in `cuts` is set. It returns whether, after each
+/// piece, what came in is in these files, but for what waits.
 fn feed_cut(
     splitter: &mut Splitter,
     outs: &mut MemOut,
@@ -423,7 +424,7 @@ fn feed_cut(
     Ok(true)
 }
 
-/// Whether so many bytes are out, and each file has the beginning of what it is to get.
+/// Whether the files have `out` bytes in all, and each has the beginning of what it is to get.
 fn has_begun(outs: &MemOut, files: &[&[u8]], out: usize) -> bool {
     let mut slot = 2usize;
     let mut left = out;

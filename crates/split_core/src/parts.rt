@@ -14,19 +14,19 @@ use seg_core::byte_window::ByteWindow;
 use std::alloc::Global;
 use std::marker::Model;
 
-/// The part that was begun, and the names of the files to come. A file is opened with the first byte of its part, and closed
-/// before the next.
+/// The part that was begun, and the names of the files to come. A file is opened with the first byte of its part, and
+/// closed before the next.
 #[derive(Drop)]
 pub struct Parts {
     names: Names,
     limit: Limit,
     /// How many lines or bytes the part still takes.
     left: u64,
-    /// Under a limit of bytes for whole lines: it has a complete line.
+    /// Under a limit of bytes for whole lines: whether the part has a complete line.
     has_line: bool,
     /// The bytes that wait: they go to this part or to the next.
     waiting: ByteWindow,
-    /// Its file.
+    /// The output of its file, once that is opened.
     current: Option<usize>,
 }
 
@@ -41,7 +41,7 @@ impl Model for Parts {
 }
 
 impl Parts {
-    /// No byte came in yet. The number of the limit is at least 1, and no name was drawn.
+    /// Parts of an input of which no byte came in yet. The number of the limit is at least 1, and no name was drawn.
     ///
     /// # Errors
     ///
@@ -74,7 +74,7 @@ impl Parts {
         self.waiting.len()
     }
 
-    /// The file of the part that was begun, which is opened if it has none.
+    /// The output of the part that was begun. Its file is opened if it has none.
     fn find_file<O: Outs>(&mut self, outs: &mut O) -> Result<usize, Fault>
         ensures { FindsFile self.old (O.slots outs.old) (O.slots outs.new) self.new result }
     {
@@ -90,7 +90,7 @@ impl Parts {
         }
     }
 
-    /// Writes what waits, and these bytes behind it, to the part that was begun, and gives its file.
+    /// Writes what waits, and then these bytes, to the part that was begun, and returns its output.
     fn extend<O: Outs>(&mut self, bytes: &[u8], outs: &mut O) -> Result<usize, Fault>
         requires { IsReady self.old.current (O.slots outs.old) }
         ensures { Extends O.told self.old bytes.now (O.slots outs.old) (O.slots outs.new) self.new result }
@@ -124,7 +124,7 @@ impl Parts {
         }
     }
 
-    /// Ends the part that was begun. What waits, and these bytes behind it, begin the next, if there are any.
+    /// Ends the part that was begun. What waits and these bytes begin the next part, if there are any.
     fn turn<O: Outs>(&mut self, bytes: &[u8], outs: &mut O) -> Result<(), Fault>
         requires ready { IsReady self.old.current (O.slots outs.old) }
         requires room { length self.old.waiting + length bytes.now < most self.old.limit }
@@ -148,7 +148,7 @@ impl Parts {
         Ok(())
     }
 
-    /// Puts a piece behind what waits.
+    /// Appends a piece to what waits, and returns how many bytes the piece has.
     fn wait(&mut self, piece: &[u8]) -> Result<usize, Fault>
         requires { length piece.now < self.old.left }
         ensures count { IfOk result (λ n. n ≡ length piece.now) }
@@ -163,7 +163,7 @@ impl Parts {
         Ok(piece.len())
     }
 
-    /// Takes in a beginning of a piece that isn't empty, and says how many bytes that is.
+    /// Takes in a beginning of a piece that isn't empty, and returns how many bytes that is.
     fn step<O: Outs>(&mut self, piece: &[u8], outs: &mut O) -> Result<usize, Fault>
         requires some { 0 < length piece.now }
         requires ready { IsReady self.old.current (O.slots outs.old) }
@@ -205,12 +205,12 @@ impl Parts {
         }
     }
 
-    /// Takes in a piece: what is settled with it goes out, and what isn't waits.
+    /// Takes in a piece: what is settled with it is written, and what isn't waits.
     ///
     /// # Errors
     ///
-    /// `Write` where a file broke, `Open` where the next can't be opened, `Memory` where there is no room for what waits or for a
-    /// name, `Suffixes` where no name is left for the next file.
+    /// `Write` where a file broke, `Open` where the next can't be opened, `Memory` where there is no room for what
+    /// waits or for a name, `Suffixes` where no name is left for the next file.
     pub(crate) fn take_in<O: Outs>(&mut self, piece: &[u8], outs: &mut O) -> Result<(), Fault>
         requires { IsReady self.old.current (O.slots outs.old) }
         ensures { Passes O.told self.old piece.now (O.slots outs.old) (O.slots outs.new) self.new result }

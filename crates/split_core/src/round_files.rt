@@ -27,7 +27,7 @@ impl Model for RoundFiles {
 }
 
 impl RoundFiles {
-    /// It takes no memory yet.
+    /// No file is open yet, and no memory is taken.
     pub(crate) fn new(alloc: Global, names: Names) -> RoundFiles
         ensures { result ≡ record { names = names; outputs = [] } }
     {
@@ -37,7 +37,7 @@ impl RoundFiles {
         }
     }
 
-    /// Opens the first files, this many.
+    /// Opens the first `count` files.
     ///
     /// # Errors
     ///
@@ -64,7 +64,8 @@ impl RoundFiles {
     ///
     /// # Errors
     ///
-    /// `Write` where an output broke, `Open` where a file can't be opened, `Memory` where there is no room for a name or for one more output.
+    /// `Write` where an output broke, `Open` where a file can't be opened, `Memory` where there is no room for a name
+    /// or for one more output.
     pub(crate) fn write<O: Outs>(
         &mut self,
         gathered: &[Gathered],
@@ -132,7 +133,7 @@ impl RoundFiles {
         Ok(())
     }
 
-    /// Opens the file at a place, if it isn't open, which must be the next one then.
+    /// Opens the file at a place, if it isn't open. It must be the next one then.
     fn reach<O: Outs>(&mut self, place: usize, outs: &mut O) -> Result<(), Fault>
         requires ready { AreReady self.old (O.slots outs.old) }
         requires near { place ≤ length self.old.outputs }
@@ -175,7 +176,7 @@ impl RoundFiles {
     }
 }
 
-/// Puts an output after the others, where there is room for it.
+/// Appends an output to those that are open, where there is room for it.
 fn put(outputs: &mut Vec<usize>, slot: usize)
     requires { vec_len outputs.old < vec_capacity outputs.old }
     ensures { outputs.new.items ≡ outputs.old.items ++ slot ∷ [] }

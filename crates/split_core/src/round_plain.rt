@@ -1,11 +1,12 @@
 //! Lines dealt in turn as a slow program that sees a whole text at once, to compare the engine with.
 use std::alloc::{AllocError, Global};
 
-/// What the file at a place gets, of so many: the lines whose number leaves that remainder.
+/// What one file of `count` gets: the lines whose number, counted from 0, leaves the file's place as
+/// its remainder.
 ///
 /// # Errors
 ///
-/// Where there is no room for it.
+/// `AllocError` where there is no room for it.
 pub(crate) fn plain(
     alloc: Global,
     count: u64,

@@ -14,14 +14,14 @@ use ports_core::{Fault, Names, Outs, Stage};
 use std::alloc::{AllocError, Global};
 use std::marker::Model;
 
-/// Deals the lines of an input in turn to so many files (GNU coreutils manual, split, `-n r/N`). What each file gets of a
-/// piece is gathered first, which takes as much memory as the piece, and is written at once. The number of each file's output is
-/// kept.
+/// Deals the lines of an input in turn to a number of files (GNU coreutils manual, split, `-n r/N`). What each file
+/// gets of a piece is gathered first, which takes as much memory as the piece, and is written at once. The number of
+/// each file's output is kept.
 #[derive(Drop)]
 pub struct RoundSplitter {
     deal: Deal,
     files: RoundFiles,
-    /// Files are opened at their first byte, and not all at the start.
+    /// Whether files are opened at their first byte, and not all at the start.
     elide: bool,
 }
 
@@ -38,8 +38,8 @@ impl Model for RoundSplitter {
 }
 
 impl RoundSplitter {
-    /// Deals lines to this many files. All of them are opened now; with `elide` each is opened at its first byte, so that
-    /// those that would get none aren't made.
+    /// Deals lines to `count` files. All of them are opened now; with `elide` each is opened at its first byte, so
+    /// that those that would get none aren't made.
     ///
     /// # Errors
     ///
@@ -118,8 +118,8 @@ fn opened_at_start(count: u64, elide: bool) -> usize
 /// Deals a piece, and writes to each file what it gets.
 ///
 /// # Errors
-///
-/// `Memory` where there is no room for the piece, and nothing of it is written, or for a name; `Write` where an output
+/// `Memory` where there is no room for a name, or for the piece, of which nothing is written then; `Write` where an
+/// output broke, `Open` where a file can't be opened.
 /// broke, `Open` where a file can't be opened.
 fn deal_out<O: Outs>(
     deal: &mut Deal,

@@ -1,4 +1,4 @@
-//! Lines dealt in turn: rows of the table, and the engine beside the plain program on each short text, cut into pieces in
+//! Lines dealt in turn, row by row, and the engine beside the plain program on each short text, cut into pieces in
 //! each way.
 ghost use Rattle.std.specs.Prelude.{◌≡◌, ◌<◌, ◌≤◌, false, length, IfOk, OnOk};
 ghost use Rattle.split_core.specs.Ways.{Ready};
@@ -13,7 +13,8 @@ use std::test::Fail;
 /// The first names.
 const NAMES: [&str; 5] = ["xaa", "xab", "xac", "xad", "xae"];
 
-/// For each size of a text how many texts there are of two letters and a newline, and how many ways to cut one into pieces.
+/// For each size of a text: how many texts there are of two letters and a newline, and how many ways to cut one
+/// into pieces.
 const SIZES: [(usize, u32, u32); 7] = [
     (0, 1, 1),
     (1, 3, 1),
@@ -143,7 +144,7 @@ fn agree_on_size(alloc: Global, size: usize, texts: u32, ways: u32) -> Result<bo
     Ok(true)
 }
 
-/// A text with this number: its bytes are the digits.
+/// The text with this number: its bytes stand for the number's digits.
 fn text_of(number: u32) -> [u8; 6] {
     let mut text = [b'\n'; 6];
     let mut left = number;
@@ -181,7 +182,7 @@ fn agree_on_pieces(alloc: Global, count: u64, text: &[u8]) -> Result<bool, Fault
     Ok(true)
 }
 
-/// Whether all files have what they should before the end, and at the end.
+/// Whether all files have what they should, before the end and at the end.
 fn agrees(alloc: Global, count: u64, elide: bool, text: &[u8], cuts: u32) -> Result<bool, Fault>
     requires { 0 < count }
 {
@@ -218,7 +219,7 @@ fn has_all(
     Ok(outs.name(slot).is_empty())
 }
 
-/// Whether the output has the name of its place, of the first ones.
+/// Whether an output has the name of its place, if that is one of the first.
 fn has_name(outs: &MemOut, slot: usize) -> bool {
     match NAMES.get(slot.saturating_sub(2)) {
         Some(name) => outs.name(slot) == *name,
@@ -242,7 +243,7 @@ fn feed(engine: &mut Splitter, outs: &mut MemOut, piece: &[u8]) -> Result<(), Fa
     engine.feed(piece, outs)
 }
 
-/// Feeds a text in pieces: one ends behind each byte whose bit in `cuts` is set.
+/// Feeds a text in pieces: a piece ends after each byte whose bit in `cuts` is set.
 fn feed_in_pieces(
     engine: &mut Splitter,
     outs: &mut MemOut,

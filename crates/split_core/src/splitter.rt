@@ -17,8 +17,8 @@ use ports_core::{Engine, Fault, Guarded, Names, Outs};
 use std::alloc::Global;
 use std::marker::Model;
 
-/// Cuts its input into files (POSIX.1-2017, XCU split; `-C` and `-n r/N` are GNU's). A file is opened with its first byte, and
-/// closed before the next is opened; where lines are dealt, all files are open at once.
+/// Cuts its input into files (POSIX.1-2017, XCU split; `-C` and `-n r/N` are GNU's). A file is opened with its first
+/// byte, and closed before the next is opened; where lines are dealt, all files are open at once.
 #[derive(Drop)]
 pub struct Splitter {
     engine: Guarded<Ways>,
@@ -31,8 +31,9 @@ impl Model for Splitter {
 }
 
 impl Splitter {
-    /// An engine that cuts so, into files of these names, of which none was drawn. The number of the cut is at least 1. Where
-    /// lines are dealt, there are names enough, and all files are opened now, or with `elide` each at its first byte.
+    /// An engine that cuts in this way, into files with these names, of which none was drawn. The number of the cut
+    /// is at least 1. Where lines are dealt, there must be a name for each file, and all files are opened now, or
+    /// with `elide` each at its first byte.
     ///
     /// # Errors
     ///
@@ -74,7 +75,7 @@ impl Splitter {
         }
     }
 
-    /// An engine that cuts in this way, and was fed nothing.
+    /// An engine that cuts in this way, and has been fed nothing.
     fn new(way: Ways) -> Splitter
         ensures { result ≡ record { stage = way; fed = 0; is_over = false } }
     {
@@ -118,7 +119,7 @@ impl Engine for Splitter {
         self.engine.abandon(outs);
     }
 
-    /// Always false: an input that needs more files than there are names is a fault.
+    /// Always false: where the input needs more files than there are names, that is a fault.
     fn done(&self) -> bool {
         self.engine.done()
     }

@@ -55,7 +55,7 @@ impl Stage for Ways {
         }
     }
 
-    /// All files stay.
+    /// It removes nothing: all files stay.
     fn clear<O: Outs>(&mut self, outs: &mut O) {
         let _ = outs;
     }

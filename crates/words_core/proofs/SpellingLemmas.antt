@@ -12,7 +12,7 @@ use Rattle.words_core.specs.Table.{OptionRow}
 use Rattle.words_core.specs.Given.{Given, GivenOption, GivenOperand, nothing, joined}
 use Rattle.words_core.specs.Spelling.{Meaning, before, behind, onward, meaning_of, spelled, ended, Reads}
 
--- what is given first and then
+-- what is given first, and what is given after it
 
 pub joined-assoc : (a b c : Given) → joined a (joined b c) ≡ joined (joined a b) c
 joined-assoc a b c =
@@ -98,7 +98,7 @@ behind-nothing given meant none = ap (λ front. behind front meant) none ∙ sam
   same (Ok more) = refl
   same (Err fault) = refl
 
--- every state but that of an option without its value ends well
+-- every state but one that awaits an option's value ends well
 pub takes_no_value : (state : State) → ((choice : Choice) × (kind : Kind) × (state ≡ First choice kind)) ⊎ ((state ≡ Reading) ⊎ (state ≡ OnlyOperands)) → ended state ≡ Ok nothing
 takes_no_value state (inl first) = ap ended first.2
 takes_no_value state (inr (inl is)) = ap ended is

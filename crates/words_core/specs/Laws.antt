@@ -31,11 +31,11 @@ ends_of options = fold ends_after ten_lines options
 abbrev pub split_of : List GivenOption → Result SplitOptions Fault
 split_of options = split_options options no_options
 
--- how many of what
+-- which unit is counted, and how many
 abbrev pub amount_of : EndsOptions → Measured × Count
 amount_of asked = (asked.unit, asked.count)
 
--- whether an option says how many
+-- whether an option gives a count
 abbrev pub counts : Choice → Meant → Bool
 counts Lines (Counted count) = true
 counts Bytes (Counted count) = true
@@ -73,7 +73,7 @@ spells choice = false
 abbrev pub is_alphabet : GivenOption → Bool
 is_alphabet option = spells option.choice
 
--- whether it says how many
+-- whether it says how wide suffixes are
 abbrev pub widens : Choice → Meant → Bool
 widens SuffixLength (Width width) = true
 widens choice value = false

@@ -149,7 +149,7 @@ start_of (Some number) = First number.0 number.1
 abbrev pub given_by : ToolRow → List (List ℕ) → Result Given Fault
 given_by tool words = spelled tool.options words 1 (start_of tool.number)
 
--- a call read what was meant onto what was given before; or memory was refused
+-- a call added what was meant to what was given before; or memory was refused
 abbrev pub Adds : Result Meaning Fault → Given → Given → Result State Fault → Type 0
 Adds meant old new (Ok next) = before old meant ≡ Ok (record { given = new; next = next })
 Adds meant old new (Err fault) = (fault ≡ Memory) ⊎ (before old meant ≡ Err fault)

@@ -6,7 +6,7 @@ use Rattle.ports_core.specs.declared.alphabet.Alphabet.{Alphabet}
 pub record SplitAsked : Type 0 where
   pub cut : Cut
   pub alphabet : Alphabet
-  -- how many characters a suffix has; the first ones, with `auto`: they widen then
+  -- how many characters a suffix has; with `auto` suffixes widen, and this is the first width
   pub width : ℕ
   pub auto : Bool
   pub elide : Bool

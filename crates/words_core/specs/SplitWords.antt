@@ -73,8 +73,9 @@ abbrev pub way_of : Option Cut → Cut
 way_of None = Lines 1000
 way_of (Some cut) = cut
 
--- The suffixes. A width of 0 is as none. With a width they have that; without one they widen from 2 characters on. Where lines
--- are dealt to files they never widen: the width must name all files, and without one it is the least from 2 on that does.
+-- The suffixes. A width of 0 stands for none. With a width all suffixes have it; without one they widen from 2 characters
+-- on. Where lines are dealt to files they never widen: the width must name all files, and without one it is the least from 2
+-- on that does.
 
 abbrev pub fixed : ℕ → Suffix
 fixed width = record { width = width; auto = false }

@@ -1,4 +1,5 @@
-//! What `head` and `tail` are asked for: POSIX.1-2017, XCU head and tail; `-q`, `-v` and several files for `tail` are GNU's.
+//! What `head` and `tail` are asked for: POSIX.1-2017, XCU head and tail; `-q`, `-v` and several files for `tail` are
+//! GNU's.
 ghost use Rattle.std.specs.Prelude.{◌≡◌, fold, map, IfOk, IfErr};
 ghost use Rattle.words_core.specs.EndsWords.{counted, ends_after, ends_asked, names_asked, ten_lines};
 ghost use Rattle.words_core.specs.Given.{operand_seen, option_seen};
@@ -17,11 +18,14 @@ use std::alloc::Global;
 /// The operand that stands for standard input.
 const STANDARD_INPUT: &str = "-";
 
-/// What options ask for.
+/// What the options of `head` or `tail` ask for.
 #[derive(Clone, Copy, Debug, PartialEq, Eq)]
 pub struct EndsOptions {
+    /// What is counted: lines or bytes.
     pub unit: Unit,
+    /// How many lines or bytes, and from which side.
     pub count: Count,
+    /// When a header goes before an input.
     pub headers: Headers,
 }
 

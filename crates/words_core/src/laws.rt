@@ -22,8 +22,9 @@ use ports_core::{Alphabet, Fault};
 use seg_core::count::Count;
 use split_core::Cut;
 
-/// Of several counts for `head` or `tail` the last decides, as if it stood alone, whatever options stand before it; and so does
-/// the last option for headers. Other options change neither (POSIX.1-2017, XBD 12.2, guideline 11, leaves this to the tool).
+/// Of several counts for `head` or `tail` the last decides, as if it stood alone, whatever options stand before it;
+/// and so does the last option for headers. Other options change neither (POSIX.1-2017, XBD 12.2, guideline 11,
+/// leaves this to the tool).
 pub fn last_of_ends_decides()
     ensures counts { (before after : List GivenOption) (option : GivenOption) → is_count option ≡ true → list_any is_count after ≡ false
         → amount_of (ends_of (before ++ option ∷ after)) ≡ amount_of (ends_of (option ∷ [])) }
@@ -33,8 +34,8 @@ pub fn last_of_ends_decides()
     ensures no_headers { (options : List GivenOption) → list_any is_headers options ≡ false → (ends_of options).headers ≡ (ends_of []).headers }
 {}
 
-/// Of several options for the characters of suffixes the last decides, as if it stood alone, where `split` accepts its options;
-/// and so does the last width.
+/// Of several options for the characters of suffixes the last decides, as if it stood alone, where `split` accepts
+/// its options; and so does the last width.
 pub fn last_of_split_decides()
     ensures alphabet { (before after : List GivenOption) (option : GivenOption) (asked alone : SplitOptions) → is_alphabet option ≡ true → list_any is_alphabet after ≡ false
         → split_of (before ++ option ∷ after) ≡ Ok asked → split_of (option ∷ []) ≡ Ok alone → asked.alphabet ≡ alone.alphabet }
@@ -42,8 +43,8 @@ pub fn last_of_split_decides()
         → split_of (before ++ option ∷ after) ≡ Ok asked → split_of (option ∷ []) ≡ Ok alone → asked.width ≡ alone.width }
 {}
 
-/// Options for `split` are accepted exactly where at most one of them is a way to split; files are cut in that way. A second way
-/// is told by the word in which it stands, whatever follows it.
+/// Options for `split` are accepted exactly where at most one of them is a way to split; files are cut in that way. A
+/// second way is told by the word in which it stands, whatever follows it.
 pub fn one_way_at_most()
     ensures accepted { (options : List GivenOption) → IsOk (split_of options) ↔ (length (filter is_way options) ≤ 1) }
     ensures way { (before after : List GivenOption) (option : GivenOption) (asked : SplitOptions) → is_way option ≡ true → list_any is_way after ≡ false
@@ -52,15 +53,16 @@ pub fn one_way_at_most()
         → split_of (before ++ option ∷ after) ≡ Err (Fault.Usage TwoWays option.word) }
 {}
 
-/// Where options may stand, all words after `--` are operands, whatever they begin with (POSIX.1-2017, XBD 12.2, guideline 10).
+/// Where options may stand, all words after `--` are operands, whatever they begin with (POSIX.1-2017, XBD 12.2,
+/// guideline 10).
 pub fn operands_follow_the_end()
     ensures { (rows : List OptionRow) (words : List (List ℕ)) (place : ℕ)
         → spelled rows (codes "--" ∷ words) place Reading ≡ Ok (record { options = []; operands = as_operands (place + 1) words }) }
 {}
 
-/// The value of an option, where it isn't empty, is spelled in four ways: behind its letter or in the next word, and behind `=`
-/// after its long name or in the next word. All four give the same option and value (POSIX.1-2017, XBD 12.1; GNU's long
-/// options).
+/// The value of an option, where it isn't empty, is spelled in four ways: right after its letter or in the next word,
+/// and after its long name and `=` or in the next word. All four give the same option and value (POSIX.1-2017, XBD
+/// 12.1; GNU's long options).
 pub fn values_are_spelled_alike()
     ensures attached { (rows : List OptionRow) (letter : ℕ) (choice : Choice) (kind : Kind) (value : List ℕ) (meant : Meant) (words : List (List ℕ)) (place : ℕ)
         → IsLetter rows letter choice kind → value ≢ [] → value_in kind value ≡ Ok meant
@@ -82,8 +84,8 @@ pub fn operands_keep_their_order()
         → spelled rows words place state ≡ Ok given → AreAmong given.operands place words }
 {}
 
-/// A first word that isn't a hyphen and digits is read as any other word; one that is gives the option of its tool for it, with
-/// these digits as its value.
+/// A first word that isn't a hyphen and digits is read as any other word. One that is gives the option that its tool
+/// has for it, with these digits as the value.
 pub fn number_comes_first()
     ensures other { (rows : List OptionRow) (choice : Choice) (kind : Kind) (byte : ℕ) (rest : List ℕ) (words : List (List ℕ)) (place : ℕ)
         → is_number rest ≡ false → spelled rows ((byte ∷ rest) ∷ words) place (State.First choice kind) ≡ spelled rows ((byte ∷ rest) ∷ words) place Reading }
@@ -92,8 +94,8 @@ pub fn number_comes_first()
         → spelled rows ((codes "-" ++ digits) ∷ words) place (State.First choice kind) ≡ behind (one_option choice meant place) (spelled rows words (place + 1) Reading) }
 {}
 
-/// What the options of `head` and `tail` ask for, each alone: lines and bytes with their count, headers never or always (POSIX.1-2017,
-/// XCU head and tail; GNU coreutils manual).
+/// What the options of `head` and `tail` ask for, each alone: lines and bytes with their count, headers never or
+/// always (POSIX.1-2017, XCU head and tail; GNU coreutils manual).
 pub fn ends_options_ask()
     ensures head_lines { (value : List ℕ) (count : Count) → count_of value ≡ Ok count
         → settings_of (codes "head" ∷ codes "-n" ∷ value ∷ []) ≡ Ok (Settings.Head (ends_as Unit.Lines count Headers.ForSeveral)) }

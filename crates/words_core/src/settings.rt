@@ -20,12 +20,14 @@ pub enum Settings<'a> {
     Split(SplitSettings<'a>),
 }
 
-/// What `head` or `tail` is to put out of its inputs.
+/// What `head` or `tail` is to write of its inputs.
 #[derive(Drop)]
 pub struct EndsSettings<'a> {
+    /// What is counted: lines or bytes.
     pub unit: Unit,
     /// How many lines or bytes, and from which side.
     pub count: Count,
+    /// When a header goes before an input.
     pub headers: Headers,
     /// The names of the inputs, at least one; `-` is standard input.
     pub names: Vec<&'a str>,
@@ -42,17 +44,20 @@ impl<'a> Model for EndsSettings<'a> {
 pub enum Headers {
     /// Where there is more than one input.
     ForSeveral,
+    /// Before no input.
     Never,
+    /// Before each input, also a single one.
     Always,
 }
 
 /// What `split` is to do with its input. The suffixes of its files' names have 1 to 255 characters.
 #[derive(Drop)]
 pub struct SplitSettings<'a> {
+    /// How the input is cut into files.
     pub cut: Cut,
     /// The characters of the suffixes.
     pub alphabet: Alphabet,
-    /// How many characters a suffix has, or the first suffixes where they widen.
+    /// How many characters a suffix has; of suffixes that widen, the first ones.
     pub width: u32,
     /// Whether suffixes widen.
     pub auto: bool,

@@ -12,24 +12,29 @@ use std::marker::Model;
 /// An option that was given.
 #[derive(Clone, Copy, Debug, PartialEq, Eq)]
 pub struct Chosen<'a> {
+    /// What the option chooses.
     pub choice: Choice,
+    /// Its value, of the kind that its row in the table names.
     pub value: Value<'a>,
-    /// The place of the word in which the option stands.
+    /// The place of the word in which the option stands; the tool's name is word 0.
     pub word: usize,
 }
 
 /// An operand that was given.
 #[derive(Clone, Copy, Debug, PartialEq, Eq)]
 pub struct Operand<'a> {
+    /// The word itself.
     pub text: &'a str,
-    /// The place of the word.
+    /// The place of the word; the tool's name is word 0.
     pub word: usize,
 }
 
 /// The options and operands that words spell, each in their order.
 #[derive(Drop)]
 pub struct Spelled<'a> {
+    /// The options, in the order in which they were given.
     pub options: Vec<Chosen<'a>>,
+    /// The operands, in the order in which they were given.
     pub operands: Vec<Operand<'a>>,
 }
 
@@ -40,7 +45,7 @@ impl<'a> Model for Spelled<'a> {
 }
 
 impl<'a> Spelled<'a> {
-    /// Nothing yet.
+    /// No options and no operands. It takes no memory.
     pub fn new(alloc: Global) -> Self
         ensures { result ≡ record { options = []; operands = [] } }
     {

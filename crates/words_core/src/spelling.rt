@@ -15,11 +15,11 @@ use std::alloc::Global;
 /// What may stand in the next word.
 #[derive(Clone, Copy, Debug, PartialEq, Eq)]
 pub enum State {
-    /// What `Reading` takes, or a hyphen and digits, which are the value of this option.
+    /// Options and operands, or a hyphen and digits, which are then the value of this option.
     First(Choice, Kind),
     /// Options and operands.
     Reading,
-    /// The value of this option, which stands at this place.
+    /// The value of this option. The option stands in the word at this place.
     Awaiting(Choice, Kind, usize),
     /// An operand, whatever it begins with.
     OnlyOperands,
@@ -93,7 +93,7 @@ fn read_word<'a>(
     }
 }
 
-/// The word after the tool's name: a hyphen and digits are a value there.
+/// Reads the word after the tool's name, where a hyphen and digits are an option's value.
 fn read_first<'a>(
     rows: &[OptionRow],
     choice: Choice,
@@ -130,7 +130,7 @@ fn first_letter(text: &str) -> Option<(u8, &str)>
     }
 }
 
-/// A word where options and operands may stand.
+/// Reads a word where options and operands may stand.
 fn read_mixed<'a>(
     rows: &[OptionRow],
     place: usize,
@@ -159,7 +159,7 @@ fn read_operand<'a>(place: usize, word: &'a str, spelled: &mut Spelled<'a>) -> R
     }
 }
 
-/// A long option, with its value where it has one after `=`.
+/// Reads a long option, with its value where it has one after `=`.
 fn read_long<'a>(
     rows: &[OptionRow],
     place: usize,
@@ -186,7 +186,7 @@ fn split_value(word: &str) -> (&[u8], Option<&str>)
     }
 }
 
-/// An option that is given by its long name.
+/// Reads an option that is given by its long name.
 fn read_named<'a>(
     choice: Choice,
     takes: Takes,
@@ -206,7 +206,7 @@ fn read_named<'a>(
     }
 }
 
-/// The letters of a cluster.
+/// Reads the letters of a cluster.
 fn read_cluster<'a>(
     rows: &[OptionRow],
     place: usize,
@@ -236,7 +236,7 @@ fn read_cluster<'a>(
     Ok(State::Reading)
 }
 
-/// What follows a letter that takes a value.
+/// Reads what follows a letter that takes a value.
 fn read_attached<'a>(
     choice: Choice,
     kind: Kind,
@@ -252,7 +252,8 @@ fn read_attached<'a>(
     read_option(choice, kind, place, place, rest, spelled)
 }
 
-/// The value in the word at `place` of an option in the word at the place `option`.
+/// Reads the value, in the word at `place`, of an option that stands in the word at the place
+/// `option`.
 fn read_option<'a>(
     choice: Choice,
     kind: Kind,
@@ -272,7 +273,7 @@ fn read_option<'a>(
     }
 }
 
-/// An option without a value.
+/// Adds an option without a value.
 fn read_bare(choice: Choice, place: usize, spelled: &mut Spelled<'_>) -> Result<State, Fault>
     ensures { Adds (reading (bare choice place)) spelled.old spelled.new result }
 {

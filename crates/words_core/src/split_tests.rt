@@ -1,4 +1,5 @@
-//! What the words after `split` ask for, of which no clause shows that there is memory for it.
+//! What the words after `split` ask for: rows that no clause shows to be read, since there may be
+//! no memory for them.
 use crate::settings::SplitSettings;
 use crate::spelling::read_given;
 use crate::split_words::settle_split;
@@ -19,7 +20,7 @@ fn read_split<'a>(alloc: Global, words: &[&'a str]) -> Result<SplitSettings<'a>,
     }
 }
 
-/// What is asked of the names.
+/// What is asked of the files' names.
 #[derive(Clone, Copy, Debug, PartialEq, Eq)]
 struct Names {
     alphabet: Alphabet,
@@ -298,7 +299,7 @@ fn refuses_lines_as_a_whole(rt: HostRuntime) {
             6,
         ),
         (&["-", "-", "-"], UsageKind::ExtraOperand, 3),
-        // In this order.
+        // Several faults of the line as a whole are told in this order.
         (&["-l2", "-b3", "-n", "r/27", "-a1"], UsageKind::TwoWays, 2),
         (&["a", "b", "c", "-l2", "-b3"], UsageKind::TwoWays, 5),
         (
@@ -306,7 +307,7 @@ fn refuses_lines_as_a_whole(rt: HostRuntime) {
             UsageKind::SuffixTooShort,
             0,
         ),
-        // Behind the faults of single words.
+        // They are told after the faults of single words.
         (&["-l", "2", "-b", "3", "-z"], UsageKind::UnknownOption, 5),
         (&["-l", "2", "-b", "0"], UsageKind::Zero, 4),
         (&["a", "b", "c", "-a", "256"], UsageKind::NumberTooLarge, 5),

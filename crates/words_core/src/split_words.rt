@@ -21,14 +21,16 @@ const STANDARD_INPUT: &str = "-";
 /// What the names of files begin with where no operand says so.
 const PREFIX: &str = "x";
 
-/// What options ask for.
+/// What the options of `split` ask for.
 #[derive(Clone, Copy, Debug, PartialEq, Eq)]
 pub struct SplitOptions {
     /// The way to split, where one is given.
     pub cut: Option<Cut>,
+    /// The characters of the suffixes.
     pub alphabet: Alphabet,
-    /// The width of suffixes, 0 where none is given.
+    /// The width of suffixes in characters, 0 where none is given.
     pub width: u8,
+    /// Whether files that stay empty are left out.
     pub elide: bool,
 }
 
@@ -45,7 +47,7 @@ impl SplitOptions {
     ///
     /// # Errors
     ///
-    /// `Usage` where it is a second way to split: the word in which it stands.
+    /// `Usage` with the place of its word, where it is a second way to split.
     fn with(self, option: &Chosen<'_>) -> Result<Self, Fault>
         ensures { result ≡ split_after self (option_seen option.now) }
     {
@@ -107,10 +109,10 @@ fn way_in(choice: Choice, value: Value<'_>) -> Cut
     }
 }
 
-/// What stands behind the prefix of a name.
+/// What stands after the prefix of a name.
 #[derive(Clone, Copy, Debug, PartialEq, Eq)]
 pub struct Suffix {
-    /// How many characters, or how many at first.
+    /// How many characters it has, or at first has.
     pub width: u32,
     /// Whether suffixes widen.
     pub auto: bool,
@@ -120,7 +122,7 @@ pub struct Suffix {
 ///
 /// # Errors
 ///
-/// `Usage`: what is wrong, and with which word.
+/// `Usage` with what is wrong, and the place of the word.
 pub fn settle_split<'a>(spelled: &Spelled<'a>) -> Result<SplitSettings<'a>, Fault>
     ensures { result ≡ split_asked spelled.now }
 {
@@ -152,7 +154,7 @@ pub fn settle_split<'a>(spelled: &Spelled<'a>) -> Result<SplitSettings<'a>, Faul
 ///
 /// # Errors
 ///
-/// `Usage` where a second way to split is given: the word in which its option stands.
+/// `Usage` with the place of the second one's word, where two ways to split are given.
 fn choose_split(options: &[Chosen<'_>]) -> Result<SplitOptions, Fault>
     ensures { result ≡ split_options (map option_seen options.now) no_options }
 {
@@ -168,7 +170,8 @@ fn choose_split(options: &[Chosen<'_>]) -> Result<SplitOptions, Fault>
     Ok(asked)
 }
 
-/// The suffixes of files that are cut so, where this width is given, and none where it is 0.
+/// The suffixes of files that are cut in this way, if this width is given; a width of 0 stands for
+/// none.
 fn choose_suffix(cut: Cut, alphabet: Alphabet, width: u8) -> Result<Suffix, Fault>
     ensures { result ≡ suffix_for cut alphabet width }
 {
@@ -178,7 +181,7 @@ fn choose_suffix(cut: Cut, alphabet: Alphabet, width: u8) -> Result<Suffix, Faul
     }
 }
 
-/// Suffixes that widen where no width is given.
+/// Suffixes of this width, or ones that widen where it is 0.
 fn free(width: u8) -> Suffix
     ensures { result ≡ free width }
 {
@@ -191,7 +194,8 @@ fn free(width: u8) -> Suffix
     fixed(u32::from(width))
 }
 
-/// The suffixes of files that lines are dealt to.
+/// The suffixes of files that lines are dealt to, of this width, or of the least that names them
+/// all where it is 0.
 fn suffix_of_dealt(alphabet: Alphabet, files: u64, width: u8) -> Result<Suffix, Fault>
     ensures { result ≡ dealt alphabet files width }
 {
@@ -237,7 +241,7 @@ fn names_all(alphabet: Alphabet, files: u64, width: u32) -> bool
     files <= radix(alphabet).saturating_pow(width)
 }
 
-/// How many characters there are.
+/// How many characters an alphabet has.
 fn radix(alphabet: Alphabet) -> u64
     ensures { result ≡ radix alphabet }
 {
@@ -252,7 +256,7 @@ fn radix(alphabet: Alphabet) -> u64
 ///
 /// # Errors
 ///
-/// `Usage` where there is a third one.
+/// `Usage` with the place of the third one, where there are more than two.
 fn take_files<'a>(operands: &[Operand<'a>]) -> Result<(&'a str, &'a str), Fault>
     ensures ok { IfOk result (λ names. files_in (map operand_seen operands.now) ≡ Ok (names.0.now, names.1.now)) }
     ensures err { IfErr result (λ fault. files_in (map operand_seen operands.now) ≡ Err fault) }

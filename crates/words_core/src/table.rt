@@ -1,5 +1,5 @@
-//! The tools and their options, as their manuals list them: POSIX.1-2017, XCU head, tail and split; `-q`, `-v`, the `-c` of
-//! `head`, the `-C`, `-n`, `-d`, `-x` and `-e` of `split` and the long names are GNU's.
+//! The tools and their options, as their manuals list them: POSIX.1-2017, XCU head, tail and split; `-q`, `-v`, the
+//! `-c` of `head`, the `-C`, `-n`, `-d`, `-x` and `-e` of `split` and the long names are GNU's.
 ghost use Rattle.std.specs.Prelude.{◌≡◌, map, option_map};
 ghost use Rattle.words_core.specs.Table.{is_among, option_named, row_named, row_seen, tool_seen, tools};
 

@@ -1,4 +1,5 @@
-//! What the value of an option says (POSIX.1-2017, XBD 12.1; XCU head, tail and split; the suffixes of counts are GNU's).
+//! What the value of an option says (POSIX.1-2017, XBD 12.1; XCU head, tail and split; the suffixes of counts are
+//! GNU's).
 ghost use Rattle.std.specs.Prelude.{◌≡◌, ◌≤◌, IfOk};
 ghost use Rattle.seg_core.specs.Count.{count_of, digits_of};
 ghost use Rattle.words_core.specs.Value.{counted, not_zero, number_fault, round_in, seen_in, size_in, up_to, value_in};
@@ -19,7 +20,7 @@ pub enum Value<'a> {
     Size(u64),
     /// How many files lines are dealt to, 1 to 65,535.
     Files(u64),
-    /// How many characters, 0 to 255.
+    /// A width in characters, 0 to 255.
     Width(u8),
     /// A text.
     Text(&'a str),
@@ -49,7 +50,7 @@ pub fn read_value(kind: Kind, text: &str) -> Result<Value<'_>, UsageKind>
     }
 }
 
-/// A count with or without a sign.
+/// Reads a count with or without a sign.
 fn read_amount(text: &[u8]) -> Result<Count, UsageKind>
     ensures { result ≡ counted (count_of text.now) }
 {
@@ -59,7 +60,7 @@ fn read_amount(text: &[u8]) -> Result<Count, UsageKind>
     }
 }
 
-/// A count, at least 1. A `-` is a bad number, whatever follows it.
+/// Reads a count, at least 1. A `-` is a bad number, whatever follows it.
 fn read_size(text: &[u8]) -> Result<u64, UsageKind>
     ensures { result ≡ size_in text.now }
 {
@@ -72,7 +73,7 @@ fn read_size(text: &[u8]) -> Result<u64, UsageKind>
     }
 }
 
-/// `r/` and the number of files.
+/// Reads `r/` and the number of files.
 fn read_round(text: &[u8]) -> Result<u64, UsageKind>
     ensures { result ≡ round_in text.now }
 {
@@ -85,7 +86,7 @@ fn read_round(text: &[u8]) -> Result<u64, UsageKind>
     }
 }
 
-/// Digits alone, up to a limit.
+/// Reads digits alone, a number up to a limit.
 fn read_number(text: &[u8], limit: u64) -> Result<u64, UsageKind>
     ensures value { result ≡ up_to limit (digits_of text.now) }
     ensures bound { IfOk result (λ number. number ≤ limit) }

@@ -16,8 +16,8 @@ use std::alloc::Global;
 ///
 /// # Errors
 ///
-/// `Usage`: what is wrong, and with which word; the faults of single words come first, from left to right, then those of
-/// the line as a whole. `Memory` where there is no room for what they spell.
+/// `Usage`: what is wrong, and with which word; the faults of single words come first, from left to right, then those
+/// of the line as a whole. `Memory` where there is no room for what they spell.
 pub fn read_words<'a>(alloc: Global, words: &[&'a str]) -> Result<Settings<'a>, Fault>
     ensures ok { IfOk result (λ settings. settings_of (map (λ word. word.now) words.now) ≡ Ok settings) }
     ensures err { IfErr result (λ fault. (fault ≡ Fault.Memory) ⊎ (settings_of (map (λ word. word.now) words.now) ≡ Err fault)) }
