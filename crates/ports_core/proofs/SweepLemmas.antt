@@ -5,7 +5,7 @@ use Rattle.ports_core.specs.Slot.{Slot, has_file, slot_at, changed_at, with_brok
 use Rattle.ports_core.specs.Swept.{AreMade, Cleared, SweptFrom, removed, stuck, none}
 use Rattle.ports_core.specs.declared.fault.Fault.{Fault}
 use Rattle.ports_core.specs.declared.fault.Fault.TheVariants as fault
-use Rattle.ports_core.proofs.SlotLemmas.{length-changed_at, changed_at-again}
+use Rattle.ports_core.proofs.SlotLemmas.{length-changed_at, changed_at-again, slot_at-elsewhere}
 
 -- the files from the first to this place were cleared away
 pub record Sweeping (first place : ℕ) (old now : List Slot) : Type 0 where
@@ -27,19 +27,12 @@ there place change [] has = absurd (false≢true has)
 there zero change (slot ∷ slots) has = refl
 there (suc place) change (slot ∷ slots) has = there place change slots has
 
-elsewhere : (place other : ℕ) (change : Slot → Slot) (slots : List Slot) → (other ≡ place → ⊥) → slot_at (changed_at place change slots) other ≡ slot_at slots other
-elsewhere place other change [] differs = refl
-elsewhere zero zero change (slot ∷ slots) differs = absurd (differs refl)
-elsewhere zero (suc other) change (slot ∷ slots) differs = refl
-elsewhere (suc place) zero change (slot ∷ slots) differs = refl
-elsewhere (suc place) (suc other) change (slot ∷ slots) differs = elsewhere place other change slots (λ same. differs (ap suc same))
-
 one_more : (first place : ℕ) (old now new : List Slot) (change : Slot → Slot) → Sweeping first place old now → first ≤ place → has_file (slot_at old place).state ≡ true
     → Cleared (slot_at old place) (change (slot_at old place)) → new ≡ changed_at place change now → Sweeping first (place + 1) old new
 one_more first place old now new change so_far above has clears is = record {
   size = ap length is ∙ length-changed_at place change now ∙ so_far.size;
-  before = λ other within. ap (λ those. slot_at those other) is ∙ elsewhere place other change now (λ same. omega (arith, same, within, above)) ∙ so_far.before other within;
-  after = λ other past. ap (λ those. slot_at those other) is ∙ elsewhere place other change now (λ same. omega (arith, same, past)) ∙ so_far.after other (omega (arith, past));
+  before = λ other within. ap (λ those. slot_at those other) is ∙ slot_at-elsewhere place other change now (λ same. omega (arith, same, within, above)) ∙ so_far.before other within;
+  after = λ other past. ap (λ those. slot_at those other) is ∙ slot_at-elsewhere place other change now (λ same. omega (arith, same, past)) ∙ so_far.after other (omega (arith, past));
   cleared = λ other past within. by other past within (cases_lt other place);
 } where
   here : slot_at new place ≡ change (slot_at old place)
@@ -47,7 +40,7 @@ one_more first place old now new change so_far above has clears is = record {
 
   by : (other : ℕ) → first ≤ other → other < place + 1 → (other < place) ⊎ (place ≤ other) → Cleared (slot_at old other) (slot_at new other)
   by other past within (inl less) =
-      subst (λ slot. Cleared (slot_at old other) slot) (sym (ap (λ those. slot_at those other) is ∙ elsewhere place other change now (λ same. omega (arith, same, less)))) (so_far.cleared other past less)
+      subst (λ slot. Cleared (slot_at old other) slot) (sym (ap (λ those. slot_at those other) is ∙ slot_at-elsewhere place other change now (λ same. omega (arith, same, less)))) (so_far.cleared other past less)
   by other past within (inr more) =
       let same : place ≡ other = omega (arith, within, more) in
       subst (λ at. Cleared (slot_at old at) (slot_at new at)) same (subst (λ slot. Cleared (slot_at old place) slot) (sym here) clears)

@@ -1,4 +1,4 @@
-ghost use Rattle.std.specs.Prelude.{◌+◌, ◌^◌, ◌<◌, ◌≤◌};
+ghost use Rattle.std.specs.Prelude.{◌+◌, ◌^◌, ◌≤◌};
 ghost use Rattle.ports_core.specs.Swept.{AreMade, SweptFrom};
 
 use crate::Outs;
@@ -7,11 +7,11 @@ use crate::Outs;
 /// the next is tried.
 pub fn sweep_files<O: Outs>(first: usize, count: usize, outs: &mut O)
     requires streams { 2 ≤ first }
-    requires bound { first + count < 2 ^ 64 }
+    requires bound { first + count ≤ 2 ^ 64 }
     requires made { AreMade first count (O.slots outs.old) }
     ensures { SweptFrom first (O.slots outs.old) (O.slots outs.new) }
 {
-    for place in first..first + count {
-        let _ = outs.remove(place);
+    for n in 0..count {
+        let _ = outs.remove(first + n);
     }
 }

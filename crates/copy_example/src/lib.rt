@@ -1,0 +1,10 @@
+//! The smallest tool with a file: an example of an engine over the frame, from its stage to a whole run. Only tests run it.
+#![tactic(auto)]
+
+mod copier;
+mod run;
+#[cfg(test)]
+mod tests;
+
+pub use copier::Copier;
+pub use run::{CopyAdapter, copy_input};
