@@ -25,7 +25,8 @@ pub record ToolRow : Type 0 where
   pub options : List OptionRow
   pub number : Option (Choice × Kind)
 
--- The table of the manuals.
+-- The table of the manuals. After its names an option has what it chooses and the kind of its value; `value_in` says what each
+-- kind means.
 
 abbrev pub option : List (List ℕ) → Choice → Takes → OptionRow
 option names choice takes = record { names = names; choice = choice; takes = takes }

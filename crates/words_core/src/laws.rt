@@ -126,7 +126,7 @@ pub fn split_options_ask()
 {}
 
 /// A hyphen and digits as the only word mean what `-n` means with these digits for `head` and `tail`, and what `-l` means for
-/// `split` (POSIX.1-2017, XCU head, tail and split, obsolescent forms; GNU coreutils manual).
+/// `split` (GNU coreutils manual).
 pub fn numbers_ask()
     ensures head { (digits : List ℕ) (count : Count) → is_number digits ≡ true → count_of digits ≡ Ok count
         → settings_of (codes "head" ∷ (codes "-" ++ digits) ∷ []) ≡ settings_of (codes "head" ∷ codes "-n" ∷ digits ∷ []) }
