@@ -1,5 +1,5 @@
 -- Lemmas on what one option alone asks for.
-use Rattle.std.proofs.Common.{◌≡◌, ℕ, List, [], ◌∷◌, Option, Some, None, Ok, true, codes, false, lit<, refl, ap, ◌∙◌, if◌then◌else◌}
+use Rattle.std.proofs.Common.{◌≡◌, ℕ, List, [], ◌∷◌, ◌++◌, Ok, true, codes, false, lit<, refl, sym, ap, ◌∙◌, if◌then◌else◌}
 use Rattle.seg_core.specs.Count.{count_of, digits_of, is_number}
 use Rattle.seg_core.specs.declared.count.Count.{Count}
 use Rattle.ends_core.specs.declared.unit.Unit.TheVariants as unit
@@ -13,11 +13,11 @@ use Rattle.words_core.specs.declared.table.Kind.TheVariants as kind
 use Rattle.words_core.specs.declared.settings.Headers.TheVariants as headers
 use Rattle.words_core.specs.declared.settings.Settings.TheVariants.{Head, Tail, Split}
 use Rattle.words_core.specs.declared.spelling.State.TheVariants.{First}
-use Rattle.words_core.specs.Table.{OptionRow, ToolRow, row_named, tools}
+use Rattle.words_core.specs.Table.{OptionRow, ends_table, split_table, tools}
 use Rattle.words_core.specs.Value.{Meant, Counted, as_value, counted, round_in, size_in, value_in}
 use Rattle.words_core.specs.Value as meant
 use Rattle.words_core.specs.Given.{one_option}
-use Rattle.words_core.specs.Spelling.{mixed, onward, spelled, valued}
+use Rattle.words_core.specs.Spelling.{mixed, onward, said, spelled, valued}
 use Rattle.words_core.specs.EndsWords.{ten_lines}
 use Rattle.words_core.specs.SplitWords.{least_width, then_check}
 use Rattle.words_core.specs.Words.{settings_for, settings_of}
@@ -32,79 +32,78 @@ one_given rows letter choice number kind of_number value meant is no_digit reads
     ap (λ test. onward (spelled rows (value ∷ []) 2) (if test then valued number of_number 1 1 (letter ∷ []) else mixed rows 1 (45 ∷ letter ∷ []))) no_digit
     ∙ value_after_letter rows letter choice kind value meant [] 1 is reads
 
-rows_of : Option ToolRow → List OptionRow
-rows_of (Some row) = row.options
-rows_of None = []
+-- a hyphen and digits, as the only word after a tool's name
+one_number : (rows : List OptionRow) (choice : Choice) (kind : Kind) (digits : List ℕ) (meant : Meant) → is_number digits ≡ true → value_in kind digits ≡ Ok meant
+    → spelled rows ((45 ∷ digits) ∷ []) 1 (First choice kind) ≡ Ok (one_option choice meant 1)
+one_number rows choice kind digits meant is reads =
+    ap (λ test. onward (spelled rows [] 2) (if test then valued choice kind 1 1 digits else mixed rows 1 (45 ∷ digits))) is
+    ∙ ap (λ value. onward (spelled rows [] 2) (said choice 1 1 value)) reads
 
-ends_rows : List OptionRow
-ends_rows = rows_of (row_named tools (codes "head"))
-
-split_rows : List OptionRow
-split_rows = rows_of (row_named tools (codes "split"))
-
-n_is : IsLetter ends_rows 110 Lines kind.Count
-unfolding tools rows_of ends_rows
+n_is : IsLetter ends_table 110 Lines kind.Count
 n_is = record { named = refl; ascii = lit< tt; no_hyphen = λ is. cc }
 
-c_is : IsLetter ends_rows 99 Bytes kind.Count
-unfolding tools rows_of ends_rows
+c_is : IsLetter ends_table 99 Bytes kind.Count
 c_is = record { named = refl; ascii = lit< tt; no_hyphen = λ is. cc }
 
 pub head_lines : (value : List ℕ) (count : Count) → count_of value ≡ Ok count → settings_of (codes "head" ∷ codes "-n" ∷ value ∷ []) ≡ Ok (Head (ends_as unit.Lines count headers.ForSeveral))
-unfolding tools rows_of ends_rows
-head_lines value count is = ap (λ given. then_check given (settings_for tool.Head)) (one_given ends_rows 110 Lines Lines kind.Count kind.Count value (Counted count) n_is refl (ap (λ those. as_value (λ count. Counted count) (counted those)) is))
+unfolding tools
+head_lines value count is = ap (λ given. then_check given (settings_for tool.Head)) (one_given ends_table 110 Lines Lines kind.Count kind.Count value (Counted count) n_is refl (ap (λ those. as_value (λ count. Counted count) (counted those)) is))
 
 pub head_bytes : (value : List ℕ) (count : Count) → count_of value ≡ Ok count → settings_of (codes "head" ∷ codes "-c" ∷ value ∷ []) ≡ Ok (Head (ends_as unit.Bytes count headers.ForSeveral))
-unfolding tools rows_of ends_rows
-head_bytes value count is = ap (λ given. then_check given (settings_for tool.Head)) (one_given ends_rows 99 Bytes Lines kind.Count kind.Count value (Counted count) c_is refl (ap (λ those. as_value (λ count. Counted count) (counted those)) is))
+unfolding tools
+head_bytes value count is = ap (λ given. then_check given (settings_for tool.Head)) (one_given ends_table 99 Bytes Lines kind.Count kind.Count value (Counted count) c_is refl (ap (λ those. as_value (λ count. Counted count) (counted those)) is))
 
 pub tail_lines : (value : List ℕ) (count : Count) → count_of value ≡ Ok count → settings_of (codes "tail" ∷ codes "-n" ∷ value ∷ []) ≡ Ok (Tail (ends_as unit.Lines count headers.ForSeveral))
-unfolding tools rows_of ends_rows
-tail_lines value count is = ap (λ given. then_check given (settings_for tool.Tail)) (one_given ends_rows 110 Lines Lines kind.Count kind.Count value (Counted count) n_is refl (ap (λ those. as_value (λ count. Counted count) (counted those)) is))
+unfolding tools
+tail_lines value count is = ap (λ given. then_check given (settings_for tool.Tail)) (one_given ends_table 110 Lines Lines kind.Count kind.Count value (Counted count) n_is refl (ap (λ those. as_value (λ count. Counted count) (counted those)) is))
 
 pub tail_bytes : (value : List ℕ) (count : Count) → count_of value ≡ Ok count → settings_of (codes "tail" ∷ codes "-c" ∷ value ∷ []) ≡ Ok (Tail (ends_as unit.Bytes count headers.ForSeveral))
-unfolding tools rows_of ends_rows
-tail_bytes value count is = ap (λ given. then_check given (settings_for tool.Tail)) (one_given ends_rows 99 Bytes Lines kind.Count kind.Count value (Counted count) c_is refl (ap (λ those. as_value (λ count. Counted count) (counted those)) is))
-
-pub quiet : settings_of (codes "tail" ∷ codes "-q" ∷ []) ≡ Ok (Tail (ends_as unit.Lines ten_lines.count headers.Never))
 unfolding tools
-quiet = refl
+tail_bytes value count is = ap (λ given. then_check given (settings_for tool.Tail)) (one_given ends_table 99 Bytes Lines kind.Count kind.Count value (Counted count) c_is refl (ap (λ those. as_value (λ count. Counted count) (counted those)) is))
 
-pub verbose : settings_of (codes "tail" ∷ codes "-v" ∷ []) ≡ Ok (Tail (ends_as unit.Lines ten_lines.count headers.Always))
+pub head_quiet : settings_of (codes "head" ∷ codes "-q" ∷ []) ≡ Ok (Head (ends_as unit.Lines ten_lines.count headers.Never))
 unfolding tools
-verbose = refl
+head_quiet = refl
 
-l_is : IsLetter split_rows 108 Lines kind.Size
-unfolding tools rows_of split_rows
+pub head_verbose : settings_of (codes "head" ∷ codes "-v" ∷ []) ≡ Ok (Head (ends_as unit.Lines ten_lines.count headers.Always))
+unfolding tools
+head_verbose = refl
+
+pub tail_quiet : settings_of (codes "tail" ∷ codes "-q" ∷ []) ≡ Ok (Tail (ends_as unit.Lines ten_lines.count headers.Never))
+unfolding tools
+tail_quiet = refl
+
+pub tail_verbose : settings_of (codes "tail" ∷ codes "-v" ∷ []) ≡ Ok (Tail (ends_as unit.Lines ten_lines.count headers.Always))
+unfolding tools
+tail_verbose = refl
+
+l_is : IsLetter split_table 108 Lines kind.Size
 l_is = record { named = refl; ascii = lit< tt; no_hyphen = λ is. cc }
 
-b_is : IsLetter split_rows 98 Bytes kind.Size
-unfolding tools rows_of split_rows
+b_is : IsLetter split_table 98 Bytes kind.Size
 b_is = record { named = refl; ascii = lit< tt; no_hyphen = λ is. cc }
 
-line_bytes_is : IsLetter split_rows 67 LineBytes kind.Size
-unfolding tools rows_of split_rows
+line_bytes_is : IsLetter split_table 67 LineBytes kind.Size
 line_bytes_is = record { named = refl; ascii = lit< tt; no_hyphen = λ is. cc }
 
-r_is : IsLetter split_rows 110 Files kind.Round
-unfolding tools rows_of split_rows
+r_is : IsLetter split_table 110 Files kind.Round
 r_is = record { named = refl; ascii = lit< tt; no_hyphen = λ is. cc }
 
 pub in_lines : (value : List ℕ) (size : ℕ) → size_in value ≡ Ok size → settings_of (codes "split" ∷ codes "-l" ∷ value ∷ []) ≡ Ok (Split (split_as (cut.Lines size) alphabet.Letters 2 true false))
-unfolding tools rows_of split_rows
-in_lines value size is = ap (λ given. then_check given (settings_for tool.Split)) (one_given split_rows 108 Lines Lines kind.Size kind.Size value (meant.Size size) l_is refl (ap (as_value (λ size. meant.Size size)) is))
+unfolding tools
+in_lines value size is = ap (λ given. then_check given (settings_for tool.Split)) (one_given split_table 108 Lines Lines kind.Size kind.Size value (meant.Size size) l_is refl (ap (as_value (λ size. meant.Size size)) is))
 
 pub in_bytes : (value : List ℕ) (size : ℕ) → size_in value ≡ Ok size → settings_of (codes "split" ∷ codes "-b" ∷ value ∷ []) ≡ Ok (Split (split_as (cut.Bytes size) alphabet.Letters 2 true false))
-unfolding tools rows_of split_rows
-in_bytes value size is = ap (λ given. then_check given (settings_for tool.Split)) (one_given split_rows 98 Bytes Lines kind.Size kind.Size value (meant.Size size) b_is refl (ap (as_value (λ size. meant.Size size)) is))
+unfolding tools
+in_bytes value size is = ap (λ given. then_check given (settings_for tool.Split)) (one_given split_table 98 Bytes Lines kind.Size kind.Size value (meant.Size size) b_is refl (ap (as_value (λ size. meant.Size size)) is))
 
 pub in_line_bytes : (value : List ℕ) (size : ℕ) → size_in value ≡ Ok size → settings_of (codes "split" ∷ codes "-C" ∷ value ∷ []) ≡ Ok (Split (split_as (cut.LineBytes size) alphabet.Letters 2 true false))
-unfolding tools rows_of split_rows
-in_line_bytes value size is = ap (λ given. then_check given (settings_for tool.Split)) (one_given split_rows 67 LineBytes Lines kind.Size kind.Size value (meant.Size size) line_bytes_is refl (ap (as_value (λ size. meant.Size size)) is))
+unfolding tools
+in_line_bytes value size is = ap (λ given. then_check given (settings_for tool.Split)) (one_given split_table 67 LineBytes Lines kind.Size kind.Size value (meant.Size size) line_bytes_is refl (ap (as_value (λ size. meant.Size size)) is))
 
 pub to_files : (value : List ℕ) (files : ℕ) → round_in value ≡ Ok files → settings_of (codes "split" ∷ codes "-n" ∷ value ∷ []) ≡ Ok (Split (split_as (cut.Round files) alphabet.Letters (least_width alphabet.Letters files) false false))
-unfolding tools rows_of split_rows
-to_files value files is = ap (λ given. then_check given (settings_for tool.Split)) (one_given split_rows 110 Files Lines kind.Round kind.Size value (meant.Files files) r_is refl (ap (as_value (λ files. meant.Files files)) is))
+unfolding tools
+to_files value files is = ap (λ given. then_check given (settings_for tool.Split)) (one_given split_table 110 Files Lines kind.Round kind.Size value (meant.Files files) r_is refl (ap (as_value (λ files. meant.Files files)) is))
 
 pub digits : settings_of (codes "split" ∷ codes "-d" ∷ []) ≡ Ok (Split (split_as (cut.Lines 1000) alphabet.Digits 2 true false))
 unfolding tools
@@ -121,3 +120,24 @@ elide = refl
 pub width : settings_of (codes "split" ∷ codes "-a3" ∷ []) ≡ Ok (Split (split_as (cut.Lines 1000) alphabet.Letters 3 false false))
 unfolding tools digits_of
 width = refl
+
+pub head_number : (digits : List ℕ) (count : Count) → is_number digits ≡ true → count_of digits ≡ Ok count
+    → settings_of (codes "head" ∷ (codes "-" ++ digits) ∷ []) ≡ settings_of (codes "head" ∷ codes "-n" ∷ digits ∷ [])
+unfolding tools
+head_number digits count is reads =
+    ap (λ given. then_check given (settings_for tool.Head)) (one_number ends_table Lines kind.Count digits (Counted count) is (ap (λ those. as_value (λ count. Counted count) (counted those)) reads))
+    ∙ sym (head_lines digits count reads)
+
+pub tail_number : (digits : List ℕ) (count : Count) → is_number digits ≡ true → count_of digits ≡ Ok count
+    → settings_of (codes "tail" ∷ (codes "-" ++ digits) ∷ []) ≡ settings_of (codes "tail" ∷ codes "-n" ∷ digits ∷ [])
+unfolding tools
+tail_number digits count is reads =
+    ap (λ given. then_check given (settings_for tool.Tail)) (one_number ends_table Lines kind.Count digits (Counted count) is (ap (λ those. as_value (λ count. Counted count) (counted those)) reads))
+    ∙ sym (tail_lines digits count reads)
+
+pub split_number : (digits : List ℕ) (size : ℕ) → is_number digits ≡ true → size_in digits ≡ Ok size
+    → settings_of (codes "split" ∷ (codes "-" ++ digits) ∷ []) ≡ settings_of (codes "split" ∷ codes "-l" ∷ digits ∷ [])
+unfolding tools
+split_number digits size is reads =
+    ap (λ given. then_check given (settings_for tool.Split)) (one_number split_table Lines kind.Size digits (meant.Size size) is (ap (as_value (λ size. meant.Size size)) reads))
+    ∙ sym (in_lines digits size reads)

@@ -47,10 +47,6 @@ pub went_on : (front given : Given) (rest : State → Result Given Fault) (meant
     → behind front (onward rest meant) ≡ behind given (rest next)
 went_on front given rest meant next is = behind-onward front rest meant ∙ ap (onward rest) is
 
-pub stopped_at : (front : Given) (rest : State → Result Given Fault) (meant : Result Meaning Fault) (fault : Fault) → before front meant ≡ Err fault
-    → behind front (onward rest meant) ≡ Err fault
-stopped_at front rest meant fault is = behind-onward front rest meant ∙ ap (onward rest) is
-
 -- the loop over words: what is left of them
 
 pub front_and_rest : (none : Bor (List ℕ)) (left : List (Bor (List ℕ))) → 1 ≤ length left → map (λ word. word.now) left ≡ (get_or left 0 none).now ∷ map (λ word. word.now) (take (length left - 1) (drop 1 left))
@@ -69,16 +65,6 @@ one_more rows none left place state next front given whole some is spells =
     sym (went_on front given (spelled rows (map (λ word. word.now) (take (length left - 1) (drop 1 left))) (place + 1)) (meaning_of rows state place (get_or left 0 none).now) next is)
     ∙ ap (λ words. behind front (spelled rows words place state)) (sym (front_and_rest none left some))
     ∙ spells
-
-pub none_more : (rows : List OptionRow) (none : Bor (List ℕ)) (left : List (Bor (List ℕ))) (place : ℕ) (state : State) (front : Given) (whole : Result Given Fault) (fault : Fault) → 1 ≤ length left
-    → (fault ≡ Memory) ⊎ (before front (meaning_of rows state place (get_or left 0 none).now) ≡ Err fault)
-    → behind front (spelled rows (map (λ word. word.now) left) place state) ≡ whole
-    → Reads whole (Err fault)
-none_more rows none left place state front whole fault some (inl is) spells = inl is
-none_more rows none left place state front whole fault some (inr is) spells =
-    inr (sym spells
-    ∙ ap (λ words. behind front (spelled rows words place state)) (front_and_rest none left some)
-    ∙ stopped_at front (spelled rows (map (λ word. word.now) (take (length left - 1) (drop 1 left))) (place + 1)) (meaning_of rows state place (get_or left 0 none).now) fault is)
 
 at_end : (rows : List OptionRow) (left : List (Bor (List ℕ))) (place : ℕ) (state : State) (given : Given) (whole : Result Given Fault) → length left < 1
     → behind given (spelled rows (map (λ word. word.now) left) place state) ≡ whole → whole ≡ behind given (ended state)

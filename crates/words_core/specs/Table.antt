@@ -1,12 +1,16 @@
--- The tools and their options: the rows of the table that the code walks, `TOOLS`.
-use Rattle.std.specs.Prelude.{ℕ, Bool, true, false, List, [], ◌∷◌, map, Option, Some, None, if◌then◌else◌}
+-- The tools and their options, as their manuals list them: POSIX.1-2017, XCU head, tail and split; GNU coreutils manual, for `-q`,
+-- `-v` and the `-c` of `head`, the `-C`, `-n`, `-d`, `-x` and `-e` of `split`, and the long names.
+use Rattle.std.specs.Prelude.{ℕ, Bool, true, false, List, [], ◌∷◌, map, codes, Option, Some, None, if◌then◌else◌}
 use Rattle.std.specs.Borrow.{Bor}
 use Rattle.std.specs.Str.{bytes_eq}
 use Rattle.ports_core.specs.declared.tool.Tool.{Tool}
+use Rattle.ports_core.specs.declared.tool.Tool.TheVariants.{Head, Tail, Split}
 use Rattle.words_core.specs.declared.table.Choice.{Choice}
+use Rattle.words_core.specs.declared.table.Choice.TheVariants.{Lines, Bytes, LineBytes, Files, Quiet, Verbose, SuffixLength, NumericSuffixes, HexSuffixes, ElideEmptyFiles}
 use Rattle.words_core.specs.declared.table.Kind.{Kind}
+use Rattle.words_core.specs.declared.table.Kind.TheVariants.{Count, Size, Round, Width}
 use Rattle.words_core.specs.declared.table.Takes.{Takes}
-use Rattle.words_core.specs.declared.table.TheConstants.{TOOLS}
+use Rattle.words_core.specs.declared.table.Takes.TheVariants.{Nothing, Value}
 
 -- an option: its names as they are written, what it chooses, and whether it takes a value
 pub record OptionRow : Type 0 where
@@ -21,20 +25,49 @@ pub record ToolRow : Type 0 where
   pub options : List OptionRow
   pub number : Option (Choice × Kind)
 
+-- The table of the manuals. After its names an option has what it chooses and the kind of its value; `value_in` says what each
+-- kind means.
+
+abbrev pub option : List (List ℕ) → Choice → Takes → OptionRow
+option names choice takes = record { names = names; choice = choice; takes = takes }
+
+-- the options of `head` and `tail`
+abbrev pub ends_table : List OptionRow
+ends_table =
+    option (codes "-n" ∷ codes "--lines" ∷ []) Lines (Value Count)
+    ∷ option (codes "-c" ∷ codes "--bytes" ∷ []) Bytes (Value Count)
+    ∷ option (codes "-q" ∷ codes "--quiet" ∷ codes "--silent" ∷ []) Quiet Nothing
+    ∷ option (codes "-v" ∷ codes "--verbose" ∷ []) Verbose Nothing
+    ∷ []
+
+-- the options of `split`
+abbrev pub split_table : List OptionRow
+split_table =
+    option (codes "-l" ∷ codes "--lines" ∷ []) Lines (Value Size)
+    ∷ option (codes "-b" ∷ codes "--bytes" ∷ []) Bytes (Value Size)
+    ∷ option (codes "-C" ∷ codes "--line-bytes" ∷ []) LineBytes (Value Size)
+    ∷ option (codes "-n" ∷ codes "--number" ∷ []) Files (Value Round)
+    ∷ option (codes "-a" ∷ codes "--suffix-length" ∷ []) SuffixLength (Value Width)
+    ∷ option (codes "-d" ∷ codes "--numeric-suffixes" ∷ []) NumericSuffixes Nothing
+    ∷ option (codes "-x" ∷ codes "--hex-suffixes" ∷ []) HexSuffixes Nothing
+    ∷ option (codes "-e" ∷ codes "--elide-empty-files" ∷ []) ElideEmptyFiles Nothing
+    ∷ []
+
+-- the tools; a hyphen and digits as the first word count lines
+unfoldable pub tools : List ToolRow
+tools =
+    record { name = codes "head"; tool = Head; options = ends_table; number = Some (Lines, Count) }
+    ∷ record { name = codes "tail"; tool = Tail; options = ends_table; number = Some (Lines, Count) }
+    ∷ record { name = codes "split"; tool = Split; options = split_table; number = Some (Lines, Size) }
+    ∷ []
+
+-- a row of the table that the code walks, as one of these
+
 abbrev pub row_seen : (Bor (List (Bor (List ℕ))) × Choice × Takes) → OptionRow
 row_seen row = record { names = map (λ name. name.now) row.0.now; choice = row.1; takes = row.2 }
 
 abbrev pub tool_seen : (Bor (List ℕ) × Tool × Bor (List (Bor (List (Bor (List ℕ))) × Choice × Takes)) × Option (Choice × Kind)) → ToolRow
 tool_seen row = record { name = row.0.now; tool = row.1; options = map row_seen row.2.now; number = row.3 }
-
--- all tools
-unfoldable pub tools : List ToolRow
-tools = map (λ row. record {
-  name = row.0.now;
-  tool = row.1;
-  options = map (λ option. record { names = map (λ name. name.now) option.0.now; choice = option.1; takes = option.2 }) row.2.now;
-  number = row.3;
-}) TOOLS.now
 
 -- the tool of this name in a table
 abbrev pub row_named : List ToolRow → List ℕ → Option ToolRow

@@ -6,7 +6,7 @@ ghost use Rattle.words_core.specs.Given.{operand_seen, option_seen};
 ghost use Rattle.words_core.specs.Spelling.{Reads};
 ghost use Rattle.words_core.specs.Value.{seen};
 
-use crate::settings::{EndsSettings, Headers};
+use crate::settings::{EndsSettings, Headers, STANDARD_INPUT};
 use crate::spelled::{Chosen, Operand, Spelled};
 use crate::table::Choice;
 use crate::value::Value;
@@ -14,9 +14,6 @@ use ends_core::Unit;
 use ports_core::Fault;
 use seg_core::count::{Count, Sign};
 use std::alloc::Global;
-
-/// The operand that stands for standard input.
-const STANDARD_INPUT: &str = "-";
 
 /// What the options of `head` or `tail` ask for.
 #[derive(Clone, Copy, Debug, PartialEq, Eq)]

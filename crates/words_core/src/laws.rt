@@ -105,8 +105,10 @@ pub fn ends_options_ask()
         → settings_of (codes "tail" ∷ codes "-n" ∷ value ∷ []) ≡ Ok (Settings.Tail (ends_as Unit.Lines count Headers.ForSeveral)) }
     ensures tail_bytes { (value : List ℕ) (count : Count) → count_of value ≡ Ok count
         → settings_of (codes "tail" ∷ codes "-c" ∷ value ∷ []) ≡ Ok (Settings.Tail (ends_as Unit.Bytes count Headers.ForSeveral)) }
-    ensures quiet { settings_of (codes "tail" ∷ codes "-q" ∷ []) ≡ Ok (Settings.Tail (ends_as Unit.Lines ten_lines.count Headers.Never)) }
-    ensures verbose { settings_of (codes "tail" ∷ codes "-v" ∷ []) ≡ Ok (Settings.Tail (ends_as Unit.Lines ten_lines.count Headers.Always)) }
+    ensures head_quiet { settings_of (codes "head" ∷ codes "-q" ∷ []) ≡ Ok (Settings.Head (ends_as Unit.Lines ten_lines.count Headers.Never)) }
+    ensures head_verbose { settings_of (codes "head" ∷ codes "-v" ∷ []) ≡ Ok (Settings.Head (ends_as Unit.Lines ten_lines.count Headers.Always)) }
+    ensures tail_quiet { settings_of (codes "tail" ∷ codes "-q" ∷ []) ≡ Ok (Settings.Tail (ends_as Unit.Lines ten_lines.count Headers.Never)) }
+    ensures tail_verbose { settings_of (codes "tail" ∷ codes "-v" ∷ []) ≡ Ok (Settings.Tail (ends_as Unit.Lines ten_lines.count Headers.Always)) }
 {}
 
 /// What the options of `split` ask for, each alone (POSIX.1-2017, XCU split; GNU coreutils manual).
@@ -123,4 +125,15 @@ pub fn split_options_ask()
     ensures hexadecimal { settings_of (codes "split" ∷ codes "-x" ∷ []) ≡ Ok (Settings.Split (split_as (Cut.Lines 1000) Alphabet.Hex 2 true false)) }
     ensures elide { settings_of (codes "split" ∷ codes "-e" ∷ []) ≡ Ok (Settings.Split (split_as (Cut.Lines 1000) Alphabet.Letters 2 true true)) }
     ensures width { settings_of (codes "split" ∷ codes "-a3" ∷ []) ≡ Ok (Settings.Split (split_as (Cut.Lines 1000) Alphabet.Letters 3 false false)) }
+{}
+
+/// A hyphen and digits as the only word mean what `-n` means with these digits for `head` and `tail`, and what `-l` means for
+/// `split` (GNU coreutils manual).
+pub fn numbers_ask()
+    ensures head { (digits : List ℕ) (count : Count) → is_number digits ≡ true → count_of digits ≡ Ok count
+        → settings_of (codes "head" ∷ (codes "-" ++ digits) ∷ []) ≡ settings_of (codes "head" ∷ codes "-n" ∷ digits ∷ []) }
+    ensures tail { (digits : List ℕ) (count : Count) → is_number digits ≡ true → count_of digits ≡ Ok count
+        → settings_of (codes "tail" ∷ (codes "-" ++ digits) ∷ []) ≡ settings_of (codes "tail" ∷ codes "-n" ∷ digits ∷ []) }
+    ensures split { (digits : List ℕ) (size : ℕ) → is_number digits ≡ true → size_in digits ≡ Ok size
+        → settings_of (codes "split" ∷ (codes "-" ++ digits) ∷ []) ≡ settings_of (codes "split" ∷ codes "-l" ∷ digits ∷ []) }
 {}

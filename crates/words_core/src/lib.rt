@@ -16,7 +16,7 @@ mod value;
 mod words;
 
 pub use laws::{
-    ends_options_ask, last_of_ends_decides, last_of_split_decides, number_comes_first,
+    ends_options_ask, last_of_ends_decides, last_of_split_decides, number_comes_first, numbers_ask,
     one_way_at_most, operands_follow_the_end, operands_keep_their_order, split_options_ask,
     values_are_spelled_alike,
 };

@@ -58,10 +58,7 @@ fn read_items<'a>(
     let mut place = 1;
     let mut left = words;
     while let [word, rest @ ..] = left {
-        match read_word(rows, state, place, word, &mut spelled) {
-            Ok(next) => state = next,
-            Err(fault) => return Err(fault),
-        }
+        state = read_word(rows, state, place, word, &mut spelled)?;
         place += 1;
         left = rest;
     }
@@ -226,10 +223,8 @@ fn read_cluster<'a>(
                 return read_attached(choice, kind, place, rest, spelled);
             }
             Some((choice, Takes::Nothing | Takes::Optional(_))) => {
-                match spelled.add_option(choice, Value::Nothing, place) {
-                    Ok(()) => left = rest,
-                    Err(fault) => return Err(fault),
-                }
+                spelled.add_option(choice, Value::Nothing, place)?;
+                left = rest;
             }
         }
     }

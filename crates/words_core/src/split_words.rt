@@ -5,7 +5,7 @@ ghost use Rattle.words_core.specs.Given.{operand_seen, option_seen};
 ghost use Rattle.words_core.specs.SplitWords.{dealt, files_in, fixed, free, least_width, names_all, no_options, one_way, split_after, split_asked, split_options, suffix_for, way_in, with_width};
 ghost use Rattle.words_core.specs.Value.{seen};
 
-use crate::settings::SplitSettings;
+use crate::settings::{STANDARD_INPUT, SplitSettings};
 use crate::spelled::{Chosen, Operand, Spelled};
 use crate::table::Choice;
 use crate::value::Value;
@@ -14,9 +14,6 @@ use split_core::Cut;
 
 /// How files are cut where no way is given.
 const THOUSAND_LINES: Cut = Cut::Lines(1000);
-
-/// The input where no operand names one: standard input.
-const STANDARD_INPUT: &str = "-";
 
 /// What the names of files begin with where no operand says so.
 const PREFIX: &str = "x";
@@ -126,19 +123,10 @@ pub struct Suffix {
 pub fn settle_split<'a>(spelled: &Spelled<'a>) -> Result<SplitSettings<'a>, Fault>
     ensures { result ≡ split_asked spelled.now }
 {
-    let options = match choose_split(&spelled.options) {
-        Ok(options) => options,
-        Err(fault) => return Err(fault),
-    };
+    let options = choose_split(&spelled.options)?;
     let cut = options.cut.unwrap_or(THOUSAND_LINES);
-    let suffix = match choose_suffix(cut, options.alphabet, options.width) {
-        Ok(suffix) => suffix,
-        Err(fault) => return Err(fault),
-    };
-    let (input, prefix) = match take_files(&spelled.operands) {
-        Ok(files) => files,
-        Err(fault) => return Err(fault),
-    };
+    let suffix = choose_suffix(cut, options.alphabet, options.width)?;
+    let (input, prefix) = take_files(&spelled.operands)?;
     Ok(SplitSettings {
         cut,
         alphabet: options.alphabet,
@@ -161,10 +149,7 @@ fn choose_split(options: &[Chosen<'_>]) -> Result<SplitOptions, Fault>
     let mut asked = NO_OPTIONS;
     let mut left = options;
     while let [option, rest @ ..] = left {
-        match asked.with(option) {
-            Ok(next) => asked = next,
-            Err(fault) => return Err(fault),
-        }
+        asked = asked.with(option)?;
         left = rest;
     }
     Ok(asked)

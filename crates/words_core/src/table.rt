@@ -127,7 +127,7 @@ pub const TOOLS: &[ToolRow] = &[
     ),
 ];
 
-/// The table of the tools.
+/// The table of the tools: that of the manuals.
 pub fn all_tools() -> &'static [ToolRow]
     ensures { map tool_seen result.now ≡ tools }
 {

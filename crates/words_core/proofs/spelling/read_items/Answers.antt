@@ -1,6 +1,6 @@
 use Rattle.std.proofs.Common.{map, refl}
 use Rattle.words_core.specs.Table.{row_seen}
-use Rattle.words_core.proofs.SpellingLemmas.{one_more, none_more, lacks_value, behind-nothing, one_place_more}
+use Rattle.words_core.proofs.SpellingLemmas.{one_more, lacks_value, behind-nothing, one_place_more}
 use Rattle.words_core.proofs.spelling.read_items.Goals as goal
 
 pub loop-left-init : goal.loop-left-init
@@ -11,12 +11,9 @@ loop-left-init c = record {
 
 pub loop-left-preserved : goal.loop-left-preserved
 loop-left-preserved c = record {
-  spells = one_more (map row_seen c.args.rows.now) _ c.loop-left.left.now c.loop-left.place c.loop-left.state c.in-Ok.next c.loop-left.spelled c.read_word.new.spelled _ c.in-len1-up.len_at_least c.in-Ok.ensures c.loop-left.invariant.spells;
+  spells = one_more (map row_seen c.args.rows.now) _ c.loop-left.left.now c.loop-left.place c.loop-left.state c.in_ok-state.state c.loop-left.spelled c.read_word.new.spelled _ c.in-len1-up.len_at_least c.in_ok-state.ensures c.loop-left.invariant.spells;
   places = one_place_more c.loop-left.left.now c.loop-left.place _ c.in-len1-up.len_at_least c.loop-left.invariant.places;
 }
-
-pub returns-in-Err : goal.returns-in-Err
-returns-in-Err c = none_more (map row_seen c.args.rows.now) _ c.loop-left.left.now c.loop-left.place c.loop-left.state c.loop-left.spelled _ c.in-Err.fault c.in-len1-up.len_at_least c.in-Err.ensures c.loop-left.invariant.spells
 
 pub returns-in-Awaiting : goal.returns-in-Awaiting
 returns-in-Awaiting c = lacks_value (map row_seen c.args.rows.now) c.loop-left.left.now c.loop-left.place c.loop-left.state c.loop-left.spelled _ c.in-Awaiting.field-0 c.in-Awaiting.field-1 c.in-Awaiting.option c.in_default.len_below c.loop-left.invariant.spells c.in-Awaiting.is
