@@ -1,8 +1,9 @@
 -- The last part of an input, as an engine puts it out: POSIX.1-2017, XCU tail.
-use Rattle.std.specs.Prelude.{◌≡◌, ℕ, ◌-◌, Bool, not, true, false, List, [], length, if◌then◌else◌}
+use Rattle.std.specs.Prelude.{◌≡◌, ℕ, ◌-◌, ◌≤◌, Bool, not, true, false, List, [], length, if◌then◌else◌}
 use Rattle.ports_core.specs.Part.{nothing, only_out}
 use Rattle.ports_core.specs.Work.{Work, on_output, always_well}
 use Rattle.ends_core.specs.declared.unit.Unit.{Unit as Counted}
+use Rattle.ends_core.specs.declared.unit.Unit.TheVariants.{Bytes}
 use Rattle.ends_core.specs.Ends.{measure, last_of, tail_of}
 use Rattle.ends_core.specs.TailState.{TailState}
 
@@ -30,3 +31,6 @@ tail_waiting unit from_nth n x = if from_nth then [] else last_of unit n x
 pub record Holds (tail : TailState) (x : List ℕ) : Type 0 where
   pub left : tail.from_nth ≡ true → tail.left ≡ (tail.count - 1) - measure tail.unit x
   pub waits : tail.waiting ≡ tail_waiting tail.unit tail.from_nth tail.count x
+  -- where nothing waits no memory can be wanting, nor once as many bytes came in as wait
+  pub none : tail.from_nth ≡ true → tail.may_lack ≡ false
+  pub full : tail.unit ≡ Bytes → tail.count ≤ length x → tail.may_lack ≡ false
