@@ -1,25 +1,24 @@
 -- Lemmas on heads.
-use Rattle.std.proofs.Common.{◌≡◌, ℕ, ◌+◌, ◌-◌, ◌<◌, ◌≤◌, ◌==◌, ◌&&◌, not, List, [], ◌∷◌, ◌++◌, length, Bool, true, false, cond, IsTrue, Ok, Err, Result, OnOk, IfErr, nat_le, refl, sym, ◌∙◌, ap, subst, arith, length-append, ◌↔◌, replicate, lit<}
+use Rattle.std.proofs.Common.{◌≡◌, ℕ, ◌+◌, ◌-◌, ◌<◌, ◌≤◌, ◌==◌, ◌&&◌, not, List, [], ◌∷◌, ◌++◌, length, Bool, true, false, IsTrue, Ok, Err, Result, OnOk, IfErr, nat_le, refl, sym, ◌∙◌, ap, subst, arith, length-append, ◌↔◌, replicate, lit<}
 use Rattle.std.proofs.lemmas.Bool.{false≢true, leb-false}
 use Rattle.std.proofs.lemmas.Bool.Decides.{nat_tests}
 use Rattle.std.proofs.lemmas.List.Elements.{All-replicate}
 use Rattle.ports_core.specs.Slot.{Slot, is_writable, with_written, told_of}
 use Rattle.ports_core.specs.Part.{only_out}
-use Rattle.ports_core.specs.Work.{Work, IsLawful}
-use Rattle.ports_core.specs.Engine.{TakesIn, PutsOut, CutsOff, Finishes, EndsShort, EndsWith, EndsThere, IsMet, OwnsNone}
+use Rattle.ports_core.specs.Engine.{TakesIn, PutsOut, CutsOff, EndsWith, IsMet, OwnsNone}
 use Rattle.ports_core.specs.declared.fault.Fault.{Fault}
 use Rattle.ends_core.specs.declared.unit.Unit.{Unit as Counted}
 use Rattle.ends_core.specs.declared.unit.Unit.TheVariants.{Bytes}
 use Rattle.ends_core.specs.declared.head.Way.{Way}
 use Rattle.ends_core.specs.declared.head.Way.TheVariants.{First, ButLast}
 use Rattle.ends_core.specs.HeadState.{HeadState}
-use Rattle.ends_core.specs.Ends.{measure, first_of, last_of, but_last_of, head_of}
+use Rattle.ends_core.specs.Ends.{measure, first_of, last_of, but_last_of}
 use Rattle.ends_core.specs.Head.{head_work, head_waiting, work, Holds, IsDone}
 use Rattle.ends_core.specs.HeadWay.{unit_of, is_but_last, count_of, left_of, waiting_of, due, left_waiting, is_full, may_lack, FullLacksNone, SameWay, state_of}
 use Rattle.ends_core.specs.Kept.{most_of, unit_of as kept_unit}
 use Rattle.ends_core.specs.Stops.{Stops}
 use Rattle.ends_core.specs.HeadLaws.{full_head}
-use Rattle.ends_core.specs.EndsLaws.{measure-append, measure-newlines, first_of-append, first_of-short, first_of-more, last_of-append, but_last_of-append, but_last_grows, ends_together}
+use Rattle.ends_core.specs.EndsLaws.{measure-append, measure-newlines, first_of-append, first_of-short, first_of-more, last_of-append, but_last_of-append, but_last_grows}
 use Rattle.ends_core.proofs.StopLemmas as stop
 use Rattle.ends_core.proofs.KeptLemmas.{full_once}
 

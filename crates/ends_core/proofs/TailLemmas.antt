@@ -1,19 +1,17 @@
 -- Lemmas on tails.
-use Rattle.std.proofs.Common.{◌≡◌, ℕ, ◌+◌, ◌-◌, ◌≤◌, List, [], ◌++◌, length, Bool, true, false, cond, not, Ok, Err, Result, OnOk, IfErr, IsTrue, refl, sym, ◌∙◌, ap, subst, arith, length-append}
+use Rattle.std.proofs.Common.{◌≡◌, ℕ, ◌+◌, ◌-◌, ◌≤◌, List, ◌++◌, length, Bool, true, false, Ok, Err, Result, OnOk, IfErr, IsTrue, refl, sym, ◌∙◌, ap, subst, arith}
 use Rattle.std.proofs.lemmas.List.{append-nil}
 use Rattle.std.proofs.lemmas.Bool.{false≢true}
 use Rattle.ports_core.specs.declared.fault.Fault.TheVariants as fault
 use Rattle.ports_core.specs.Slot.{Slot, is_writable, with_written, told_of}
-use Rattle.ports_core.specs.Part.{nothing, only_out}
-use Rattle.ports_core.specs.Work.{Work, IsLawful}
+use Rattle.ports_core.specs.Part.{only_out}
 use Rattle.ports_core.specs.Engine.{TakesIn, PutsOut, CutsOff, Finishes, EndsShort, EndsWith, EndsThere, IsMet, OwnsNone}
 use Rattle.ports_core.specs.declared.fault.Fault.{Fault}
-use Rattle.ends_core.specs.declared.unit.Unit.{Unit as Counted}
 use Rattle.ends_core.specs.declared.unit.Unit.TheVariants.{Bytes}
 use Rattle.ends_core.specs.declared.tail.Way.{Way}
 use Rattle.ends_core.specs.declared.tail.Way.TheVariants.{FromNth, Last}
 use Rattle.ends_core.specs.TailState.{TailState}
-use Rattle.ends_core.specs.Ends.{measure, behind_of, last_of, tail_of}
+use Rattle.ends_core.specs.Ends.{measure, behind_of, last_of}
 use Rattle.ends_core.specs.EndsLaws.{measure-append, behind_of-append, last_of-append}
 use Rattle.ends_core.specs.Tail.{tail_work, tail_waiting, work, Holds}
 use Rattle.ends_core.specs.TailWay.{unit_of, is_from_nth, count_of, left_of, waiting_of, due, left_waiting, may_lack, FullLacksNone, SameWay, state_of}

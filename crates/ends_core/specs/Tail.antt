@@ -2,6 +2,10 @@
 use Rattle.std.specs.Prelude.{◌≡◌, ℕ, ◌-◌, ◌≤◌, Bool, not, true, false, List, [], length, if◌then◌else◌}
 use Rattle.ports_core.specs.Part.{nothing, only_out}
 use Rattle.ports_core.specs.Work.{Work, on_output, always_well}
+use Rattle.ports_core.specs.Slot.{Slot}
+use Rattle.ports_core.specs.Engine.{IsCaused, IsMet, EndsWith}
+use Rattle.ports_core.specs.Guard.{GuardState, HoldsIn}
+use Rattle.ports_core.specs.declared.fault.Fault.{Fault}
 use Rattle.ends_core.specs.declared.unit.Unit.{Unit as Counted}
 use Rattle.ends_core.specs.declared.unit.Unit.TheVariants.{Bytes}
 use Rattle.ends_core.specs.Ends.{measure, last_of, tail_of}
@@ -34,3 +38,8 @@ pub record Holds (tail : TailState) (x : List ℕ) : Type 0 where
   -- where nothing waits no memory can be wanting, nor once as many bytes came in as wait
   pub none : tail.from_nth ≡ true → tail.may_lack ≡ false
   pub full : tail.unit ≡ Bytes → tail.count ≤ length x → tail.may_lack ≡ false
+
+-- what is known of a fault of `feed`, by its clause `refused`
+abbrev pub IsRefused : GuardState TailState → List ℕ → List Slot → List Slot → Fault → Type 0
+IsRefused tail piece old new fault =
+    IsCaused (IsMet (work tail.stage).means (work tail.stage).means.feeding (tail.stage.may_lack ≡ true) (EndsWith (HoldsIn Holds) (λ (guard : GuardState TailState). work guard.stage) tail piece) old new) tail.is_over tail.fed (length piece) old new fault
