@@ -1,25 +1,25 @@
 -- Lemmas on tails.
-use Rattle.std.proofs.Common.{◌≡◌, ℕ, ◌+◌, ◌-◌, List, [], ◌++◌, length, Bool, true, false, cond, not, Ok, Err, Result, OnOk, IfErr, IsTrue, refl, sym, ◌∙◌, ap, subst, arith, length-append}
+use Rattle.std.proofs.Common.{◌≡◌, ℕ, ◌+◌, ◌-◌, ◌≤◌, List, ◌++◌, length, Bool, true, false, Ok, Err, Result, OnOk, IfErr, IsTrue, refl, sym, ◌∙◌, ap, subst, arith}
 use Rattle.std.proofs.lemmas.List.{append-nil}
 use Rattle.std.proofs.lemmas.Bool.{false≢true}
 use Rattle.ports_core.specs.declared.fault.Fault.TheVariants as fault
 use Rattle.ports_core.specs.Slot.{Slot, is_writable, with_written, told_of}
-use Rattle.ports_core.specs.Part.{nothing, only_out}
-use Rattle.ports_core.specs.Work.{Work, IsLawful}
+use Rattle.ports_core.specs.Part.{only_out}
 use Rattle.ports_core.specs.Engine.{TakesIn, PutsOut, CutsOff, Finishes, EndsShort, EndsWith, EndsThere, IsMet, OwnsNone}
 use Rattle.ports_core.specs.declared.fault.Fault.{Fault}
-use Rattle.ends_core.specs.declared.unit.Unit.{Unit as Counted}
+use Rattle.ends_core.specs.declared.unit.Unit.TheVariants.{Bytes}
 use Rattle.ends_core.specs.declared.tail.Way.{Way}
 use Rattle.ends_core.specs.declared.tail.Way.TheVariants.{FromNth, Last}
 use Rattle.ends_core.specs.TailState.{TailState}
-use Rattle.ends_core.specs.Ends.{measure, behind_of, last_of, tail_of}
+use Rattle.ends_core.specs.Ends.{measure, behind_of, last_of}
 use Rattle.ends_core.specs.EndsLaws.{measure-append, behind_of-append, last_of-append}
 use Rattle.ends_core.specs.Tail.{tail_work, tail_waiting, work, Holds}
-use Rattle.ends_core.specs.TailWay.{unit_of, is_from_nth, count_of, left_of, waiting_of, due, left_waiting, may_lack, SameWay, state_of}
+use Rattle.ends_core.specs.TailWay.{unit_of, is_from_nth, count_of, left_of, waiting_of, due, left_waiting, may_lack, FullLacksNone, SameWay, state_of}
 use Rattle.ends_core.specs.Kept.{most_of, may_lack_of, unit_of as kept_unit}
 use Rattle.ends_core.specs.declared.kept.Kept.{Kept}
 use Rattle.ends_core.specs.Stops.{Stops}
 use Rattle.ends_core.proofs.StopLemmas as stop
+use Rattle.ends_core.proofs.KeptLemmas.{full_once}
 
 -- the same way does the same work
 pub same_work : (old new : TailState) → new.unit ≡ old.unit → new.from_nth ≡ old.from_nth → new.count ≡ old.count → work new ≡ work old
@@ -75,19 +75,33 @@ waiting_same : (old new : Way) (x : List ℕ) → SameWay old new → tail_waiti
 waiting_same old new x same =
     sym (ap (λ u. tail_waiting u (is_from_nth new) (count_of new) x) same.unit ∙ ap (λ b. tail_waiting (unit_of old) b (count_of new) x) same.from_nth ∙ ap (λ n. tail_waiting (unit_of old) (is_from_nth old) n x) same.count)
 
+waits_now : (way next : Way) (piece : List ℕ) → SameWay way next → waiting_of next ≡ left_waiting way piece → (x : List ℕ) → Holds (state_of way) x
+    → waiting_of next ≡ tail_waiting (unit_of next) (is_from_nth next) (count_of next) (x ++ piece)
+waits_now way next piece same waits x holds = waits ∙ waits_next way x piece holds ∙ waiting_same way next (x ++ piece) same
+
+none_lacks : (way : Way) → is_from_nth way ≡ true → may_lack way ≡ false
+none_lacks (FromNth count front) nth = refl
+none_lacks (Last kept) nth = absurd (false≢true nth)
+
+full_lacks : (way : Way) (x : List ℕ) → waiting_of way ≡ tail_waiting (unit_of way) (is_from_nth way) (count_of way) x → FullLacksNone way → unit_of way ≡ Bytes → count_of way ≤ length x → may_lack way ≡ false
+full_lacks (FromNth count front) x waits full bytes enough = refl
+full_lacks (Last kept) x waits full bytes enough = full bytes (full_once kept x waits bytes enough)
+
 takes_in_here : (way next : Way) (piece : List ℕ) → SameWay way next
-    → left_of next ≡ left_of way - measure (unit_of way) piece → waiting_of next ≡ left_waiting way piece → TakesIn Holds piece (state_of way) (state_of next)
-takes_in_here way next piece same left waits x holds = record {
+    → left_of next ≡ left_of way - measure (unit_of way) piece → waiting_of next ≡ left_waiting way piece → FullLacksNone next → TakesIn Holds piece (state_of way) (state_of next)
+takes_in_here way next piece same left waits full x holds = record {
   left = λ nth. left ∙ ap (λ n. n - measure (unit_of way) piece) (holds.left (sym same.from_nth ∙ nth)) ∙ minus_both (count_of way - 1) (measure (unit_of way) x) (measure (unit_of way) piece)
       ∙ ap (λ n. count_of way - 1 - n) (sym (measure-append (unit_of way) x piece))
       ∙ sym (ap (λ count. count - 1 - measure (unit_of next) (x ++ piece)) same.count ∙ ap (λ unit. count_of way - 1 - measure unit (x ++ piece)) same.unit);
-  waits = waits ∙ waits_next way x piece holds ∙ waiting_same way next (x ++ piece) same;
+  waits = waits_now way next piece same waits x holds;
+  none = none_lacks next;
+  full = full_lacks next (x ++ piece) (waits_now way next piece same waits x holds) full;
 }
 
 pub takes_in : (way next : Way) (old : TailState) (piece : List ℕ) → state_of way ≡ old → SameWay way next
-    → left_of next ≡ left_of way - measure (unit_of way) piece → waiting_of next ≡ left_waiting way piece → TakesIn Holds piece old (state_of next)
-takes_in way next old piece is same left waits =
-    subst (λ those. TakesIn Holds piece those (state_of next)) is (takes_in_here way next piece same left waits)
+    → left_of next ≡ left_of way - measure (unit_of way) piece → waiting_of next ≡ left_waiting way piece → FullLacksNone next → TakesIn Holds piece old (state_of next)
+takes_in way next old piece is same left waits full =
+    subst (λ those. TakesIn Holds piece those (state_of next)) is (takes_in_here way next piece same left waits full)
 
 -- where memory may be wanted, something is kept
 keeps : (way : Way) → may_lack way ≡ true → (work (state_of way)).means.feeding.memory ≡ true
@@ -130,9 +144,9 @@ pub on_ok : {P Q : Type 0} (result : Result (Unit {0}) Fault) → (P → Q) → 
 on_ok (Ok u) also is = also is
 on_ok (Err fault) also is = tt
 
-pub on_ok_both : {P P2 Q : Type 0} (result : Result (Unit {0}) Fault) → (P → P2 → Q) → OnOk result P → OnOk result P2 → OnOk result Q
-on_ok_both (Ok u) also is too = also is too
-on_ok_both (Err fault) also is too = tt
+pub on_ok_each : {P P2 P3 Q : Type 0} (result : Result (Unit {0}) Fault) → (P → P2 → P3 → Q) → OnOk result P → OnOk result P2 → OnOk result P3 → OnOk result Q
+on_ok_each (Ok u) also is too three = also is too three
+on_ok_each (Err fault) also is too three = tt
 
 pub if_err : {P Q : Fault → Type 0} (result : Result (Unit {0}) Fault) → ((fault : Fault) → P fault → Q fault) → IfErr result P → IfErr result Q
 if_err (Ok u) also is = tt

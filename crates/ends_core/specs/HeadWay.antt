@@ -1,6 +1,7 @@
 -- The two ways of a head: the first lines or bytes, or all but the last.
-use Rattle.std.specs.Prelude.{◌≡◌, ℕ, ◌==◌, Bool, true, false, List, [], ◌++◌}
+use Rattle.std.specs.Prelude.{◌≡◌, ℕ, ◌==◌, Bool, true, false, ◌≤◌, List, [], ◌++◌, length}
 use Rattle.ends_core.specs.declared.unit.Unit.{Unit as Counted}
+use Rattle.ends_core.specs.declared.unit.Unit.TheVariants.{Bytes}
 use Rattle.ends_core.specs.declared.head.Way.{Way}
 use Rattle.ends_core.specs.declared.head.Way.TheVariants.{First, ButLast}
 use Rattle.ends_core.specs.Ends.{first_of, last_of, but_last_of}
@@ -33,6 +34,10 @@ waiting_of (ButLast kept) = held_of kept
 abbrev pub may_lack : Way → Bool
 may_lack (First count front) = false
 may_lack (ButLast kept) = may_lack_of kept
+
+-- if bytes are kept and as many wait as are to be kept, no memory can be wanting
+abbrev pub FullLacksNone : Way → Type 0
+FullLacksNone way = unit_of way ≡ Bytes → count_of way ≤ length (waiting_of way) → may_lack way ≡ false
 
 -- what is written with a piece
 abbrev pub due : Way → List ℕ → List ℕ

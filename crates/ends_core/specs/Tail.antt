@@ -1,8 +1,13 @@
 -- The last part of an input, as an engine writes it: POSIX.1-2017, XCU tail.
-use Rattle.std.specs.Prelude.{◌≡◌, ℕ, ◌-◌, Bool, not, true, false, List, [], length, if◌then◌else◌}
+use Rattle.std.specs.Prelude.{◌≡◌, ℕ, ◌-◌, ◌≤◌, Bool, not, true, false, List, [], length, if◌then◌else◌}
 use Rattle.ports_core.specs.Part.{nothing, only_out}
 use Rattle.ports_core.specs.Work.{Work, on_output, always_well}
+use Rattle.ports_core.specs.Slot.{Slot}
+use Rattle.ports_core.specs.Engine.{IsCaused, IsMet, EndsWith}
+use Rattle.ports_core.specs.Guard.{GuardState, HoldsIn}
+use Rattle.ports_core.specs.declared.fault.Fault.{Fault}
 use Rattle.ends_core.specs.declared.unit.Unit.{Unit as Counted}
+use Rattle.ends_core.specs.declared.unit.Unit.TheVariants.{Bytes}
 use Rattle.ends_core.specs.Ends.{measure, last_of, tail_of}
 use Rattle.ends_core.specs.TailState.{TailState}
 
@@ -30,3 +35,11 @@ tail_waiting unit from_nth n x = if from_nth then [] else last_of unit n x
 pub record Holds (tail : TailState) (x : List ℕ) : Type 0 where
   pub left : tail.from_nth ≡ true → tail.left ≡ (tail.count - 1) - measure tail.unit x
   pub waits : tail.waiting ≡ tail_waiting tail.unit tail.from_nth tail.count x
+  -- where nothing waits no memory can be wanting, nor once as many bytes came in as wait
+  pub none : tail.from_nth ≡ true → tail.may_lack ≡ false
+  pub full : tail.unit ≡ Bytes → tail.count ≤ length x → tail.may_lack ≡ false
+
+-- what is known of a fault of `feed`, by its clause `refused`
+abbrev pub IsRefused : GuardState TailState → List ℕ → List Slot → List Slot → Fault → Type 0
+IsRefused tail piece old new fault =
+    IsCaused (IsMet (work tail.stage).means (work tail.stage).means.feeding (tail.stage.may_lack ≡ true) (EndsWith (HoldsIn Holds) (λ (guard : GuardState TailState). work guard.stage) tail piece) old new) tail.is_over tail.fed (length piece) old new fault

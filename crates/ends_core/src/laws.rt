@@ -1,18 +1,25 @@
 //! Laws of the definitions, with no code: each stands on the contract of a function whose body is empty.
-ghost use Rattle.std.specs.Prelude.{◌≡◌, ◌<◌, ◌≤◌, ◌+◌, ◌-◌, ◌++◌, ℕ, List, length, true, false};
+ghost use Rattle.std.specs.Prelude.{◌≡◌, ◌<◌, ◌≤◌, ◌+◌, ◌-◌, ◌++◌, ◌⊎◌, ℕ, List, length, true, false};
 ghost use Rattle.seg_core.specs.Line.{ends_with_newline, line_count, newlines};
 ghost use Rattle.ends_core.specs.Ends.{behind_of, but_last_of, first_of, last_of, measure, size, tail_of};
-ghost use Rattle.ends_core.specs.Head.{head_waiting, head_work};
-ghost use Rattle.ends_core.specs.Tail.{tail_waiting};
+ghost use Rattle.ends_core.specs.Head.{work, Holds as HeadHolds, IsRefused as HeadRefused};
+ghost use Rattle.ends_core.specs.HeadState.{HeadState};
+ghost use Rattle.ends_core.specs.Tail.{Holds as TailHolds, IsRefused as TailRefused};
+ghost use Rattle.ends_core.specs.TailState.{TailState};
+ghost use Rattle.ports_core.specs.Guard.{GuardState, HoldsIn};
+ghost use Rattle.ports_core.specs.Slot.{Slot};
 
 use crate::Unit;
+use ports_core::Fault;
 
 /// What a head has of a text x and of y that follows it. Of the first lines or bytes it has those of x, and then
 /// those of y that are still to come. Of all but the last it has all but the last of x, and then all but the last of
-/// what waited with y after it. So what is written never changes.
+/// what waited with y after it. So what is written never changes. What waits in a head of all but the last that was
+/// fed a text is the last of it.
 pub fn head_goes_on(unit: Unit)
     ensures first { (n : ℕ) (x y : List ℕ) → first_of unit n (x ++ y) ≡ first_of unit n x ++ first_of unit (n - measure unit x) y }
     ensures but_last { (n : ℕ) (x y : List ℕ) → but_last_of unit n (x ++ y) ≡ but_last_of unit n x ++ but_last_of unit n (last_of unit n x ++ y) }
+    ensures waits { (head : GuardState HeadState) (x : List ℕ) → HoldsIn HeadHolds head x → head.stage.but_last ≡ true → head.stage.waiting ≡ last_of head.stage.unit head.stage.count x }
 {
     let _ = unit;
 }
@@ -22,7 +29,7 @@ pub fn head_goes_on(unit: Unit)
 pub fn nothing_is_lost(unit: Unit)
     ensures first { (n : ℕ) (x : List ℕ) → first_of unit n x ++ behind_of unit n x ≡ x }
     ensures last { (n : ℕ) (x : List ℕ) → but_last_of unit n x ++ last_of unit n x ≡ x }
-    ensures waits { (n : ℕ) (x : List ℕ) → ((head_work unit true n).settled x).out ++ head_waiting unit true n x ≡ x }
+    ensures waits { (head : GuardState HeadState) (x : List ℕ) → HoldsIn HeadHolds head x → head.stage.but_last ≡ true → ((work head.stage).settled x).out ++ head.stage.waiting ≡ x }
 {
     let _ = unit;
 }
@@ -33,11 +40,23 @@ pub fn nothing_is_lost(unit: Unit)
 pub fn tail_goes_on(unit: Unit)
     ensures from_nth { (n : ℕ) (x y : List ℕ) → tail_of unit true n (x ++ y) ≡ tail_of unit true n x ++ behind_of unit (n - 1 - measure unit x) y }
     ensures last { (n : ℕ) (x y : List ℕ) → last_of unit n (x ++ y) ≡ last_of unit n (last_of unit n x ++ y) }
-    ensures waits { (n : ℕ) (x : List ℕ) → tail_waiting unit false n x ≡ last_of unit n x }
+    ensures waits { (tail : GuardState TailState) (x : List ℕ) → HoldsIn TailHolds tail x → tail.stage.from_nth ≡ false → tail.stage.waiting ≡ last_of tail.stage.unit tail.stage.count x }
     ensures few { (n : ℕ) (x : List ℕ) → size unit (last_of unit n x) ≤ n }
 {
     let _ = unit;
 }
+
+/// No memory can be wanting for a piece where nothing waits, whatever came in: in a head of the first lines or bytes, and a
+/// tail from the nth on. Nor where bytes wait, once as many came in as are to wait. Then `feed` fails only where standard
+/// output breaks, or where the input is too long.
+pub fn full_windows_lack_nothing()
+    ensures head { (head : GuardState HeadState) (x : List ℕ) → HoldsIn HeadHolds head x → head.stage.unit ≡ Unit.Bytes → head.stage.count ≤ length x → head.stage.may_lack ≡ false }
+    ensures first { (head : GuardState HeadState) (x : List ℕ) → HoldsIn HeadHolds head x → head.stage.but_last ≡ false → head.stage.may_lack ≡ false }
+    ensures head_fails { (head : GuardState HeadState) (x piece : List ℕ) (old new : List Slot) (fault : Fault) → HoldsIn HeadHolds head x → head.stage.may_lack ≡ false → HeadRefused head piece old new fault → (fault ≡ Fault.Write 0) ⊎ (fault ≡ Fault.TooLong) }
+    ensures tail { (tail : GuardState TailState) (x : List ℕ) → HoldsIn TailHolds tail x → tail.stage.unit ≡ Unit.Bytes → tail.stage.count ≤ length x → tail.stage.may_lack ≡ false }
+    ensures from_nth { (tail : GuardState TailState) (x : List ℕ) → HoldsIn TailHolds tail x → tail.stage.from_nth ≡ true → tail.stage.may_lack ≡ false }
+    ensures tail_fails { (tail : GuardState TailState) (x piece : List ℕ) (old new : List Slot) (fault : Fault) → HoldsIn TailHolds tail x → tail.stage.may_lack ≡ false → TailRefused tail piece old new fault → (fault ≡ Fault.Write 0) ⊎ (fault ≡ Fault.TooLong) }
+{}
 
 /// How many lines a text has: as many as newlines, and one more if its last line is open.
 pub fn lines_are_counted()

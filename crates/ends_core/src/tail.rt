@@ -5,7 +5,7 @@ ghost use Rattle.ports_core.specs.Engine.{OwnsNone};
 ghost use Rattle.ports_core.specs.Guard.{GuardState, HoldsIn};
 ghost use Rattle.ends_core.specs.Tail.{Holds, tail_work, work};
 ghost use Rattle.ends_core.specs.TailState.{TailState};
-ghost use Rattle.ends_core.specs.TailWay.{SameWay, due, left_of, left_waiting, may_lack, state_of, unit_of, waiting_of};
+ghost use Rattle.ends_core.specs.TailWay.{FullLacksNone, SameWay, due, left_of, left_waiting, may_lack, state_of, unit_of, waiting_of};
 ghost use Rattle.ends_core.specs.Ends.{measure};
 ghost use Rattle.ends_core.specs.Stops.{Stops};
 ghost use Rattle.ends_core.specs.TailLaws.{lawful};
@@ -184,6 +184,7 @@ impl Way {
         ensures bound { length (waiting_of self.new) ≤ length (waiting_of self.old) + length piece.now }
         ensures left { OnOk result (left_of self.new ≡ left_of self.old - measure (unit_of self.old) piece.now) }
         ensures waits { OnOk result (waiting_of self.new ≡ left_waiting self.old piece.now) }
+        ensures full { OnOk result (FullLacksNone self.new) }
         ensures out { OnOk result (O.slots outs.new ≡ with_written 0 (told_of O.told (due self.old piece.now)) (O.slots outs.old)) }
         ensures cut { IfErr result (Stops O.told (may_lack self.old) (due self.old piece.now) (O.slots outs.old) (O.slots outs.new)) }
     {
