@@ -17,7 +17,7 @@ copied out bytes state = record { out = out; files = record { name = codes "copy
 abbrev pub has_newline : List ℕ → Bool
 has_newline x = list_any (λ byte. byte == 10) x
 
--- What came in is in the file; at the end that is closed, and then the line is written. An input without a newline ends the work with a
+-- What came in is in the file; at the end that is closed, and standard output has the line. An input without a newline ends the work with a
 -- fault. After that, as after any other fault, the file is removed unless it is kept.
 abbrev pub copy_work : Bool → Work
 copy_work keep = record {
