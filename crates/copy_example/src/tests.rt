@@ -162,7 +162,7 @@ fn tells_of_its_input(rt: HostRuntime) -> Result<(), Fail> {
     Ok(())
 }
 
-/// What a run leaves where no file could be opened, by the call that was refused and what follows.
+/// What a run leaves where the file could not be opened.
 const UNOPENED: Left<'static> = Left {
     output: b"",
     file: b"",
