@@ -19,7 +19,8 @@ use std::marker::Model;
 
 /// Writes the first lines or bytes of an input, or all but the last, each as soon as nothing that follows can change
 /// it (POSIX.1-2017, XCU head; bytes and all but the last are GNU's). For the first it takes no memory. For all but
-/// the last it takes as much as the last lines or bytes of what came in.
+/// the last it takes as much as the last lines or bytes of what came in, and of bytes no more is asked for once as
+/// many came in as are kept back.
 #[derive(Drop)]
 pub struct Head {
     engine: Guarded<HeadStage>,

@@ -19,7 +19,7 @@ use std::marker::Model;
 
 /// Writes the last lines or bytes of an input at its end, or all from the nth on, those of each piece as it comes
 /// (POSIX.1-2017, XCU tail). From the nth on it takes no memory. For the last it takes as much as the last lines or
-/// bytes of what came in.
+/// bytes of what came in, and of bytes no more is asked for once as many came in as are kept.
 #[derive(Drop)]
 pub struct Tail {
     engine: Guarded<TailStage>,

@@ -1,7 +1,7 @@
-use Rattle.std.proofs.Common.{◌≡◌, length, true, IfErr, subst}
-use Rattle.ports_core.specs.Engine.{CutsOff, EndsWith, IsCaused, IsMet, OwnsNone}
+use Rattle.std.proofs.Common.{IfErr, subst}
+use Rattle.ports_core.specs.Engine.{CutsOff, OwnsNone}
 use Rattle.ports_core.specs.Guard.{GuardState, HoldsIn}
-use Rattle.ends_core.specs.Head.{Holds, work}
+use Rattle.ends_core.specs.Head.{Holds, IsRefused, work}
 use Rattle.ends_core.specs.HeadState.{HeadState}
 use Rattle.ends_core.proofs.head.HeadEngine.feed.Goals as goal
 
@@ -15,4 +15,4 @@ pub returns-clause-refused : goal.returns-clause-refused
 returns-clause-refused g c =
     let old = g.O.Outs.slots c.args.outs.now in
     let new = g.O.Outs.slots c.feed.new.outs in
-    subst (λ (those : GuardState HeadState). IfErr c.feed.result (IsCaused (IsMet (work those.stage).means (work those.stage).means.feeding (those.stage.may_lack ≡ true) (EndsWith (HoldsIn Holds) (λ (guard : GuardState HeadState). work guard.stage) those c.args.piece.now) old new) those.is_over those.fed (length c.args.piece.now) old new)) c.self.view_is c.feed.ensures.refused
+    subst (λ (those : GuardState HeadState). IfErr c.feed.result (IsRefused those c.args.piece.now old new)) c.self.view_is c.feed.ensures.refused
