@@ -10,7 +10,7 @@ use Rattle.std.proofs.Math.Nat.{mul-le-mul}
 use Rattle.scan_core.specs.Code.{Entered, weight}
 use Rattle.scan_core.specs.Counted.{set_at, positions_in_all, AreSteps, IsStepCount, EndsIn}
 use Rattle.scan_core.specs.Sets.{IsMarked, Flows, FlowsOn, LeadsOn, Passes, Came, positions_among}
-use Rattle.scan_core.specs.Table.{Next, Inner, InSets, entry, Tells, IsState, no_state, IsTableOf, IsOutcome}
+use Rattle.scan_core.specs.Table.{Next, Inner, InSets, entry, Tells, IsState, no_state, IsTableOf, IsOutcome, Walked}
 use Rattle.scan_core.proofs.Enterings.{positions_most, weight_length}
 use Rattle.scan_core.proofs.Codes.{parts_join}
 use Rattle.scan_core.proofs.Along.{IsPlace, closes_exact, came_exact, one_counted, none_counted, steps_more, steps_wider}
@@ -71,15 +71,6 @@ last_entered code line place h number = (λ e. there ((exact number).1 e), λ k.
 
     here : ((from : ℕ) × Inner code line (suc place) from × FlowsOn code false true from number) → (from : ℕ) × (((before : ℕ) × Inner code line place before × Passes code (slice_index line place) before from) ⊎ (from ≡ 0)) × FlowsOn code false true from number
     here k = (k.1.0, k.1.1, (k.1.2.0 + k.2.0, parts_join (Flows code false true) k.1.2.0 k.2.0 k.1.0 k.0 number (parts_wider code k.1.2.0 k.1.0 k.0 k.1.2.1) k.2.1))
-
--- the table was gone through up to a place
-pub record Walked (code : List Node) (sets : List (List Bool)) (line : List ℕ) (place state steps : ℕ) : Type 0 where
-  pub within : place ≤ length line
-  pub known : state < length sets
-  pub exact : (number : ℕ) → InSets sets state number ↔ Inner code line place number
-  pub none : (before : ℕ) → before < place → Entered code line (length code) before → ⊥
-  pub counted : AreSteps code line place steps
-  pub bound : steps ≤ place * (weight code + 1)
 
 pub walked_starts : (code : List Node) (sets : List (List Bool)) (table : Table) (line : List ℕ) → IsTableOf code sets table → Walked code sets line 0 0 0
 walked_starts code sets table line t = record { within = omega arith; known = t.some; exact = t.front; none = λ before h. absurd (omega (arith, h)); counted = none_counted code line; bound = omega arith }

@@ -4,9 +4,9 @@ use Rattle.scan_core.specs.declared.node.Node.{Node}
 use Rattle.scan_core.specs.declared.table.State.{State}
 use Rattle.scan_core.specs.declared.table.Table.{Table}
 use Rattle.scan_core.specs.declared.walk.Outcome.{Outcome}
-use Rattle.scan_core.specs.Code.{weight}
+use Rattle.scan_core.specs.Code.{Entered, weight}
 use Rattle.scan_core.specs.Sets.{IsMarked, FlowsOn, Passes, positions_among}
-use Rattle.scan_core.specs.Counted.{set_at, EndsIn, IsStepCount}
+use Rattle.scan_core.specs.Counted.{set_at, AreSteps, EndsIn, IsStepCount}
 
 -- what a byte and then none leads to from the numbers of a set, the search having begun once more
 abbrev pub Next : List Node → ℕ → (ℕ → Type 0) → ℕ → Type 0
@@ -55,6 +55,15 @@ pub record IsTableOf (code : List Node) (sets : List (List Bool)) (table : Table
 
 abbrev pub IsTable : List Node → Table → Type 0
 IsTable code table = (sets : List (List Bool)) × IsTableOf code sets table
+
+-- the table was gone through up to a place
+pub record Walked (code : List Node) (sets : List (List Bool)) (line : List ℕ) (place state steps : ℕ) : Type 0 where
+  pub within : place ≤ length line
+  pub known : state < length sets
+  pub exact : (number : ℕ) → InSets sets state number ↔ Inner code line place number
+  pub none : (before : ℕ) → before < place → Entered code line (length code) before → ⊥
+  pub counted : AreSteps code line place steps
+  pub bound : steps ≤ place * (weight code + 1)
 
 -- what a walk along a line tells
 pub record IsOutcome (code : List Node) (line : List ℕ) (outcome : Outcome) : Type 0 where

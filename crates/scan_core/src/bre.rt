@@ -11,6 +11,8 @@ ghost use Rattle.scan_core.specs.Table.{IsOutcome};
 use crate::build::build;
 use crate::compile::compile;
 use crate::node::Node;
+use crate::shift_table::{ShiftTable, shifts_of};
+use crate::shift_walk::walk_by_shifts;
 use crate::table::Table;
 use crate::walk::{Outcome, walk};
 use bre_core::{BreFault, Expression};
@@ -23,6 +25,7 @@ pub struct Bre {
     expression: Expression,
     code: Vec<Node>,
     table: Option<Table>,
+    shifts: Option<ShiftTable>,
 }
 
 impl Model for Bre {
@@ -31,6 +34,7 @@ impl Model for Bre {
     ghost use Rattle.bre_core.specs.Pattern.{Pattern, positions_of};
     ghost use Rattle.scan_core.specs.Code.{code_of, IsOrdered};
     ghost use Rattle.scan_core.specs.Table.{IsTable};
+    ghost use Rattle.scan_core.specs.Shifts.{IsShiftTable};
 
     ghost Value = { Pattern };
 
@@ -39,7 +43,7 @@ impl Model for Bre {
     ghost view = { λ b. b.expression };
 
     ghost invariant = { λ b. (b.code.items ≡ code_of b.expression) × IsOrdered b.expression × (positions_of b.expression ≤ 65535)
-        × IfSome b.table (IsTable b.code.items) };
+        × IfSome b.table (IsTable b.code.items) × IfSome b.shifts (IsShiftTable b.code.items) };
 }
 
 impl Bre {
@@ -64,10 +68,12 @@ impl Bre {
         let expression = Expression::read(alloc, text)?;
         let code = compile(alloc, &expression)?;
         let table = build(alloc, &code)?;
+        let shifts = shifts_of(alloc, &code, &table)?;
         Ok(Bre {
             expression,
             code,
             table,
+            shifts,
         })
     }
 
@@ -95,6 +101,9 @@ impl Bre {
     {
         // A proof learns from a use of the fields that the pattern's bounds are in order.
         let code = &self.code;
+        if let Some(shifts) = &self.shifts {
+            return Some(walk_by_shifts(shifts, code, line));
+        }
         match &self.table {
             Some(table) => walk(table, code, line),
             None => None,

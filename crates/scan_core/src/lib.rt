@@ -15,6 +15,8 @@ mod node;
 mod reach;
 mod scan;
 mod search;
+mod shift_table;
+mod shift_walk;
 mod table;
 mod walk;
 
