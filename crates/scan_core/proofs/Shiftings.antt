@@ -72,7 +72,7 @@ states_are_light code table t state h =
     omega (arith, m, w, f, p)
 
 pub is_sized : (code : List Node) (shifts : ShiftTable) → IsShiftTable code shifts → IsSized shifts
-is_sized code shifts t = record { words = t.2.words.all; weights = t.2.weights.all; light = λ offset h. (t.2.weights.each offset h).light }
+is_sized code shifts t = record { words = t.2.words.all; weights = t.2.weights.all; light = λ low h. (t.2.weights.each low h).light }
 
 pub at_starts : (code : List Node) (shifts : ShiftTable) (line : List ℕ) → IsShiftTable code shifts → IsAt code shifts line 0 0 0
 at_starts code shifts line t = (
@@ -93,11 +93,13 @@ at_starts code shifts line t = (
 )
 
 -- the positions of a state, as the words have them
-weight_read : (code : List Node) (table : Table) (shifts : ShiftTable) (state low added e : ℕ) → IsTable code table → IsShifted table shifts → state ≤ length table.states.items → low ≡ 6 * state → added ≡ get_or shifts.weights.items low e → IsWeight table.states.items low added
-weight_read code table shifts state low added e t i k l g =
-    let f = i.few in
+weight_read : (table : Table) (shifts : ShiftTable) (word added e : ℕ) → IsShifted table shifts → added ≡ get_or shifts.weights.items (word % 256) e → IsWeight table.states.items (word % 64) added
+weight_read table shifts word added e i g =
     let s = i.weights.all in
-    subst (IsWeight table.states.items low) (any_default shifts.weights.items low 0 e (omega (arith, f, s, k, l)) ∙ sym g) (i.weights.each low (omega (arith, f, k, l)))
+    let low : word % 256 < 256 = omega arith in
+    let same : word % 256 % 64 ≡ word % 64 = omega arith in
+    subst (λ n. IsWeight table.states.items n added) same
+    (subst (IsWeight table.states.items (word % 256 % 64)) (any_default shifts.weights.items (word % 256) 0 e (omega (arith, s, low)) ∙ sym g) (i.weights.each (word % 256) low))
 
 weight_small : (code : List Node) (table : Table) (state low added : ℕ) → IsTable code table → IsWeight table.states.items low added → low ≡ 6 * state → state < length table.states.items → added ≤ weight code + 1
 weight_small code table state low added t w l h =
@@ -162,11 +164,11 @@ at_moved code shifts line place place' word steps steps' p s a = subst (λ n. Is
 
 -- one byte more
 pub at_more : (code : List Node) (shifts : ShiftTable) (line : List ℕ) (place word word' steps read d added e : ℕ) → IsAt code shifts line place word steps → place < length line → slice_index line place < 256
-    → read ≡ get_or shifts.words.items (slice_index line place) d → word' ≡ read / 2 ^ (word % 64) → added ≡ get_or shifts.weights.items (word % 64) e → IsAt code shifts line (place + 1) word' (steps + added)
+    → read ≡ get_or shifts.words.items (slice_index line place) d → word' ≡ read / 2 ^ (word % 64) → added ≡ get_or shifts.weights.items (word % 256) e → IsAt code shifts line (place + 1) word' (steps + added)
 at_more code shifts line place word word' steps read d added e a h b r w g =
     let o = subst (λ n. IsOffset a.0.rows.items (length a.0.states.items) a.3.0 (slice_index line place) (six_bits n a.3.0)) (any_default shifts.words.items (slice_index line place) 0 d (let s = a.2.words.all in omega (arith, s, b)) ∙ sym r)
     (a.2.words.each (slice_index line place) b a.3.0 a.3.2.known) in
-    let i = subst (λ n. IsWeight a.0.states.items n added) a.3.1 (weight_read code a.0 shifts a.3.0 (word % 64) added e a.1 a.2 a.3.2.known a.3.1 g) in
+    let i = subst (λ n. IsWeight a.0.states.items n added) a.3.1 (weight_read a.0 shifts word added e a.2 g) in
     let m = state_more code a.0 line place a.3.0 steps added (six_bits read a.3.0) a.1 a.2.complete a.3.2 h b i o in
     (a.0, a.1, a.2, (m.0, ap (λ k. k % 64) (w ∙ ap (λ k. read / 2 ^ k) a.3.1) ∙ m.1, m.2))
 

@@ -38,14 +38,14 @@ pub record IsWeight (states : List State) (offset weight : ℕ) : Type 0 where
   pub stop : offset ≡ 6 * length states → weight ≡ 0
 
 pub record AreWeights (states : List State) (weights : List ℕ) : Type 0 where
-  pub all : length weights ≡ 64
-  pub each : (offset : ℕ) → offset < 64 → IsWeight states offset (slice_index_or weights offset 0)
+  pub all : length weights ≡ 256
+  pub each : (low : ℕ) → low < 256 → IsWeight states (low % 64) (slice_index_or weights low 0)
 
 -- what reads need
 pub record IsSized (shifts : ShiftTable) : Type 0 where
   pub words : length shifts.words.items ≡ 256
-  pub weights : length shifts.weights.items ≡ 64
-  pub light : (offset : ℕ) → offset < 64 → slice_index_or shifts.weights.items offset 0 ≤ 65537
+  pub weights : length shifts.weights.items ≡ 256
+  pub light : (low : ℕ) → low < 256 → slice_index_or shifts.weights.items low 0 ≤ 65537
 
 -- the words say what the table says
 pub record IsShifted (table : Table) (shifts : ShiftTable) : Type 0 where

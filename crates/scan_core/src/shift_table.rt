@@ -1,6 +1,6 @@
 //! Tables of few states as words: what a byte leads to from each state is read by one shift.
 
-ghost use Rattle.std.specs.Prelude.{◌≡◌, ◌<◌, ◌≤◌, ◌*◌, ℕ, IsTrue, IfOk, IfErr, IfSome, length};
+ghost use Rattle.std.specs.Prelude.{◌≡◌, ◌<◌, ◌≤◌, ◌*◌, ◌%◌, ℕ, IsTrue, IfOk, IfErr, IfSome, length};
 ghost use Rattle.bre_core.specs.declared.fault.BreFault.TheVariants.{Memory};
 ghost use Rattle.scan_core.specs.Shifts.{AreLight, AreWeights, AreWords, IsComplete, IsOffset, IsShiftTable, IsWeight, IsWord};
 ghost use Rattle.scan_core.specs.Table.{IsTable};
@@ -19,7 +19,8 @@ const MOST_STATES: usize = 9;
 pub struct ShiftTable {
     /// For each byte what it leads to from each state.
     pub words: Vec<u64>,
-    /// For each value of six bits the positions of the state that is written so.
+    /// For each value of eight bits the positions of the state that its low six bits are: so a walk counts without masking,
+    /// and nothing but the shift stands between a byte and the next.
     pub weights: Vec<u64>,
     /// What is noted of each state.
     pub states: Vec<State>,
@@ -85,13 +86,13 @@ fn words_of(alloc: Global, rows: &[u16], count: usize) -> Result<Vec<u64>, BreFa
     Ok(words)
 }
 
-/// The positions of the state that is written so, if there is one.
-fn weight_of(states: &[State], offset: usize) -> u64
+/// The positions of the state that the low six bits are, if they are one.
+fn weight_of(states: &[State], low: usize) -> u64
     requires { AreLight states.now }
-    ensures { IsWeight states.now offset result }
+    ensures { IsWeight states.now (low % 64) result }
 {
-    if offset / 6 < states.len() {
-        states[offset / 6].positions as u64
+    if low % 64 / 6 < states.len() {
+        states[low % 64 / 6].positions as u64
     } else {
         0
     }
@@ -104,8 +105,8 @@ fn weights_of(alloc: Global, states: &[State]) -> Result<Vec<u64>, BreFault>
     ensures err { IfErr result (λ fault. fault ≡ Memory) }
 {
     let mut weights = Vec::new(alloc);
-    for offset in 0..64usize {
-        weights.push(weight_of(states, offset))?;
+    for low in 0..256usize {
+        weights.push(weight_of(states, low))?;
     }
     Ok(weights)
 }

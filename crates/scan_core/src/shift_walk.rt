@@ -39,9 +39,8 @@ fn stride(
     let mut word = word;
     let mut steps: u64 = 0;
     for done in 0..count {
-        let state = word % 64;
-        steps += table.weights[state as usize];
-        word = table.words[line[from + done] as usize] >> state;
+        steps += table.weights[(word % 256) as usize];
+        word = table.words[line[from + done] as usize] >> (word % 64);
     }
     Strode { word, steps }
 }
