@@ -183,7 +183,7 @@ mutual
       let parts = bounded_parts (written_item item) (Repeat low high ∷ []) b in
       (ordered_item item parts.0, bound_order low high parts.1.0)
 
--- all tokens were gone over
+-- all tokens were read
 pub compiled : (pattern : Pattern) (tokens : List Token) (first final : Compiling) → tokens ≡ written pattern → AreBounded tokens → IsNow [] [] None first → Steps Takes first (reverse tokens) final → reverse final.nodes.items ≡ code_of pattern
 compiled pattern tokens first final e b n s =
     let way : Steps Takes first (backwards pattern ++ []) final = subst (λ l. Steps Takes first l final) (ap reverse e ∙ reverse-written pattern ∙ sym (append-nil (backwards pattern))) s in
@@ -191,7 +191,7 @@ compiled pattern tokens first final e b n s =
     let now : IsNow (first.nodes.items ++ reverse (code_of pattern)) first.pending.items None all.0 = all.1 in
     ap (λ c. reverse c.nodes.items) (sym all.2) ∙ ap reverse (now.nodes ∙ ap (λ l. l ++ reverse (code_of pattern)) n.nodes) ∙ reverse-reverse (code_of pattern)
 
--- no token was gone over yet
+-- no token was read yet
 pub way_starts : (tokens : List Token) (place : ℕ) (first : Compiling) → length tokens ≤ place → Steps Takes first (reverse (drop place tokens)) first
 way_starts tokens place first h = subst (λ l. Steps Takes first (reverse l) first) (sym (at_drop_all (λ ts. ts) tokens place h)) refl
 

@@ -139,7 +139,7 @@ parts_next Kind (suc count) from to p = let q = parts_next Kind count from p.0 p
 abbrev pub Often : (ℕ → ℕ → Type 0) → ℕ → ℕ → Type 0
 Often Kind from to = (count : ℕ) × Parts Kind count from to
 
--- what walks of so many steps are, from the front of the code and from within it
+-- what walks of a given number of steps are, from the front of the code and from within it
 record StarHolds (code : List Node) (line : List ℕ) (Kind : ℕ → ℕ → Type 0) (count : ℕ) : Type 0 where
   whole : (place stop : ℕ) → Walks (starred code) line count 0 place (length code + 2) stop → Often Kind place stop
   within : (at k place stop : ℕ) → at ≡ suc k → k ≤ length code → Walks (starred code) line count at place (length code + 2) stop → (middle : ℕ) × Path code line k place (length code) middle × Often Kind middle stop

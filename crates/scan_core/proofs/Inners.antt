@@ -52,7 +52,7 @@ parts_wider : (code : List Node) (count from to : ℕ) → Parts (Flows code fal
 parts_wider code zero from to p = p
 parts_wider code (suc count) from to p = (p.0, parts_wider code count from p.0 p.1, (p.2.0, p.2.1, leads_wider p.2.0 p.0 to p.2.2))
 
--- at the last place, behind a byte
+-- at the last place, after a byte
 pub last_entered : (code : List Node) (line : List ℕ) (place : ℕ) → suc place ≡ length line → (number : ℕ) → Entered code line number (suc place) ↔ ((from : ℕ) × Inner code line (suc place) from × FlowsOn code false true from number)
 last_entered code line place h number = (λ e. there ((exact number).1 e), λ k. (exact number).0 (here k))
   where
@@ -130,7 +130,7 @@ walked_run code sets table line from to state steps t w l h b s =
     subst (λ p. Walked code sets line p state (steps + positions_among code (set_at sets state) * (to - from))) q
     (walked_stay code sets table line (to - from) from state steps t w (omega (arith, l, h)) b (λ k m u. s k m (omega (arith, u, l))))
 
--- what is entered behind a byte is entered also where the line ends there
+-- what is entered after a byte is entered also where the line ends there
 entered_there : (code : List Node) (line : List ℕ) (place number : ℕ) → place < length line → Inner code line (suc place) number → Entered code line number (suc place)
 entered_there code line place number h i = elim (cases_eq (suc place) (length line)) [
   | inl same ↦ (last_entered code line place same number).1 (number, i, (0, refl))

@@ -46,9 +46,9 @@ pub reverse-copies : (count : ℕ) (code : List Node) → reverse (copies count 
 reverse-copies zero code = refl
 reverse-copies (suc count) code = reverse-append (copies count code) code ∙ ap (λ l. reverse code ++ l) (reverse-copies count code) ∙ copies_turn count (reverse code)
 
--- the stretch behind a front
-pub stretch_behind : (before code more : List Node) (from size : ℕ) → length before ≡ from → length code ≡ size → stretch from size (before ++ (code ++ more)) ≡ code
-stretch_behind [] code more zero size e f = subst (λ n. take n (code ++ more) ≡ code) f (whole code more)
+-- the stretch after a front
+pub stretch_after : (before code more : List Node) (from size : ℕ) → length before ≡ from → length code ≡ size → stretch from size (before ++ (code ++ more)) ≡ code
+stretch_after [] code more zero size e f = subst (λ n. take n (code ++ more) ≡ code) f (whole code more)
   where
     whole : (code more : List Node) → take (length code) (code ++ more) ≡ code
     whole [] more = take-none more
@@ -56,6 +56,6 @@ stretch_behind [] code more zero size e f = subst (λ n. take n (code ++ more) �
         take-none : (more : List Node) → take 0 more ≡ []
         take-none more = refl
     whole (node ∷ code) more = ap (λ l. node ∷ l) (whole code more)
-stretch_behind [] code more (suc from) size e f = absurd (omega (arith, e))
-stretch_behind (node ∷ before) code more zero size e f = absurd (omega (arith, e))
-stretch_behind (node ∷ before) code more (suc from) size e f = stretch_behind before code more from size (omega (arith, e)) f
+stretch_after [] code more (suc from) size e f = absurd (omega (arith, e))
+stretch_after (node ∷ before) code more zero size e f = absurd (omega (arith, e))
+stretch_after (node ∷ before) code more (suc from) size e f = stretch_after before code more from size (omega (arith, e)) f

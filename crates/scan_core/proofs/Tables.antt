@@ -98,7 +98,7 @@ grown code state sets sets' rows marks b r k s m (inr e) = subst (λ t. Grown co
   same = get-front sets (marks ∷ []) state [] k;
 })
 
--- two bytes that no node tells apart lead alike
+-- two bytes that every node treats alike lead alike
 passes_alike : (code : List Node) (one other from to : ℕ) → AreAlike code one other → Passes code one from to → Passes code other from to
 passes_alike code one other from to a p = (p.0, p.1, sym (a from p.0 p.1) ∙ p.2, p.3)
 

@@ -12,7 +12,7 @@ use Rattle.scan_core.specs.Counted.{set_at, AreSteps, EndsIn, IsStepCount}
 abbrev pub Next : List Node → ℕ → (ℕ → Type 0) → ℕ → Type 0
 Next code byte Set number = (from : ℕ) × (((before : ℕ) × Set before × Passes code byte before from) ⊎ (from ≡ 0)) × FlowsOn code false false from number
 
--- what is entered at a place behind which the line goes on
+-- what is entered at a place that isn't the line's last
 abbrev pub Inner : List Node → List ℕ → ℕ → ℕ → Type 0
 Inner code line zero number = FlowsOn code true false 0 number
 Inner code line (suc place) number = Next code (slice_index line place) (Inner code line place) number
@@ -56,7 +56,7 @@ pub record IsTableOf (code : List Node) (sets : List (List Bool)) (table : Table
 abbrev pub IsTable : List Node → Table → Type 0
 IsTable code table = (sets : List (List Bool)) × IsTableOf code sets table
 
--- the table was gone through up to a place
+-- the line was read up to a place with the table
 pub record Walked (code : List Node) (sets : List (List Bool)) (line : List ℕ) (place state steps : ℕ) : Type 0 where
   pub within : place ≤ length line
   pub known : state < length sets
@@ -65,7 +65,7 @@ pub record Walked (code : List Node) (sets : List (List Bool)) (line : List ℕ)
   pub counted : AreSteps code line place steps
   pub bound : steps ≤ place * (weight code + 1)
 
--- what a walk along a line tells
+-- what a walk along a line returns
 pub record IsOutcome (code : List Node) (line : List ℕ) (outcome : Outcome) : Type 0 where
   pub exact : IsTrue outcome.found ↔ EndsIn code line
   pub counted : IsFalse outcome.found → IsStepCount code line outcome.steps

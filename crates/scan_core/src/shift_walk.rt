@@ -8,7 +8,7 @@ use crate::node::Node;
 use crate::shift_table::ShiftTable;
 use crate::walk::Outcome;
 
-/// The bytes that are gone over before it is looked whether the walk can end early.
+/// After this many bytes the walk looks whether it can end early.
 const STRIDE: usize = 16;
 
 /// What some bytes lead to.
