@@ -1,11 +1,11 @@
 -- An item that stands last, written out as often as a duplication asks for.
-use Rattle.std.proofs.Common.{◌≡◌, ℕ, zero, suc, ◌+◌, ◌-◌, ◌<◌, ◌≤◌, List, [], ◌∷◌, ◌++◌, length, set, reverse, refl, sym, ap, ◌∙◌, subst, arith, append_assoc, append-nil, add-one, length-append}
+use Rattle.std.proofs.Common.{◌≡◌, ℕ, zero, suc, ◌+◌, ◌-◌, ◌<◌, List, [], ◌∷◌, ◌++◌, length, set, reverse, refl, sym, ap, ◌∙◌, arith, append_assoc, append-nil, add-one, length-append}
 use Rattle.std.proofs.lemmas.List.{reverse-append, length-reverse}
 use Rattle.scan_core.specs.declared.node.Node.{Node}
 use Rattle.scan_core.specs.declared.node.Node.TheVariants.{Choose, Back}
-use Rattle.scan_core.specs.Code.{copies, up_to, maybe, starred}
+use Rattle.scan_core.specs.Code.{copies, up_to, starred}
 use Rattle.scan_core.specs.Backwards.{stretch}
-use Rattle.scan_core.proofs.Stretches.{stretch_stays, stretch_after, reverse-cons, reverse-copies, copies_turn}
+use Rattle.scan_core.proofs.Stretches.{stretch_after, reverse-cons, reverse-copies, copies_turn}
 
 set_after : (before rest : List Node) (node new : Node) (n : ℕ) → length before ≡ n → set (before ++ node ∷ rest) n new ≡ before ++ new ∷ rest
 set_after [] rest node new zero e = refl

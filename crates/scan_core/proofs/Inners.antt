@@ -1,6 +1,6 @@
 -- The sets of the places along a line, and a table of them.
-use Rattle.std.proofs.Common.{◌≡◌, ◌⊎◌, ◌↔◌, inl, inr, ℕ, zero, suc, ◌+◌, ◌*◌, ◌-◌, ◌<◌, ◌≤◌, Bool, true, false, IsTrue, List, [], ◌∷◌, ◌++◌, length, get_or, slice_index, refl, sym, ap, ◌∙◌, subst, arith}
-use Rattle.std.proofs.lemmas.Bool.{cases_eq, cases_lt, false≢true}
+use Rattle.std.proofs.Common.{◌≡◌, ◌⊎◌, ◌↔◌, inl, inr, ℕ, zero, suc, ◌+◌, ◌*◌, ◌-◌, ◌<◌, ◌≤◌, Bool, true, false, IsTrue, List, [], ◌∷◌, length, get_or, slice_index, refl, sym, ap, ◌∙◌, subst, arith}
+use Rattle.std.proofs.lemmas.Bool.{cases_eq, false≢true}
 use Rattle.bre_core.specs.Match.{Parts}
 use Rattle.scan_core.specs.declared.node.Node.{Node}
 use Rattle.scan_core.specs.declared.node.Node.TheVariants.{Take, First, Last, Choose, Back}
@@ -8,12 +8,12 @@ use Rattle.scan_core.specs.declared.table.Table.{Table}
 use Rattle.scan_core.specs.declared.table.State.{State}
 use Rattle.std.proofs.Math.Nat.{mul-le-mul}
 use Rattle.scan_core.specs.Code.{Entered, weight}
-use Rattle.scan_core.specs.Counted.{set_at, positions_in_all, AreSteps, IsStepCount, EndsIn}
-use Rattle.scan_core.specs.Sets.{IsMarked, Flows, FlowsOn, LeadsOn, Passes, Came, positions_among}
-use Rattle.scan_core.specs.Table.{Next, Inner, InSets, entry, Tells, IsState, no_state, IsTableOf, IsOutcome, Walked}
+use Rattle.scan_core.specs.Counted.{set_at, AreSteps, IsStepCount, EndsIn}
+use Rattle.scan_core.specs.Sets.{IsMarked, Flows, FlowsOn, LeadsOn, Passes, positions_among}
+use Rattle.scan_core.specs.Table.{Next, Inner, InSets, entry, IsState, no_state, IsTableOf, IsOutcome, Walked}
 use Rattle.scan_core.proofs.Enterings.{positions_most, weight_length}
 use Rattle.scan_core.proofs.Codes.{parts_join}
-use Rattle.scan_core.proofs.Along.{IsPlace, closes_exact, came_exact, one_counted, none_counted, steps_more, steps_wider}
+use Rattle.scan_core.proofs.Along.{closes_exact, came_exact, one_counted, none_counted, steps_more, steps_wider}
 
 times_suc : (a n : ℕ) → a * suc n ≡ a * n + a
 times_suc a n = grind arith

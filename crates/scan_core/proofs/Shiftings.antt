@@ -1,5 +1,5 @@
 -- A table of few states as words.
-use Rattle.std.proofs.Common.{◌≡◌, ◌⊎◌, inl, inr, ℕ, zero, suc, ◌+◌, ◌*◌, ◌-◌, ◌/◌, ◌%◌, ◌^◌, ◌<◌, ◌≤◌, Bool, true, false, List, [], length, get_or, slice_index, refl, sym, ap, ◌∙◌, subst, arith}
+use Rattle.std.proofs.Common.{◌≡◌, inl, inr, ℕ, zero, suc, ◌+◌, ◌*◌, ◌-◌, ◌/◌, ◌%◌, ◌^◌, ◌<◌, ◌≤◌, Bool, true, List, length, get_or, slice_index, refl, sym, ap, ◌∙◌, subst, arith}
 use Rattle.std.proofs.lemmas.Bool.{cases_lt, false≢true}
 use Rattle.std.proofs.lemmas.Nat.{pow-add, shr-shr, shr_high}
 use Rattle.std.proofs.Math.Nat.{pow-le-pow_right}
@@ -9,8 +9,7 @@ use Rattle.scan_core.specs.declared.table.State.{State}
 use Rattle.scan_core.specs.declared.table.Table.{Table}
 use Rattle.scan_core.specs.Code.{weight}
 use Rattle.scan_core.specs.Counted.{set_at, EndsIn}
-use Rattle.scan_core.specs.Sets.{positions_among}
-use Rattle.scan_core.specs.Shifts.{IsComplete, IsOffset, IsWord, six_bits, AreWords, AreLight, IsWeight, AreWeights, IsSized, IsShifted, IsShiftTable, IsStateAt, IsAt}
+use Rattle.scan_core.specs.Shifts.{IsComplete, IsOffset, IsWord, six_bits, AreLight, IsWeight, IsSized, IsShifted, IsShiftTable, IsStateAt, IsAt}
 use Rattle.scan_core.specs.Table.{entry, no_state, IsTable, IsTableOf, IsOutcome, Walked}
 use Rattle.scan_core.proofs.Along.{steps_more, steps_wider}
 use Rattle.scan_core.proofs.Enterings.{positions_most, weight_length}

@@ -1,7 +1,7 @@
 -- Writing a pattern's code from its last token to its first, and from its last node to its first.
-use Rattle.std.specs.Prelude.{◌≡◌, ℕ, zero, suc, ◌+◌, ◌<◌, ◌≤◌, List, [], ◌∷◌, ◌++◌, length, take, drop, reverse, Option, Some, None}
+use Rattle.std.specs.Prelude.{◌≡◌, ℕ, ◌<◌, ◌≤◌, List, ◌∷◌, ◌++◌, length, take, drop, reverse, Option, Some, None}
 use Rattle.scan_core.specs.declared.node.Node.{Node}
-use Rattle.scan_core.specs.declared.node.Node.TheVariants.{Take, First, Last, Choose, Back}
+use Rattle.scan_core.specs.declared.node.Node.TheVariants.{Back}
 use Rattle.scan_core.specs.declared.emit.Duplication.{Duplication}
 use Rattle.scan_core.specs.Code.{copies, tail_of}
 

@@ -1,5 +1,5 @@
 -- A table of sets of a code's numbers: which set a byte leads to.
-use Rattle.std.specs.Prelude.{◌≡◌, ◌⊎◌, ◌↔◌, ℕ, zero, suc, ◌+◌, ◌*◌, ◌<◌, ◌≤◌, Bool, true, false, IsTrue, IsFalse, List, [], length, slice_index, slice_index_or, Option, Some, None}
+use Rattle.std.specs.Prelude.{◌≡◌, ◌⊎◌, ◌↔◌, ℕ, zero, suc, ◌+◌, ◌*◌, ◌<◌, ◌≤◌, Bool, true, false, IsTrue, IsFalse, List, length, slice_index, slice_index_or}
 use Rattle.scan_core.specs.declared.node.Node.{Node}
 use Rattle.scan_core.specs.declared.table.State.{State}
 use Rattle.scan_core.specs.declared.table.Table.{Table}

@@ -1,4 +1,4 @@
-use Rattle.std.proofs.Common.{rules, ◌≡◌, ◌≤◌, ◌*◌, length, refl, sym, ap, ◌∙◌, subst, arith}
+use Rattle.std.proofs.Common.{rules, ◌≡◌, ◌*◌, length, refl, sym, ap, ◌∙◌, subst, arith}
 use Rattle.scan_core.specs.Shifts.{AreLight, AreWeights, AreWords, IsComplete}
 use Rattle.scan_core.proofs.Shiftings.{states_are_light}
 use Rattle.scan_core.proofs.shift_table.shift_table.Goals as goal

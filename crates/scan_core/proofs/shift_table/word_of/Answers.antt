@@ -1,5 +1,5 @@
-use Rattle.std.proofs.Common.{rules, ◌<◌, ◌≤◌, ◌*◌, ◌+◌, arith}
-use Rattle.scan_core.proofs.Shiftings.{word_fits, word_more, word_ends}
+use Rattle.std.proofs.Common.{rules, ◌<◌, ◌*◌, ◌+◌, arith}
+use Rattle.scan_core.proofs.Shiftings.{word_fits, word_more}
 use Rattle.scan_core.proofs.shift_table.word_of.Goals as goal
 
 pub overflow_mul-word : goal.overflow_mul-word

@@ -1,5 +1,4 @@
-use Rattle.std.proofs.Common.{rules, ◌≡◌, ◌<◌, ◌≤◌, ◌+◌, ◌*◌, ◌/◌, ◌%◌, ◌^◌, slice_index, slice_index_or, refl, sym, ap, ◌∙◌, subst, arith}
-use Rattle.scan_core.specs.Shifts.{IsAt}
+use Rattle.std.proofs.Common.{rules, ◌<◌, ◌+◌, ◌%◌, slice_index, refl, ◌∙◌, arith}
 use Rattle.scan_core.proofs.Inners.{any_default}
 use Rattle.scan_core.proofs.Shiftings.{at_more, at_moved}
 use Rattle.scan_core.proofs.shift_walk.stride.Goals as goal

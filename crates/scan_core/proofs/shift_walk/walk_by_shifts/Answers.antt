@@ -1,6 +1,6 @@
-use Rattle.std.proofs.Common.{rules, ◌≡◌, ◌<◌, ◌≤◌, ◌+◌, ◌*◌, ◌-◌, ℕ, length, slice_index, refl, subst, arith}
+use Rattle.std.proofs.Common.{rules, ◌≡◌, ◌<◌, ◌+◌, ◌*◌, ◌-◌, ℕ, length, slice_index, refl, subst, arith}
 use Rattle.scan_core.specs.Shifts.{IsAt}
-use Rattle.scan_core.proofs.Shiftings.{at_starts, is_sized, at_fits, at_stop, at_known, at_fixed, at_end, outcome_fits}
+use Rattle.scan_core.proofs.Shiftings.{at_starts, at_fits, at_stop, at_known, at_fixed, at_end, outcome_fits}
 use Rattle.scan_core.proofs.shift_walk.walk_by_shifts.Goals as goal
 
 pub loop-place-init : goal.loop-place-init

@@ -1,4 +1,4 @@
-use Rattle.std.proofs.Common.{◌≡◌, IfSome, sym, subst}
+use Rattle.std.proofs.Common.{IfSome, sym, subst}
 use Rattle.scan_core.specs.Shifts.{IsShiftTable}
 use Rattle.scan_core.proofs.bre.Bre.walk.Goals as goal
 
