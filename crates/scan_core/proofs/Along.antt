@@ -1,6 +1,6 @@
 -- The sets of entered nodes along a line, place by place.
-use Rattle.std.proofs.Common.{◌≡◌, ◌⊎◌, ◌↔◌, inl, inr, ℕ, zero, suc, ◌+◌, ◌*◌, ◌-◌, ◌<◌, ◌≤◌, Bool, true, false, IsTrue, List, [], ◌∷◌, ◌++◌, length, get_or, slice_index, refl, sym, ap, ◌∙◌, subst, arith}
-use Rattle.std.proofs.lemmas.Bool.{cases_eq, cases_lt, false≢true, eqb-true, eq-eqb}
+use Rattle.std.proofs.Common.{◌≡◌, ◌⊎◌, ◌↔◌, inl, inr, ℕ, zero, suc, ◌+◌, ◌*◌, ◌-◌, ◌<◌, ◌≤◌, Bool, true, false, IsTrue, List, [], ◌∷◌, ◌++◌, length, slice_index, refl, sym, ap, ◌∙◌, subst, arith}
+use Rattle.std.proofs.lemmas.Bool.{cases_eq, false≢true, eqb-true, eq-eqb}
 use Rattle.bre_core.specs.ByteSet.{has}
 use Rattle.bre_core.specs.Match.{Parts}
 use Rattle.scan_core.specs.declared.node.Node.{Node}
@@ -10,11 +10,10 @@ use Rattle.scan_core.specs.declared.search.Search.{Search}
 use Rattle.std.specs.Prelude.{◌==◌}
 use Rattle.std.proofs.Common.{length-append}
 use Rattle.std.proofs.Math.Nat.{mul-le-mul}
-use Rattle.scan_core.specs.Code.{weight}
 use Rattle.scan_core.specs.Sets.{IsSet, positions_among}
 use Rattle.scan_core.specs.Counted.{set_at, positions_in_all, AreSteps, IsStepCount, EndsIn}
-use Rattle.scan_core.proofs.Enterings.{is_set, reach_most}
-use Rattle.scan_core.specs.Code.{At, Leads, Goes, Walks, Path, Entered}
+use Rattle.scan_core.proofs.Enterings.{is_set}
+use Rattle.scan_core.specs.Code.{At, Leads, Goes, Walks, Entered}
 use Rattle.scan_core.specs.Sets.{IsMarked, IsReach, Has, Gains, LeadsOn, Flows, FlowsOn, Opens, Passes, PassesFrom, IsEmptied, Came}
 use Rattle.scan_core.proofs.Walks.{path_on}
 

@@ -1,11 +1,10 @@
 -- The code of a pattern: it is walked through just where the pattern matches.
-use Rattle.std.proofs.Common.{◌≡◌, ◌⊎◌, ◌↔◌, inl, inr, ℕ, zero, suc, ◌+◌, ◌-◌, ◌<◌, ◌≤◌, Bool, IsTrue, List, [], ◌∷◌, ◌++◌, length, slice_index, Option, Some, None, refl, sym, ap, ◌∙◌, subst, arith}
-use Rattle.std.proofs.lemmas.List.{length-append}
+use Rattle.std.proofs.Common.{◌≡◌, ◌⊎◌, ◌↔◌, inl, inr, ℕ, zero, suc, ◌+◌, ◌-◌, ◌≤◌, List, [], ◌++◌, length, Option, Some, None, refl, sym, ◌∙◌, subst, arith}
 use Rattle.bre_core.specs.Match.{Parts, IsAtMost, Matches, MatchesItem, Contains}
 use Rattle.bre_core.specs.Pattern.{Pattern, nothing, append, Item, set, front, end, group, repeat}
 use Rattle.scan_core.specs.declared.node.Node.{Node}
-use Rattle.scan_core.specs.declared.node.Node.TheVariants.{Take, First, Last, Choose, Back}
-use Rattle.scan_core.specs.Code.{Leads, Walks, Path, maybe, starred, up_to, copies, tail_of, code_of, code_of_item, Entered, IsOrdered, IsOrderedItem}
+use Rattle.scan_core.specs.declared.node.Node.TheVariants.{Take, First, Last}
+use Rattle.scan_core.specs.Code.{starred, up_to, copies, tail_of, code_of, code_of_item, Entered, IsOrdered, IsOrderedItem}
 use Rattle.scan_core.proofs.Walks.{Exact}
 use Rattle.scan_core.proofs.Composed.{exact_by, exact_none, exact_one, exact_both, exact_maybe, exact_starred, parts_first, parts_next, Often}
 use Rattle.bre_core.proofs.Matching.{stays}

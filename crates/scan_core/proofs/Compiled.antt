@@ -9,13 +9,13 @@ use Rattle.bre_core.specs.declared.token.Token.{Token}
 use Rattle.bre_core.specs.declared.token.Token.TheVariants.{Set, Front, End, Open, Close, Repeat}
 use Rattle.scan_core.specs.declared.compile.Compiling.{Compiling}
 use Rattle.scan_core.specs.declared.compile.Pending.{Pending}
-use Rattle.scan_core.specs.declared.compile.Pending.TheVariants.{Group, Repeated}
+use Rattle.scan_core.specs.declared.compile.Pending.TheVariants.{Group}
 use Rattle.scan_core.specs.declared.emit.Duplication.{Duplication}
 use Rattle.scan_core.specs.declared.node.Node.{Node}
-use Rattle.scan_core.specs.declared.node.Node.TheVariants.{Take, First, Last, Back}
+use Rattle.scan_core.specs.declared.node.Node.TheVariants.{Back}
 use Rattle.scan_core.specs.Backwards.{Repeats, begun}
 use Rattle.scan_core.specs.Code.{code_of, code_of_item, IsOrdered, IsOrderedItem, copies, tail_of, up_to}
-use Rattle.scan_core.specs.Compiling.{IsNow, Finishes, Begins, Closes, Writes, Passes, PassesLeaf, PassesOpen, TakesIn, Takes}
+use Rattle.scan_core.specs.Compiling.{IsNow, Finishes, Begins, Closes, Writes, Passes, PassesLeaf, TakesIn, Takes}
 use Rattle.bre_core.proofs.Chains.{Steps-push}
 use Rattle.scan_core.proofs.Finishing.{finished_group, finished_all, finished_repeated}
 
@@ -183,7 +183,7 @@ mutual
       let parts = bounded_parts (written_item item) (Repeat low high ∷ []) b in
       (ordered_item item parts.0, bound_order low high parts.1.0)
 
--- all tokens were gone over
+-- all tokens were read
 pub compiled : (pattern : Pattern) (tokens : List Token) (first final : Compiling) → tokens ≡ written pattern → AreBounded tokens → IsNow [] [] None first → Steps Takes first (reverse tokens) final → reverse final.nodes.items ≡ code_of pattern
 compiled pattern tokens first final e b n s =
     let way : Steps Takes first (backwards pattern ++ []) final = subst (λ l. Steps Takes first l final) (ap reverse e ∙ reverse-written pattern ∙ sym (append-nil (backwards pattern))) s in
@@ -191,7 +191,7 @@ compiled pattern tokens first final e b n s =
     let now : IsNow (first.nodes.items ++ reverse (code_of pattern)) first.pending.items None all.0 = all.1 in
     ap (λ c. reverse c.nodes.items) (sym all.2) ∙ ap reverse (now.nodes ∙ ap (λ l. l ++ reverse (code_of pattern)) n.nodes) ∙ reverse-reverse (code_of pattern)
 
--- no token was gone over yet
+-- no token was read yet
 pub way_starts : (tokens : List Token) (place : ℕ) (first : Compiling) → length tokens ≤ place → Steps Takes first (reverse (drop place tokens)) first
 way_starts tokens place first h = subst (λ l. Steps Takes first (reverse l) first) (sym (at_drop_all (λ ts. ts) tokens place h)) refl
 

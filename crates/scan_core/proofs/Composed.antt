@@ -1,12 +1,11 @@
 -- The walks of a pattern's code are what it matches: each way of putting codes together.
-use Rattle.std.proofs.Common.{◌≡◌, ◌⊎◌, ◌↔◌, inl, inr, ℕ, zero, suc, ◌+◌, ◌-◌, ◌<◌, ◌≤◌, Bool, IsTrue, List, [], ◌∷◌, ◌++◌, length, slice_index, Option, Some, None, refl, sym, ap, ◌∙◌, subst, arith}
-use Rattle.std.proofs.lemmas.Bool.{cases_eq, cases_lt}
+use Rattle.std.proofs.Common.{◌≡◌, ◌⊎◌, inl, inr, ℕ, zero, suc, ◌+◌, ◌≤◌, List, [], ◌∷◌, ◌++◌, length, refl, sym, ◌∙◌, subst, arith}
 use Rattle.std.proofs.lemmas.List.{length-append}
 use Rattle.bre_core.specs.Match.{Parts}
 use Rattle.scan_core.specs.declared.node.Node.{Node}
 use Rattle.scan_core.specs.declared.node.Node.TheVariants.{Take, First, Last, Choose, Back}
-use Rattle.scan_core.specs.Code.{At, Leads, Goes, Walks, Path, maybe, starred, up_to, copies}
-use Rattle.scan_core.proofs.Walks.{at-left, at_at, at-right, at_within, at-split, leads_shift, leads_unshift, walk-left, walk-right, walk_on, path_on, Fits, Exact, in_second, through, ended}
+use Rattle.scan_core.specs.Code.{At, Leads, Goes, Walks, Path, maybe, starred}
+use Rattle.scan_core.proofs.Walks.{at_at, at-right, at-split, leads_unshift, walk-left, walk-right, walk_on, path_on, Exact, in_second, through, ended}
 
 pub exact_by : (code : List Node) (line : List ℕ) (Kind Other : ℕ → ℕ → Type 0) → Exact code line Kind → ((from to : ℕ) → Kind from to → Other from to) → ((from to : ℕ) → Other from to → Kind from to) → Exact code line Other
 exact_by code line Kind Other e there here = record {
@@ -139,7 +138,7 @@ parts_next Kind (suc count) from to p = let q = parts_next Kind count from p.0 p
 abbrev pub Often : (ℕ → ℕ → Type 0) → ℕ → ℕ → Type 0
 Often Kind from to = (count : ℕ) × Parts Kind count from to
 
--- what walks of so many steps are, from the front of the code and from within it
+-- what walks of a given number of steps are, from the front of the code and from within it
 record StarHolds (code : List Node) (line : List ℕ) (Kind : ℕ → ℕ → Type 0) (count : ℕ) : Type 0 where
   whole : (place stop : ℕ) → Walks (starred code) line count 0 place (length code + 2) stop → Often Kind place stop
   within : (at k place stop : ℕ) → at ≡ suc k → k ≤ length code → Walks (starred code) line count at place (length code + 2) stop → (middle : ℕ) × Path code line k place (length code) middle × Often Kind middle stop

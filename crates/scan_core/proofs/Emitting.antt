@@ -1,17 +1,17 @@
 -- An item that stands last, written out as often as a duplication asks for.
-use Rattle.std.proofs.Common.{◌≡◌, ℕ, zero, suc, ◌+◌, ◌-◌, ◌<◌, ◌≤◌, List, [], ◌∷◌, ◌++◌, length, set, reverse, refl, sym, ap, ◌∙◌, subst, arith, append_assoc, append-nil, add-one, length-append}
+use Rattle.std.proofs.Common.{◌≡◌, ℕ, zero, suc, ◌+◌, ◌-◌, ◌<◌, List, [], ◌∷◌, ◌++◌, length, set, reverse, refl, sym, ap, ◌∙◌, arith, append_assoc, append-nil, add-one, length-append}
 use Rattle.std.proofs.lemmas.List.{reverse-append, length-reverse}
 use Rattle.scan_core.specs.declared.node.Node.{Node}
 use Rattle.scan_core.specs.declared.node.Node.TheVariants.{Choose, Back}
-use Rattle.scan_core.specs.Code.{copies, up_to, maybe, starred}
+use Rattle.scan_core.specs.Code.{copies, up_to, starred}
 use Rattle.scan_core.specs.Backwards.{stretch}
-use Rattle.scan_core.proofs.Stretches.{stretch_stays, stretch_behind, reverse-cons, reverse-copies, copies_turn}
+use Rattle.scan_core.proofs.Stretches.{stretch_after, reverse-cons, reverse-copies, copies_turn}
 
-set_behind : (before rest : List Node) (node new : Node) (n : ℕ) → length before ≡ n → set (before ++ node ∷ rest) n new ≡ before ++ new ∷ rest
-set_behind [] rest node new zero e = refl
-set_behind [] rest node new (suc n) e = absurd (omega (arith, e))
-set_behind (x ∷ before) rest node new zero e = absurd (omega (arith, e))
-set_behind (x ∷ before) rest node new (suc n) e = ap (λ l. x ∷ l) (set_behind before rest node new n (omega (arith, e)))
+set_after : (before rest : List Node) (node new : Node) (n : ℕ) → length before ≡ n → set (before ++ node ∷ rest) n new ≡ before ++ new ∷ rest
+set_after [] rest node new zero e = refl
+set_after [] rest node new (suc n) e = absurd (omega (arith, e))
+set_after (x ∷ before) rest node new zero e = absurd (omega (arith, e))
+set_after (x ∷ before) rest node new (suc n) e = ap (λ l. x ∷ l) (set_after before rest node new n (omega (arith, e)))
 
 reverse-starred : (code : List Node) → reverse (starred code) ≡ (Back (length code + 1) ∷ reverse code) ++ Choose (length code + 2) ∷ []
 reverse-starred code =
@@ -36,7 +36,7 @@ starred_out nodes marked chosen new before code start size low b n s m ch e =
         omega (arith, l, a, r, b, s)
 
     set_now : marked ≡ before ++ Back (length code + 1) ∷ reverse code
-    set_now = m ∙ ap (λ l. set l start (Back (size + 1))) n ∙ set_behind before (reverse code) (Back 0) (Back (size + 1)) start b ∙ ap (λ k. before ++ Back (k + 1) ∷ reverse code) counted
+    set_now = m ∙ ap (λ l. set l start (Back (size + 1))) n ∙ set_after before (reverse code) (Back 0) (Back (size + 1)) start b ∙ ap (λ k. before ++ Back (k + 1) ∷ reverse code) counted
 
     skip : length marked - start + 1 ≡ length code + 2
     skip =
@@ -58,7 +58,7 @@ starred_out nodes marked chosen new before code start size low b n s m ch e =
     here =
         let a = length-append before (Back (length code + 1) ∷ []) in
         let r = length-reverse code in
-        ap (stretch (start + 1) size) parted ∙ stretch_behind (before ++ Back (length code + 1) ∷ []) (reverse code) (Choose (length code + 2) ∷ []) (start + 1) size (omega (arith, a, b)) (omega (arith, r, counted))
+        ap (stretch (start + 1) size) parted ∙ stretch_after (before ++ Back (length code + 1) ∷ []) (reverse code) (Choose (length code + 2) ∷ []) (start + 1) size (omega (arith, a, b)) (omega (arith, r, counted))
 
 counted_item : (nodes before code : List Node) (start : ℕ) → length before ≡ start → nodes ≡ before ++ reverse code → length code ≡ length nodes - start
 counted_item nodes before code start b n =
@@ -73,9 +73,9 @@ item_here nodes more before code start b n =
     let r = length-reverse code in
     let s = counted_item nodes before code start b n in
     ap (λ l. stretch start (length nodes - start) (l ++ more)) n ∙ ap (stretch start (length nodes - start)) (append_assoc before (reverse code) more)
-    ∙ stretch_behind before (reverse code) more start (length nodes - start) b (omega (arith, r, s))
+    ∙ stretch_after before (reverse code) more start (length nodes - start) b (omega (arith, r, s))
 
--- so many times
+-- `count` times
 pub exact_out : (nodes new before code : List Node) (start size low high : ℕ) → length before ≡ start → nodes ≡ before ++ reverse code → size ≡ length nodes - start → low ≡ high → 0 < high
     → new ≡ nodes ++ copies (low - 1) (stretch start size nodes) → new ≡ before ++ reverse (copies low code ++ up_to (high - low) code)
 exact_out nodes new before code start size low high b n s same some e =

@@ -1,6 +1,6 @@
 -- The sets of the places along a line, and a table of them.
-use Rattle.std.proofs.Common.{◌≡◌, ◌⊎◌, ◌↔◌, inl, inr, ℕ, zero, suc, ◌+◌, ◌*◌, ◌-◌, ◌<◌, ◌≤◌, Bool, true, false, IsTrue, List, [], ◌∷◌, ◌++◌, length, get_or, slice_index, refl, sym, ap, ◌∙◌, subst, arith}
-use Rattle.std.proofs.lemmas.Bool.{cases_eq, cases_lt, false≢true}
+use Rattle.std.proofs.Common.{◌≡◌, ◌⊎◌, ◌↔◌, inl, inr, ℕ, zero, suc, ◌+◌, ◌*◌, ◌-◌, ◌<◌, ◌≤◌, Bool, true, false, IsTrue, List, [], ◌∷◌, length, get_or, slice_index, refl, sym, ap, ◌∙◌, subst, arith}
+use Rattle.std.proofs.lemmas.Bool.{cases_eq, false≢true}
 use Rattle.bre_core.specs.Match.{Parts}
 use Rattle.scan_core.specs.declared.node.Node.{Node}
 use Rattle.scan_core.specs.declared.node.Node.TheVariants.{Take, First, Last, Choose, Back}
@@ -8,12 +8,12 @@ use Rattle.scan_core.specs.declared.table.Table.{Table}
 use Rattle.scan_core.specs.declared.table.State.{State}
 use Rattle.std.proofs.Math.Nat.{mul-le-mul}
 use Rattle.scan_core.specs.Code.{Entered, weight}
-use Rattle.scan_core.specs.Counted.{set_at, positions_in_all, AreSteps, IsStepCount, EndsIn}
-use Rattle.scan_core.specs.Sets.{IsMarked, Flows, FlowsOn, LeadsOn, Passes, Came, positions_among}
-use Rattle.scan_core.specs.Table.{Next, Inner, InSets, entry, Tells, IsState, no_state, IsTableOf, IsOutcome}
+use Rattle.scan_core.specs.Counted.{set_at, AreSteps, IsStepCount, EndsIn}
+use Rattle.scan_core.specs.Sets.{IsMarked, Flows, FlowsOn, LeadsOn, Passes, positions_among}
+use Rattle.scan_core.specs.Table.{Next, Inner, InSets, entry, IsState, no_state, IsTableOf, IsOutcome, Walked}
 use Rattle.scan_core.proofs.Enterings.{positions_most, weight_length}
 use Rattle.scan_core.proofs.Codes.{parts_join}
-use Rattle.scan_core.proofs.Along.{IsPlace, closes_exact, came_exact, one_counted, none_counted, steps_more, steps_wider}
+use Rattle.scan_core.proofs.Along.{closes_exact, came_exact, one_counted, none_counted, steps_more, steps_wider}
 
 times_suc : (a n : ℕ) → a * suc n ≡ a * n + a
 times_suc a n = grind arith
@@ -52,7 +52,7 @@ parts_wider : (code : List Node) (count from to : ℕ) → Parts (Flows code fal
 parts_wider code zero from to p = p
 parts_wider code (suc count) from to p = (p.0, parts_wider code count from p.0 p.1, (p.2.0, p.2.1, leads_wider p.2.0 p.0 to p.2.2))
 
--- at the last place, behind a byte
+-- at the last place, after a byte
 pub last_entered : (code : List Node) (line : List ℕ) (place : ℕ) → suc place ≡ length line → (number : ℕ) → Entered code line number (suc place) ↔ ((from : ℕ) × Inner code line (suc place) from × FlowsOn code false true from number)
 last_entered code line place h number = (λ e. there ((exact number).1 e), λ k. (exact number).0 (here k))
   where
@@ -71,15 +71,6 @@ last_entered code line place h number = (λ e. there ((exact number).1 e), λ k.
 
     here : ((from : ℕ) × Inner code line (suc place) from × FlowsOn code false true from number) → (from : ℕ) × (((before : ℕ) × Inner code line place before × Passes code (slice_index line place) before from) ⊎ (from ≡ 0)) × FlowsOn code false true from number
     here k = (k.1.0, k.1.1, (k.1.2.0 + k.2.0, parts_join (Flows code false true) k.1.2.0 k.2.0 k.1.0 k.0 number (parts_wider code k.1.2.0 k.1.0 k.0 k.1.2.1) k.2.1))
-
--- the table was gone through up to a place
-pub record Walked (code : List Node) (sets : List (List Bool)) (line : List ℕ) (place state steps : ℕ) : Type 0 where
-  pub within : place ≤ length line
-  pub known : state < length sets
-  pub exact : (number : ℕ) → InSets sets state number ↔ Inner code line place number
-  pub none : (before : ℕ) → before < place → Entered code line (length code) before → ⊥
-  pub counted : AreSteps code line place steps
-  pub bound : steps ≤ place * (weight code + 1)
 
 pub walked_starts : (code : List Node) (sets : List (List Bool)) (table : Table) (line : List ℕ) → IsTableOf code sets table → Walked code sets line 0 0 0
 walked_starts code sets table line t = record { within = omega arith; known = t.some; exact = t.front; none = λ before h. absurd (omega (arith, h)); counted = none_counted code line; bound = omega arith }
@@ -139,7 +130,7 @@ walked_run code sets table line from to state steps t w l h b s =
     subst (λ p. Walked code sets line p state (steps + positions_among code (set_at sets state) * (to - from))) q
     (walked_stay code sets table line (to - from) from state steps t w (omega (arith, l, h)) b (λ k m u. s k m (omega (arith, u, l))))
 
--- what is entered behind a byte is entered also where the line ends there
+-- what is entered after a byte is entered also where the line ends there
 entered_there : (code : List Node) (line : List ℕ) (place number : ℕ) → place < length line → Inner code line (suc place) number → Entered code line number (suc place)
 entered_there code line place number h i = elim (cases_eq (suc place) (length line)) [
   | inl same ↦ (last_entered code line place same number).1 (number, i, (0, refl))

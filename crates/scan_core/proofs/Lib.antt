@@ -12,3 +12,4 @@ pub mod Along
 pub mod Whole
 pub mod Inners
 pub mod Tables
+pub mod Shiftings

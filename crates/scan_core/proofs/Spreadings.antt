@@ -1,6 +1,6 @@
 -- Entering all that a set leads to.
-use Rattle.std.proofs.Common.{◌≡◌, ◌⊎◌, ◌↔◌, inl, inr, ℕ, zero, suc, ◌+◌, ◌-◌, ◌<◌, ◌≤◌, Bool, true, false, IsTrue, List, [], ◌∷◌, ◌++◌, length, get_or, set, replicate, refl, sym, ap, ◌∙◌, subst, arith}
-use Rattle.std.proofs.lemmas.Bool.{cases_eq, cases_lt, false≢true}
+use Rattle.std.proofs.Common.{◌≡◌, ◌⊎◌, inl, inr, ℕ, zero, suc, ◌+◌, ◌<◌, ◌≤◌, Bool, true, false, List, [], ◌∷◌, length, get_or, set, replicate, refl, sym, ap, ◌∙◌, subst, arith}
+use Rattle.std.proofs.lemmas.Bool.{cases_eq, false≢true}
 use Rattle.bre_core.specs.Match.{Parts}
 use Rattle.scan_core.specs.declared.node.Node.{Node}
 use Rattle.scan_core.specs.declared.reach.Reach.{Reach}
@@ -8,7 +8,7 @@ use Rattle.std.proofs.lemmas.List.{get_or-set_same, get_or-set_other, length-set
 use Rattle.scan_core.proofs.Enterings.{gain_nothing, gain_by, gain_both, marks_within}
 use Rattle.scan_core.specs.Sets.{IsMarked, IsSet, positions_among, at_place, marked, IsReach, Has, Gains, Flows, FlowsOn, Spreads, Opens, Passes, PassesFrom, IsEmptied, Advances, Loaded}
 
--- the first entered ones were gone over
+-- what follows from the first entered ones was entered
 pub record Spreading (code : List Node) (at_first at_last : Bool) (old now : Reach) (done : ℕ) : Type 0 where
   pub sound : IsReach code now
   pub size : length now.marks.items ≡ length old.marks.items

@@ -1,8 +1,8 @@
 -- Stretches of nodes, and their copies.
-use Rattle.std.proofs.Common.{◌≡◌, ℕ, zero, suc, ◌+◌, ◌-◌, ◌<◌, ◌≤◌, List, [], ◌∷◌, ◌++◌, length, take, drop, get_or, reverse, refl, sym, ap, ◌∙◌, subst, arith, append_assoc, append-nil, add-one, length-append, length-drop}
+use Rattle.std.proofs.Common.{◌≡◌, ℕ, zero, suc, ◌+◌, ◌<◌, ◌≤◌, List, [], ◌∷◌, ◌++◌, length, take, drop, get_or, reverse, refl, sym, ap, ◌∙◌, subst, arith, append_assoc, append-nil, add-one, length-drop}
 use Rattle.std.proofs.lemmas.List.{take_more, get_or-drop, take-append-le, drop-append-le, reverse-append}
 use Rattle.scan_core.specs.declared.node.Node.{Node}
-use Rattle.scan_core.specs.Code.{copies, up_to, maybe}
+use Rattle.scan_core.specs.Code.{copies}
 use Rattle.scan_core.specs.Backwards.{stretch}
 
 front_of : {X : Type 0} (xs ys : List X) (n : ℕ) (d : X) → n < length xs → get_or (xs ++ ys) n d ≡ get_or xs n d
@@ -46,9 +46,9 @@ pub reverse-copies : (count : ℕ) (code : List Node) → reverse (copies count 
 reverse-copies zero code = refl
 reverse-copies (suc count) code = reverse-append (copies count code) code ∙ ap (λ l. reverse code ++ l) (reverse-copies count code) ∙ copies_turn count (reverse code)
 
--- the stretch behind a front
-pub stretch_behind : (before code more : List Node) (from size : ℕ) → length before ≡ from → length code ≡ size → stretch from size (before ++ (code ++ more)) ≡ code
-stretch_behind [] code more zero size e f = subst (λ n. take n (code ++ more) ≡ code) f (whole code more)
+-- the stretch after a front
+pub stretch_after : (before code more : List Node) (from size : ℕ) → length before ≡ from → length code ≡ size → stretch from size (before ++ (code ++ more)) ≡ code
+stretch_after [] code more zero size e f = subst (λ n. take n (code ++ more) ≡ code) f (whole code more)
   where
     whole : (code more : List Node) → take (length code) (code ++ more) ≡ code
     whole [] more = take-none more
@@ -56,6 +56,6 @@ stretch_behind [] code more zero size e f = subst (λ n. take n (code ++ more) �
         take-none : (more : List Node) → take 0 more ≡ []
         take-none more = refl
     whole (node ∷ code) more = ap (λ l. node ∷ l) (whole code more)
-stretch_behind [] code more (suc from) size e f = absurd (omega (arith, e))
-stretch_behind (node ∷ before) code more zero size e f = absurd (omega (arith, e))
-stretch_behind (node ∷ before) code more (suc from) size e f = stretch_behind before code more from size (omega (arith, e)) f
+stretch_after [] code more (suc from) size e f = absurd (omega (arith, e))
+stretch_after (node ∷ before) code more zero size e f = absurd (omega (arith, e))
+stretch_after (node ∷ before) code more (suc from) size e f = stretch_after before code more from size (omega (arith, e)) f

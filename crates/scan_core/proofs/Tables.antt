@@ -1,6 +1,6 @@
 -- A table that is built set by set and entry by entry.
-use Rattle.std.proofs.Common.{◌≡◌, ◌⊎◌, ◌↔◌, inl, inr, ℕ, zero, suc, ◌+◌, ◌*◌, ◌-◌, ◌<◌, ◌≤◌, Bool, true, false, IsTrue, List, [], ◌∷◌, ◌++◌, length, get_or, refl, sym, ap, ◌∙◌, subst, arith}
-use Rattle.std.proofs.lemmas.Bool.{cases_eq, cases_lt, false≢true}
+use Rattle.std.proofs.Common.{◌≡◌, ◌⊎◌, ◌↔◌, inl, inr, ℕ, zero, suc, ◌+◌, ◌*◌, ◌<◌, ◌≤◌, Bool, true, false, IsTrue, List, [], ◌∷◌, ◌++◌, length, get_or, refl, sym, ap, ◌∙◌, subst, arith}
+use Rattle.std.proofs.lemmas.Bool.{cases_eq, cases_lt}
 use Rattle.std.proofs.lemmas.List.{length-append}
 use Rattle.bre_core.specs.ByteSet.{has}
 use Rattle.scan_core.specs.declared.build.Building.{Building}
@@ -9,13 +9,12 @@ use Rattle.scan_core.specs.declared.node.Node.TheVariants.{Take}
 use Rattle.scan_core.specs.declared.reach.Reach.{Reach}
 use Rattle.scan_core.specs.declared.table.State.{State}
 use Rattle.scan_core.specs.declared.table.Table.{Table}
-use Rattle.scan_core.specs.Built.{AreAlike, AreTwins, Built, AreSized, IsBuilding, IsFilling, LeadsTo, AreNoted}
+use Rattle.scan_core.specs.Built.{AreAlike, Built, AreSized, IsBuilding, IsFilling, LeadsTo, AreNoted}
 use Rattle.scan_core.specs.Code.{At}
 use Rattle.scan_core.specs.Counted.{set_at}
-use Rattle.scan_core.specs.Sets.{IsMarked, IsReach, Has, FlowsOn, Passes, PassesFrom, Advances, Loaded, Spreads, Opens, IsEmptied, positions_among}
+use Rattle.scan_core.specs.Sets.{IsMarked, IsReach, Has, FlowsOn, Passes, PassesFrom, Advances, Loaded, Spreads, positions_among}
 use Rattle.scan_core.specs.Table.{Next, InSets, entry, Tells, IsState, no_state, IsTableOf}
 use Rattle.scan_core.proofs.Enterings.{at_index, at_once, at_least}
-use Rattle.scan_core.proofs.Inners.{next_by}
 
 pub get-front : {X : Type 0} (xs ys : List X) (n : ℕ) (d : X) → n < length xs → get_or (xs ++ ys) n d ≡ get_or xs n d
 get-front [] ys n d h = absurd (omega (arith, h))
@@ -98,7 +97,7 @@ grown code state sets sets' rows marks b r k s m (inr e) = subst (λ t. Grown co
   same = get-front sets (marks ∷ []) state [] k;
 })
 
--- two bytes that no node tells apart lead alike
+-- two bytes that every node treats alike lead alike
 passes_alike : (code : List Node) (one other from to : ℕ) → AreAlike code one other → Passes code one from to → Passes code other from to
 passes_alike code one other from to a p = (p.0, p.1, sym (a from p.0 p.1) ∙ p.2, p.3)
 

@@ -1,11 +1,11 @@
 -- A pattern's code has its positions.
-use Rattle.std.proofs.Common.{◌≡◌, ℕ, zero, suc, ◌+◌, ◌*◌, ◌-◌, ◌≤◌, List, [], ◌∷◌, ◌++◌, length, Option, Some, None, refl, sym, ap, ◌∙◌, arith}
+use Rattle.std.proofs.Common.{◌≡◌, ℕ, zero, suc, ◌+◌, ◌*◌, ◌-◌, ◌≤◌, List, [], ◌∷◌, ◌++◌, length, Option, Some, None, refl, ap, ◌∙◌, arith}
 use Rattle.std.proofs.lemmas.List.{length-append}
 use Rattle.bre_core.specs.Match.{IsAtMost}
 use Rattle.bre_core.specs.Pattern.{Pattern, nothing, append, Item, set, front, end, group, repeat, repeated, positions_in, positions_in_item}
 use Rattle.scan_core.specs.declared.node.Node.{Node}
-use Rattle.scan_core.specs.declared.node.Node.TheVariants.{Take, First, Last, Choose, Back}
-use Rattle.scan_core.specs.Code.{maybe, starred, up_to, copies, tail_of, code_of, code_of_item, IsOrdered, IsOrderedItem, weight_of, weight}
+use Rattle.scan_core.specs.declared.node.Node.TheVariants.{Back}
+use Rattle.scan_core.specs.Code.{starred, up_to, copies, tail_of, code_of, code_of_item, IsOrdered, IsOrderedItem, weight}
 
 pub weight-append : (a b : List Node) → weight (a ++ b) ≡ weight a + weight b
 weight-append [] b = let e : weight b ≡ 0 + weight b = omega arith in e

@@ -1,5 +1,5 @@
 -- The code of a pattern and the search for its end, together.
-use Rattle.std.proofs.Common.{◌≡◌, ◌↔◌, ℕ, ◌+◌, ◌*◌, ◌<◌, ◌≤◌, Bool, true, false, IsTrue, List, [], length, refl, sym, ap, ◌∙◌, arith}
+use Rattle.std.proofs.Common.{◌≡◌, ◌↔◌, ℕ, ◌+◌, ◌*◌, ◌<◌, ◌≤◌, Bool, true, IsTrue, List, [], length, refl, ap, arith}
 use Rattle.bre_core.specs.Pattern.{Pattern, positions_of}
 use Rattle.bre_core.specs.Match.{Contains}
 use Rattle.bre_core.specs.Search.{contains}

@@ -1,11 +1,11 @@
 -- Writing a pattern's code from its last token to its first, and from its last node to its first.
-use Rattle.std.specs.Prelude.{◌≡◌, ℕ, zero, suc, ◌+◌, ◌<◌, ◌≤◌, List, [], ◌∷◌, ◌++◌, length, take, drop, reverse, Option, Some, None}
+use Rattle.std.specs.Prelude.{◌≡◌, ℕ, ◌<◌, ◌≤◌, List, ◌∷◌, ◌++◌, length, take, drop, reverse, Option, Some, None}
 use Rattle.scan_core.specs.declared.node.Node.{Node}
-use Rattle.scan_core.specs.declared.node.Node.TheVariants.{Take, First, Last, Choose, Back}
+use Rattle.scan_core.specs.declared.node.Node.TheVariants.{Back}
 use Rattle.scan_core.specs.declared.emit.Duplication.{Duplication}
 use Rattle.scan_core.specs.Code.{copies, tail_of}
 
--- so many nodes from a place on
+-- the `size` nodes from a place on
 abbrev pub stretch : ℕ → ℕ → List Node → List Node
 stretch from size nodes = take size (drop from nodes)
 
@@ -14,7 +14,7 @@ abbrev pub begun : Option ℕ → List Node → List Node
 begun None nodes = Back 0 ∷ nodes
 begun (Some high) nodes = nodes
 
--- a duplication's item may stand from its place on among so many nodes, at least and at most so often
+-- a duplication's item may stand from its place on among `size` nodes, and its bounds are in order
 abbrev pub IsBegun : Option ℕ → ℕ → ℕ → ℕ → Type 0
 IsBegun None low start size = start < size
 IsBegun (Some high) low start size = (start ≤ size) × (low ≤ high) × (0 < high)

@@ -1,5 +1,5 @@
 -- A table that is being built.
-use Rattle.std.specs.Prelude.{◌≡◌, ◌⊎◌, ◌↔◌, ℕ, ◌+◌, ◌*◌, ◌<◌, ◌≤◌, Bool, true, false, IsTrue, List, [], ◌∷◌, ◌++◌, length, slice_index_or}
+use Rattle.std.specs.Prelude.{◌≡◌, ◌⊎◌, ◌↔◌, ℕ, ◌+◌, ◌*◌, ◌<◌, ◌≤◌, Bool, true, false, List, [], ◌∷◌, ◌++◌, length, slice_index_or}
 use Rattle.bre_core.specs.ByteSet.{has}
 use Rattle.scan_core.specs.declared.node.Node.{Node}
 use Rattle.scan_core.specs.declared.node.Node.TheVariants.{Take}
@@ -10,11 +10,11 @@ use Rattle.scan_core.specs.Counted.{set_at}
 use Rattle.scan_core.specs.Sets.{IsMarked, IsReach, Has, FlowsOn}
 use Rattle.scan_core.specs.Table.{InSets, entry, Tells, IsState, no_state}
 
--- no node tells two bytes apart
+-- every node takes both bytes or neither
 abbrev pub AreAlike : List Node → ℕ → ℕ → Type 0
 AreAlike code one other = (number : ℕ) (bytes : List Bool) → At code number (Take bytes) → has bytes one ≡ has bytes other
 
--- for each byte one that no node tells from it, itself or one below it
+-- for each byte one that every node treats alike
 pub record AreTwins (code : List Node) (twins : List ℕ) : Type 0 where
   pub all : length twins ≡ 256
   pub alike : (byte : ℕ) → byte < 256 → AreAlike code byte (slice_index_or twins byte 0)
@@ -30,7 +30,7 @@ pub record Built (code : List Node) (sets : List (List Bool)) (rows : List ℕ) 
 abbrev pub AreSized : List Node → List (List Bool) → Type 0
 AreSized code sets = (state : ℕ) → state < length sets → length (set_at sets state) ≡ length code + 1
 
--- so many entries are there, of at most so many sets
+-- the first entries are there, of at most `most` sets
 pub record IsBuilding (code : List Node) (most entries : ℕ) (building : Building) : Type 0 where
   pub built : Built code building.sets.items building.rows.items
   pub filled : length building.rows.items ≡ entries

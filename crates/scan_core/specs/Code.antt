@@ -1,5 +1,5 @@
 -- A pattern's code: a list of nodes, each at its number. The number after the last node is the pattern's end.
-use Rattle.std.specs.Prelude.{◌≡◌, ◌⊎◌, ◌↔◌, ℕ, zero, suc, ◌+◌, ◌-◌, ◌<◌, ◌≤◌, Bool, IsTrue, List, [], ◌∷◌, ◌++◌, length, slice_index, Option, Some, None}
+use Rattle.std.specs.Prelude.{◌≡◌, ◌⊎◌, ℕ, zero, suc, ◌+◌, ◌-◌, ◌<◌, ◌≤◌, IsTrue, List, [], ◌∷◌, ◌++◌, length, slice_index, Option, Some, None}
 use Rattle.bre_core.specs.ByteSet.{has}
 use Rattle.scan_core.specs.declared.node.Node.{Node}
 use Rattle.scan_core.specs.declared.node.Node.TheVariants.{Take, First, Last, Choose, Back}
@@ -23,7 +23,7 @@ Leads (Back by) line at place at' place' = (at ≡ at' + by) × (place' ≡ plac
 abbrev pub Goes : List Node → List ℕ → ℕ → ℕ → ℕ → ℕ → Type 0
 Goes code line at place at' place' = (node : Node) × At code at node × Leads node line at place at' place'
 
--- so many steps
+-- a walk of `count` steps
 abbrev pub Walks : List Node → List ℕ → ℕ → ℕ → ℕ → ℕ → ℕ → Type 0
 Walks code line zero at place to stop = (at ≡ to) × (place ≡ stop)
 Walks code line (suc count) at place to stop = (at' : ℕ) × (place' : ℕ) × Goes code line at place at' place' × Walks code line count at' place' to stop
@@ -31,7 +31,7 @@ Walks code line (suc count) at place to stop = (at' : ℕ) × (place' : ℕ) × 
 abbrev pub Path : List Node → List ℕ → ℕ → ℕ → ℕ → ℕ → Type 0
 Path code line at place to stop = (count : ℕ) × Walks code line count at place to stop
 
--- the nodes of an item or none; of an item any number of times; up to so many times; so many times
+-- the nodes of an item or none; of an item any number of times; up to `count` times; `count` times
 abbrev pub maybe : List Node → List Node
 maybe code = Choose (length code + 1) ∷ code
 

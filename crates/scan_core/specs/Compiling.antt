@@ -1,5 +1,5 @@
 -- Going over a pattern's tokens from the last to the first: what one token does.
-use Rattle.std.specs.Prelude.{◌≡◌, ◌≢◌, ℕ, zero, suc, ◌+◌, ◌<◌, ◌≤◌, List, [], ◌∷◌, ◌++◌, length, reverse, Option, Some, None}
+use Rattle.std.specs.Prelude.{◌≡◌, ℕ, zero, suc, List, [], ◌∷◌, ◌++◌, length, reverse, Option, Some, None}
 use Rattle.bre_core.specs.declared.token.Token.{Token}
 use Rattle.bre_core.specs.declared.token.Token.TheVariants.{Set, Front, End, Open, Close, Repeat}
 use Rattle.scan_core.specs.declared.compile.Compiling.{Compiling}
@@ -10,7 +10,7 @@ use Rattle.scan_core.specs.declared.node.Node.{Node}
 use Rattle.scan_core.specs.declared.node.Node.TheVariants.{Take, First, Last, Back}
 use Rattle.scan_core.specs.Backwards.{IsBegun, Repeats}
 
--- what waits for an item waits for one that may stand among so many nodes
+-- what waits for an item waits for one that may stand among `size` nodes
 abbrev pub AreBegun : ℕ → List Pending → Type 0
 AreBegun size [] = Unit {0}
 AreBegun size (Group ∷ pending) = AreBegun size pending
@@ -22,7 +22,7 @@ pub record IsNow (written : List Node) (waiting : List Pending) (depth : Option 
   pub pending : new.pending.items ≡ waiting
   pub passing : new.passing ≡ depth
 
--- an item is complete behind these nodes: the duplications that wait for it are written out, the innermost, which is the first here, first
+-- an item is complete after these nodes: the duplications that wait for it are written out, the innermost, which is the first here, first
 abbrev pub FinishesBy : List Pending → List Node → Compiling → Type 0
 FinishesBy [] nodes new = IsNow nodes [] None new
 FinishesBy (Group ∷ stack) nodes new = IsNow nodes (reverse (Group ∷ stack)) None new
@@ -59,7 +59,7 @@ abbrev pub PassesOpen : ℕ → Compiling → Compiling → Type 0
 PassesOpen zero old new = Unit {0}
 PassesOpen (suc depth) old new = PassesLeaf depth old new
 
--- a token of what is passed over, so many groups of it being open
+-- a token of an item that isn't written, of which `depth` groups are open
 abbrev pub Passes : ℕ → Token → Compiling → Compiling → Type 0
 Passes depth (Set bytes) old new = PassesLeaf depth old new
 Passes depth Front old new = PassesLeaf depth old new

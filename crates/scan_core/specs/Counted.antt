@@ -13,7 +13,7 @@ abbrev pub positions_in_all : List Node → List (List Bool) → ℕ
 positions_in_all code [] = 0
 positions_in_all code (set ∷ sets) = positions_among code set + positions_in_all code sets
 
--- so many steps for the first so many places: a flag for each number that can be entered there
+-- the steps of the first places: a flag for each number that can be entered there
 pub record AreSteps (code : List Node) (line : List ℕ) (places steps : ℕ) : Type 0 where
   pub sets : List (List Bool)
   pub all : length sets ≡ places

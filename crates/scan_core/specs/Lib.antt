@@ -7,3 +7,4 @@ pub mod ScanState
 pub mod Searching
 pub mod Table
 pub mod Built
+pub mod Shifts

@@ -13,7 +13,7 @@ IsMarked marks number = IsTrue (slice_index_or marks number false)
 abbrev pub at_place : List ℕ → ℕ → ℕ
 at_place list place = slice_index_or list place 0
 
--- so many are marked
+-- how many are marked
 abbrev pub marked : List Bool → ℕ
 marked [] = 0
 marked (true ∷ marks) = suc (marked marks)

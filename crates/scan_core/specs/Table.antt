@@ -1,18 +1,18 @@
 -- A table of sets of a code's numbers: which set a byte leads to.
-use Rattle.std.specs.Prelude.{◌≡◌, ◌⊎◌, ◌↔◌, ℕ, zero, suc, ◌+◌, ◌*◌, ◌<◌, ◌≤◌, Bool, true, false, IsTrue, IsFalse, List, [], length, slice_index, slice_index_or, Option, Some, None}
+use Rattle.std.specs.Prelude.{◌≡◌, ◌⊎◌, ◌↔◌, ℕ, zero, suc, ◌+◌, ◌*◌, ◌<◌, ◌≤◌, Bool, true, false, IsTrue, IsFalse, List, length, slice_index, slice_index_or}
 use Rattle.scan_core.specs.declared.node.Node.{Node}
 use Rattle.scan_core.specs.declared.table.State.{State}
 use Rattle.scan_core.specs.declared.table.Table.{Table}
 use Rattle.scan_core.specs.declared.walk.Outcome.{Outcome}
-use Rattle.scan_core.specs.Code.{weight}
+use Rattle.scan_core.specs.Code.{Entered, weight}
 use Rattle.scan_core.specs.Sets.{IsMarked, FlowsOn, Passes, positions_among}
-use Rattle.scan_core.specs.Counted.{set_at, EndsIn, IsStepCount}
+use Rattle.scan_core.specs.Counted.{set_at, AreSteps, EndsIn, IsStepCount}
 
 -- what a byte and then none leads to from the numbers of a set, the search having begun once more
 abbrev pub Next : List Node → ℕ → (ℕ → Type 0) → ℕ → Type 0
 Next code byte Set number = (from : ℕ) × (((before : ℕ) × Set before × Passes code byte before from) ⊎ (from ≡ 0)) × FlowsOn code false false from number
 
--- what is entered at a place behind which the line goes on
+-- what is entered at a place that isn't the line's last
 abbrev pub Inner : List Node → List ℕ → ℕ → ℕ → Type 0
 Inner code line zero number = FlowsOn code true false 0 number
 Inner code line (suc place) number = Next code (slice_index line place) (Inner code line place) number
@@ -56,7 +56,16 @@ pub record IsTableOf (code : List Node) (sets : List (List Bool)) (table : Table
 abbrev pub IsTable : List Node → Table → Type 0
 IsTable code table = (sets : List (List Bool)) × IsTableOf code sets table
 
--- what a walk along a line tells
+-- the line was read up to a place with the table
+pub record Walked (code : List Node) (sets : List (List Bool)) (line : List ℕ) (place state steps : ℕ) : Type 0 where
+  pub within : place ≤ length line
+  pub known : state < length sets
+  pub exact : (number : ℕ) → InSets sets state number ↔ Inner code line place number
+  pub none : (before : ℕ) → before < place → Entered code line (length code) before → ⊥
+  pub counted : AreSteps code line place steps
+  pub bound : steps ≤ place * (weight code + 1)
+
+-- what a walk along a line returns
 pub record IsOutcome (code : List Node) (line : List ℕ) (outcome : Outcome) : Type 0 where
   pub exact : IsTrue outcome.found ↔ EndsIn code line
   pub counted : IsFalse outcome.found → IsStepCount code line outcome.steps

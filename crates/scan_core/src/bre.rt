@@ -11,6 +11,8 @@ ghost use Rattle.scan_core.specs.Table.{IsOutcome};
 use crate::build::build;
 use crate::compile::compile;
 use crate::node::Node;
+use crate::shift_table::{ShiftTable, shifts_of};
+use crate::shift_walk::walk_by_shifts;
 use crate::table::Table;
 use crate::walk::{Outcome, walk};
 use bre_core::{BreFault, Expression};
@@ -23,6 +25,7 @@ pub struct Bre {
     expression: Expression,
     code: Vec<Node>,
     table: Option<Table>,
+    shifts: Option<ShiftTable>,
 }
 
 impl Model for Bre {
@@ -31,6 +34,7 @@ impl Model for Bre {
     ghost use Rattle.bre_core.specs.Pattern.{Pattern, positions_of};
     ghost use Rattle.scan_core.specs.Code.{code_of, IsOrdered};
     ghost use Rattle.scan_core.specs.Table.{IsTable};
+    ghost use Rattle.scan_core.specs.Shifts.{IsShiftTable};
 
     ghost Value = { Pattern };
 
@@ -39,7 +43,7 @@ impl Model for Bre {
     ghost view = { λ b. b.expression };
 
     ghost invariant = { λ b. (b.code.items ≡ code_of b.expression) × IsOrdered b.expression × (positions_of b.expression ≤ 65535)
-        × IfSome b.table (IsTable b.code.items) };
+        × IfSome b.table (IsTable b.code.items) × IfSome b.shifts (IsShiftTable b.code.items) };
 }
 
 impl Bre {
@@ -52,7 +56,7 @@ impl Bre {
     ///
     /// A pattern keeps one entry for each of its tokens, of which it has no more than the text has bytes, at most two nodes
     /// of 40 bytes for each of its positions, and where it has at most 512 nodes a table of up to 4,096 sets with 544 bytes
-    /// for each.
+    /// for each; where these are at most nine, also 4,096 bytes of words.
     pub fn read(alloc: Global, text: &[u8]) -> Result<Bre, BreFault>
         ensures reads { IfOk result (Reads text.now) }
         ensures groups { IfOk result (λ bre. depth_of bre ≤ 255) }
@@ -64,10 +68,12 @@ impl Bre {
         let expression = Expression::read(alloc, text)?;
         let code = compile(alloc, &expression)?;
         let table = build(alloc, &code)?;
+        let shifts = shifts_of(alloc, &code, &table)?;
         Ok(Bre {
             expression,
             code,
             table,
+            shifts,
         })
     }
 
@@ -87,7 +93,8 @@ impl Bre {
         &self.expression
     }
 
-    /// What a walk along a line that isn't empty tells, where the pattern's table has room for each set that it comes to.
+    /// Whether a line that isn't empty has a match, by the pattern's table; `None` where there is no table, or no room in it
+    /// for a set that the line leads to.
     pub(crate) fn walk(&self, line: &[u8]) -> Option<Outcome>
         requires { 0 < length line.now }
         ensures outcome { IfSome result (IsOutcome (code_of self.now) line.now) }
@@ -95,6 +102,9 @@ impl Bre {
     {
         // A proof learns from a use of the fields that the pattern's bounds are in order.
         let code = &self.code;
+        if let Some(shifts) = &self.shifts {
+            return Some(walk_by_shifts(shifts, code, line));
+        }
         match &self.table {
             Some(table) => walk(table, code, line),
             None => None,
@@ -111,9 +121,9 @@ impl Bre {
 }
 
 /// Whether some stretch of the line, taken without its newline, matches the pattern (XBD 9.1), found by a plain slow
-/// program: for a line of n bytes it keeps (n + 1) times (n + 1) flags for what it has gone over and for each open group,
+/// program: for a line of n bytes it keeps (n + 1) times (n + 1) flags for what it has read and for each open group,
 /// and each token takes up to n to the power of 3 steps, an interval as many times as its bound says. `Scan::matches`
-/// gives the same answer fast, and without memory.
+/// returns the same fast, and without memory.
 ///
 /// Fails with `Memory` alone.
 pub fn matches_plain(alloc: Global, bre: &Bre, line: &[u8]) -> Result<bool, BreFault>

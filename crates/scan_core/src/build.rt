@@ -24,7 +24,7 @@ const MOST_SETS: usize = 4096;
 /// The most flags that the sets of a table may have together.
 const MOST_FLAGS: usize = 131_072;
 
-/// A set as flags, with a number by which most other sets are told from it at once.
+/// A set as flags, with a number in which most other sets differ from it: so few sets are compared flag by flag.
 #[derive(Drop)]
 pub struct Marks {
     key: u64,
@@ -126,7 +126,7 @@ fn tells_apart(node: &Node, one: u8, other: u8) -> bool
     }
 }
 
-/// Whether no node tells two bytes apart.
+/// Whether every node takes both of two bytes or neither.
 fn are_alike(nodes: &[Node], one: u8, other: u8) -> bool
     ensures { IsTrue result → AreAlike nodes.now one other }
 {
@@ -138,7 +138,7 @@ fn are_alike(nodes: &[Node], one: u8, other: u8) -> bool
     true
 }
 
-/// The first byte that no node tells from this one.
+/// The first byte that each node treats as it does this one.
 fn twin_of(nodes: &[Node], byte: u8) -> u8
     ensures { AreAlike nodes.now byte result }
 {
@@ -150,7 +150,7 @@ fn twin_of(nodes: &[Node], byte: u8) -> u8
     byte
 }
 
-/// For each byte the first that no node tells from it.
+/// For each byte the first that each node treats alike.
 fn twins_of(alloc: Global, nodes: &[Node]) -> Result<Vec<u8>, BreFault>
     ensures ok { IfOk result (λ twins. AreTwins nodes.now twins.items) }
     ensures err { IfErr result (λ fault. fault ≡ Memory) }
@@ -176,7 +176,7 @@ fn is_fixed(rows: &[u16], state: usize) -> bool
 }
 
 impl Building {
-    /// The set of the line's front, behind which the line goes on; none where the pattern's end is in it.
+    /// The set of the front of a line that isn't empty; none where the pattern's end is in it.
     fn begin(alloc: Global, nodes: &[Node], most: usize) -> Result<Option<Building>, BreFault>
         requires most { 0 < most }
         requires code { IsCode nodes.now }
@@ -254,7 +254,7 @@ impl Building {
         Ok(())
     }
 
-    /// What is to be noted of a state.
+    /// What is noted of a state.
     fn state_of(&mut self, nodes: &[Node], most: usize, entries: usize, state: usize) -> State
         requires so_far { IsBuilding nodes.now most entries self.old }
         requires state { state < length self.old.sets.items }
@@ -278,7 +278,7 @@ impl Building {
         }
     }
 
-    /// What is to be noted of each state.
+    /// What is noted of each state.
     fn states_of(
         &mut self,
         alloc: Global,

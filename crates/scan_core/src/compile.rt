@@ -1,4 +1,4 @@
-//! Compiling a pattern to its code: its tokens are gone over from the last to the first, so that a duplication is known
+//! Compiling a pattern to its code: its tokens are read from the last to the first, so that a duplication is known
 //! before its item, and the code's nodes are written from the last to the first and turned round once.
 
 ghost use Rattle.std.specs.Prelude.{◌≡◌, ◌<◌, ◌≤◌, ◌+◌, ◌++◌, ◌∷◌, ◌-◌, ◌^◌, [], length, None, OnOk, OnSome, IfOk, IfErr, MatchOption, IfSome};
@@ -13,7 +13,7 @@ use crate::node::Node;
 use bre_core::{BreFault, Expression, Token};
 use std::alloc::Global;
 
-/// What waits for an item while tokens are gone over from the last to the first.
+/// What waits for an item while tokens are read from the last to the first.
 #[derive(Clone, Copy, Debug)]
 pub enum Pending {
     /// A group whose `\(` is still to come.
@@ -22,7 +22,7 @@ pub enum Pending {
     Repeated(Duplication),
 }
 
-/// The code that is written so far.
+/// The code, as far as it is written.
 #[derive(Drop)]
 pub struct Compiling {
     /// The nodes, the last first.
@@ -33,7 +33,7 @@ pub struct Compiling {
     passing: Option<usize>,
 }
 
-/// Puts something behind what waits for an item.
+/// Appends something to what waits for an item.
 fn wait(pending: &mut Vec<Pending>, last: Pending) -> Result<(), BreFault>
     ensures ok { OnOk result (pending.new.items ≡ pending.old.items ++ last ∷ []) }
     ensures err { IfErr result (λ fault. fault ≡ Memory) }
@@ -146,7 +146,7 @@ impl Compiling {
         }
     }
 
-    /// Goes over a token of an item that is passed over, so many groups of it being open.
+    /// Reads a token of an item that isn't written; `depth` groups of the item are open.
     fn pass(&mut self, depth: usize, token: &Token) -> Result<(), BreFault>
         requires begun { AreBegun (length self.old.nodes.items) self.old.pending.items }
         requires passing { self.old.passing ≡ Some depth }

@@ -43,7 +43,7 @@ fn choose(nodes: &mut Vec<Node>, start: usize) -> Result<(), BreFault>
     keep(nodes, Node::Choose(size + 1))
 }
 
-/// Writes so many nodes that stand from a place on once more.
+/// Writes the `size` nodes from a place on once more.
 fn copy(nodes: &mut Vec<Node>, from: usize, size: usize) -> Result<(), BreFault>
     requires { from + size ≤ length nodes.old.items }
     ensures ok { OnOk result (nodes.new.items ≡ nodes.old.items ++ stretch from size nodes.old.items) }
@@ -56,7 +56,7 @@ fn copy(nodes: &mut Vec<Node>, from: usize, size: usize) -> Result<(), BreFault>
     Ok(())
 }
 
-/// Writes so many nodes that stand from a place on several times more.
+/// Writes the `size` nodes from a place on several times more.
 fn copy_times(nodes: &mut Vec<Node>, from: usize, size: usize, count: u8) -> Result<(), BreFault>
     requires { from + size ≤ length nodes.old.items }
     ensures ok { OnOk result (nodes.new.items ≡ nodes.old.items ++ copies count (stretch from size nodes.old.items)) }
@@ -81,7 +81,7 @@ pub fn write_out(nodes: &mut Vec<Node>, duplication: Duplication) -> Result<(), 
     }
 }
 
-/// At least so often, without a bound: any number of times, and before that so many copies.
+/// At least `low` times, without an upper bound: `low` copies, and then any number of times.
 fn write_starred(nodes: &mut Vec<Node>, start: usize, low: u8) -> Result<(), BreFault>
     requires { start < length nodes.old.items }
     ensures ok { OnOk result ((before code : List Node) → length before ≡ start → nodes.old.items ≡ before ++ Back 0 ∷ reverse code
@@ -95,7 +95,7 @@ fn write_starred(nodes: &mut Vec<Node>, start: usize, low: u8) -> Result<(), Bre
     copy_times(nodes, start + 1, size, low)
 }
 
-/// From low to high times: so many copies of which each may be left out with those after it, and before that low copies.
+/// From `low` to `high` times: `low` copies, and then copies of which each may be left out with those after it.
 fn write_bounded(nodes: &mut Vec<Node>, start: usize, low: u8, high: u8) -> Result<(), BreFault>
     requires start { start ≤ length nodes.old.items }
     requires order { low ≤ high }

@@ -2,7 +2,7 @@
 //!
 //! `Bre::read` reads a pattern and compiles it to its code; `Scan::matches` says whether a line contains a match, in one
 //! pass over the line and without memory, and `Scan::steps` how many positions it entered. Contracts see a `Bre` as its tree,
-//! as those of `bre_core` do: `contains` is what matching answers. The code of a tree is `code_of` in `specs/Code`; that its
+//! as those of `bre_core` do: `contains` is what matching returns. The code of a tree is `code_of` in `specs/Code`; that its
 //! end is entered exactly where the line contains a match, and that its positions are the pattern's, are laws.
 #![tactic(auto)]
 
@@ -15,6 +15,8 @@ mod node;
 mod reach;
 mod scan;
 mod search;
+mod shift_table;
+mod shift_walk;
 mod table;
 mod walk;
 

@@ -13,9 +13,9 @@ pub enum Node {
     First,
     /// The line's end leads to the next node.
     Last,
-    /// The next node, or the one so many further on.
+    /// The next node, or the one this many further on.
     Choose(usize),
-    /// The node so many before.
+    /// The node this many before.
     Back(usize),
 }
 

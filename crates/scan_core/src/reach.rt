@@ -30,7 +30,7 @@ fn weight_at(nodes: &[Node], number: usize) -> usize
 }
 
 impl Reach {
-    /// The empty set, with room for so many numbers.
+    /// The empty set, with room for `size` numbers.
     pub fn new(alloc: Global, size: usize) -> Result<Reach, BreFault>
         ensures ok { IfOk result (λ reach. IsSet reach × (length reach.marks.items ≡ size)) }
         ensures err { IfErr result (λ fault. fault ≡ Memory) }

@@ -13,7 +13,7 @@ use bre_core::BreFault;
 use std::alloc::Global;
 use std::marker::Model;
 
-/// Room for matching lines against patterns of so many positions.
+/// Room for matching lines against patterns with a given number of positions.
 #[derive(Drop)]
 pub struct Scan {
     /// How many positions there is room for.
@@ -52,7 +52,7 @@ impl Scan {
     /// Whether some stretch of the line, taken without its newline, matches the pattern (XBD 9.1). The pattern has as many
     /// positions as the one that the room was made for. It takes no memory.
     ///
-    /// `steps` tells afterwards how many steps it took: a position that is entered at one place of the line is one step.
+    /// Afterwards `steps` returns how many steps it took: a position that is entered at one place of the line is one step.
     /// The search begins at every place, enters a position at most once at a place, and ends where the pattern's end is
     /// entered; where it goes to the end of the line, it enters every position that can be entered at each place.
     pub fn matches(&mut self, bre: &Bre, line: &[u8]) -> bool

@@ -25,7 +25,7 @@ pub struct Search {
 }
 
 impl Search {
-    /// Room for a search over so many numbers.
+    /// Room for a search over `size` numbers.
     pub fn new(alloc: Global, size: usize) -> Result<Search, BreFault>
         ensures ready { IfOk result (IsReady size) }
         ensures steps { IfOk result (λ search. search.steps ≡ 0) }

@@ -224,7 +224,7 @@ fn agree(rt: &impl Abort, alloc: Global, bre: &Bre, line: &[u8]) {
     assert!(rt; plain || scan.steps() == search.steps, "steps: {line:?}");
 }
 
-/// The answer of the sets.
+/// What the sets return.
 fn searched(bre: &Bre, search: &mut Search, line: &[u8]) -> bool
     requires { IsReady (2 * positions_of bre.now) search.old }
 {

@@ -1,4 +1,3 @@
-use Rattle.std.proofs.Common.{◌≡◌, ◌<◌, ◌≤◌, ◌+◌, sym, ◌∙◌, arith}
 use Rattle.scan_core.proofs.Tables.{alike_below, alike_all}
 use Rattle.scan_core.proofs.build.are_alike.Goals as goal
 

@@ -1,4 +1,4 @@
-use Rattle.std.proofs.Common.{◌≡◌, ◌<◌, length, false, get_or, refl, sym, ◌∙◌, arith}
+use Rattle.std.proofs.Common.{arith}
 use Rattle.scan_core.proofs.Tables.{alike}
 use Rattle.scan_core.proofs.build.same.Goals as goal
 

@@ -1,4 +1,4 @@
-use Rattle.std.proofs.Common.{◌≡◌, ◌+◌, ◌≤◌, [], None, length, drop, reverse}
+use Rattle.std.proofs.Common.{◌+◌, ◌≤◌, [], None, length, drop, reverse}
 use Rattle.bre_core.specs.Steps.{Steps}
 use Rattle.scan_core.specs.declared.compile.Compiling.{Compiling}
 use Rattle.scan_core.specs.Compiling.{AreBegun, Takes, IsNow, depth_in}

@@ -1,4 +1,4 @@
-use Rattle.std.proofs.Common.{◌≡◌, ◌+◌, ◌<◌, ◌∷◌, ◌++◌, [], length, take, drop, ap, ◌∙◌, arith, length-append}
+use Rattle.std.proofs.Common.{◌∷◌, ◌++◌, [], length, take, drop, ap, ◌∙◌, arith, length-append}
 use Rattle.scan_core.proofs.Stretches.{stretch_more}
 use Rattle.scan_core.proofs.emit.copy.Goals as goal
 

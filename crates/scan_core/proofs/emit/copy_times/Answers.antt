@@ -1,4 +1,4 @@
-use Rattle.std.proofs.Common.{◌≡◌, ◌+◌, ◌≤◌, ◌++◌, length, ap, arith, length-append}
+use Rattle.std.proofs.Common.{length, ap, arith, length-append}
 use Rattle.scan_core.specs.Code.{copies}
 use Rattle.scan_core.specs.Backwards.{stretch}
 use Rattle.scan_core.proofs.Stretches.{copies_more}

@@ -1,7 +1,6 @@
-use Rattle.std.proofs.Common.{◌≡◌, ◌+◌, ◌-◌, ◌≤◌, ◌∷◌, ◌++◌, [], length, refl, sym, ap, ◌∙◌, append_assoc, arith, length-append}
+use Rattle.std.proofs.Common.{◌∷◌, [], length, ap, arith, length-append}
 use Rattle.std.proofs.lemmas.Result.{on_ok_weaker}
 use Rattle.scan_core.specs.declared.node.Node.TheVariants.{Choose}
-use Rattle.scan_core.specs.Backwards.{stretch}
 use Rattle.scan_core.proofs.Emitting.{exact_out, optional_first, optional_more, bounded_out, grown_on}
 use Rattle.scan_core.proofs.emit.write_bounded.Goals as goal
 

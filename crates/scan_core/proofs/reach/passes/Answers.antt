@@ -1,5 +1,4 @@
-use Rattle.std.proofs.Common.{rules, ◌≡◌, ◌<◌, ◌≤◌, ◌+◌, IsTrue, length, refl, sym, ◌∙◌, arith}
-use Rattle.scan_core.specs.declared.node.Node.TheVariants.{Take, First, Last, Choose, Back}
+use Rattle.std.proofs.Common.{refl, sym, ◌∙◌, arith}
 use Rattle.scan_core.proofs.Enterings.{node_here, pass_least, pass_found, takes_none}
 use Rattle.scan_core.proofs.reach.passes.Goals as goal
 

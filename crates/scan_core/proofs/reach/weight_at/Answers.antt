@@ -1,4 +1,4 @@
-use Rattle.std.proofs.Common.{◌≡◌, ◌∙◌}
+use Rattle.std.proofs.Common.{◌∙◌}
 use Rattle.scan_core.proofs.Enterings.{weight_in, weight_out}
 use Rattle.scan_core.proofs.reach.weight_at.Goals as goal
 

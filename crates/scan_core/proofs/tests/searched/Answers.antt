@@ -1,4 +1,4 @@
-use Rattle.std.proofs.Common.{◌<◌, length, sym, ap, subst, arith}
+use Rattle.std.proofs.Common.{length, sym, ap, subst, arith}
 use Rattle.scan_core.specs.Sets.{IsCode}
 use Rattle.scan_core.proofs.Whole.{is_code, enough_room}
 use Rattle.scan_core.proofs.tests.searched.Goals as goal

@@ -1,4 +1,4 @@
-use Rattle.std.proofs.Common.{◌≡◌, ◌≤◌, ◌<◌, ◌+◌, ◌*◌, ℕ, length, slice_index, slice_index_or}
+use Rattle.std.proofs.Common.{◌≡◌, ◌≤◌, ◌<◌, ◌+◌, ◌*◌, ℕ, slice_index, slice_index_or}
 use Rattle.scan_core.proofs.walk.stay.Given as goal
 
 abbrev pub invariant-loop-place : goal.invariant-loop-place

@@ -1,4 +1,4 @@
-use Rattle.std.proofs.Common.{rules, ◌<◌, ℕ, slice_index}
+use Rattle.std.proofs.Common.{rules, ◌<◌, slice_index}
 use Rattle.scan_core.proofs.Inners.{fixed_stays}
 use Rattle.scan_core.proofs.walk.stretch_end.Goals as goal
 

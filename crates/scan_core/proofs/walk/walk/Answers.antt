@@ -1,6 +1,5 @@
-use Rattle.std.proofs.Common.{rules, ◌≡◌, ◌<◌, ◌≤◌, ◌+◌, ◌*◌, ◌-◌, ℕ, length, slice_index, refl, sym, ap, ◌∙◌, arith}
-use Rattle.std.proofs.Common.{get_or}
-use Rattle.scan_core.proofs.Inners.{WalkedOf, walked_starts, walk_run, walk_next, walk_stops, walk_ends, walk_fits, bound_fits}
+use Rattle.std.proofs.Common.{rules, ◌<◌, ◌+◌, ℕ, length, slice_index, arith}
+use Rattle.scan_core.proofs.Inners.{walk_run, walk_next, walk_stops, walk_ends, walk_fits, bound_fits}
 use Rattle.scan_core.proofs.walk.walk.Goals as goal
 
 pub overflow_add-steps : goal.overflow_add-steps

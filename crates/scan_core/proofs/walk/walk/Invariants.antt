@@ -1,6 +1,5 @@
 use Rattle.std.proofs.Common.{length, ◌-◌, List, Bool}
-use Rattle.scan_core.specs.Table.{IsTableOf}
-use Rattle.scan_core.proofs.Inners.{Walked}
+use Rattle.scan_core.specs.Table.{IsTableOf, Walked}
 use Rattle.scan_core.proofs.walk.walk.Given as goal
 
 abbrev pub invariant-loop-place : goal.invariant-loop-place

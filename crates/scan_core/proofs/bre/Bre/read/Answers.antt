@@ -1,4 +1,4 @@
-use Rattle.std.proofs.Common.{◌≡◌, sym, ◌∙◌, subst}
+use Rattle.std.proofs.Common.{sym, ◌∙◌, subst}
 use Rattle.scan_core.specs.Sets.{IsCode}
 use Rattle.scan_core.proofs.Whole.{is_code}
 use Rattle.scan_core.proofs.bre.Bre.read.Goals as goal

@@ -1,4 +1,4 @@
-use Rattle.std.proofs.Common.{rules, ◌≡◌, ◌<◌, [], length, refl, sym, ◌∙◌, subst}
+use Rattle.std.proofs.Common.{◌≡◌, [], refl, subst}
 use Rattle.scan_core.specs.Counted.{set_at}
 use Rattle.scan_core.specs.Sets.{Loaded}
 use Rattle.scan_core.proofs.Inners.{any_default}

@@ -1,4 +1,4 @@
-use Rattle.std.proofs.Common.{◌≡◌, ◌+◌, length, ap, arith, length-append, ◌∷◌, []}
+use Rattle.std.proofs.Common.{length, ap, arith, length-append, ◌∷◌, []}
 use Rattle.std.proofs.lemmas.Result.{on_ok_weaker}
 use Rattle.scan_core.specs.declared.node.Node.TheVariants.{Back}
 use Rattle.scan_core.proofs.Finishing.{begun_waits, bounded_begun, unbounded_begun, begun_node}

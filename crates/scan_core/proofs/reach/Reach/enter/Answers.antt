@@ -1,4 +1,4 @@
-use Rattle.std.proofs.Common.{rules, ◌≡◌, ◌<◌, ◌≤◌, length, false, slice_index_or, get_or, refl, sym, ap, ◌+◌, ◌∙◌, arith}
+use Rattle.std.proofs.Common.{rules, ◌≤◌, length, refl, ap, ◌+◌, arith}
 use Rattle.scan_core.proofs.Enterings.{room, gain_one, positions_fit}
 use Rattle.scan_core.proofs.reach.Reach.enter.Goals as goal
 

@@ -1,5 +1,5 @@
-use Rattle.std.proofs.Common.{rules, ◌≡◌, length, get_or, refl, sym, ◌∙◌, subst, true, false, arith, ◌<◌, ◌+◌}
-use Rattle.scan_core.proofs.Spreadings.{Loading, load_starts, load_more, load_skip, load_ends}
+use Rattle.std.proofs.Common.{sym, subst, ◌+◌}
+use Rattle.scan_core.proofs.Spreadings.{Loading, load_more, load_skip, load_ends}
 use Rattle.scan_core.proofs.reach.Reach.load.Goals as goal
 use Rattle.scan_core.proofs.reach.Reach.load.Goals.{then-flags-i, else-flags-i}
 

@@ -1,6 +1,6 @@
-use Rattle.std.proofs.Common.{rules, ◌≡◌, ◌<◌, ◌≤◌, length, slice_index_or, get_or, refl, sym, ◌∙◌, arith}
+use Rattle.std.proofs.Common.{rules, ◌≤◌, length, ◌∙◌, arith}
 use Rattle.scan_core.proofs.Enterings.{no_default, count_most}
-use Rattle.scan_core.proofs.Spreadings.{spread_starts, spread_more, spread_ends}
+use Rattle.scan_core.proofs.Spreadings.{spread_more, spread_ends}
 use Rattle.scan_core.proofs.reach.Reach.spread.Goals as goal
 
 pub returns-then-done-self : goal.returns-then-done-self

@@ -1,6 +1,6 @@
-use Rattle.std.proofs.Common.{◌≡◌, ◌↔◌, ◌+◌, ◌*◌, ◌<◌, ◌≤◌, IsTrue, length, sym, ap, ◌∙◌, subst, arith}
+use Rattle.std.proofs.Common.{◌≡◌, ◌↔◌, ◌+◌, ◌*◌, ◌≤◌, IsTrue, length, sym, ap, ◌∙◌, subst, arith}
 use Rattle.bre_core.specs.Pattern.{positions_of}
-use Rattle.scan_core.specs.Code.{code_of, weight}
+use Rattle.scan_core.specs.Code.{weight}
 use Rattle.scan_core.specs.Counted.{EndsIn}
 use Rattle.scan_core.specs.ScanState.{ScanState}
 use Rattle.scan_core.specs.Sets.{IsCode}

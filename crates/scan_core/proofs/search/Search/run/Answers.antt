@@ -1,8 +1,7 @@
-use Rattle.std.proofs.Common.{rules, ◌≡◌, ◌<◌, ◌≤◌, ◌+◌, ◌*◌, length, refl, sym, ap, ◌∙◌, true, false, arith}
-use Rattle.std.proofs.lemmas.Bool.{false≢true}
+use Rattle.std.proofs.Common.{rules, ◌≤◌, ◌+◌, length, refl, ap, ◌∙◌, true, false, arith}
 use Rattle.scan_core.specs.Code.{weight}
 use Rattle.scan_core.proofs.Enterings.{reach_most, weight_length}
-use Rattle.scan_core.proofs.Along.{search_starts, search_more, search_found, search_ends, search_counted, inner, final, steps_more, steps_wider, steps_fit}
+use Rattle.scan_core.proofs.Along.{search_more, search_found, search_ends, search_counted, inner, final, steps_more, steps_wider, steps_fit}
 use Rattle.scan_core.proofs.search.Search.run.Goals as goal
 
 pub returns-then-has-clause-exact : goal.returns-then-has-clause-exact

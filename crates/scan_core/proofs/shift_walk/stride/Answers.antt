@@ -1,0 +1,29 @@
+use Rattle.std.proofs.Common.{rules, ◌<◌, ◌+◌, ◌%◌, slice_index, refl, ◌∙◌, arith}
+use Rattle.scan_core.proofs.Inners.{any_default}
+use Rattle.scan_core.proofs.Shiftings.{at_more, at_moved}
+use Rattle.scan_core.proofs.shift_walk.stride.Goals as goal
+
+pub loop-done-init : goal.loop-done-init
+loop-done-init c = record { small = omega arith; at = λ before a. at_moved c.args.nodes.now c.args.table.now c.args.line.now c.args.from _ c.args.word before _ (omega arith) (omega arith) a }
+
+pub overflow_add-steps : goal.overflow_add-steps
+overflow_add-steps c =
+    let l = c.requires.sized.light (c.loop-done.word % 256) (omega arith) in
+    let e = c.index.ensures ∙ any_default c.args.table.now.weights.items (c.loop-done.word % 256) _ 0 (omega (arith, c.requires.sized.weights)) in
+    let f : c.loop-done.steps + c.index.result.now < 18446744073709551616 = omega (arith, l, e, c.loop-done.invariant.small, c.loop-done-test.true, c.requires.count) in
+    search (rules, f)
+
+pub loop-done-preserved : goal.loop-done-preserved
+loop-done-preserved c =
+    let l = c.requires.sized.light (c.loop-done.word % 256) (omega arith) in
+    let e = c.index.ensures ∙ any_default c.args.table.now.weights.items (c.loop-done.word % 256) _ 0 (omega (arith, c.requires.sized.weights)) in
+    let b : slice_index c.args.line.now (c.args.from + c.loop-done.done) < 256 = search (rules, c.type_inv.line) in
+    record {
+      small = omega (arith, l, e, c.loop-done.invariant.small);
+      at = λ before a. at_moved c.args.nodes.now c.args.table.now c.args.line.now (c.args.from + c.loop-done.done + 1) _ _ (before + c.loop-done.steps + c.index.result.now) _ (omega arith) (omega arith)
+          (at_more c.args.nodes.now c.args.table.now c.args.line.now (c.args.from + c.loop-done.done) c.loop-done.word _ (before + c.loop-done.steps) c.index-in-loop-done.result.now _ c.index.result.now _ (c.loop-done.invariant.at before a)
+          (omega (arith, c.loop-done-test.true, c.requires.within)) b c.index-in-loop-done.ensures refl c.index.ensures);
+    }
+
+pub returns-clause-at : goal.returns-clause-at
+returns-clause-at c = λ before a. at_moved c.args.nodes.now c.args.table.now c.args.line.now (c.args.from + c.loop-done.done) _ _ (before + c.loop-done.steps) _ (omega (arith, c.loop-done-test.false, c.loop-done.auto.done-end)) (omega arith) (c.loop-done.invariant.at before a)

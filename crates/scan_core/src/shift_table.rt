@@ -1,0 +1,152 @@
+//! Tables of few states as words: what a byte leads to from each state is read by one shift.
+
+ghost use Rattle.std.specs.Prelude.{◌≡◌, ◌<◌, ◌≤◌, ◌*◌, ◌%◌, ℕ, IsTrue, IfOk, IfErr, IfSome, length};
+ghost use Rattle.bre_core.specs.declared.fault.BreFault.TheVariants.{Memory};
+ghost use Rattle.scan_core.specs.Shifts.{AreLight, AreWeights, AreWords, IsComplete, IsOffset, IsShiftTable, IsWeight, IsWord};
+ghost use Rattle.scan_core.specs.Table.{IsTable};
+
+use crate::node::Node;
+use crate::table::{State, Table, UNKNOWN};
+use bre_core::BreFault;
+use std::alloc::Global;
+
+/// The most states of such a table: with the one for the pattern's end they take 60 bits of a word, six each.
+const MOST_STATES: usize = 9;
+
+/// A table as words. In a word the state of number n stands at the bits from 6 * n on, where it is written as 6 * n: the
+/// word of a byte, shifted right by a state, has the next state in its low six bits.
+#[derive(Drop)]
+pub struct ShiftTable {
+    /// For each byte what it leads to from each state.
+    pub words: Vec<u64>,
+    /// For each value of eight bits the positions of the state that its low six bits are: so a walk counts without masking,
+    /// and nothing but the shift stands between a byte and the next.
+    pub weights: Vec<u64>,
+    /// What is noted of each state.
+    pub states: Vec<State>,
+    /// How it is written that the pattern's end was entered.
+    pub stop: u64,
+}
+
+/// Whether the table had room for each set.
+fn is_complete(rows: &[u16]) -> bool
+    ensures { IsTrue result → IsComplete rows.now }
+{
+    for at in 0..rows.len() {
+        if rows[at] == UNKNOWN {
+            return false;
+        }
+    }
+    true
+}
+
+/// How the state is written that a byte leads to from a state. The number after the last state stands for the pattern's end,
+/// from which each byte leads back to it.
+fn offset_of(rows: &[u16], count: usize, state: usize, byte: usize) -> u64
+    requires rows { length rows.now ≡ count * 256 }
+    requires count { count ≤ 9 }
+    requires byte { byte < 256 }
+    ensures small { result < 64 }
+    ensures exact { IsOffset rows.now count state byte result }
+{
+    if state < count {
+        let next = rows[state * 256 + byte] as usize;
+        if next < count {
+            return 6 * next as u64;
+        }
+    }
+    6 * count as u64
+}
+
+/// A byte's word.
+fn word_of(rows: &[u16], count: usize, byte: usize) -> u64
+    requires rows { length rows.now ≡ count * 256 }
+    requires count { count ≤ 9 }
+    requires byte { byte < 256 }
+    ensures { IsWord rows.now count byte result }
+{
+    let mut word: u64 = 0;
+    for done in 0..count + 1 {
+        word = word * 64 + offset_of(rows, count, count - done, byte);
+    }
+    word
+}
+
+/// The word of each byte.
+fn words_of(alloc: Global, rows: &[u16], count: usize) -> Result<Vec<u64>, BreFault>
+    requires rows { length rows.now ≡ count * 256 }
+    requires count { count ≤ 9 }
+    ensures ok { IfOk result (λ words. AreWords rows.now count words.items) }
+    ensures err { IfErr result (λ fault. fault ≡ Memory) }
+{
+    let mut words = Vec::new(alloc);
+    for byte in 0..256usize {
+        words.push(word_of(rows, count, byte))?;
+    }
+    Ok(words)
+}
+
+/// The positions of the state that the low six bits are, if they are one.
+fn weight_of(states: &[State], low: usize) -> u64
+    requires { AreLight states.now }
+    ensures { IsWeight states.now (low % 64) result }
+{
+    if low % 64 / 6 < states.len() {
+        states[low % 64 / 6].positions as u64
+    } else {
+        0
+    }
+}
+
+/// The positions of each state.
+fn weights_of(alloc: Global, states: &[State]) -> Result<Vec<u64>, BreFault>
+    requires { AreLight states.now }
+    ensures ok { IfOk result (λ weights. AreWeights states.now weights.items) }
+    ensures err { IfErr result (λ fault. fault ≡ Memory) }
+{
+    let mut weights = Vec::new(alloc);
+    for low in 0..256usize {
+        weights.push(weight_of(states, low))?;
+    }
+    Ok(weights)
+}
+
+/// The table as words: none where it has too many states, or no room for one.
+fn shift_table(alloc: Global, nodes: &[Node], table: &Table) -> Result<Option<ShiftTable>, BreFault>
+    requires { IsTable nodes.now table.now }
+    ensures ok { IfOk result (λ made. IfSome made (IsShiftTable nodes.now)) }
+    ensures err { IfErr result (λ fault. fault ≡ Memory) }
+{
+    let count = table.states.len();
+    if count > MOST_STATES {
+        return Ok(None);
+    }
+    if !is_complete(&table.rows) {
+        return Ok(None);
+    }
+    let words = words_of(alloc, &table.rows, count)?;
+    let weights = weights_of(alloc, &table.states)?;
+    let states = Vec::from_slice(alloc, &table.states)?;
+    Ok(Some(ShiftTable {
+        words,
+        weights,
+        states,
+        stop: 6 * count as u64,
+    }))
+}
+
+/// The table as words, where there is a table that can be.
+pub fn shifts_of(
+    alloc: Global,
+    nodes: &[Node],
+    table: &Option<Table>,
+) -> Result<Option<ShiftTable>, BreFault>
+    requires { IfSome table.now (IsTable nodes.now) }
+    ensures ok { IfOk result (λ made. IfSome made (IsShiftTable nodes.now)) }
+    ensures err { IfErr result (λ fault. fault ≡ Memory) }
+{
+    match table {
+        Some(table) => shift_table(alloc, nodes, table),
+        None => Ok(None),
+    }
+}
