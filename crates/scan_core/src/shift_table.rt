@@ -30,7 +30,8 @@ pub struct ShiftTable {
 
 /// Whether the table had room for each set.
 fn is_complete(rows: &[u16]) -> bool
-    ensures { IsTrue result → IsComplete rows.now }
+    ensures yes { IsTrue result → IsComplete rows.now }
+    ensures no { IsComplete rows.now → IsTrue result }
 {
     for at in 0..rows.len() {
         if rows[at] == UNKNOWN {

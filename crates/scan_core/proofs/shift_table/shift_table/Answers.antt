@@ -13,7 +13,7 @@ returns-clause-ok c =
       c.requires,
       record {
         few = omega (arith, count, c.if-count-gt-MOST_STATES.false);
-        complete = subst IsComplete c.deref.ensures.value (c.if-not-is_complete.ensures refl);
+        complete = subst IsComplete c.deref.ensures.value (c.if-not-is_complete.ensures.yes refl);
         words = subst (λ n. AreWords c.args.table.now.rows.items n c.in_ok-words.words.items) count (subst (λ r. AreWords r c.len-count.result c.in_ok-words.words.items) c.deref-2.ensures.value c.in_ok-words.ensures.ok);
         weights = subst (λ s. AreWeights s c.in_ok-weights.weights.items) c.deref-3.ensures.value c.in_ok-weights.ensures.ok;
         states = c.in_ok-states.ensures.items ∙ c.deref-4.ensures.value;
