@@ -47,7 +47,8 @@ abbrev pub RunEndsAt : Bool → Bool → List (List ℕ) → List Input → List
 RunEndsAt told_in told words inputs sources new status (Ok settings) = EndsAs told_in told (task_of settings) inputs sources new status
 RunEndsAt told_in told words inputs sources new status (Err fault) = Refuses told (speaker words) (message_of (speaker words) fault (word_of words fault)) new status
 
--- a run of these words on these inputs left inputs and outputs so, and returned this status
+-- a run of these words on these inputs left inputs and outputs so, and returned this status; words that are refused leave the inputs
+-- as they were, which stands on `run`
 abbrev pub RunEnds : Bool → Bool → List (List ℕ) → List Input → List Source → List Slot → ℕ → Type 0
 RunEnds told_in told words inputs sources new status = RunEndsAt told_in told words inputs sources new status (settings_of words)
 

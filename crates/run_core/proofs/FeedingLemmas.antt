@@ -63,6 +63,14 @@ readable_within (source ∷ sources) (suc slot) can = let within : slot < length
 left_after : (slot : ℕ) (sources new : List Source) (size n : ℕ) → IsTrue (is_readable sources slot) → new ≡ changed_at slot (gives size n) sources → source_at new slot ≡ gives size n (source_at sources slot)
 left_after slot sources new size n can is = ap (λ those. source_at those slot) is ∙ changed_there _ slot (gives size n) sources (readable_within sources slot can)
 
+-- an input that can be read didn't break
+pub sound_at : (sources : List Source) (slot : ℕ) → IsTrue (is_readable sources slot) → (source_at sources slot).is_broken ≡ false
+sound_at sources slot can = by_flags (source_at sources slot).is_open (source_at sources slot).is_broken can where
+  by_flags : (opened broken : Bool) → (opened && not broken) ≡ true → broken ≡ false
+  by_flags true false is = refl
+  by_flags true true is = absurd (false≢true is)
+  by_flags false broken is = absurd (false≢true is)
+
 -- a read changes no flag
 pub still_readable : (slot : ℕ) (sources new : List Source) (size n : ℕ) → new ≡ changed_at slot (gives size n) sources → IsTrue (is_readable sources slot) → IsTrue (is_readable new slot)
 still_readable slot sources new size n is can = ap (λ (source : Source). source.is_open && not source.is_broken) (left_after slot sources new size n can is) ∙ can
@@ -173,13 +181,13 @@ judged_all told opening most work content WasRead x reached new before Enough fa
 judged_all told opening most work content WasRead x reached new before Broken fault judging lawful got verdict at swept = absurd got
 
 -- what a fault left at the end, and what was made of its files then
-short_of_end : (told : Bool) (opening : Needs) (most : ℕ) (work : Work) (content : Content) (WasRead : List ℕ → Type 0) (x : List ℕ) (reached new before : List Slot) (fed : Fed) (fault : Fault) → IsLawful work → HasGot work content x fed → WasRead x
+short_of_end : (told : Bool) (opening : Needs) (most : ℕ) (work : Work) (content : Content) (WasRead : List ℕ → Type 0) (x : List ℕ) (reached new before : List Slot) (fed : Fed) (fault : Fault) → IsLawful work → HasGot work content x fed → IsNeeded work.is_complete most x → WasRead x
     → Ended told before (work.settled x) (work.whole x) work.clears fault reached
     → (is_verdict fault ≡ false → Stops (call_of work work.means.closing x (work.settled x) (work.whole x)) reached fault) → (is_verdict fault ≡ true → Judges work x fault)
     → (is_verdict fault ≡ true → new ≡ reached) → (is_verdict fault ≡ false → Swept work.clears (length before) reached new) → FedAs told before work opening most content WasRead new (Err fault)
-short_of_end told opening most work content WasRead x reached new before fed fault lawful got read (engine.cut unjudged stop) why verdict kept swept =
-    stopped fault unjudged _ (closes x (got_all work content x fed got)) read reached (why unjudged) stop (swept unjudged)
-short_of_end told opening most work content WasRead x reached new before fed fault lawful got read (engine.judged judging first at cleared) why verdict kept swept =
+short_of_end told opening most work content WasRead x reached new before fed fault lawful got needed read (engine.cut unjudged stop) why verdict kept swept =
+    stopped fault unjudged _ (closes x (got_all work content x fed got) needed) read reached (why unjudged) stop (swept unjudged)
+short_of_end told opening most work content WasRead x reached new before fed fault lawful got needed read (engine.judged judging first at cleared) why verdict kept swept =
     judged_all told opening most work content WasRead x first new before fed fault judging lawful got (verdict judging) at (subst (λ those. Swept work.clears (length before) first those) (sym (kept judging)) cleared)
 
 module _ {E : Type 0} (Holds : E → List ℕ → Type 0) (Owns : E → ℕ → List Slot → Type 0) (work : E → Work) (is_over : E → Bool) (fed_of : E → ℕ) where
@@ -230,15 +238,15 @@ module _ {E : Type 0} (Holds : E → List ℕ → Type 0) (Owns : E → ℕ → 
       (λ unjudged. subst (λ (those : Work). Swept those.clears (length before) reached new) same (cleared unjudged (length before) (owned unjudged (length before) (so_far.owns (length before) own)))))
 
   -- the loop ended with the input, or where nothing more can follow
-  pub ended : (laws : Laws) (told : Bool) (opening : Needs) (most : ℕ) (start now : E) (content : Content) (WasRead : List ℕ → Type 0) (x : List ℕ) (old mid new before : List Slot) (fed : Fed) (result : Result Fed Fault) → Feeds told start now x old mid → Owns start (length before) old → OutputsAt told before ((work start).settled []) old → HasGot (work now) content x fed → WasRead x
+  pub ended : (laws : Laws) (told : Bool) (opening : Needs) (most : ℕ) (start now : E) (content : Content) (WasRead : List ℕ → Type 0) (x : List ℕ) (old mid new before : List Slot) (fed : Fed) (result : Result Fed Fault) → Feeds told start now x old mid → Owns start (length before) old → OutputsAt told before ((work start).settled []) old → HasGot (work now) content x fed → IsNeeded (work now).is_complete most x → WasRead x
       → EndsSo Holds Owns work is_over fed_of told now fed mid new result → FedAs told before (work start) opening most content WasRead new result
-  ended laws told opening most start now content WasRead x old mid new before fed result so_far own at got read (finished finishes) =
+  ended laws told opening most start now content WasRead x old mid new before fed result so_far own at got needed read (finished finishes) =
       let done = finishes before x (stands told start now x old mid before so_far own at) in
       subst (λ (those : Work). FedAs told before those opening most content WasRead new (Ok fed)) so_far.same (fed_all told opening most (work now) content WasRead x new before fed (laws.lawful now) got done.0 done.1)
-  ended laws told opening most start now content WasRead x old mid new before fed result so_far own at got read (fell_short fault reached short caused kept cleared) =
+  ended laws told opening most start now content WasRead x old mid new before fed result so_far own at got needed read (fell_short fault reached short caused kept cleared) =
       let why = subst (λ over. IsCaused (IsMet (work now).means (work now).means.closing (Unit {0}) (EndsThere Holds work now) mid reached) over (fed_of now) 0 mid reached fault) (laws.live now x so_far.holds) caused in
       subst (λ (those : Work). FedAs told before those opening most content WasRead new (Err fault)) so_far.same
-      (short_of_end told opening most (work now) content WasRead x reached new before fed fault (laws.lawful now) got read (short before x (stands told start now x old mid before so_far own at))
+      (short_of_end told opening most (work now) content WasRead x reached new before fed fault (laws.lawful now) got needed read (short before x (stands told start now x old mid before so_far own at))
       (λ unjudged. stops (work now) x ((work now).settled x) ((work now).whole x) (work now).means.closing (Unit {0}) (EndsThere Holds work now) fault (fed_of now) 0 mid reached unjudged (λ long. absurd (let bound : fed_of now < 2 ^ 63 = so_far.bound in omega (arith, bound, long))) why)
       (λ judging. judges (work now).means (work now).means.closing (Unit {0}) (EndsThere Holds work now) fault _ _ _ mid reached judging caused x so_far.holds)
       kept
@@ -257,7 +265,7 @@ module _ {E : Type 0} (Holds : E → List ℕ → Type 0) (Owns : E → ℕ → 
   pub closed_at_start : (laws : Laws) (told : Bool) (opening : Needs) (most : ℕ) (start : E) (old new before : List Slot) (fed : Fed) (result : Result Fed Fault) → Holds start [] → fed_of start < 2 ^ 63 → Owns start (length before) old → OutputsAt told before ((work start).settled []) old → HasGot (work start) empty [] fed
       → EndsSo Holds Owns work is_over fed_of told start fed old new result → FedAs told before (work start) opening most empty (λ read. Unit {0}) new result
   closed_at_start laws told opening most start old new before fed result holds bound own at got ends =
-      ended laws told opening most start start empty (λ read. Unit {0}) [] old old new before fed result (begins told start old holds bound) own at got tt ends
+      ended laws told opening most start start empty (λ read. Unit {0}) [] old old new before fed result (begins told start old holds bound) own at got (inl refl) tt ends
 
   -- an input that ended, or was enough, didn't break off
   pub ends_sound : (told : Bool) (engine : E) (fed : Fed) (old new : List Slot) (result : Result Fed Fault) (P : Type 0) → (fed ≡ Broken → ⊥) → EndsSo Holds Owns work is_over fed_of told engine fed old new result → IfOk result (λ found. found ≡ Broken → P)

@@ -13,7 +13,7 @@ use Rattle.ports_core.specs.Message.{SaysOn}
 use Rattle.ports_core.specs.declared.tool.Tool.{Tool}
 use Rattle.ports_core.specs.declared.fault.Fault.{Fault}
 use Rattle.ports_core.specs.declared.fault.Fault.TheVariants.{Memory, Write, Read, Open, Suffixes, NoMatch, Range, Usage, Failed, TooLong}
-use Rattle.ports_core.proofs.PartLemmas.{out_more, out_cut, stopped_here, broken_at, outputs_count}
+use Rattle.ports_core.proofs.PartLemmas.{out_more, out_cut, part_begins_itself, stopped_here, broken_at, outputs_count}
 use Rattle.ports_core.proofs.WriteLemmas.{told_of-nil, writable-written}
 use Rattle.ports_core.proofs.SlotLemmas.{with_written-nil, length-changed_at}
 use Rattle.run_core.specs.declared.inputs.Progress.{Progress}
@@ -22,11 +22,11 @@ use Rattle.run_core.specs.declared.feeding.Fed.TheVariants.{Whole, Enough, Broke
 use Rattle.run_core.specs.Feeding.{is_enough, Step, Stops, opens, BreaksOnly, FedAs, whole, had_enough, broke_off, judged, stopped, LeavesOf, OfContent, ReadsFor}
 use Rattle.run_core.specs.Input.{empty}
 use Rattle.run_core.specs.Reading.{IsDone, Leaves}
-use Rattle.run_core.specs.RunEnds.{standard_output, streams_with, heading, calling, step_after}
+use Rattle.run_core.specs.RunEnds.{standard_output, streams_with, unheaded, heading, calling, step_after}
 use Rattle.run_core.specs.RunSteps.{HeaderFails, no_room, broke, TookInput, took, cut_off, OfSource, Opens, OpensShort, KeepsOther}
 use Rattle.run_core.specs.Task.{Task, Outcome, after_part, header_text, verdict_messages, is_given, of_content}
 use Rattle.run_core.proofs.ReadingLemmas.{left_of}
-use Rattle.run_core.proofs.JoinedLemmas.{begins_on, after_assoc, out_on, at_after, stop_after, none_to_sweep}
+use Rattle.run_core.proofs.JoinedLemmas.{after_assoc, out_on, at_after, stop_after, none_to_sweep}
 use Rattle.run_core.proofs.StopLemmas.{said_swept}
 
 -- headers
@@ -151,8 +151,8 @@ pub stopped_in_header : (told_in told : Bool) (task : Task) (most : ℕ) (is_fir
     → OutputsAt told (streams_with error) so_far old → HeaderFails told (header_text task.with_header is_first name) old new fault
     → TookInput told_in told task most outcome (header_text task.with_header is_first name) source (Some content) progress was_read so_far error (length old) sources new (Err fault)
 stopped_in_header told_in told task most is_first name source content outcome progress was_read so_far error sources old new fault due unread at (no_room is) =
-    cut_off Memory _ new (heading content due unread) refl
-    (stopped_here told (streams_with error) so_far (after_part so_far (only_out (header_text task.with_header is_first name))) Memory old new at (begins_on so_far _) is tt)
+    cut_off Memory _ new (unheaded content due unread) refl
+    (stopped_here told (streams_with error) so_far so_far Memory old new at (part_begins_itself so_far) is tt)
     (none_to_sweep task.work.clears (length old) new (omega (arith, ap length is)))
 stopped_in_header told_in told task most is_first name source content outcome progress was_read so_far error sources old new fault due unread at (broke n after) =
     let text = header_text task.with_header is_first name in

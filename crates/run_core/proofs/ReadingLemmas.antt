@@ -11,7 +11,7 @@ use Rattle.run_core.specs.Feeding.{BreaksOnly, KeepsOthers, OfContent, ReadsFor}
 use Rattle.run_core.specs.Input.{Input, World, IsFor, is_dash, input_of, inputs_from, next_slot, empty}
 use Rattle.run_core.specs.Reading.{AreDone, AreUntouched, AsksAtMost, IsDone, IsLeft, IsUntouched, Leaves, TakesOne, count_after}
 use Rattle.run_core.specs.RunSteps.{KeepsOther, OfSource, standard_source}
-use Rattle.run_core.proofs.FeedingLemmas.{readable_within, reads_none}
+use Rattle.run_core.proofs.FeedingLemmas.{readable_within, reads_none, sound_at}
 
 -- one input more
 
@@ -51,9 +51,9 @@ pub unread_source : (told : Bool) (is_complete : List ℕ → Bool) (most : ℕ)
 unread_source told is_complete most None sources Q can holds = holds empty tt tt
 unread_source true is_complete most (Some slot) sources Q can holds =
     let there = (source_at sources slot).left in
-    (there, λ t. refl, holds there (λ t. refl) (readable_within sources slot can, (λ t. reads_none is_complete most there there refl, λ untold. absurd (false≢true (sym untold)))))
+    (there, λ t. refl, holds there (sound_at sources slot can, λ t. refl) (readable_within sources slot can, (λ t. reads_none is_complete most there there refl, λ untold. absurd (false≢true (sym untold)))))
 unread_source false is_complete most (Some slot) sources Q can holds =
-    (empty, λ t. absurd (false≢true t), holds empty (λ t. absurd (false≢true t)) (readable_within sources slot can, (λ t. absurd (false≢true t), λ untold breaks. absurd (false≢true breaks))))
+    (empty, λ t. absurd (false≢true t), holds empty (sound_at sources slot can, λ t. absurd (false≢true t)) (readable_within sources slot can, (λ t. absurd (false≢true t), λ untold breaks. absurd (false≢true breaks))))
 
 -- an input that could be read is still there
 pub still_within : (source : Option ℕ) (slot : ℕ) (old new : List Source) → source ≡ Some slot → IfSome source (λ slot. IsTrue (is_readable old slot)) → KeepsOthers slot old new → slot < length new

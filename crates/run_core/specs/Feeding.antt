@@ -49,6 +49,11 @@ pub data HasAll (work : Work) (content : Content) (x : List ℕ) : Type 0 where
   to_end : content.breaks_off ≡ false → content.bytes ≡ x → HasAll work content x
   enough : (rest : List ℕ) → content.bytes ≡ x ++ rest → work.is_complete x ≡ true → HasAll work content x
 
+-- What was read of an input was needed: the last piece has at most `most` bytes, and the output of those before it was not
+-- complete.
+abbrev pub IsNeeded : (List ℕ → Bool) → ℕ → List ℕ → Type 0
+IsNeeded is_complete most x = (x ≡ []) ⊎ ((before : List ℕ) × (piece : List ℕ) × (x ≡ before ++ piece) × (length piece ≤ most) × (is_complete before ≡ false))
+
 -- a call of an engine, which may need this
 abbrev pub call_of : Work → Needs → List ℕ → Part → Part → Step
 call_of work needs read low high = record { low = low; high = high; output = work.means.output; files = work.means.files; needs = needs; read = read }
@@ -58,11 +63,11 @@ pub data IsCall (work : Work) (opening : Needs) (most : ℕ) (content : Content)
   opens : IsCall work opening most content (call_of work opening [] nothing (work.settled []))
   feeds : (x piece rest : List ℕ) → content.bytes ≡ (x ++ piece) ++ rest → length piece ≤ most → work.is_complete x ≡ false
       → IsCall work opening most content (call_of work work.means.feeding (x ++ piece) (work.settled x) (work.settled (x ++ piece)))
-  closes : (x : List ℕ) → HasAll work content x → IsCall work opening most content (call_of work work.means.closing x (work.settled x) (work.whole x))
+  closes : (x : List ℕ) → HasAll work content x → IsNeeded work.is_complete most x → IsCall work opening most content (call_of work work.means.closing x (work.settled x) (work.whole x))
 
 -- How feeding an input by pieces of at most `most` bytes ends, from the outputs as they were before: it ended, or nothing more could
 -- follow; or it broke off before that, and the files go if the work clears them; or the work itself ends with a fault, and the files
--- go likewise; or a fault stopped one call, nothing was read after it (`WasRead` says what was), and then the files go.
+-- go likewise; or a fault stopped one call, no byte was taken after it (`WasRead` says which were), and then the files go.
 pub data FedAs (told : Bool) (before : List Slot) (work : Work) (opening : Needs) (most : ℕ) (content : Content) (WasRead : List ℕ → Type 0) (new : List Slot) : Result Fed Fault → Type 0 where
   whole : content.breaks_off ≡ false → work.is_complete content.bytes ≡ false → work.verdict content.bytes ≡ None → OutputsAt told before (work.whole content.bytes) new → FedAs told before work opening most content WasRead new (Ok Whole)
   had_enough : work.is_complete content.bytes ≡ true → work.verdict content.bytes ≡ None → OutputsAt told before (work.whole content.bytes) new → FedAs told before work opening most content WasRead new (Ok Enough)
@@ -74,9 +79,9 @@ pub data FedAs (told : Bool) (before : List Slot) (work : Work) (opening : Needs
 abbrev pub OfContent : Bool → Content → (Content → Type 0) → Type 0
 OfContent told there P = (content : Content) × (told ≡ true → content ≡ there) × P content
 
--- of an input that tells its bytes, this was read
+-- an input that didn't break, and of which, where inputs tell their bytes, this was read
 abbrev pub LeavesOf : Bool → Content → Source → List ℕ → Type 0
-LeavesOf told content source read = told ≡ true → content.bytes ≡ read ++ source.left.bytes
+LeavesOf told content source read = (source.is_broken ≡ false) × (told ≡ true → content.bytes ≡ read ++ source.left.bytes)
 
 -- an input that doesn't tell its bytes is one that breaks off only where a read of it failed
 abbrev pub BreaksOnly : Bool → Content → Source → Type 0
@@ -86,11 +91,6 @@ BreaksOnly told content source = told ≡ false → content.breaks_off ≡ true 
 pub record KeepsOthers (slot : ℕ) (old new : List Source) : Type 0 where
   pub count : length new ≡ length old
   pub others : (place : ℕ) → (place ≡ slot → ⊥) → source_at new place ≡ source_at old place
-
--- What was read of an input was needed: the last piece has at most `most` bytes, and the output of those before it was not
--- complete.
-abbrev pub IsNeeded : (List ℕ → Bool) → ℕ → List ℕ → Type 0
-IsNeeded is_complete most x = (x ≡ []) ⊎ ((before : List ℕ) × (piece : List ℕ) × (x ≡ before ++ piece) × (length piece ≤ most) × (is_complete before ≡ false))
 
 -- of the input that was there, this is left, and what was read was needed
 abbrev pub ReadsFor : (List ℕ → Bool) → ℕ → Content → Content → Type 0

@@ -19,7 +19,7 @@ abbrev pub AreDone : Bool → (List ℕ → Bool) → ℕ → List Input → Lis
 AreDone told is_complete most [] sources = Unit {0}
 AreDone told is_complete most (input ∷ inputs) sources = IsDone told is_complete most input.slot input.content sources × AreDone told is_complete most inputs sources
 
--- what was read of an input by its number
+-- the same as `LeavesOf`, of an input by its number
 abbrev pub Leaves : Bool → Content → Option ℕ → List Source → List ℕ → Type 0
 Leaves told content None sources = λ read. Unit {0}
 Leaves told content (Some slot) sources = LeavesOf told content (source_at sources slot)
@@ -42,7 +42,7 @@ count_after count (name ∷ names) = count_after (next_slot count name) names
 abbrev pub AsksAtMost : ℕ → List Source → Type 0
 AsksAtMost most sources = (place : ℕ) → (source_at sources place).asked ≤ most
 
--- What taking a name leaves of the inputs: a file is one more, those before it are as they were, and standard input is touched by the
+-- What taking a name leaves of the inputs: a file is one more at the most, those before it are as they were, and standard input is touched by the
 -- first `-` alone.
 pub record TakesOne (most : ℕ) (was_read : Bool) (name : List ℕ) (old new : List Source) : Type 0 where
   pub grown : length old ≤ length new

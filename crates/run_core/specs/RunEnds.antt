@@ -5,7 +5,7 @@ use Rattle.ports_core.specs.Source.{Content, Source}
 use Rattle.ports_core.specs.declared.slot.Mode.TheVariants.{Append}
 use Rattle.ports_core.specs.Part.{Part, OutputsAt, StoppedBetween, only_out}
 use Rattle.ports_core.specs.Swept.{Swept}
-use Rattle.ports_core.specs.Work.{Needs}
+use Rattle.ports_core.specs.Work.{Needs, no_needs}
 use Rattle.ports_core.specs.Text.{message_of}
 use Rattle.ports_core.specs.Message.{SaysAll, output_named}
 use Rattle.ports_core.specs.declared.fault.Fault.{Fault}
@@ -37,21 +37,28 @@ needs_memory = record { memory = true; files = false }
 abbrev pub step_after : Part → Step → Step
 step_after first step = record step { low = after_part first step.low; high = after_part first step.high }
 
--- One step at an input, after what was written before it: there is no room to open it; or its header is written, where headers are; or
--- its engine is called. Nothing of the input was read but what came in by then.
+-- a step that writes nothing, and may want memory
+abbrev pub memory_step : Part → Step
+memory_step so_far = record { low = so_far; high = so_far; output = false; files = false; needs = needs_memory; read = [] }
+
+-- One step at an input, after what was written before it: there is no room to open it; or none for its header, where headers are; or
+-- that is written; or its engine is called. The input didn't break, and no byte of it was taken but what came in by then.
 pub data RunStep (told : Bool) (task : Task) (most : ℕ) (so_far : Part) (header : List ℕ) (slot : Option ℕ) (sources : List Source) : Option Content → Step → Type 0 where
   unopened : (content : Option Content) (place : ℕ) → slot ≡ Some place → length sources ≤ place
-      → RunStep told task most so_far header slot sources content (record { low = so_far; high = so_far; output = false; files = false; needs = needs_memory; read = [] })
+      → RunStep told task most so_far header slot sources content (memory_step so_far)
+  unheaded : (content : Content) → task.with_header ≡ true → Leaves told content slot sources []
+      → RunStep told task most so_far header slot sources (Some content) (memory_step so_far)
   heading : (content : Content) → task.with_header ≡ true → Leaves told content slot sources []
-      → RunStep told task most so_far header slot sources (Some content) (record { low = so_far; high = after_part so_far (only_out header); output = true; files = false; needs = needs_memory; read = [] })
+      → RunStep told task most so_far header slot sources (Some content) (record { low = so_far; high = after_part so_far (only_out header); output = true; files = false; needs = no_needs; read = [] })
   calling : (content : Content) (call : Step) → IsCall task.work task.opening most content call → Leaves told content slot sources call.read
       → RunStep told task most so_far header slot sources (Some content) (step_after (after_part so_far (only_out header)) call)
 
--- A run ended so: its outcome is written, its files were removed if that is due, and standard error was left as `error`; or a fault
+-- A run ended so: its inputs were done, its outcome is written, its files were removed if that is due, and standard error was left as
+-- `error`; or a fault
 -- stopped it within one step at an input, when those before it were done and told, and those after it were not touched: then the
 -- outputs lie between what was written before that step and what with it, the files were removed if the work clears them, the fault
--- was told after the messages for those inputs, and the status is 1; or there was no memory before the first input was opened, and
--- nothing is read or written.
+-- was told after the messages for those inputs, and the status is 1; or there was no memory for the run at all, and
+-- no input was touched.
 pub data EndsAs (told_in told : Bool) (task : Task) (inputs : List Input) (sources : List Source) (new : List Slot) (status : ℕ) : Type 0 where
   as_defined : (error : Slot) (reached : List Slot) → SaysAll told task.tool (made_by task inputs).messages standard_error error
       → OutputsAt told (streams_with error) (made_by task inputs).part reached → Swept (made_by task inputs).sweeps 2 reached new

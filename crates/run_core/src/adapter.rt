@@ -30,8 +30,8 @@ pub trait Adapter {
     ///
     /// # Errors
     ///
-    /// `Memory` where there is no room for it, `Open` where one of its first files can't be opened. No file is left then, if
-    /// the work clears them.
+    /// `Memory` where there is no room for it, `Open` where one of its first files can't be opened, `Write` where an output
+    /// broke; each only where the task says that opening may need it. No file is left then, if the work clears them.
     fn open<O: Outs>(&self, alloc: Global, outs: &mut O) -> Result<Self::Driven, Fault>
         requires streams { 2 ≤ length (O.slots outs.old) }
         requires output { IsTrue (is_writable (O.slots outs.old) 0) }

@@ -23,7 +23,7 @@ pub enum Fed {
 
 /// Feeds an engine all of an input, in pieces of at most the buffer's length, until it is done with it. Then, or at the
 /// end of the input, the engine is closed. Where the input breaks off before that, and after a fault, the engine gives its
-/// files up.
+/// files up. The engine was opened before; what that may have needed (`opening` in the clause) is the caller's to say.
 ///
 /// # Errors
 ///

@@ -1,9 +1,10 @@
-use Rattle.std.proofs.Common.{◌≡◌, ◌≤◌, length, ◌++◌, ◌∙◌, [], true, false, sym, ap, refl, take, arith}
+use Rattle.std.proofs.Common.{◌≡◌, ◌≤◌, length, ◌++◌, ◌∙◌, [], true, false, sym, ap, refl, subst, take, arith}
 use Rattle.std.proofs.lemmas.List.{append-nil}
 use Rattle.std.proofs.lemmas.Bool.{false≢true}
 use Rattle.ports_core.specs.Source.{source_at}
 use Rattle.ports_core.specs.Work.{Work}
-use Rattle.run_core.proofs.FeedingLemmas.{begins, nothing_read, read_none_more, keeps_itself, keeps_again, keeps_others, read_broken, broken_off, of_content, still_readable, read_more, read_failed, goes_on, stopped_feeding, read_to_end, ended, needed_none, needed_more, piece_within, asked_again, asked_at_end, broken_now, ends_sound, given_so, Laws}
+use Rattle.run_core.specs.Feeding.{IsNeeded}
+use Rattle.run_core.proofs.FeedingLemmas.{begins, sound_at, nothing_read, read_none_more, keeps_itself, keeps_again, keeps_others, read_broken, broken_off, of_content, still_readable, read_more, read_failed, goes_on, stopped_feeding, read_to_end, ended, needed_none, needed_more, piece_within, asked_again, asked_at_end, broken_now, ends_sound, given_so, Laws}
 use Rattle.run_core.proofs.feeding.feed_input.Goals as goal
 
 pub pieces-init : goal.pieces-init
@@ -65,9 +66,10 @@ returns-then-n-eq0-clause-ends g c before opening own at =
     (λ told. let at_end = (c.in-Ok.ensures.bytes told).ended c.if-n-eq0.true (omega (arith, c.requires.room)) in
     ended _ _ _ _ _ laws _ opening _ _ _ _ _ so_far.fed _ _ _ before _ c.end.result so_far.feeds own at
     (let all = read_to_end _ _ _ _ (so_far.read told) at_end.0 at_end.1 in (all.0, going, all.1))
-    (λ _. read_none_more _ _ _ _ _ _ c.in-Ok.n (so_far.read told) so_far.readable c.if-n-eq0.true c.in-Ok.ensures.rest)
+    (subst (λ (those : Work). IsNeeded those.is_complete (length c.args.buffer.now) so_far.fed) (sym so_far.feeds.same) so_far.needed)
+    (sound_at (g.I.Inputs.sources c.read.new.self) c.args.slot (still_readable _ _ _ _ c.in-Ok.n c.in-Ok.ensures.rest so_far.readable), λ _. read_none_more _ _ _ _ _ _ c.in-Ok.n (so_far.read told) so_far.readable c.if-n-eq0.true c.in-Ok.ensures.rest)
     c.end.ensures)
-    (λ untold. ended _ _ _ _ _ laws _ opening _ _ _ _ _ so_far.fed _ _ _ before _ c.end.result so_far.feeds own at (refl, going, refl) (λ told. absurd (false≢true (sym untold ∙ told))) c.end.ensures)
+    (λ untold. ended _ _ _ _ _ laws _ opening _ _ _ _ _ so_far.fed _ _ _ before _ c.end.result so_far.feeds own at (refl, going, refl) (subst (λ (those : Work). IsNeeded those.is_complete (length c.args.buffer.now) so_far.fed) (sym so_far.feeds.same) so_far.needed) (sound_at (g.I.Inputs.sources c.read.new.self) c.args.slot (still_readable _ _ _ _ c.in-Ok.n c.in-Ok.ensures.rest so_far.readable), λ told. absurd (false≢true (sym untold ∙ told))) c.end.ensures)
     (λ breaks. absurd (false≢true breaks))
 
 pub returns-then-n-eq0-clause-others : goal.returns-then-n-eq0-clause-others
@@ -118,10 +120,10 @@ returns-in-Err-feed-clause-ends g c before opening own at =
     of_content g.I.Inputs.told _ (record { bytes = so_far.fed ++ take c.in-Ok.n c.read.new.buffer; breaks_off = false }) (source_at (g.I.Inputs.sources c.read.new.self) c.args.slot) _
     (λ told. let more = (read_more _ _ _ _ _ _ _ _ _ (so_far.read told) so_far.readable (c.in-Ok.ensures.bytes told) c.in-Ok.ensures.rest).bytes in
     given_so _ _ _ _ opening _ _ _ _ _ c.given_up.ensures.same (stopped_feeding _ _ _ _ _ laws _ opening _ _ _ _ _ _ _ so_far.fed (take c.in-Ok.n c.read.new.buffer) _ _ _ _ _ before c.in-Err-feed.fault so_far.feeds own at
-    more within going (λ _. more)
+    more within going (sound_at (g.I.Inputs.sources c.read.new.self) c.args.slot (still_readable _ _ _ _ c.in-Ok.n c.in-Ok.ensures.rest so_far.readable), λ _. more)
     c.in-Err-feed.ensures.cut c.in-Err-feed.ensures.refused c.feed.ensures.same c.in-Err-feed.ensures.owned c.given_up.ensures.judged c.given_up.ensures.swept))
     (λ untold. given_so _ _ _ _ opening _ _ _ _ _ c.given_up.ensures.same (stopped_feeding _ _ _ _ _ laws _ opening _ _ _ _ _ _ _ so_far.fed (take c.in-Ok.n c.read.new.buffer) [] _ _ _ _ before c.in-Err-feed.fault so_far.feeds own at
-    (sym (append-nil _)) within going (λ told. absurd (false≢true (sym untold ∙ told))) c.in-Err-feed.ensures.cut c.in-Err-feed.ensures.refused c.feed.ensures.same c.in-Err-feed.ensures.owned c.given_up.ensures.judged c.given_up.ensures.swept))
+    (sym (append-nil _)) within going (sound_at (g.I.Inputs.sources c.read.new.self) c.args.slot (still_readable _ _ _ _ c.in-Ok.n c.in-Ok.ensures.rest so_far.readable), λ told. absurd (false≢true (sym untold ∙ told))) c.in-Err-feed.ensures.cut c.in-Err-feed.ensures.refused c.feed.ensures.same c.in-Err-feed.ensures.owned c.given_up.ensures.judged c.given_up.ensures.swept))
     (λ breaks. absurd (false≢true breaks))
 
 pub returns-in-Err-feed-clause-others : goal.returns-in-Err-feed-clause-others
@@ -153,8 +155,8 @@ returns-clause-ends g c before opening own at =
     let laws : Laws g.E.Engine.Holds g.E.Engine.Owns g.E.Engine.work g.E.Engine.is_over g.E.Engine.fed
     = record { live = g.met.E.Engine.live; counts = g.met.E.Engine.counts; lawful = g.met.E.Engine.lawful } in
     of_content g.I.Inputs.told _ (record { bytes = so_far.fed; breaks_off = false }) (source_at (g.I.Inputs.sources c.pieces.inputs) c.args.slot) _
-    (λ told. ended _ _ _ _ _ laws _ opening _ _ _ _ _ so_far.fed _ _ _ before _ c.end-2.result so_far.feeds own at (done, (_, (so_far.read told).bytes)) (λ _. (so_far.read told).bytes) c.end-2.ensures)
-    (λ untold. ended _ _ _ _ _ laws _ opening _ _ _ _ _ so_far.fed _ _ _ before _ c.end-2.result so_far.feeds own at (done, ([], sym (append-nil so_far.fed))) (λ told. absurd (false≢true (sym untold ∙ told))) c.end-2.ensures)
+    (λ told. ended _ _ _ _ _ laws _ opening _ _ _ _ _ so_far.fed _ _ _ before _ c.end-2.result so_far.feeds own at (done, (_, (so_far.read told).bytes)) (subst (λ (those : Work). IsNeeded those.is_complete (length c.args.buffer.now) so_far.fed) (sym so_far.feeds.same) so_far.needed) (sound_at (g.I.Inputs.sources c.pieces.inputs) c.args.slot so_far.readable, λ _. (so_far.read told).bytes) c.end-2.ensures)
+    (λ untold. ended _ _ _ _ _ laws _ opening _ _ _ _ _ so_far.fed _ _ _ before _ c.end-2.result so_far.feeds own at (done, ([], sym (append-nil so_far.fed))) (subst (λ (those : Work). IsNeeded those.is_complete (length c.args.buffer.now) so_far.fed) (sym so_far.feeds.same) so_far.needed) (sound_at (g.I.Inputs.sources c.pieces.inputs) c.args.slot so_far.readable, λ told. absurd (false≢true (sym untold ∙ told))) c.end-2.ensures)
     (λ breaks. absurd (false≢true breaks))
 
 pub returns-clause-reads : goal.returns-clause-reads
