@@ -266,9 +266,11 @@ pub fed_none : {E : Type 0} (Holds : E → List ℕ → Type 0) (Owns : E → �
     → ((before : List Slot) (opening : Needs) (room : ℕ) → Owns engine (length before) mid → OutputsAt told before ((work engine).settled []) mid → FedAs told before (work engine) opening room empty (λ read. Unit {0}) new result)
     → OfSource told_in source sources (λ content. FedAs told old asked opening most content (Leaves told_in content source left) new result × IsDone told_in asked.is_complete most source (Some content) left)
 fed_none Holds Owns work Ready fed asked opening told told_in old mid new engine source sources left most result is had feeds =
-    subst (λ from. OfSource told_in from sources (λ content. FedAs told old asked opening most content (Leaves told_in content from left) new result × IsDone told_in asked.is_complete most from (Some content) left)) (sym is)
-    (subst (λ (those : Work). FedAs told old those opening most empty (λ read. Unit {0}) new result) had.does
-    (feeds old opening most had.owns (subst (λ (those : Work). OutputsAt told old (those.settled []) mid) (sym had.does) had.outputs)), tt)
+    subst (λ from. OfSource told_in from sources (λ content. FedAs told old asked opening most content (Leaves told_in content from left) new result × IsDone told_in asked.is_complete most from (Some content) left)) (sym is) (
+      subst (λ (those : Work). FedAs told old those opening most empty (λ read. Unit {0}) new result) had.does
+          (feeds old opening most had.owns (subst (λ (those : Work). OutputsAt told old (those.settled []) mid) (sym had.does) had.outputs)),
+      tt,
+    )
 
 -- no input but that of the source was touched
 
