@@ -1,5 +1,5 @@
 -- Lemmas on how a run ends, by its words.
-use Rattle.std.proofs.Common.{◌≡◌, ◌≤◌, ℕ, Bool, true, false, List, [], ◌∷◌, map, Bor, Result, Ok, Err, Option, Some, None, inl, inr, ◌⊎◌, refl, sym, ◌∙◌, ap, subst}
+use Rattle.std.proofs.Common.{◌≡◌, ◌≤◌, ℕ, Bool, List, [], ◌∷◌, map, Bor, Result, Ok, Err, Option, inl, inr, ◌⊎◌, refl, sym, ◌∙◌, ap, subst}
 use Rattle.ports_core.specs.Slot.{Slot, streams}
 use Rattle.ports_core.specs.Source.{Content, Source, IsFresh}
 use Rattle.ports_core.specs.Text.{message_of}
@@ -18,7 +18,7 @@ use Rattle.words_core.specs.EndsAsked.{EndsAsked}
 use Rattle.words_core.specs.declared.settings.Headers.{Headers}
 use Rattle.words_core.specs.declared.settings.Settings.{Settings}
 use Rattle.words_core.specs.Words.{settings_of}
-use Rattle.cutters.specs.Outcome.{RunEnds, RunEndsAt, Refuses, names_at, names_read, speaker, word_of}
+use Rattle.cutters.specs.Outcome.{RunEnds, RunEndsAt, names_at, names_read, speaker, word_of}
 use Rattle.cutters.specs.Tasks.{task_of, names_of}
 use Rattle.cutters.proofs.SpeakerLemmas.{runs_as_named}
 

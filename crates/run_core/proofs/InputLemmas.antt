@@ -4,7 +4,7 @@ use Rattle.std.proofs.lemmas.Bool.{false≢true}
 use Rattle.ports_core.specs.Slot.{Slot, is_open, slot_at, is_writable, told_of, with_written}
 use Rattle.ports_core.specs.Write.{BrokeAfter}
 use Rattle.ports_core.specs.Source.{Content, Source, source_at}
-use Rattle.ports_core.specs.Part.{Part, nothing, only_out, OutputsAt, StoppedBetween}
+use Rattle.ports_core.specs.Part.{Part, only_out, OutputsAt, StoppedBetween}
 use Rattle.ports_core.specs.Swept.{Swept}
 use Rattle.ports_core.specs.Work.{Work, Needs}
 use Rattle.ports_core.specs.Engine.{is_verdict}

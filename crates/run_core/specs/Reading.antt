@@ -1,5 +1,5 @@
 -- What a run leaves of its inputs.
-use Rattle.std.specs.Prelude.{◌≡◌, ℕ, ◌≤◌, ◌<◌, Bool, true, false, List, [], ◌∷◌, ◌++◌, ◌⊎◌, length, Option, Some, None}
+use Rattle.std.specs.Prelude.{◌≡◌, ℕ, ◌≤◌, ◌<◌, Bool, true, false, List, [], ◌∷◌, ◌⊎◌, length, Option, Some, None}
 use Rattle.ports_core.specs.Source.{Content, Source, source_at, source_of}
 use Rattle.run_core.specs.Feeding.{BreaksOnly, LeavesOf, ReadsFor}
 use Rattle.run_core.specs.Input.{Input, is_dash, next_slot}

@@ -1,5 +1,5 @@
 -- What each step of a run over its inputs leaves.
-use Rattle.std.specs.Prelude.{◌≡◌, ℕ, ◌<◌, ◌≤◌, ◌^◌, Bool, true, false, ◌&&◌, ◌||◌, List, [], ◌∷◌, ◌++◌, length, Option, Some, None, Result, Ok, Err, if◌then◌else◌}
+use Rattle.std.specs.Prelude.{◌≡◌, ℕ, ◌<◌, ◌^◌, Bool, true, false, ◌&&◌, ◌||◌, List, [], ◌∷◌, ◌++◌, length, Option, Some, None, Result, Ok, Err, if◌then◌else◌}
 use Rattle.ports_core.specs.Slot.{Slot, is_open, streams}
 use Rattle.ports_core.specs.Source.{Content, Source, source_at}
 use Rattle.ports_core.specs.Part.{Part, OutputsAt, StoppedBetween, nothing}
@@ -12,7 +12,7 @@ use Rattle.ports_core.specs.declared.fault.Fault.{Fault}
 use Rattle.ports_core.specs.declared.fault.Fault.TheVariants.{Memory, Write, Read, Open, Suffixes, NoMatch, Range, Usage, Failed, TooLong}
 use Rattle.run_core.specs.declared.inputs.Progress.{Progress}
 use Rattle.run_core.specs.Feeding.{Step, Stops, call_of, KeepsOthers}
-use Rattle.run_core.specs.Input.{Input, IsFor, World, is_dash, input_of, next_slot, empty}
+use Rattle.run_core.specs.Input.{Input, IsFor, World, is_dash, input_of, empty}
 use Rattle.run_core.specs.Reading.{AreDone, AreUntouched, IsDone}
 use Rattle.run_core.specs.RunEnds.{streams_with, standard_error, largest_piece, RunStep}
 use Rattle.run_core.specs.Task.{Task, Outcome, made_by, after_part, header_text, is_missing, are_missing}

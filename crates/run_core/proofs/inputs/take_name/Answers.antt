@@ -1,4 +1,4 @@
-use Rattle.std.proofs.Common.{◌≡◌, ◌∙◌, length, true, false, sym, refl}
+use Rattle.std.proofs.Common.{◌∙◌, sym, refl}
 use Rattle.run_core.proofs.InputLemmas.{said_as}
 use Rattle.run_core.proofs.NamesLemmas.{of_opened, of_missing, of_no_room, took_file, took_standard}
 use Rattle.run_core.proofs.ReadingLemmas.{takes_dash, takes_file, takes_missing}
