@@ -83,7 +83,7 @@ OfContent told there P = (content : Content) × (told ≡ true → content ≡ t
 abbrev pub LeavesOf : Bool → Content → Source → List ℕ → Type 0
 LeavesOf told content source read = (source.is_broken ≡ false) × (told ≡ true → content.bytes ≡ read ++ source.left.bytes)
 
--- an input that doesn't tell its bytes is one that breaks off only where a read of it failed
+-- an input that doesn't tell its bytes is one that breaks off only where its source is broken
 abbrev pub BreaksOnly : Bool → Content → Source → Type 0
 BreaksOnly told content source = told ≡ false → content.breaks_off ≡ true → source.is_broken ≡ true
 

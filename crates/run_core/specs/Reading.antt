@@ -5,12 +5,12 @@ use Rattle.run_core.specs.Feeding.{BreaksOnly, LeavesOf, ReadsFor}
 use Rattle.run_core.specs.Input.{Input, is_dash, next_slot}
 
 -- What is left of an input that was done, which was read from this source: where inputs tell their bytes, no more was read than was
--- needed; where they don't, it breaks off only where a read failed. What could not be opened is not open.
+-- needed; where they don't, it breaks off only where the source is broken. What could not be opened is not open.
 abbrev pub IsLeft : Bool → (List ℕ → Bool) → ℕ → Option Content → Source → Type 0
 IsLeft told is_complete most None source = source.is_open ≡ false
 IsLeft told is_complete most (Some content) source = (told ≡ true → ReadsFor is_complete most content source.left) × BreaksOnly told content source
 
--- the same of an input by its number; a second `-` has none
+-- the same of an input by its number, under which it was opened; a second `-` has none
 abbrev pub IsDone : Bool → (List ℕ → Bool) → ℕ → Option ℕ → Option Content → List Source → Type 0
 IsDone told is_complete most None content sources = Unit {0}
 IsDone told is_complete most (Some slot) content sources = (slot < length sources) × IsLeft told is_complete most content (source_at sources slot)
@@ -42,8 +42,8 @@ count_after count (name ∷ names) = count_after (next_slot count name) names
 abbrev pub AsksAtMost : ℕ → List Source → Type 0
 AsksAtMost most sources = (place : ℕ) → (source_at sources place).asked ≤ most
 
--- What taking a name leaves of the inputs: a file is one more at the most, those before it are as they were, and standard input is touched by the
--- first `-` alone.
+-- What taking a name leaves of the inputs: a file is one more at the most, those before it are as they were, and standard input is
+-- touched by the first `-` alone.
 pub record TakesOne (most : ℕ) (was_read : Bool) (name : List ℕ) (old new : List Source) : Type 0 where
   pub grown : length old ≤ length new
   pub within : length new ≤ next_slot (length old) name
