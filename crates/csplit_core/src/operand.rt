@@ -1,0 +1,35 @@
+//! What is asked of `csplit`: where to cut, and how often (POSIX.1-2017, XCU csplit, OPERANDS).
+
+use scan_core::Bre;
+
+/// How far a cut is from the line that a pattern finds, in lines.
+#[derive(Clone, Copy, Debug, PartialEq, Eq)]
+pub enum Offset {
+    /// This many lines after it.
+    Plus(u64),
+    /// This many lines before it.
+    Minus(u64),
+}
+
+/// Where an operand cuts.
+#[derive(Drop)]
+pub enum Target {
+    /// At the line of this number, counted from 1.
+    Number(u64),
+    /// From the next line that contains the pattern, at an offset. The section before the cut is kept, or skipped.
+    Search {
+        pattern: Bre,
+        is_kept: bool,
+        offset: Offset,
+    },
+}
+
+/// One operand, with the repetition that stands after it.
+#[derive(Drop)]
+pub struct Operand {
+    /// Its place among the words that are operands, counted from 0; a repetition is a word too.
+    pub index: usize,
+    pub target: Target,
+    /// How often it is performed again, at most 2^63-1 times; without end where this is `None`.
+    pub times: Option<u64>,
+}
