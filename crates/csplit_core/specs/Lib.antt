@@ -4,3 +4,9 @@ pub mod Planned
 pub mod MatchLaws
 pub mod Measure
 pub mod PlanLaws
+pub mod Section
+pub mod Output
+pub mod Input
+pub mod Csplit
+pub mod SectionLaws
+pub mod InputLaws
