@@ -1,0 +1,4 @@
+pub mod TurnedLemmas
+pub mod PlaceLemmas
+pub mod AgreedLemmas
+pub mod WaitLemmas

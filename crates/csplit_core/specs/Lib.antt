@@ -10,3 +10,5 @@ pub mod Input
 pub mod Csplit
 pub mod SectionLaws
 pub mod InputLaws
+pub mod Agreed
+pub mod Place

@@ -1,9 +1,15 @@
 //! Laws of the definitions, with no code: each stands on the contract of a function whose body is empty.
-ghost use Rattle.std.specs.Prelude.{◌≡◌, Bool, List};
+ghost use Rattle.std.specs.Prelude.{◌≡◌, ◌≤◌, ◌++◌, Bool, List, length, ℕ};
+ghost use Rattle.csplit_core.specs.Agreed.{IsAgreed, settled_outputs, whole_outputs};
+ghost use Rattle.csplit_core.specs.Csplit.{settled_by, whole_by};
 ghost use Rattle.csplit_core.specs.Operand.{Line};
+ghost use Rattle.csplit_core.specs.Output.{Style};
+ghost use Rattle.csplit_core.specs.Place.{IsUndecided, WaitsAt};
 ghost use Rattle.csplit_core.specs.Plan.{Ending, Runs, State, Step, start};
 ghost use Rattle.csplit_core.specs.Planned.{plan};
+ghost use Rattle.csplit_core.specs.Section.{most_waiting, waiting_lines};
 ghost use Rattle.csplit_core.specs.declared.operand.Operand.{Operand};
+ghost use Rattle.ports_core.specs.Part.{Begins};
 
 /// For any operands and lines there is one plan: the one that is computed is a plan, and no other is (POSIX.1-2017, XCU
 /// csplit).
@@ -12,4 +18,23 @@ pub fn one_plan()
     ensures only { (suppress : Bool) (operands : List Operand) (lines : List Line) (steps : List Step) (last : State) (ending : Ending)
         → Runs suppress lines (start operands) steps last ending
         → plan suppress operands lines ≡ record { steps = steps; last = last; ending = ending } }
+{}
+
+/// What is settled only grows as more comes in, and what is written in the end begins with it.
+pub fn settled_grows()
+    ensures grows { (style : Style) (operands : List Operand) (x y : List ℕ) → Begins (settled_by style operands x) (settled_by style operands (x ++ y)) }
+    ensures ends { (style : Style) (operands : List Operand) (x : List ℕ) → Begins (settled_by style operands x) (whole_by style operands x) }
+{}
+
+/// No more complete lines wait than an offset goes back.
+pub fn few_lines_wait()
+    ensures { (suppress : Bool) (operands : List Operand) (x : List Line) → length (waiting_lines x (plan suppress operands x)) ≤ most_waiting (plan suppress operands x).ending }
+{}
+
+/// What is settled is what all continuations agree on, and a line waits exactly where two continuations put it into
+/// different places. This is said over complete lines, each with a mark for each operand; the line at a cut may be left
+/// out or not.
+pub fn agreed_is_settled()
+    ensures outputs { (suppress : Bool) (operands : List Operand) (x : List Line) → IsAgreed (whole_outputs suppress operands) x (settled_outputs suppress operands x) }
+    ensures waits { (suppress : Bool) (operands : List Operand) (x : List Line) → IsUndecided suppress operands x (WaitsAt (length x) (plan suppress operands x)) }
 {}
