@@ -8,7 +8,7 @@ use Rattle.ports_core.specs.Part.{File}
 use Rattle.ports_core.specs.declared.slot.Mode.TheVariants.{Fresh}
 use Rattle.ports_core.specs.declared.slot.State.{State}
 use Rattle.ports_core.specs.declared.slot.State.TheVariants as state
-use Rattle.csplit_core.specs.Operand.{Minus, Search, Operand}
+use Rattle.csplit_core.specs.Operand.{Minus, Search, Count, Operand}
 use Rattle.csplit_core.specs.Output.{Style}
 use Rattle.csplit_core.specs.Csplit.{settled_by, whole_by, waiting}
 
@@ -20,7 +20,7 @@ letter byte = pattern.set (set_where (λ b. eqb b byte))
 
 -- /c/-1
 abbrev before_c : List Operand
-before_c = record { index = 0; target = Search (pattern.append pattern.nothing (letter 99)) true (Minus 1); times = Some 0 } ∷ []
+before_c = record { index = 0; target = Search (pattern.append pattern.nothing (letter 99)) true (Minus 1); times = Count 0 } ∷ []
 
 abbrev file : ℕ → List ℕ → State → File
 file place bytes state' = record { name = numbered_name (120 ∷ 120 ∷ []) 2 place; mode = Fresh; bytes = bytes; state = state'; is_broken = false }

@@ -28,8 +28,8 @@ whole_by style operands x = whole_of style operands (all_lines x)
 -- any more, or where its line number is above the last line.
 abbrev pub verdict_of : Ending → Option Fault
 verdict_of used_up = None
-verdict_of (missed operand repetition) = if is_endless operand then None else Some (NoMatch operand.index repetition)
-verdict_of (above operand repetition matched cut) = if is_endless operand && is_number operand.target then None else Some (Range operand.index repetition)
+verdict_of (missed operand repetition) = if is_endless operand.times then None else Some (NoMatch operand.index repetition)
+verdict_of (above operand repetition matched cut) = if is_endless operand.times && is_number operand.target then None else Some (Range operand.index repetition)
 verdict_of (below operand repetition) = Some (Range operand.index repetition)
 
 abbrev pub verdict_by : Bool → List Operand → List ℕ → Option Fault

@@ -12,3 +12,6 @@ pub mod SectionLaws
 pub mod InputLaws
 pub mod Agreed
 pub mod Place
+pub mod Fault
+pub mod Word
+pub mod Reading

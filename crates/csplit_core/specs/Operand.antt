@@ -1,10 +1,12 @@
 -- What is asked of `csplit`: its operands, and the lines as the operands see them (POSIX.1-2017, XCU csplit). A pattern is seen as
 -- its tree.
-use Rattle.std.specs.Prelude.{ℕ, ◌+◌, ◌-◌, Bool, true, false, List, [], Option, Some, None, nat_lt, get_or}
+use Rattle.std.specs.Prelude.{ℕ, ◌+◌, ◌-◌, Bool, true, false, List, [], nat_lt, get_or}
 pub use Rattle.csplit_core.specs.declared.operand.Offset.{Offset}
 pub use Rattle.csplit_core.specs.declared.operand.Offset.TheVariants.{Plus, Minus}
 pub use Rattle.csplit_core.specs.declared.operand.Target.{Target}
 pub use Rattle.csplit_core.specs.declared.operand.Target.TheVariants.{Number, Search}
+pub use Rattle.csplit_core.specs.declared.operand.Times.{Times}
+pub use Rattle.csplit_core.specs.declared.operand.Times.TheVariants.{Count, Endless}
 pub use Rattle.csplit_core.specs.declared.operand.Operand.{Operand}
 
 -- a line, with a mark for each operand: whether the line contains the operand's pattern
@@ -36,13 +38,14 @@ most_held (Search pattern kept (Plus count)) = 0
 most_held (Search pattern kept (Minus count)) = count
 
 -- after this repetition, counted from 0, the operand is performed again
-abbrev pub has_more : Option ℕ → ℕ → Bool
-has_more None repetition = true
-has_more (Some times) repetition = nat_lt repetition times
+abbrev pub has_more : Times → ℕ → Bool
+has_more (Count times) repetition = nat_lt repetition times
+has_more Endless repetition = true
 
 -- the operand is repeated until the input is exhausted
-abbrev pub is_endless : Operand → Bool
-is_endless operand = elim (operand.times) [ None ↦ true | Some times ↦ false ]
+abbrev pub is_endless : Times → Bool
+is_endless (Count times) = false
+is_endless Endless = true
 
 abbrev pub is_number : Target → Bool
 is_number (Number n) = true

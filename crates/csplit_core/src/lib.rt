@@ -3,5 +3,7 @@
 
 pub mod laws;
 mod operand;
+mod operand_fault;
 
-pub use operand::{Offset, Operand, Target};
+pub use operand::{Offset, Operand, Target, Times};
+pub use operand_fault::{OperandFault, OperandFaultKind};

@@ -24,12 +24,20 @@ pub enum Target {
     },
 }
 
+/// How often an operand is performed again.
+#[derive(Clone, Copy, Debug, PartialEq, Eq)]
+pub enum Times {
+    /// This often, at most 2^63-1 times.
+    Count(u64),
+    /// Until the input is exhausted.
+    Endless,
+}
+
 /// One operand, with the repetition that stands after it.
 #[derive(Drop)]
 pub struct Operand {
     /// Its place among the words that are operands, counted from 0; a repetition is a word too.
     pub index: usize,
     pub target: Target,
-    /// How often it is performed again, at most 2^63-1 times; without end where this is `None`.
-    pub times: Option<u64>,
+    pub times: Times,
 }
