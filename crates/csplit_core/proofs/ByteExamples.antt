@@ -1,5 +1,5 @@
 -- Examples over bytes, with patterns that are read.
-use Rattle.std.proofs.Common.{◌≡◌, ℕ, List, [], ◌∷◌, ◌++◌, true, false, eqb, Some, refl}
+use Rattle.std.proofs.Common.{◌≡◌, ℕ, List, [], ◌∷◌, ◌++◌, true, false, eqb, refl}
 use Rattle.std.specs.Prelude.{decimal}
 use Rattle.bre_core.specs.ByteSet.{set_where}
 use Rattle.bre_core.specs.Pattern as pattern

@@ -1,5 +1,5 @@
 -- Examples, computed from the definitions.
-use Rattle.std.proofs.Common.{◌≡◌, ℕ, List, [], ◌∷◌, ◌++◌, Bool, true, false, eqb, Option, Some, None, refl}
+use Rattle.std.proofs.Common.{◌≡◌, ℕ, List, [], ◌∷◌, ◌++◌, Bool, true, false, eqb, Some, None, refl}
 use Rattle.bre_core.specs.Pattern as pattern
 use Rattle.std.specs.Prelude.{decimal}
 use Rattle.ports_core.specs.Name.{numbered_name}

@@ -6,3 +6,4 @@ pub mod StayLemmas
 pub mod LastSectionLemmas
 pub mod Examples
 pub mod ByteExamples
+pub mod WordLemmas

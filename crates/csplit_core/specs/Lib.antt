@@ -14,4 +14,5 @@ pub mod Agreed
 pub mod Place
 pub mod Fault
 pub mod Word
+pub mod Seen
 pub mod Reading

@@ -1,5 +1,5 @@
 -- What a list of words asks of `csplit`: its operands, or the first fault.
-use Rattle.std.specs.Prelude.{◌≡◌, ℕ, ◌+◌, ◌==◌, ◌≤◌, nat_lt, zero, Bool, List, [], ◌∷◌, ◌++◌, Option, Some, None, if◌then◌else◌}
+use Rattle.std.specs.Prelude.{◌≡◌, ℕ, ◌+◌, ◌==◌, ◌≤◌, nat_lt, Bool, List, [], ◌∷◌, ◌++◌, Option, Some, None, if◌then◌else◌}
 use Rattle.bre_core.specs.Pattern.{Pattern, Reads, depth_of, positions_of}
 use Rattle.bre_core.specs.Refusal.{IsTooLarge}
 use Rattle.bre_core.specs.declared.fault.BreFault.{BreFault}

@@ -4,6 +4,7 @@
 pub mod laws;
 mod operand;
 mod operand_fault;
+mod word;
 
 pub use operand::{Offset, Operand, Target, Times};
 pub use operand_fault::{OperandFault, OperandFaultKind};
