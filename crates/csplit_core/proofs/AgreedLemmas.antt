@@ -97,16 +97,20 @@ short_by false front one other more place short less =
 
 longest : (suppress : Bool) (operands : List Operand) (x : List Line) → Decides suppress operands x → (place : ℕ) → place < length (settled_outputs suppress operands x) → (y : List Line) × (z : List Line)
     × ((front : List Line) → IsFront front (output_at (whole_outputs suppress operands (x ++ y)) place) → IsFront front (output_at (whole_outputs suppress operands (x ++ z)) place) → length front ≤ length (output_at (settled_outputs suppress operands x) place))
-longest suppress operands x decides place less = (decides.y, decides.y, λ front is are.
-    let low_is = kept-append (map (section_of x) (plan suppress operands x).steps) (section (is_last_kept (plan suppress operands x).ending) false (lines_between (plan suppress operands x).last.current (settled_end (length x) (plan suppress operands x).ending) x) ∷ []) in
-    let high_is = ap kept_lines decides.are ∙ kept-append (map (section_of x) (plan suppress operands x).steps) (decides.next ∷ decides.more) in
-    let short = short_by decides.next.is_kept (kept_lines (map (section_of x) (plan suppress operands x).steps)) (lines_between (plan suppress operands x).last.current (settled_end (length x) (plan suppress operands x).ending) x) decides.next.lines (kept_lines decides.more) place decides.short
-            (subst (λ n. place < n) (ap length (low_is ∙ ap (λ has. kept_lines (map (section_of x) (plan suppress operands x).steps) ++ cond has (lines_between (plan suppress operands x).last.current (settled_end (length x) (plan suppress operands x).ending) x ∷ []) []) decides.kept)) less) in
-    let l : length (output_at (whole_outputs suppress operands (x ++ decides.y)) place) ≡ length (output_at (kept_lines (map (section_of x) (plan suppress operands x).steps) ++ cond decides.next.is_kept (decides.next.lines ∷ kept_lines decides.more) (kept_lines decides.more)) place)
-            = ap (λ those. length (output_at those place)) high_is in
-    let r : length (output_at (settled_outputs suppress operands x) place) ≡ length (output_at (kept_lines (map (section_of x) (plan suppress operands x).steps) ++ cond decides.next.is_kept (lines_between (plan suppress operands x).last.current (settled_end (length x) (plan suppress operands x).ending) x ∷ []) []) place)
-            = ap (λ those. length (output_at those place)) (low_is ∙ ap (λ has. kept_lines (map (section_of x) (plan suppress operands x).steps) ++ cond has (lines_between (plan suppress operands x).last.current (settled_end (length x) (plan suppress operands x).ending) x ∷ []) []) decides.kept) in
-    let few : length front ≤ length (output_at (whole_outputs suppress operands (x ++ decides.y)) place) = front_short front _ is in omega (arith, few, l, r, short))
+longest suppress operands x decides place less = (
+  decides.y,
+  decides.y,
+  λ front is are.
+      let low_is = kept-append (map (section_of x) (plan suppress operands x).steps) (section (is_last_kept (plan suppress operands x).ending) false (lines_between (plan suppress operands x).last.current (settled_end (length x) (plan suppress operands x).ending) x) ∷ []) in
+      let high_is = ap kept_lines decides.are ∙ kept-append (map (section_of x) (plan suppress operands x).steps) (decides.next ∷ decides.more) in
+      let short = short_by decides.next.is_kept (kept_lines (map (section_of x) (plan suppress operands x).steps)) (lines_between (plan suppress operands x).last.current (settled_end (length x) (plan suppress operands x).ending) x) decides.next.lines (kept_lines decides.more) place decides.short
+      (subst (λ n. place < n) (ap length (low_is ∙ ap (λ has. kept_lines (map (section_of x) (plan suppress operands x).steps) ++ cond has (lines_between (plan suppress operands x).last.current (settled_end (length x) (plan suppress operands x).ending) x ∷ []) []) decides.kept)) less) in
+      let l : length (output_at (whole_outputs suppress operands (x ++ decides.y)) place) ≡ length (output_at (kept_lines (map (section_of x) (plan suppress operands x).steps) ++ cond decides.next.is_kept (decides.next.lines ∷ kept_lines decides.more) (kept_lines decides.more)) place)
+      = ap (λ those. length (output_at those place)) high_is in
+      let r : length (output_at (settled_outputs suppress operands x) place) ≡ length (output_at (kept_lines (map (section_of x) (plan suppress operands x).steps) ++ cond decides.next.is_kept (lines_between (plan suppress operands x).last.current (settled_end (length x) (plan suppress operands x).ending) x ∷ []) []) place)
+      = ap (λ those. length (output_at those place)) (low_is ∙ ap (λ has. kept_lines (map (section_of x) (plan suppress operands x).steps) ++ cond has (lines_between (plan suppress operands x).last.current (settled_end (length x) (plan suppress operands x).ending) x ∷ []) []) decides.kept) in
+      let few : length front ≤ length (output_at (whole_outputs suppress operands (x ++ decides.y)) place) = front_short front _ is in omega (arith, few, l, r, short),
+)
 
 -- Such a continuation is there: none at all, or under an offset back one line that the operand finds
 
@@ -121,7 +125,7 @@ decides_by suppress operands x y more end how rest next rest' are kept short =
       more = rest';
       are = ap (whole_sections (x ++ y)) (plan_once suppress operands (x ++ y) _ _ _ (goes_on suppress x y (start operands) _ _ _ _ _ _ here rest))
           ∙ ap (λ those. those ++ section (is_last_kept how) true (lines_between end.current (whole_end (length (x ++ y)) how) (x ++ y)) ∷ [])
-              (map-append (section_of (x ++ y)) (plan suppress operands x).steps more ∙ ap (λ those. those ++ map (section_of (x ++ y)) more) (closed_still x y (plan suppress operands x).steps within.0))
+          (map-append (section_of (x ++ y)) (plan suppress operands x).steps more ∙ ap (λ those. those ++ map (section_of (x ++ y)) more) (closed_still x y (plan suppress operands x).steps within.0))
           ∙ append_assoc (map (section_of x) (plan suppress operands x).steps) (map (section_of (x ++ y)) more) _
           ∙ ap (λ those. map (section_of x) (plan suppress operands x).steps ++ those) are;
       kept = kept;
@@ -136,7 +140,7 @@ decides_now suppress operands x same = record {
   are = ap (λ those. whole_sections those (plan suppress operands those)) (append-nil x);
   kept = refl;
   short = let e : length (lines_between (plan suppress operands x).last.current (whole_end (length x) (plan suppress operands x).ending) x) ≡ length (lines_between (plan suppress operands x).last.current (settled_end (length x) (plan suppress operands x).ending) x)
-          = ap (λ past. length (lines_between (plan suppress operands x).last.current past x)) same in omega (arith, e);
+      = ap (λ past. length (lines_between (plan suppress operands x).last.current past x)) same in omega (arith, e);
 }
 
 none_taken : (first : ℕ) (lines : List Line) → length (lines_between first 0 lines) ≡ 0
@@ -150,7 +154,7 @@ decides_back suppress operands x operand k some kept past (too_low low rest) =
 decides_back suppress operands x operand k some kept past (turns from steps end how rest) =
     decides_by suppress operands x (matching_line ∷ []) _ _ _ rest (section_of (x ++ matching_line ∷ []) (step_of (plan suppress operands x).last operand (suc (length x)) (suc (length x) - k))) _ refl kept
     (let e : length (lines_between (plan suppress operands x).last.current (suc (length x) - k) (x ++ matching_line ∷ [])) ≡ length (lines_between (plan suppress operands x).last.current (settled_end (length x) (plan suppress operands x).ending) x)
-            = ap length (between_still (plan suppress operands x).last.current (suc (length x) - k) x (matching_line ∷ []) some (omega arith) ∙ ap (λ p. lines_between (plan suppress operands x).last.current p x) (sym past)) in omega (arith, e))
+    = ap length (between_still (plan suppress operands x).last.current (suc (length x) - k) x (matching_line ∷ []) some (omega arith) ∙ ap (λ p. lines_between (plan suppress operands x).last.current p x) (sym past)) in omega (arith, e))
 
 decides_missed : (suppress : Bool) (operands : List Operand) (x : List Line) (operand : Operand) (repetition : ℕ) (left : List Operand) → (plan suppress operands x).ending ≡ missed operand repetition → (plan suppress operands x).last.operands ≡ operand ∷ left
     → 1 ≤ (plan suppress operands x).last.current → search_line suppress (plan suppress operands x).last ≤ suc (length x)

@@ -7,3 +7,4 @@ pub mod LastSectionLemmas
 pub mod Examples
 pub mod ByteExamples
 pub mod WordLemmas
+pub mod AimLemmas

@@ -209,10 +209,20 @@ cut_before suppress total index line step steps how before is =
 
 turned_away : (suppress : Bool) (x : List Line) (state : State) (operand : Operand) (k line : ℕ) → Turned suppress x state operand (suc (length x) - k) → suc (length x) - k ≤ line
     → (steps : List Step) × (end : State) × (how : Ending) × Runs suppress (x ++ matching_line ∷ []) state steps end how × ((index : ℕ) → place_from suppress (length (x ++ matching_line ∷ [])) index steps how line ≡ in_section index → ⊥)
-turned_away suppress x state operand k line (too_low low rest) from = ([], state, below operand state.repetition, rest,
-    λ index is. no_kind index (ap kind_of (sym (ap (λ has. cond has (in_section index) nowhere) (lt_false line 0 (omega arith))) ∙ is)))
-turned_away suppress x state operand k line (turns least steps end how rest) from = (step_of state operand (suc (length x)) (suc (length x) - k) ∷ steps, end, how, rest,
-    λ index is. cut_before suppress (length (x ++ matching_line ∷ [])) index line (step_of state operand (suc (length x)) (suc (length x) - k)) steps how from is)
+turned_away suppress x state operand k line (too_low low rest) from = (
+  [],
+  state,
+  below operand state.repetition,
+  rest,
+  λ index is. no_kind index (ap kind_of (sym (ap (λ has. cond has (in_section index) nowhere) (lt_false line 0 (omega arith))) ∙ is)),
+)
+turned_away suppress x state operand k line (turns least steps end how rest) from = (
+  step_of state operand (suc (length x)) (suc (length x) - k) ∷ steps,
+  end,
+  how,
+  rest,
+  λ index is. cut_before suppress (length (x ++ matching_line ∷ [])) index line (step_of state operand (suc (length x)) (suc (length x) - k)) steps how from is,
+)
 
 -- where a pattern matched nothing yet, the rest as it is puts the line into its section
 missed_here : (suppress : Bool) (operands : List Operand) (x : List Line) (operand : Operand) (repetition line : ℕ) → (plan suppress operands x).ending ≡ missed operand repetition → (plan suppress operands x).last.current ≤ line → line ≤ length x
@@ -230,12 +240,14 @@ differ_missed : (suppress : Bool) (operands : List Operand) (x : List Line) (ope
 differ_missed suppress operands x operand repetition left ending is some within (Number n) target none line from past most = absurd none
 differ_missed suppress operands x operand repetition left ending is some within (Search pattern kept (Plus k)) target none line from past most = absurd (omega (arith, past, most))
 differ_missed suppress operands x operand repetition left ending is some within (Search pattern kept (Minus k)) target none line from past most =
-    let away = turned_away suppress x (plan suppress operands x).last operand k line (turned suppress x (plan suppress operands x).last operand left pattern kept k some is target none within) past in
-    (matching_line ∷ [], λ same. away.4 (0 + length (plan suppress operands x).steps)
-        (sym (ap (λ (p : Plan). place_from suppress (length (x ++ matching_line ∷ [])) 0 p.steps p.ending line)
-                (plan_once suppress operands (x ++ matching_line ∷ []) _ _ _ (goes_on suppress x (matching_line ∷ []) (start operands) _ _ _ _ _ _ (plan_runs suppress operands x) away.3))
-            ∙ place_after suppress x (start operands) _ _ _ (plan_runs suppress operands x) (length (x ++ matching_line ∷ [])) 0 line away.0 away.2 from)
-        ∙ sym same ∙ ap (λ those. place_of suppress operands those line) (append-nil x) ∙ missed_here suppress operands x operand repetition line ending from most))
+    let away = turned_away suppress x (plan suppress operands x).last operand k line (turned suppress x (plan suppress operands x).last operand left pattern kept k some is target none within) past in (
+      matching_line ∷ [],
+      λ same. away.4 (0 + length (plan suppress operands x).steps)
+          (sym (ap (λ (p : Plan). place_from suppress (length (x ++ matching_line ∷ [])) 0 p.steps p.ending line)
+          (plan_once suppress operands (x ++ matching_line ∷ []) _ _ _ (goes_on suppress x (matching_line ∷ []) (start operands) _ _ _ _ _ _ (plan_runs suppress operands x) away.3))
+          ∙ place_after suppress x (start operands) _ _ _ (plan_runs suppress operands x) (length (x ++ matching_line ∷ [])) 0 line away.0 away.2 from)
+          ∙ sym same ∙ ap (λ those. place_of suppress operands those line) (append-nil x) ∙ missed_here suppress operands x operand repetition line ending from most),
+    )
 
 differ_at : (suppress : Bool) (operands : List Operand) (x : List Line) (ending : Ending) → (plan suppress operands x).ending ≡ ending → EndsAs suppress x (plan suppress operands x).last ending
     → 1 ≤ (plan suppress operands x).last.current → search_line suppress (plan suppress operands x).last ≤ suc (length x) → (line : ℕ) → is_final ending ≡ false → (plan suppress operands x).last.current ≤ line → settled_end (length x) ending ≤ line → line ≤ length x
@@ -251,7 +263,7 @@ waiting_is_undecided suppress operands x = record {
   differ = λ line waits.
       let here = plan_runs suppress operands x in
       let two = differ_at suppress operands x (plan suppress operands x).ending refl (ends_as suppress x (start operands) _ _ _ here) (are_within suppress x (start operands) _ _ _ here (omega arith)).1
-              (search_within suppress x (start operands) _ _ _ here (omega arith) (search_at_start suppress operands (length x))) line waits.0 waits.1 waits.2 waits.3 in
+      (search_within suppress x (start operands) _ _ _ here (omega arith) (search_at_start suppress operands (length x))) line waits.0 waits.1 waits.2 waits.3 in
       ([], two.0, two.1);
   decided = λ line some within not y z. place_here suppress operands x y line some within not ∙ sym (place_here suppress operands x z line some within not);
 }

@@ -62,8 +62,8 @@ turned_by suppress x state operand operands cut some is at within = elim (cases_
   | inr from ↦
       let least : cut ≤ line_after suppress cut = line_some suppress cut in
       turns from _ _ _ (cuts state operand operands (suc (length x)) cut _ _ _ is at from within
-          (runs (needed (length (x ++ matching_line ∷ [])) (state_after suppress operand operands state.repetition (suc (length x)) cut)) suppress (x ++ matching_line ∷ [])
-              (state_after suppress operand operands state.repetition (suc (length x)) cut) (omega arith) (omega (arith, some, from, least))))
+      (runs (needed (length (x ++ matching_line ∷ [])) (state_after suppress operand operands state.repetition (suc (length x)) cut)) suppress (x ++ matching_line ∷ [])
+      (state_after suppress operand operands state.repetition (suc (length x)) cut) (omega arith) (omega (arith, some, from, least))))
 ]
 
 pub turned : (suppress : Bool) (x : List Line) (state : State) (operand : Operand) (operands : List Operand) (pattern : Pattern) (kept : Bool) (k : ℕ) → 1 ≤ state.current → state.operands ≡ operand ∷ operands → operand.target ≡ Search pattern kept (Minus k)

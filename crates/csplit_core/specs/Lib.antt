@@ -16,3 +16,4 @@ pub mod Fault
 pub mod Word
 pub mod Seen
 pub mod Reading
+pub mod Aiming

@@ -142,19 +142,19 @@ computed suppress lines first all end how (misses state operand operands is none
 computed suppress lines first all end how (is_above state operand operands matched cut is at far) bound enough some =
     ends_within bound suppress lines state operand operands (above operand state.repetition matched cut) is
     (turn_at_cut suppress lines state operand operands operand.target matched cut at
-        ∙ tested suppress (length lines) state operand operands matched cut true (nat_lt cut state.current) (less_test (length lines) cut far) refl) enough
+    ∙ tested suppress (length lines) state operand operands matched cut true (nat_lt cut state.current) (less_test (length lines) cut far) refl) enough
 computed suppress lines first all end how (is_below state operand operands matched cut is at within low) bound enough some =
     ends_within bound suppress lines state operand operands (below operand state.repetition) is
     (turn_at_cut suppress lines state operand operands operand.target matched cut at
-        ∙ tested suppress (length lines) state operand operands matched cut false true (not_less_test (length lines) cut within) (less_test cut state.current low)) enough
+    ∙ tested suppress (length lines) state operand operands matched cut false true (not_less_test (length lines) cut within) (less_test cut state.current low)) enough
 computed suppress lines first all end how (cuts state operand operands matched cut steps last ending is at from within rest) zero enough some = absurd (no_bound (length lines) state operand operands is enough)
 computed suppress lines first all end how (cuts state operand operands matched cut steps last ending is at from within rest) (suc bound) enough some =
     turns_to bound suppress lines state operand operands (goes (step_of state operand matched cut) (state_after suppress operand operands state.repetition matched cut)) is
     (turn_at_cut suppress lines state operand operands operand.target matched cut at
-        ∙ tested suppress (length lines) state operand operands matched cut false false (not_less_test (length lines) cut within) (not_less_test cut state.current from))
+    ∙ tested suppress (length lines) state operand operands matched cut false false (not_less_test (length lines) cut within) (not_less_test cut state.current from))
     ∙ ap (with_step (step_of state operand matched cut)) (computed suppress lines (state_after suppress operand operands state.repetition matched cut) steps last ending rest bound
-        (let less : needed (length lines) (state_after suppress operand operands state.repetition matched cut) < needed (length lines) state = fewer suppress lines state operand operands matched cut is at (omega (arith, some, from)) within in omega (arith, less, enough))
-        (let least : cut ≤ line_after suppress cut = line_some suppress cut in omega (arith, least, some, from)))
+    (let less : needed (length lines) (state_after suppress operand operands state.repetition matched cut) < needed (length lines) state = fewer suppress lines state operand operands matched cut is at (omega (arith, some, from)) within in omega (arith, less, enough))
+    (let least : cut ≤ line_after suppress cut = line_some suppress cut in omega (arith, least, some, from)))
 
 -- There is a plan
 abbrev pub RunsAs : Bool → List Line → State → Plan → Type 0
@@ -192,7 +192,7 @@ runs_target bound suppress lines state operand operands is rest (Search pattern'
 
 mutual_runs : (bound : ℕ) (suppress : Bool) (lines : List Line) (state : State) (operands : List Operand) → state.operands ≡ operands
     → ((operand : Operand) (rest : List Operand) → state.operands ≡ operand ∷ rest → (matched cut : ℕ) → CutsAt suppress lines state operand operand.target matched cut → state.current ≤ cut → cut ≤ length lines
-        → RunsAs suppress lines (state_after suppress operand rest state.repetition matched cut) (plan_within bound suppress lines (state_after suppress operand rest state.repetition matched cut)))
+    → RunsAs suppress lines (state_after suppress operand rest state.repetition matched cut) (plan_within bound suppress lines (state_after suppress operand rest state.repetition matched cut)))
     → RunsAs suppress lines state (after bound suppress lines state (turn_of suppress lines state operands))
 mutual_runs bound suppress lines state [] is rest = is_used_up state is
 mutual_runs bound suppress lines state (operand ∷ operands) is rest = runs_target bound suppress lines state operand operands is (rest operand operands is) operand.target refl

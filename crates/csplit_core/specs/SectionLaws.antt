@@ -247,10 +247,12 @@ no_size false closed quiet line is = refl
 no_size true closed quiet line is = ap (λ c. cond (c && quiet) line []) is
 
 out_grows : (style : Style) (low high : List Section) → Grow low high → IsBeginning (size_lines style low) (size_lines style high)
-out_grows style low high grow = (size_lines style grow.after,
-    ap (size_lines style) grow.high_is ∙ size_lines-append style grow.front grow.after
-    ∙ ap (λ those. those ++ size_lines style grow.after) (sym (ap (size_lines style) grow.low_is ∙ size_lines-append style grow.front (grow.begun ∷ [])
-        ∙ ap (λ those. size_lines style grow.front ++ (those ++ [])) (no_size (makes_file style grow.begun) grow.begun.is_closed (not style.quiet) _ grow.is_open) ∙ append-nil (size_lines style grow.front))))
+out_grows style low high grow = (
+  size_lines style grow.after,
+  ap (size_lines style) grow.high_is ∙ size_lines-append style grow.front grow.after
+      ∙ ap (λ those. those ++ size_lines style grow.after) (sym (ap (size_lines style) grow.low_is ∙ size_lines-append style grow.front (grow.begun ∷ [])
+      ∙ ap (λ those. size_lines style grow.front ++ (those ++ [])) (no_size (makes_file style grow.begun) grow.begun.is_closed (not style.quiet) _ grow.is_open) ∙ append-nil (size_lines style grow.front))),
+)
 
 -- a file that was made begins the one that is made
 made_more : (elide kept : Bool) (bytes more : List ℕ) → (kept && not (elide && is_empty bytes)) ≡ true → (kept && not (elide && is_empty (bytes ++ more))) ≡ true
@@ -276,7 +278,7 @@ files_grow style place [] begun other more is_open kept rest lines =
     let bytes : bytes_of other.lines ≡ bytes_of begun.lines ++ bytes_of rest = ap bytes_of lines ∙ bytes-append begun.lines rest in
     last_by style place begun other more (makes_file style begun) (makes_file style other)
     (λ made. ap (λ those. other.is_kept && not (style.elide && is_empty those)) bytes ∙ ap (λ k. k && not (style.elide && is_empty (bytes_of begun.lines ++ bytes_of rest))) (sym kept)
-        ∙ made_more style.elide begun.is_kept (bytes_of begun.lines) (bytes_of rest) made)
+    ∙ made_more style.elide begun.is_kept (bytes_of begun.lines) (bytes_of rest) made)
     is_open (bytes_of rest, bytes)
 files_grow style place (one ∷ front) begun other more is_open kept rest lines =
     files_by style place one (files_of style (place + 1) (front ++ begun ∷ [])) (files_of style place (front ++ begun ∷ [])) (files_of style (place + 1) (front ++ other ∷ more)) (files_of style place (front ++ other ∷ more)) (makes_file style one)

@@ -4,6 +4,7 @@
 pub mod laws;
 mod operand;
 mod operand_fault;
+mod target;
 mod word;
 
 pub use operand::{Offset, Operand, Target, Times};

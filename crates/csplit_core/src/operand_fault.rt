@@ -1,8 +1,11 @@
 //! Why operands are refused.
 ghost use Rattle.std.specs.Prelude.{◌≡◌};
+ghost use Rattle.csplit_core.specs.Aiming.{refusal_of};
 ghost use Rattle.csplit_core.specs.Fault.{number_of_kind};
+ghost use Rattle.csplit_core.specs.declared.operand_fault.OperandFaultKind.TheVariants as kind;
 
 use scan_core::BreFault;
+use std::alloc::{AllocError, AllocFailed};
 use thiserror::Error;
 
 /// What is wrong with an operand. Each kind has a number, 1 to 10 in this order.
@@ -56,6 +59,34 @@ impl OperandFaultKind {
             OperandFaultKind::LineOrder => 8,
             OperandFaultKind::Memory => 9,
             OperandFaultKind::Number => 10,
+        }
+    }
+}
+
+impl From<AllocError> for OperandFaultKind {
+    ghost from_gives = { λ _ e. e ≡ kind.Memory };
+
+    fn from(_e: AllocError) -> OperandFaultKind {
+        OperandFaultKind::Memory
+    }
+}
+
+impl<T: Drop> From<AllocFailed<T>> for OperandFaultKind {
+    ghost from_gives = { λ _ e. e ≡ kind.Memory };
+
+    fn from(_e: AllocFailed<T>) -> OperandFaultKind {
+        OperandFaultKind::Memory
+    }
+}
+
+impl From<BreFault> for OperandFaultKind {
+    ghost from_gives = { λ fault e. e ≡ refusal_of fault };
+
+    fn from(fault: BreFault) -> OperandFaultKind {
+        if fault == BreFault::Memory {
+            OperandFaultKind::Memory
+        } else {
+            OperandFaultKind::Bre(fault)
         }
     }
 }
