@@ -11,7 +11,7 @@ use Rattle.bre_core.specs.declared.fault.BreFault.TheVariants.{Empty, BackRefere
 use Rattle.csplit_core.specs.Operand.{Offset, Target, Number, Search, Times}
 use Rattle.csplit_core.specs.Word.{number, spelling}
 use Rattle.csplit_core.specs.Seen.{seen}
-use Rattle.csplit_core.specs.Reading.{Aim, line, match, Aimed, aims, fails, aim_of}
+use Rattle.csplit_core.specs.Reading.{line, match, Aimed, aims, fails, aim_of}
 use Rattle.csplit_core.specs.Aiming.{refusal_of, IsAimed, is_target, is_wrong, is_refused, no_memory}
 use Rattle.csplit_core.specs.declared.word.Word.{Word}
 use Rattle.csplit_core.specs.declared.word.Word.TheVariants as word_is

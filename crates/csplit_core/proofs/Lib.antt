@@ -8,3 +8,4 @@ pub mod Examples
 pub mod ByteExamples
 pub mod WordLemmas
 pub mod AimLemmas
+pub mod ReadingLemmas

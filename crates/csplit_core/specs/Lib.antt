@@ -16,4 +16,5 @@ pub mod Fault
 pub mod Word
 pub mod Seen
 pub mod Reading
+pub mod Repeating
 pub mod Aiming

@@ -4,8 +4,10 @@
 pub mod laws;
 mod operand;
 mod operand_fault;
+mod operands;
 mod target;
 mod word;
 
 pub use operand::{Offset, Operand, Target, Times};
 pub use operand_fault::{OperandFault, OperandFaultKind};
+pub use operands::{Operands, read_operands};

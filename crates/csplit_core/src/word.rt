@@ -1,6 +1,7 @@
 //! What one word of the operands spells (POSIX.1-2017, XCU csplit, OPERANDS; `{*}` is GNU's).
 ghost use Rattle.std.specs.Prelude.{◌≡◌, ◌<◌, false, length, IfSome};
-ghost use Rattle.csplit_core.specs.Seen.{seen_in};
+ghost use Rattle.csplit_core.specs.Reading.{times_by};
+ghost use Rattle.csplit_core.specs.Seen.{seen, seen_in};
 ghost use Rattle.csplit_core.specs.Word.{before_brace, braced, closed_at, closing, numbered, number_of, offset_of, repeated, spelling, times_of};
 
 use crate::{Offset, OperandFaultKind, Times};
@@ -19,6 +20,19 @@ pub enum Word<'a> {
     },
     /// A repetition.
     Again(Times),
+}
+
+impl Word<'_> {
+    /// The repetition, if it is one.
+    pub fn again(self) -> Option<Times>
+        ensures { result ≡ times_by (seen self.entry) }
+    {
+        match self {
+            Word::Number(_) => None,
+            Word::Search { .. } => None,
+            Word::Again(times) => Some(times),
+        }
+    }
 }
 
 /// Reads a word. It takes no memory.

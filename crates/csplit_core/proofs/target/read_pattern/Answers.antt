@@ -1,4 +1,4 @@
-use Rattle.std.proofs.Common.{◌≡◌, ◌∙◌, sym, Err, ap}
+use Rattle.std.proofs.Common.{◌∙◌, Err, ap}
 use Rattle.std.specs.Prelude.{◌==◌}
 use Rattle.csplit_core.specs.Word.{unescaped}
 use Rattle.csplit_core.proofs.AimLemmas.{lacks, is_refused_so, is_read}

@@ -1,4 +1,4 @@
-use Rattle.std.proofs.Common.{◌≡◌, sym, ap}
+use Rattle.std.proofs.Common.{sym, ap}
 use Rattle.csplit_core.specs.Reading.{aim_of}
 use Rattle.csplit_core.proofs.AimLemmas.{goes_wrong, no_target}
 use Rattle.csplit_core.proofs.target.read_target.Goals as goal
