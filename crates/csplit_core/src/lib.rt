@@ -4,6 +4,8 @@
 pub mod laws;
 mod operand;
 mod operand_fault;
+#[cfg(test)]
+mod operand_tests;
 mod operands;
 mod target;
 mod word;
