@@ -9,3 +9,5 @@ pub mod ByteExamples
 pub mod WordLemmas
 pub mod AimLemmas
 pub mod ReadingLemmas
+pub mod TurnLemmas
+pub mod MoveLemmas

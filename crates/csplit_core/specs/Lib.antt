@@ -10,6 +10,7 @@ pub mod Input
 pub mod Csplit
 pub mod SectionLaws
 pub mod InputLaws
+pub mod Progress
 pub mod Agreed
 pub mod Place
 pub mod Fault

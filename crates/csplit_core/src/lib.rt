@@ -7,9 +7,11 @@ mod operand_fault;
 #[cfg(test)]
 mod operand_tests;
 mod operands;
+mod progress;
 mod target;
 mod word;
 
 pub use operand::{Offset, Operand, Target, Times};
 pub use operand_fault::{OperandFault, OperandFaultKind};
 pub use operands::{Operands, read_operands};
+pub use progress::{Progress, Turn};
