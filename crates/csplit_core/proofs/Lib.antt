@@ -11,3 +11,4 @@ pub mod AimLemmas
 pub mod ReadingLemmas
 pub mod TurnLemmas
 pub mod MoveLemmas
+pub mod AdvanceLemmas

@@ -1,9 +1,9 @@
 -- A cut moves on, and the numbers stay small.
-use Rattle.std.proofs.Common.{◌≡◌, ◌⊎◌, inl, inr, ℕ, zero, suc, ◌+◌, ◌-◌, ◌*◌, ◌^◌, ◌<◌, ◌≤◌, Bool, true, false, List, [], ◌∷◌, ◌++◌, length, drop, get_or, refl, sym, ◌∙◌, ap, subst, arith}
+use Rattle.std.proofs.Common.{◌≡◌, ℕ, zero, suc, ◌+◌, ◌-◌, ◌*◌, ◌^◌, ◌<◌, ◌≤◌, Bool, true, false, List, [], ◌∷◌, length, drop, get_or, refl, sym, ◌∙◌, subst, arith}
 use Rattle.std.specs.Prelude.{min}
 use Rattle.bre_core.specs.Pattern.{Pattern}
-use Rattle.csplit_core.specs.Operand.{Offset, Plus, Minus, Target, Number, Search, Operand, Line, unmarked, is_match, moved, most_held, is_kept, has_more}
-use Rattle.csplit_core.specs.Plan.{State, search_line, CutsAt, Misses, line_after, operands_after, repetition_after, state_after}
+use Rattle.csplit_core.specs.Operand.{Offset, Target, Number, Search, Operand, has_more}
+use Rattle.csplit_core.specs.Plan.{State, search_line, line_after, operands_after, repetition_after, state_after}
 use Rattle.csplit_core.specs.Progress.{state_of, FallsAt, MovesOn}
 use Rattle.csplit_core.specs.Measure.{Moves, IsRepeatedBy, IsRepeated, Fits}
 use Rattle.csplit_core.specs.declared.progress.Progress.{Progress}

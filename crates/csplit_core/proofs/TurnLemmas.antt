@@ -1,14 +1,13 @@
 -- What a turn says of the plan.
-use Rattle.std.proofs.Common.{◌≡◌, ◌⊎◌, inl, inr, ℕ, zero, suc, ◌+◌, ◌-◌, ◌*◌, ◌^◌, ◌<◌, ◌≤◌, Bool, true, false, List, [], ◌∷◌, ◌++◌, length, drop, get_or, Option, Some, None, refl, sym, ◌∙◌, ap, subst, arith}
+use Rattle.std.proofs.Common.{◌≡◌, inl, inr, ℕ, zero, suc, ◌+◌, ◌-◌, ◌*◌, ◌^◌, ◌<◌, ◌≤◌, Bool, true, false, List, [], ◌∷◌, length, drop, get_or, Option, None, refl, sym, ◌∙◌, ap, subst, arith}
 use Rattle.std.specs.Prelude.{min}
-use Rattle.std.proofs.lemmas.Bool.{false≢true, cases_lt}
+use Rattle.std.proofs.lemmas.Bool.{cases_lt}
 use Rattle.std.proofs.Math.Nat.{min-eq_left, min-eq_right}
 use Rattle.std.proofs.lemmas.List.{drop_more, drop_all}
 use Rattle.bre_core.specs.Pattern.{Pattern}
-use Rattle.csplit_core.specs.Operand.{Offset, Plus, Minus, Target, Number, Search, Operand, Line, unmarked, is_match, moved, most_held, is_kept, has_more}
+use Rattle.csplit_core.specs.Operand.{Offset, Target, Number, Search, Operand, Line, is_match, moved, has_more}
 use Rattle.csplit_core.specs.Plan.{State, search_line, CutsAt, Misses, line_after, operands_after, repetition_after, state_after}
-use Rattle.csplit_core.specs.Progress.{state_of, AreSeen, CutsWhere, MissesNow, Turns, FallsAt, IsSought, sought_by}
-use Rattle.csplit_core.specs.declared.progress.Progress.{Progress}
+use Rattle.csplit_core.specs.Progress.{state_of, AreSeen, MissesNow, Turns, FallsAt, IsSought, sought_by}
 use Rattle.csplit_core.specs.declared.progress.Turn.{Turn}
 use Rattle.csplit_core.specs.declared.progress.Turn.TheVariants.{UsedUp, Missed, Above, Below, Cuts}
 use Rattle.csplit_core.proofs.StayLemmas.{looks_last, looks_past}
@@ -64,9 +63,11 @@ pub falls_search : (suppress : Bool) (all : List Line) (total : ℕ) (state : St
 falls_search suppress all total state found operand operands pattern kept offset most are target seen near is_found is few turn at =
     falls suppress all total state operand operands total (moved offset total) most are
     (subst (λ t. CutsAt suppress all state operand t total (moved offset total)) (sym target)
-        (subst (λ n. CutsAt suppress all state operand (Search pattern kept offset) n (moved offset n)) seen.count
-            (looks_last operand all (search_line suppress state) (λ other from less. seen.others operand operands are other from (omega (arith, less, seen.count))) (omega (arith, seen.count, near))
-                (ap (is_match operand all) seen.count ∙ seen.last operand operands are near ∙ is_found), refl)))
+    (subst (λ n. CutsAt suppress all state operand (Search pattern kept offset) n (moved offset n)) seen.count (
+      looks_last operand all (search_line suppress state) (λ other from less. seen.others operand operands are other from (omega (arith, less, seen.count))) (omega (arith, seen.count, near))
+          (ap (is_match operand all) seen.count ∙ seen.last operand operands are near ∙ is_found),
+      refl,
+    )))
     is few turn at
 
 -- and where it has not, or the search begins after it, no line matches
@@ -78,7 +79,7 @@ misses_search suppress all total state found operand operands pattern kept offse
   are = are;
   misses = subst (Misses suppress all state operand) (sym target)
       (looks_past operand all (search_line suppress state) (λ other from less. seen.others operand operands are other from (omega (arith, less, seen.count)))
-          (λ near. let at : search_line suppress state ≤ total = omega (arith, seen.count, near) in ap (is_match operand all) seen.count ∙ seen.last operand operands are at ∙ none at));
+      (λ near. let at : search_line suppress state ≤ total = omega (arith, seen.count, near) in ap (is_match operand all) seen.count ∙ seen.last operand operands are at ∙ none at));
 }
 
 -- no operand is left

@@ -1,8 +1,8 @@
 -- What contracts see of where a run stands, and of what the next operand does.
-use Rattle.std.specs.Prelude.{◌≡◌, ℕ, ◌+◌, ◌-◌, ◌<◌, ◌≤◌, ◌^◌, min, Bool, true, false, List, [], ◌∷◌, length, drop, Option, Some, None}
+use Rattle.std.specs.Prelude.{◌≡◌, ℕ, ◌-◌, ◌<◌, ◌≤◌, ◌^◌, min, Bool, false, List, [], ◌∷◌, length, drop, Option, Some, None}
 use Rattle.bre_core.specs.Pattern.{Pattern}
-use Rattle.csplit_core.specs.Operand.{Offset, Target, Number, Search, Operand, Line, is_match}
-use Rattle.csplit_core.specs.Plan.{State, CutsAt, Misses, search_line}
+use Rattle.csplit_core.specs.Operand.{Target, Number, Search, Operand, Line, is_match}
+use Rattle.csplit_core.specs.Plan.{State, Ending, used_up, missed, above, below, CutsAt, Misses, search_line}
 use Rattle.csplit_core.specs.Measure.{Moves}
 use Rattle.csplit_core.specs.declared.progress.Progress.{Progress}
 use Rattle.csplit_core.specs.declared.progress.Turn.{Turn}
@@ -67,3 +67,11 @@ sought_by total from (Search pattern kept offset) (Some sought) = (sought ≡ pa
 abbrev pub IsSought : Bool → (total : ℕ) → State → List Operand → Option Pattern → Type 0
 IsSought suppress total state [] sought = sought ≡ None
 IsSought suppress total state (operand ∷ operands) sought = sought_by total (search_line suppress state) operand.target sought
+
+-- a turn that cuts nothing is how the plan ends
+abbrev pub AimsAt : Turn → Ending → Type 0
+AimsAt UsedUp used_up = Unit {0}
+AimsAt Missed (missed operand repetition) = Unit {0}
+AimsAt (Above last line) (above operand repetition matched cut) = (last ≡ matched) × (line ≡ min cut (2 ^ 64 - 1))
+AimsAt Below (below operand repetition) = Unit {0}
+AimsAt turn ending = ⊥

@@ -1,4 +1,4 @@
-use Rattle.std.proofs.Common.{◌+◌, ◌≤◌, drop, sym, arith}
+use Rattle.std.proofs.Common.{◌+◌, drop, arith}
 use Rattle.csplit_core.specs.Progress.{state_of}
 use Rattle.csplit_core.proofs.TurnLemmas.{left_is, falls_number, falls_search, misses_search}
 use Rattle.csplit_core.proofs.progress.Progress.turn.Goals as goal
