@@ -11,6 +11,7 @@ use Rattle.csplit_core.specs.Operand.{Offset, Plus, Minus, Number, Search, Times
 use Rattle.csplit_core.specs.Planned.{plan}
 use Rattle.csplit_core.specs.Section.{bytes_of, waiting_lines}
 use Rattle.csplit_core.specs.Output.{Style}
+use Rattle.csplit_core.specs.Place.{in_section, nowhere, place_of}
 use Rattle.csplit_core.specs.Csplit.{verdict_of, settled_of, whole_of}
 
 -- a line of one letter, found by operand 0, 1, both or none
@@ -201,3 +202,20 @@ left_out_twice = refl
 
 left_out_twice_verdict : verdict_of (plan true (cuts 0 2 (Count 0) ∷ cuts 1 2 (Count 0) ∷ []) abc).ending ≡ Some (Range 1 0)
 left_out_twice_verdict = refl
+
+-- after a cut at line 1 with no pattern performed, a search begins at line 1 again
+
+search_at_line_1 : whole_of (style false false) (cuts 0 1 (Count 0) ∷ finds 1 (Plus 0) (Count 0) ∷ []) (both 98 true ∷ both 97 false ∷ [])
+    ≡ part (sizes (0 ∷ 0 ∷ 4 ∷ [])) (file 0 [] ∷ file 1 [] ∷ file 2 (text (98 ∷ 97 ∷ [])) ∷ [])
+search_at_line_1 = refl
+
+-- a next line that /c/-1 matches, and one that it doesn't, put line 2 into different sections
+
+goes_to_next : place_of false (finds 0 (Minus 1) (Count 0) ∷ []) (both 97 false ∷ both 98 false ∷ both 99 true ∷ []) 2 ≡ in_section 1
+goes_to_next = refl
+
+stays_here : place_of false (finds 0 (Minus 1) (Count 0) ∷ []) (both 97 false ∷ both 98 false ∷ both 99 false ∷ []) 2 ≡ in_section 0
+stays_here = refl
+
+goes_nowhere : place_of false (finds 0 (Minus 1) (Count 0) ∷ cuts 1 1 (Count 0) ∷ []) (both 97 false ∷ both 98 false ∷ both 99 true ∷ []) 2 ≡ nowhere
+goes_nowhere = refl

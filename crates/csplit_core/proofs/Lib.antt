@@ -12,3 +12,4 @@ pub mod ReadingLemmas
 pub mod TurnLemmas
 pub mod MoveLemmas
 pub mod AdvanceLemmas
+pub mod OneReading

@@ -8,10 +8,11 @@ mod operand_fault;
 mod operand_tests;
 mod operands;
 mod progress;
+mod style;
 mod target;
 mod word;
 
 pub use operand::{Offset, Operand, Target, Times};
 pub use operand_fault::{OperandFault, OperandFaultKind};
 pub use operands::{Operands, read_operands};
-pub use progress::{Progress, Turn};
+pub use style::Style;
