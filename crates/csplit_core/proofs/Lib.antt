@@ -13,3 +13,4 @@ pub mod TurnLemmas
 pub mod MoveLemmas
 pub mod AdvanceLemmas
 pub mod OneReading
+pub mod WholeLemmas

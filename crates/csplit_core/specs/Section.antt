@@ -78,3 +78,8 @@ most_waiting (below operand repetition) = 0
 
 abbrev pub bytes_of : List Line → List ℕ
 bytes_of lines = joined (map (λ (line : Line). line.text) lines)
+
+-- the lines of all sections, one after another
+abbrev pub lines_in : List Section → List Line
+lines_in [] = []
+lines_in (section ∷ sections) = section.lines ++ lines_in sections

@@ -1,5 +1,5 @@
 //! Laws of the definitions, with no code: each stands on the contract of a function whose body is empty.
-ghost use Rattle.std.specs.Prelude.{◌≡◌, ◌≤◌, ◌++◌, Bool, List, length, ℕ};
+ghost use Rattle.std.specs.Prelude.{◌≡◌, ◌≤◌, ◌++◌, Bool, List, false, length, ℕ};
 ghost use Rattle.csplit_core.specs.Agreed.{IsAgreed, settled_outputs, whole_outputs};
 ghost use Rattle.csplit_core.specs.Csplit.{settled_by, whole_by};
 ghost use Rattle.csplit_core.specs.Operand.{Line};
@@ -8,7 +8,7 @@ ghost use Rattle.csplit_core.specs.Place.{IsUndecided, WaitsAt};
 ghost use Rattle.csplit_core.specs.Plan.{Ending, Runs, State, Step, start};
 ghost use Rattle.csplit_core.specs.Planned.{plan};
 ghost use Rattle.csplit_core.specs.Reading.{Asks, IsFault, IsOfWords};
-ghost use Rattle.csplit_core.specs.Section.{most_waiting, waiting_lines};
+ghost use Rattle.csplit_core.specs.Section.{is_final, lines_in, most_waiting, settled_sections, waiting_lines, whole_sections};
 ghost use Rattle.csplit_core.specs.declared.operand_fault.OperandFault.{OperandFault};
 ghost use Rattle.csplit_core.specs.declared.operand.Operand.{Operand};
 ghost use Rattle.ports_core.specs.Part.{Begins};
@@ -26,6 +26,16 @@ pub fn one_plan()
 pub fn settled_grows()
     ensures grows { (style : Style) (operands : List Operand) (x y : List ℕ) → Begins (settled_by style operands x) (settled_by style operands (x ++ y)) }
     ensures ends { (style : Style) (operands : List Operand) (x : List ℕ) → Begins (settled_by style operands x) (whole_by style operands x) }
+{}
+
+/// Where the line at a cut isn't left out, no line is lost: the sections, skipped ones too, and what waits are together
+/// the lines that came in, in their order; and at the end the sections alone. The exception is a cut below the current
+/// line, after which lines belong to no section.
+pub fn no_line_is_lost()
+    ensures settled { (operands : List Operand) (x : List Line) → is_final (plan false operands x).ending ≡ false
+        → lines_in (settled_sections x (plan false operands x)) ++ waiting_lines x (plan false operands x) ≡ x }
+    ensures whole { (operands : List Operand) (x : List Line) → is_final (plan false operands x).ending ≡ false
+        → lines_in (whole_sections x (plan false operands x)) ≡ x }
 {}
 
 /// No more complete lines wait than an offset goes back.

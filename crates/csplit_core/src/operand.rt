@@ -18,8 +18,11 @@ pub enum Target {
     Number(u64),
     /// From the next line that contains the pattern, at an offset. The section before the cut is kept, or skipped.
     Search {
+        /// The pattern, compiled.
         pattern: Bre,
+        /// Whether the section makes a file: `/` stands around the pattern, and not `%`.
         is_kept: bool,
+        /// How far the cut is from the line that is found.
         offset: Offset,
     },
 }
@@ -38,6 +41,8 @@ pub enum Times {
 pub struct Operand {
     /// Its place among the words that are operands, counted from 0; a repetition is a word too.
     pub index: usize,
+    /// Where it cuts.
     pub target: Target,
+    /// How often it is performed again.
     pub times: Times,
 }

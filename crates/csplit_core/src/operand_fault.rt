@@ -95,6 +95,7 @@ impl From<BreFault> for OperandFaultKind {
 #[derive(Clone, Copy, Debug, PartialEq, Eq, Error)]
 #[error("operand {index}: {kind}")]
 pub struct OperandFault {
+    /// What is wrong.
     pub kind: OperandFaultKind,
     /// The place of the operand among the words that are operands, counted from 0.
     pub index: usize,

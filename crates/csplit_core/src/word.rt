@@ -14,8 +14,11 @@ pub enum Word<'a> {
     Number(u64),
     /// A pattern, between two of these delimiters.
     Search {
+        /// `/` or `%`.
         delimiter: u8,
+        /// What stands between the delimiters.
         text: &'a [u8],
+        /// What follows them.
         offset: Offset,
     },
     /// A repetition.
