@@ -11,7 +11,7 @@ ghost use Rattle.split_core.specs.Split.{are_named, from_start, settled_by, spli
 use crate::deal::Deal;
 use crate::round_files::RoundFiles;
 use ports_core::{Fault, Names, Outs, Stage};
-use std::alloc::{AllocError, Global};
+use std::alloc::Global;
 use std::marker::Model;
 
 /// Deals the lines of an input in turn to a number of files (GNU coreutils manual, split, `-n r/N`). What each file
@@ -64,15 +64,9 @@ impl RoundSplitter {
         ensures cut { IfErr result (λ fault. (before : List Slot) → OutputsAt O.told before nothing (O.slots outs.old) → StoppedBetween O.told before nothing (settled_by (round_plan delim count elide names) []) fault (O.slots outs.new)) }
         ensures refused { IfErr result (CannotOpen (O.slots outs.old) (O.slots outs.new)) }
     {
-        let deal = match Deal::new(alloc, count, delim) {
-            Ok(deal) => deal,
-            Err(AllocError) => return Err(Fault::Memory),
-        };
+        let deal = Deal::new(alloc, count, delim)?;
         let mut files = RoundFiles::new(alloc, names);
-        match files.open_first(opened_at_start(count, elide), outs) {
-            Ok(()) => {}
-            Err(fault) => return Err(fault),
-        }
+        files.open_first(opened_at_start(count, elide), outs)?;
         Ok(RoundSplitter { deal, files, elide })
     }
 }
@@ -119,9 +113,9 @@ fn opened_at_start(count: u64, elide: bool) -> usize
 /// Deals a piece, and writes to each file what it gets.
 ///
 /// # Errors
+///
 /// `Memory` where there is no room for a name, or for the piece, of which nothing is written then; `Write` where an
 /// output broke, `Open` where a file can't be opened.
-/// broke, `Open` where a file can't be opened.
 fn deal_out<O: Outs>(
     deal: &mut Deal,
     files: &mut RoundFiles,
@@ -139,13 +133,6 @@ fn deal_out<O: Outs>(
     ensures caused { IfErr result (IsOfFiles (O.slots outs.old) (O.slots outs.new)) }
     ensures owned { KeepsFiles files.old (O.slots outs.old) files.new (O.slots outs.new) }
 {
-    let reached = match deal.gather(piece) {
-        Ok(reached) => reached,
-        Err(AllocError) => return Err(Fault::Memory),
-    };
-    match files.write(deal.first(reached), outs) {
-        Ok(()) => {}
-        Err(fault) => return Err(fault),
-    }
-    Ok(())
+    let reached = deal.gather(piece)?;
+    files.write(deal.first(reached), outs)
 }

@@ -64,16 +64,12 @@ impl Splitter {
             Cut::Bytes(most) => Limit::Bytes(most),
             Cut::LineBytes(most) => Limit::LineBytes(most, delim),
             Cut::Round(count) => {
-                return match RoundSplitter::open(alloc, count, names, elide, delim, outs) {
-                    Ok(round) => Ok(Splitter::new(Ways::Round(round))),
-                    Err(fault) => Err(fault),
-                };
+                let round = RoundSplitter::open(alloc, count, names, elide, delim, outs)?;
+                return Ok(Splitter::new(Ways::Round(round)));
             }
         };
-        match Parts::open(alloc, limit, names) {
-            Ok(parts) => Ok(Splitter::new(Ways::Parts(parts))),
-            Err(fault) => Err(fault),
-        }
+        let parts = Parts::open(alloc, limit, names)?;
+        Ok(Splitter::new(Ways::Parts(parts)))
     }
 
     /// An engine that cuts in this way, and has been fed nothing.
