@@ -3,7 +3,7 @@
 //! (POSIX.1-2017, XBD 3.206).
 ghost use Rattle.std.specs.Prelude.{◌≡◌, ℕ, ◌+◌, ◌<◌, ◌≤◌, false, List, [], ◌∷◌, ◌++◌, if◌then◌else◌, length, take};
 ghost use Rattle.std.specs.Simd.Lanes.{Each1, sum_l};
-ghost use Rattle.seg_core.specs.Line.{IsLines, Reaches, ends_with, lines_of, delimiters};
+ghost use Rattle.seg_core.specs.Line.{IsLines, Reaches, delimiters, ends_with, lines_of};
 
 use crate::line_iter::Lines;
 use crate::line_reach::Reach;

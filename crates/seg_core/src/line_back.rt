@@ -1,6 +1,6 @@
 //! The lines of a text, looked at from its end.
 ghost use Rattle.std.specs.Prelude.{◌≡◌, ℕ, ◌+◌, ◌-◌, ◌<◌, ◌≤◌, List, ◌++◌, length, take, drop, IfSome, IfNone};
-ghost use Rattle.seg_core.specs.Line.{LastEndsAt, ReachesBack, line_count, delimiters};
+ghost use Rattle.seg_core.specs.Line.{LastEndsAt, ReachesBack, delimiters, line_count};
 
 use crate::line::{RUN, STEP, count_delimiters};
 use crate::line_reach::ReachBack;

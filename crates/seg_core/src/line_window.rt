@@ -1,6 +1,6 @@
 //! The last lines of what came in.
 ghost use Rattle.std.specs.Prelude.{◌≡◌, ℕ, ◌+◌, ◌-◌, ◌<◌, ◌≤◌, ◌==◌, List, [], ◌++◌, length, take, drop, min, IsOk, IfOk, IfErr, IfSome, OnOk, None};
-ghost use Rattle.seg_core.specs.Line.{but_last_lines, first_lines, line_count, delimiters};
+ghost use Rattle.seg_core.specs.Line.{but_last_lines, delimiters, first_lines, line_count};
 ghost use Rattle.seg_core.specs.Window.{without_first};
 
 use crate::fault::Fault;
@@ -25,10 +25,10 @@ pub struct Over {
     pub delimiters: Option<usize>,
 }
 
-/// A window over lines: it keeps the last `most` of what came in, at most 2^63-1 bytes. Each line
-/// ends with the same byte, which is chosen when the window is made. It takes as
-/// much memory as it holds bytes, in blocks of 64 KiB, of which the first and the last may be used in
-/// part only. No byte moves from block to block.
+/// A window over lines: it keeps the last `most` of what came in, at most 2^63-1 bytes. All lines end
+/// with the byte that it was given when it was made. It takes as much memory as it holds bytes, in
+/// blocks of 64 KiB, of which the first and the last may be used in part only. No byte moves from
+/// block to block.
 #[derive(Drop)]
 pub struct LineWindow {
     alloc: Global,
