@@ -4,7 +4,7 @@ use Rattle.std.proofs.lemmas.Result.{err_from_is_err_and}
 use Rattle.ports_core.specs.declared.fault.Fault.{Fault}
 use Rattle.ports_core.specs.declared.fault.Fault.TheVariants.{Write}
 
-handed_on : {T E : Type 0} (result : Result T E) (fault : E) → IsErrAnd result (λ given. given ≡ fault) → result ≡ Err fault
+pub handed_on : {T E : Type 0} (result : Result T E) (fault : E) → IsErrAnd result (λ given. given ≡ fault) → result ≡ Err fault
 handed_on result fault handed = let p = err_from_is_err_and result handed in p.1 ∙ ap (λ given. Err given) p.2
 
 -- a clause on the fault

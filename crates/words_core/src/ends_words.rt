@@ -6,12 +6,12 @@ ghost use Rattle.words_core.specs.Given.{operand_seen, option_seen};
 ghost use Rattle.words_core.specs.Spelling.{Reads};
 ghost use Rattle.words_core.specs.Value.{seen};
 
-use crate::settings::{EndsSettings, Headers, STANDARD_INPUT};
+use crate::settings::{EndsSettings, Headers};
 use crate::spelled::{Chosen, Operand, Spelled};
 use crate::table::Choice;
 use crate::value::Value;
 use ends_core::Unit;
-use ports_core::Fault;
+use ports_core::{Fault, STANDARD_INPUT};
 use seg_core::count::{Count, Sign};
 use std::alloc::Global;
 
@@ -80,15 +80,12 @@ pub fn settle_ends<'a>(alloc: Global, spelled: &Spelled<'a>) -> Result<EndsSetti
     ensures err { IfErr result (λ fault. fault ≡ Fault.Memory) }
 {
     let options = choose_ends(&spelled.options);
-    match names_of(alloc, &spelled.operands) {
-        Ok(names) => Ok(EndsSettings {
-            unit: options.unit,
-            count: options.count,
-            headers: options.headers,
-            names,
-        }),
-        Err(fault) => Err(fault),
-    }
+    Ok(EndsSettings {
+        unit: options.unit,
+        count: options.count,
+        headers: options.headers,
+        names: names_of(alloc, &spelled.operands)?,
+    })
 }
 
 /// What all options ask for: the last of those for counts, and the last of those for headers.
@@ -112,16 +109,11 @@ fn names_of<'a>(alloc: Global, operands: &[Operand<'a>]) -> Result<Vec<&'a str>,
     let mut names = Vec::new(alloc);
     let mut left = operands;
     while let [operand, rest @ ..] = left {
-        match names.push(operand.text) {
-            Ok(()) => left = rest,
-            Err(_) => return Err(Fault::Memory),
-        }
+        names.push(operand.text)?;
+        left = rest;
     }
     if operands.is_empty() {
-        match names.push(STANDARD_INPUT) {
-            Ok(()) => {}
-            Err(_) => return Err(Fault::Memory),
-        }
+        names.push(STANDARD_INPUT)?;
     }
     Ok(names)
 }

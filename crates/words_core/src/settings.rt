@@ -9,9 +9,6 @@ use seg_core::count::Count;
 use split_core::Cut;
 use std::marker::Model;
 
-/// The name that stands for standard input.
-pub const STANDARD_INPUT: &str = "-";
-
 /// What a list of words asks for. Names are the words themselves.
 #[derive(Drop)]
 pub enum Settings<'a> {

@@ -5,11 +5,11 @@ ghost use Rattle.words_core.specs.Given.{operand_seen, option_seen};
 ghost use Rattle.words_core.specs.SplitWords.{dealt, files_in, fixed, free, least_width, names_all, no_options, one_way, split_after, split_asked, split_options, suffix_for, way_in, with_width};
 ghost use Rattle.words_core.specs.Value.{seen};
 
-use crate::settings::{STANDARD_INPUT, SplitSettings};
+use crate::settings::SplitSettings;
 use crate::spelled::{Chosen, Operand, Spelled};
 use crate::table::Choice;
 use crate::value::Value;
-use ports_core::{Alphabet, Fault, UsageKind};
+use ports_core::{Alphabet, Fault, STANDARD_INPUT, UsageKind};
 use split_core::Cut;
 
 /// How files are cut where no way is given.

@@ -66,10 +66,7 @@ fn read_size(text: &[u8]) -> Result<u64, UsageKind>
 {
     match text {
         [b'-', ..] => Err(UsageKind::BadNumber),
-        _ => match read_amount(text) {
-            Ok(count) => not_zero(count.amount),
-            Err(fault) => Err(fault),
-        },
+        _ => not_zero(read_amount(text)?.amount),
     }
 }
 
@@ -78,10 +75,7 @@ fn read_round(text: &[u8]) -> Result<u64, UsageKind>
     ensures { result ≡ round_in text.now }
 {
     match text {
-        [b'r', b'/', digits @ ..] => match read_number(digits, MOST_FILES) {
-            Ok(files) => not_zero(files),
-            Err(fault) => Err(fault),
-        },
+        [b'r', b'/', digits @ ..] => not_zero(read_number(digits, MOST_FILES)?),
         _ => Err(UsageKind::BadNumber),
     }
 }
