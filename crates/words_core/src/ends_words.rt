@@ -1,5 +1,5 @@
-//! What `head` and `tail` are asked for: POSIX.1-2017, XCU head and tail; `-q`, `-v` and several files for `tail` are
-//! GNU's.
+//! What `head` and `tail` are asked for: POSIX.1-2017, XCU head and tail; `-q`, `-v`, `-z` and several files for `tail`
+//! are GNU's.
 ghost use Rattle.std.specs.Prelude.{◌≡◌, fold, map, IfOk, IfErr};
 ghost use Rattle.words_core.specs.EndsWords.{counted, ends_after, ends_asked, names_asked, ten_lines};
 ghost use Rattle.words_core.specs.Given.{operand_seen, option_seen};
@@ -13,6 +13,7 @@ use crate::value::Value;
 use ends_core::Unit;
 use ports_core::{Fault, STANDARD_INPUT};
 use seg_core::count::{Count, Sign};
+use seg_core::line::NEWLINE;
 use std::alloc::Global;
 
 /// What the options of `head` or `tail` ask for.
@@ -24,6 +25,8 @@ pub struct EndsOptions {
     pub count: Count,
     /// When a header goes before an input.
     pub headers: Headers,
+    /// The byte that lines end with.
+    pub delim: u8,
 }
 
 /// What is asked for without options.
@@ -34,6 +37,7 @@ const TEN_LINES: EndsOptions = EndsOptions {
         amount: 10,
     },
     headers: Headers::ForSeveral,
+    delim: NEWLINE,
 };
 
 impl EndsOptions {
@@ -52,6 +56,7 @@ impl EndsOptions {
                 headers: Headers::Always,
                 ..self
             },
+            Choice::ZeroTerminated => EndsOptions { delim: 0, ..self },
             _ => self,
         }
     }
@@ -84,6 +89,7 @@ pub fn settle_ends<'a>(alloc: Global, spelled: &Spelled<'a>) -> Result<EndsSetti
         unit: options.unit,
         count: options.count,
         headers: options.headers,
+        delim: options.delim,
         names: names_of(alloc, &spelled.operands)?,
     })
 }
