@@ -37,14 +37,11 @@ impl Copier {
         ensures outputs { OnOk result (OutputsAt O.told (O.slots outs.old) ((copy_work keep).settled []) (O.slots outs.new)) }
         ensures err { IfErr result (OpensShort (copy_work keep) copy_opening O.told (O.slots outs.old) (O.slots outs.new)) }
     {
-        match outs.open("copy", Mode::Fresh) {
-            Ok(slot) => Ok(Copier {
-                slot,
-                keep,
-                has_newline: false,
-            }),
-            Err(fault) => Err(fault),
-        }
+        Ok(Copier {
+            slot: outs.open("copy", Mode::Fresh)?,
+            keep,
+            has_newline: false,
+        })
     }
 }
 
@@ -63,21 +60,12 @@ impl Stage for Copier {
 
     fn pass<O: Outs>(&mut self, piece: &[u8], outs: &mut O) -> Result<(), Fault> {
         self.has_newline |= piece.contains(&b'\n');
-        match write_whole(outs, self.slot, piece) {
-            Ok(()) => Ok(()),
-            Err(_) => Err(Fault::Write(self.slot)),
-        }
+        Ok(write_whole(outs, self.slot, piece)?)
     }
 
     fn finish<O: Outs>(&mut self, outs: &mut O) -> Result<(), Fault> {
-        match outs.close(self.slot) {
-            Ok(()) => {}
-            Err(fault) => return Err(fault),
-        }
-        match write_whole(outs, 0, b"copied\n") {
-            Ok(()) => {}
-            Err(_) => return Err(Fault::Write(0)),
-        }
+        outs.close(self.slot)?;
+        write_whole(outs, 0, b"copied\n")?;
         if self.has_newline {
             return Ok(());
         }

@@ -38,10 +38,7 @@ impl Adapter for CopyAdapter {
 
     fn open<O: Outs>(&self, alloc: Global, outs: &mut O) -> Result<Guarded<Copier>, Fault> {
         let _ = alloc;
-        match Copier::open(self.keep, outs) {
-            Ok(copier) => Ok(Guarded::new(copier)),
-            Err(fault) => Err(fault),
-        }
+        Ok(Guarded::new(Copier::open(self.keep, outs)?))
     }
 }
 

@@ -27,30 +27,30 @@ use Rattle.words_core.specs.declared.settings.Headers.{Headers}
 use Rattle.words_core.specs.SplitAsked.{SplitAsked}
 use Rattle.cutters.specs.Tasks.{plan_of, is_minus, is_plus, head_task, tail_task}
 
-head_of-nil : (unit : Counted) (but_last : Bool) (n : ℕ) → head_of unit but_last n [] ≡ []
-head_of-nil unit false n = first_of-nil unit n
-head_of-nil unit true n = first_of-nil unit (size unit [] - n)
+head_of-nil : (delim : ℕ) (unit : Counted) (but_last : Bool) (n : ℕ) → head_of delim unit but_last n [] ≡ []
+head_of-nil delim unit false n = first_of-nil delim unit n
+head_of-nil delim unit true n = first_of-nil delim unit (size delim unit [] - n)
 
-behind_of-nil : (unit : Counted) (n : ℕ) → behind_of unit n [] ≡ []
-behind_of-nil Lines zero = refl
-behind_of-nil Lines (suc n) = refl
-behind_of-nil Bytes zero = refl
-behind_of-nil Bytes (suc n) = refl
+after_of-nil : (delim : ℕ) (unit : Counted) (n : ℕ) → behind_of delim unit n [] ≡ []
+after_of-nil delim Lines zero = refl
+after_of-nil delim Lines (suc n) = refl
+after_of-nil delim Bytes zero = refl
+after_of-nil delim Bytes (suc n) = refl
 
-tail_begins : (from_nth : Bool) (unit : Counted) (n : ℕ) → (if from_nth then only_out (tail_of unit true n []) else nothing) ≡ nothing
-tail_begins true unit n = ap only_out (behind_of-nil unit (n - 1))
-tail_begins false unit n = refl
+tail_begins : (delim : ℕ) (from_nth : Bool) (unit : Counted) (n : ℕ) → (if from_nth then only_out (tail_of delim unit true n []) else nothing) ≡ nothing
+tail_begins delim true unit n = ap only_out (after_of-nil delim unit (n - 1))
+tail_begins delim false unit n = refl
 
 -- nothing is written before a byte came in
 
 some_there : (slots : List Slot) → 2 ≤ length slots → 0 < length slots
 some_there slots two = omega (arith, two)
 
-pub head_begins : (told : Bool) (unit : Counted) (but_last : Bool) (n : ℕ) (slots : List Slot) → 2 ≤ length slots → OutputsAt told slots ((head_work unit but_last n).settled []) slots
-head_begins told unit but_last n slots two = subst (λ bytes. OutputsAt told slots (only_out bytes) slots) (sym (head_of-nil unit but_last n)) (nothing_out told slots (some_there slots two))
+pub head_begins : (delim : ℕ) (told : Bool) (unit : Counted) (but_last : Bool) (n : ℕ) (slots : List Slot) → 2 ≤ length slots → OutputsAt told slots ((head_work delim unit but_last n).settled []) slots
+head_begins delim told unit but_last n slots two = subst (λ bytes. OutputsAt told slots (only_out bytes) slots) (sym (head_of-nil delim unit but_last n)) (nothing_out told slots (some_there slots two))
 
-pub tail_starts : (told : Bool) (unit : Counted) (from_nth : Bool) (n : ℕ) (slots : List Slot) → 2 ≤ length slots → OutputsAt told slots ((tail_work unit from_nth n).settled []) slots
-tail_starts told unit from_nth n slots two = subst (λ part. OutputsAt told slots part slots) (sym (tail_begins from_nth unit n)) (nothing_out told slots (some_there slots two))
+pub tail_starts : (delim : ℕ) (told : Bool) (unit : Counted) (from_nth : Bool) (n : ℕ) (slots : List Slot) → 2 ≤ length slots → OutputsAt told slots ((tail_work delim unit from_nth n).settled []) slots
+tail_starts delim told unit from_nth n slots two = subst (λ part. OutputsAt told slots part slots) (sym (tail_begins delim from_nth unit n)) (nothing_out told slots (some_there slots two))
 
 -- an engine without files for which there was no memory
 pub no_memory : (told : Bool) (work : Work) (opening : Needs) (slots : List Slot) (fault : Fault) → work.clears ≡ false → opening.memory ≡ true → 2 ≤ length slots → fault ≡ Memory → OpensShort work opening told slots slots fault
@@ -65,12 +65,12 @@ no_memory told work opening slots fault keeps may two is = subst (OpensShort wor
   none_swept clears is = subst (λ b. Swept b (length slots) slots slots) (sym is) refl
 
 -- the names that were made are those of the plan
-pub plan_is : (asked : SplitAsked) (cut : Cut) (alphabet : Alphabet) (width : ℕ) (auto elide : Bool) (input prefix : List ℕ) (names : Naming)
-    → names ≡ record { prefix = prefix; alphabet = alphabet; width = width; auto = auto; drawn = 0 }
-    → record { cut = cut; alphabet = alphabet; width = width; auto = auto; elide = elide; input = input; prefix = prefix } ≡ asked
-    → record { cut = cut; elide = elide; names = names } ≡ plan_of asked
-plan_is asked cut alphabet width auto elide input prefix names made is =
-    ap (λ (those : Naming). record { cut = cut; elide = elide; names = those }) made ∙ ap plan_of is
+pub plan_is : (asked : SplitAsked) (cut : Cut) (alphabet : Alphabet) (width : ℕ) (auto elide : Bool) (input prefix ending : List ℕ) (delim : ℕ) (names : Naming)
+    → names ≡ record { prefix = prefix; alphabet = alphabet; width = width; auto = auto; ending = ending; drawn = 0 }
+    → record { cut = cut; alphabet = alphabet; width = width; auto = auto; elide = elide; input = input; prefix = prefix; ending = ending; delim = delim } ≡ asked
+    → record { delim = delim; cut = cut; elide = elide; names = names } ≡ plan_of asked
+plan_is asked cut alphabet width auto elide input prefix ending delim names made is =
+    ap (λ (those : Naming). record { delim = delim; cut = cut; elide = elide; names = those }) made ∙ ap plan_of is
 
 pub split_starts : (told : Bool) (plan : Plan) (old new : List Slot) → 2 ≤ length old → ((before : List Slot) → OutputsAt told before nothing old → OutputsAt told before (settled_by plan []) new) → OutputsAt told old ((split_work plan).settled []) new
 split_starts told plan old new two puts = puts old (nothing_out told old (some_there old two))
@@ -116,19 +116,19 @@ no_memory_for told work opening slots (Err fault) P keeps may two err = no_memor
 
 -- what opening may need
 
-pub head_opening : (asked : EndsAsked) (unit : Counted) (count : Count) (headers : Headers) (names : List (List ℕ)) (minus : Bool) → record { unit = unit; count = count; headers = headers; names = names } ≡ asked → minus ≡ is_minus count.sign → minus ≡ true → (head_task asked).opening.memory ≡ true
-head_opening asked unit count headers names minus is signed may = sym (ap (λ (those : EndsAsked). is_minus those.count.sign) is) ∙ sym signed ∙ may
+pub head_opening : (asked : EndsAsked) (unit : Counted) (count : Count) (headers : Headers) (delim : ℕ) (names : List (List ℕ)) (minus : Bool) → record { unit = unit; count = count; headers = headers; delim = delim; names = names } ≡ asked → minus ≡ is_minus count.sign → minus ≡ true → (head_task asked).opening.memory ≡ true
+head_opening asked unit count headers delim names minus is signed may = sym (ap (λ (those : EndsAsked). is_minus those.count.sign) is) ∙ sym signed ∙ may
 
-pub tail_opening : (asked : EndsAsked) (unit : Counted) (count : Count) (headers : Headers) (names : List (List ℕ)) (plus : Bool) → record { unit = unit; count = count; headers = headers; names = names } ≡ asked → plus ≡ is_plus count.sign → plus ≡ false → (tail_task asked).opening.memory ≡ true
-tail_opening asked unit count headers names plus is signed may = ap not (sym (ap (λ (those : EndsAsked). is_plus those.count.sign) is) ∙ sym signed ∙ may)
+pub tail_opening : (asked : EndsAsked) (unit : Counted) (count : Count) (headers : Headers) (delim : ℕ) (names : List (List ℕ)) (plus : Bool) → record { unit = unit; count = count; headers = headers; delim = delim; names = names } ≡ asked → plus ≡ is_plus count.sign → plus ≡ false → (tail_task asked).opening.memory ≡ true
+tail_opening asked unit count headers delim names plus is signed may = ap not (sym (ap (λ (those : EndsAsked). is_plus those.count.sign) is) ∙ sym signed ∙ may)
 
 -- the work that is asked for
 
-pub head_asked : (asked : EndsAsked) (unit : Counted) (count : Count) (headers : Headers) (names : List (List ℕ)) (minus : Bool) → record { unit = unit; count = count; headers = headers; names = names } ≡ asked → minus ≡ is_minus count.sign → head_work unit minus count.amount ≡ (head_task asked).work
-head_asked asked unit count headers names minus is signed = ap (λ b. head_work unit b count.amount) signed ∙ ap (λ (those : EndsAsked). (head_task those).work) is
+pub head_asked : (asked : EndsAsked) (unit : Counted) (count : Count) (headers : Headers) (delim : ℕ) (names : List (List ℕ)) (minus : Bool) → record { unit = unit; count = count; headers = headers; delim = delim; names = names } ≡ asked → minus ≡ is_minus count.sign → head_work delim unit minus count.amount ≡ (head_task asked).work
+head_asked asked unit count headers delim names minus is signed = ap (λ b. head_work delim unit b count.amount) signed ∙ ap (λ (those : EndsAsked). (head_task those).work) is
 
-pub tail_asked : (asked : EndsAsked) (unit : Counted) (count : Count) (headers : Headers) (names : List (List ℕ)) (plus : Bool) → record { unit = unit; count = count; headers = headers; names = names } ≡ asked → plus ≡ is_plus count.sign → tail_work unit plus count.amount ≡ (tail_task asked).work
-tail_asked asked unit count headers names plus is signed = ap (λ b. tail_work unit b count.amount) signed ∙ ap (λ (those : EndsAsked). (tail_task those).work) is
+pub tail_asked : (asked : EndsAsked) (unit : Counted) (count : Count) (headers : Headers) (delim : ℕ) (names : List (List ℕ)) (plus : Bool) → record { unit = unit; count = count; headers = headers; delim = delim; names = names } ≡ asked → plus ≡ is_plus count.sign → tail_work delim unit plus count.amount ≡ (tail_task asked).work
+tail_asked asked unit count headers delim names plus is signed = ap (λ b. tail_work delim unit b count.amount) signed ∙ ap (λ (those : EndsAsked). (tail_task those).work) is
 
 -- split, with the names that were made
 pub split_opened : {E : Type 0} (Holds : E → List ℕ → Type 0) (Owns : E → ℕ → List Slot → Type 0) (work : E → Work) (Ready : E → List Slot → Type 0) (fed : E → ℕ) (plan asked : Plan) (told : Bool) (old new : List Slot) (result : Result E Fault) → plan ≡ asked → 2 ≤ length old

@@ -39,9 +39,9 @@ pub runs_names : (told_in : Bool) (world : World) (names same : List (List ℕ))
 runs_names told_in world names same P is runs = subst (λ those. RunsOver told_in world those P) is runs
 
 -- the names that a run reads are those of its settings
-pub ends_names : (asked : EndsAsked) (unit : Counted) (count : Count) (headers : Headers) (items now : List (Bor (List ℕ))) → now ≡ items → record { unit = unit; count = count; headers = headers; names = map (λ (name : Bor (List ℕ)). name.now) items } ≡ asked
+pub ends_names : (asked : EndsAsked) (unit : Counted) (count : Count) (headers : Headers) (delim : ℕ) (items now : List (Bor (List ℕ))) → now ≡ items → record { unit = unit; count = count; headers = headers; delim = delim; names = map (λ (name : Bor (List ℕ)). name.now) items } ≡ asked
     → map (λ (name : Bor (List ℕ)). name.now) now ≡ asked.names
-ends_names asked unit count headers items now same is = ap (map (λ (name : Bor (List ℕ)). name.now)) same ∙ ap (λ (those : EndsAsked). those.names) is
+ends_names asked unit count headers delim items now same is = ap (map (λ (name : Bor (List ℕ)). name.now)) same ∙ ap (λ (those : EndsAsked). those.names) is
 
 -- words that are refused, or weren't read for want of memory
 

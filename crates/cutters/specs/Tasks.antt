@@ -41,7 +41,7 @@ of_nothing fault = []
 abbrev pub head_task : EndsAsked → Task
 head_task asked = record {
   tool = tool.Head;
-  work = head_work asked.unit (is_minus asked.count.sign) asked.count.amount;
+  work = head_work asked.delim asked.unit (is_minus asked.count.sign) asked.count.amount;
   opening = record { memory = is_minus asked.count.sign; files = false };
   subject = of_nothing;
   with_header = has_headers asked.headers asked.names;
@@ -51,7 +51,7 @@ head_task asked = record {
 abbrev pub tail_task : EndsAsked → Task
 tail_task asked = record {
   tool = tool.Tail;
-  work = tail_work asked.unit (is_plus asked.count.sign) asked.count.amount;
+  work = tail_work asked.delim asked.unit (is_plus asked.count.sign) asked.count.amount;
   opening = record { memory = not (is_plus asked.count.sign); files = false };
   subject = of_nothing;
   with_header = has_headers asked.headers asked.names;
@@ -64,11 +64,12 @@ naming_of asked = record {
   alphabet = asked.alphabet;
   width = asked.width;
   auto = asked.auto;
+  ending = asked.ending;
   drawn = 0;
 }
 
 abbrev pub plan_of : SplitAsked → Plan
-plan_of asked = record { cut = asked.cut; elide = asked.elide; names = naming_of asked }
+plan_of asked = record { delim = asked.delim; cut = asked.cut; elide = asked.elide; names = naming_of asked }
 
 -- `split`: the input cut into files
 abbrev pub split_task : SplitAsked → Task

@@ -46,7 +46,7 @@ impl<'a, 'b> Adapter for HeadAdapter<'a, 'b> {
         let _ = outs;
         let settings = self.settings;
         let Count { sign, amount } = settings.count;
-        Head::open(alloc, settings.unit, is_minus(sign), amount)
+        Head::open(alloc, settings.unit, is_minus(sign), amount, settings.delim)
     }
 }
 
@@ -72,7 +72,7 @@ impl<'a, 'b> Adapter for TailAdapter<'a, 'b> {
         let _ = outs;
         let settings = self.settings;
         let Count { sign, amount } = settings.count;
-        Tail::open(alloc, settings.unit, is_plus(sign), amount)
+        Tail::open(alloc, settings.unit, is_plus(sign), amount, settings.delim)
     }
 }
 

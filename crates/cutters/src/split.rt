@@ -37,16 +37,21 @@ impl<'a, 'b> Adapter for SplitAdapter<'a, 'b> {
 
     fn open<O: Outs>(&self, alloc: Global, outs: &mut O) -> Result<Splitter, Fault> {
         let settings = self.settings;
-        let names = match Names::new(
+        let names = Names::new(
             alloc,
             settings.prefix,
             settings.alphabet,
             settings.width,
             settings.auto,
-        ) {
-            Ok(names) => names,
-            Err(fault) => return Err(fault),
-        };
-        Splitter::open(alloc, settings.cut, names, settings.elide, outs)
+            settings.ending,
+        )?;
+        Splitter::open(
+            alloc,
+            settings.cut,
+            names,
+            settings.elide,
+            settings.delim,
+            outs,
+        )
     }
 }

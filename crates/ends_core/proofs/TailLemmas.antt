@@ -14,28 +14,28 @@ use Rattle.ends_core.specs.TailState.{TailState}
 use Rattle.ends_core.specs.Ends.{measure, behind_of, last_of}
 use Rattle.ends_core.specs.EndsLaws.{measure-append, behind_of-append, last_of-append}
 use Rattle.ends_core.specs.Tail.{tail_work, tail_waiting, work, Holds}
-use Rattle.ends_core.specs.TailWay.{unit_of, is_from_nth, count_of, left_of, waiting_of, due, left_waiting, may_lack, FullLacksNone, SameWay, state_of}
-use Rattle.ends_core.specs.Kept.{most_of, may_lack_of, unit_of as kept_unit}
+use Rattle.ends_core.specs.TailWay.{delim_of, unit_of, is_from_nth, count_of, left_of, waiting_of, due, left_waiting, may_lack, FullLacksNone, SameWay, state_of}
+use Rattle.ends_core.specs.Kept.{most_of, may_lack_of, delim_of as kept_delim, unit_of as kept_unit}
 use Rattle.ends_core.specs.declared.kept.Kept.{Kept}
 use Rattle.ends_core.specs.Stops.{Stops}
 use Rattle.ends_core.proofs.StopLemmas as stop
 use Rattle.ends_core.proofs.KeptLemmas.{full_once}
 
 -- the same way does the same work
-pub same_work : (old new : TailState) → new.unit ≡ old.unit → new.from_nth ≡ old.from_nth → new.count ≡ old.count → work new ≡ work old
-same_work old new unit from_nth count = ap (λ u. tail_work u new.from_nth new.count) unit ∙ ap (λ b. tail_work old.unit b new.count) from_nth ∙ ap (tail_work old.unit old.from_nth) count
+pub same_work : (old new : TailState) → new.delim ≡ old.delim → new.unit ≡ old.unit → new.from_nth ≡ old.from_nth → new.count ≡ old.count → work new ≡ work old
+same_work old new delim unit from_nth count = ap (λ d. tail_work d new.unit new.from_nth new.count) delim ∙ ap (λ u. tail_work old.delim u new.from_nth new.count) unit ∙ ap (λ b. tail_work old.delim old.unit b new.count) from_nth ∙ ap (tail_work old.delim old.unit old.from_nth) count
 
 -- what is written with a piece is what the tail gains by it
 went_out : (way : Way) (x piece : List ℕ) → Holds (state_of way) x
     → record ((work (state_of way)).settled x) { out = ((work (state_of way)).settled x).out ++ due way piece } ≡ (work (state_of way)).settled (x ++ piece)
 went_out (FromNth count front) x piece holds =
-    ap (λ left. only_out (behind_of front.unit (count - 1) x ++ behind_of front.unit left piece)) (holds.left refl) ∙ ap only_out (sym (behind_of-append front.unit (count - 1) x piece))
+    ap (λ left. only_out (behind_of front.delim front.unit (count - 1) x ++ behind_of front.delim front.unit left piece)) (holds.left refl) ∙ ap only_out (sym (behind_of-append front.delim front.unit (count - 1) x piece))
 went_out (Last kept) x piece holds = refl
 
 -- what waited is what is still to be written at the end
 rest_out : (way : Way) (x : List ℕ) → Holds (state_of way) x
     → record ((work (state_of way)).settled x) { out = ((work (state_of way)).settled x).out ++ waiting_of way } ≡ (work (state_of way)).whole x
-rest_out (FromNth count front) x holds = ap only_out (append-nil (behind_of front.unit (count - 1) x))
+rest_out (FromNth count front) x holds = ap only_out (append-nil (behind_of front.delim front.unit (count - 1) x))
 rest_out (Last kept) x holds = ap only_out holds.waits
 
 pub puts_out : (told : Bool) (way : Way) (tail : TailState) (piece : List ℕ) (old new : List Slot) → state_of way ≡ tail
@@ -66,40 +66,40 @@ minus_both : (n a b : ℕ) → (n - a) - b ≡ n - (a + b)
 minus_both n a b = omega arith
 
 -- what waits after the piece
-waits_next : (way : Way) (x piece : List ℕ) → Holds (state_of way) x → left_waiting way piece ≡ tail_waiting (unit_of way) (is_from_nth way) (count_of way) (x ++ piece)
+waits_next : (way : Way) (x piece : List ℕ) → Holds (state_of way) x → left_waiting way piece ≡ tail_waiting (delim_of way) (unit_of way) (is_from_nth way) (count_of way) (x ++ piece)
 waits_next (FromNth count front) x piece holds = refl
 waits_next (Last kept) x piece holds =
-    ap (λ held. last_of (kept_unit kept) (most_of kept) (held ++ piece)) holds.waits ∙ sym (last_of-append (kept_unit kept) (most_of kept) x piece)
+    ap (λ held. last_of (kept_delim kept) (kept_unit kept) (most_of kept) (held ++ piece)) holds.waits ∙ sym (last_of-append (kept_delim kept) (kept_unit kept) (most_of kept) x piece)
 
-waiting_same : (old new : Way) (x : List ℕ) → SameWay old new → tail_waiting (unit_of old) (is_from_nth old) (count_of old) x ≡ tail_waiting (unit_of new) (is_from_nth new) (count_of new) x
+waiting_same : (old new : Way) (x : List ℕ) → SameWay old new → tail_waiting (delim_of old) (unit_of old) (is_from_nth old) (count_of old) x ≡ tail_waiting (delim_of new) (unit_of new) (is_from_nth new) (count_of new) x
 waiting_same old new x same =
-    sym (ap (λ u. tail_waiting u (is_from_nth new) (count_of new) x) same.unit ∙ ap (λ b. tail_waiting (unit_of old) b (count_of new) x) same.from_nth ∙ ap (λ n. tail_waiting (unit_of old) (is_from_nth old) n x) same.count)
+    sym (ap (λ d. tail_waiting d (unit_of new) (is_from_nth new) (count_of new) x) same.delim ∙ ap (λ u. tail_waiting (delim_of old) u (is_from_nth new) (count_of new) x) same.unit ∙ ap (λ b. tail_waiting (delim_of old) (unit_of old) b (count_of new) x) same.from_nth ∙ ap (λ n. tail_waiting (delim_of old) (unit_of old) (is_from_nth old) n x) same.count)
 
 waits_now : (way next : Way) (piece : List ℕ) → SameWay way next → waiting_of next ≡ left_waiting way piece → (x : List ℕ) → Holds (state_of way) x
-    → waiting_of next ≡ tail_waiting (unit_of next) (is_from_nth next) (count_of next) (x ++ piece)
+    → waiting_of next ≡ tail_waiting (delim_of next) (unit_of next) (is_from_nth next) (count_of next) (x ++ piece)
 waits_now way next piece same waits x holds = waits ∙ waits_next way x piece holds ∙ waiting_same way next (x ++ piece) same
 
 none_lacks : (way : Way) → is_from_nth way ≡ true → may_lack way ≡ false
 none_lacks (FromNth count front) nth = refl
 none_lacks (Last kept) nth = absurd (false≢true nth)
 
-full_lacks : (way : Way) (x : List ℕ) → waiting_of way ≡ tail_waiting (unit_of way) (is_from_nth way) (count_of way) x → FullLacksNone way → unit_of way ≡ Bytes → count_of way ≤ length x → may_lack way ≡ false
+full_lacks : (way : Way) (x : List ℕ) → waiting_of way ≡ tail_waiting (delim_of way) (unit_of way) (is_from_nth way) (count_of way) x → FullLacksNone way → unit_of way ≡ Bytes → count_of way ≤ length x → may_lack way ≡ false
 full_lacks (FromNth count front) x waits full bytes enough = refl
 full_lacks (Last kept) x waits full bytes enough = full bytes (full_once kept x waits bytes enough)
 
 takes_in_here : (way next : Way) (piece : List ℕ) → SameWay way next
-    → left_of next ≡ left_of way - measure (unit_of way) piece → waiting_of next ≡ left_waiting way piece → FullLacksNone next → TakesIn Holds piece (state_of way) (state_of next)
+    → left_of next ≡ left_of way - measure (delim_of way) (unit_of way) piece → waiting_of next ≡ left_waiting way piece → FullLacksNone next → TakesIn Holds piece (state_of way) (state_of next)
 takes_in_here way next piece same left waits full x holds = record {
-  left = λ nth. left ∙ ap (λ n. n - measure (unit_of way) piece) (holds.left (sym same.from_nth ∙ nth)) ∙ minus_both (count_of way - 1) (measure (unit_of way) x) (measure (unit_of way) piece)
-      ∙ ap (λ n. count_of way - 1 - n) (sym (measure-append (unit_of way) x piece))
-      ∙ sym (ap (λ count. count - 1 - measure (unit_of next) (x ++ piece)) same.count ∙ ap (λ unit. count_of way - 1 - measure unit (x ++ piece)) same.unit);
+  left = λ nth. left ∙ ap (λ n. n - measure (delim_of way) (unit_of way) piece) (holds.left (sym same.from_nth ∙ nth)) ∙ minus_both (count_of way - 1) (measure (delim_of way) (unit_of way) x) (measure (delim_of way) (unit_of way) piece)
+      ∙ ap (λ n. count_of way - 1 - n) (sym (measure-append (delim_of way) (unit_of way) x piece))
+      ∙ sym (ap (λ count. count - 1 - measure (delim_of next) (unit_of next) (x ++ piece)) same.count ∙ ap (λ unit. count_of way - 1 - measure (delim_of next) unit (x ++ piece)) same.unit ∙ ap (λ delim. count_of way - 1 - measure delim (unit_of way) (x ++ piece)) same.delim);
   waits = waits_now way next piece same waits x holds;
   none = none_lacks next;
   full = full_lacks next (x ++ piece) (waits_now way next piece same waits x holds) full;
 }
 
 pub takes_in : (way next : Way) (old : TailState) (piece : List ℕ) → state_of way ≡ old → SameWay way next
-    → left_of next ≡ left_of way - measure (unit_of way) piece → waiting_of next ≡ left_waiting way piece → FullLacksNone next → TakesIn Holds piece old (state_of next)
+    → left_of next ≡ left_of way - measure (delim_of way) (unit_of way) piece → waiting_of next ≡ left_waiting way piece → FullLacksNone next → TakesIn Holds piece old (state_of next)
 takes_in way next old piece is same left waits full =
     subst (λ those. TakesIn Holds piece those (state_of next)) is (takes_in_here way next piece same left waits full)
 

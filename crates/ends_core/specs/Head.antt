@@ -1,5 +1,5 @@
 -- The first part of an input, as an engine writes it: POSIX.1-2017, XCU head; the option -c is GNU's.
-use Rattle.std.specs.Prelude.{◌≡◌, ℕ, ◌-◌, ◌++◌, ◌&&◌, ◌≤◌, not, nat_le, Bool, true, false, List, [], length, if◌then◌else◌}
+use Rattle.std.specs.Prelude.{◌≡◌, ℕ, ◌-◌, ◌++◌, ◌&&◌, ◌<◌, ◌≤◌, not, nat_le, Bool, true, false, List, [], length, if◌then◌else◌}
 use Rattle.seg_core.specs.Line.{AreBytes}
 use Rattle.ports_core.specs.Part.{only_out}
 use Rattle.ends_core.specs.declared.unit.Unit.{Unit as Counted}
@@ -14,11 +14,11 @@ use Rattle.ends_core.specs.HeadState.{HeadState}
 
 -- What a head makes of its input: what belongs to the head whatever may still come is written at once, and nothing at the
 -- end. Of the first n it is complete once n came in. It takes memory where all but the last are asked for, since those wait.
-abbrev pub head_work : Counted → Bool → ℕ → Work
-head_work unit but_last n = record {
-  settled = λ x. only_out (head_of unit but_last n x);
-  whole = λ x. only_out (head_of unit but_last n x);
-  is_complete = λ x. not but_last && nat_le n (measure unit x);
+abbrev pub head_work : ℕ → Counted → Bool → ℕ → Work
+head_work delim unit but_last n = record {
+  settled = λ x. only_out (head_of delim unit but_last n x);
+  whole = λ x. only_out (head_of delim unit but_last n x);
+  is_complete = λ x. not but_last && nat_le n (measure delim unit x);
   verdict = always_well;
   clears = false;
   means = on_output but_last;
@@ -26,16 +26,18 @@ head_work unit but_last n = record {
 
 -- the work of a head in this state
 abbrev pub work : HeadState → Work
-work head = head_work head.unit head.but_last head.count
+work head = head_work head.delim head.unit head.but_last head.count
 
 -- what came in and isn't written yet, since what follows decides it: the last lines or bytes, where all but them are asked for
-abbrev pub head_waiting : Counted → Bool → ℕ → List ℕ → List ℕ
-head_waiting unit but_last n x = if but_last then last_of unit n x else []
+abbrev pub head_waiting : ℕ → Counted → Bool → ℕ → List ℕ → List ℕ
+head_waiting delim unit but_last n x = if but_last then last_of delim unit n x else []
 
 -- the head can have been fed x
 pub record Holds (head : HeadState) (x : List ℕ) : Type 0 where
-  pub left : head.but_last ≡ false → head.left ≡ head.count - measure head.unit x
-  pub waits : head.waiting ≡ head_waiting head.unit head.but_last head.count x
+  -- the delimiter is a byte
+  pub byte : head.delim < 256
+  pub left : head.but_last ≡ false → head.left ≡ head.count - measure head.delim head.unit x
+  pub waits : head.waiting ≡ head_waiting head.delim head.unit head.but_last head.count x
   -- where nothing waits no memory can be wanting, nor once as many bytes came in as wait
   pub none : head.but_last ≡ false → head.may_lack ≡ false
   pub full : head.unit ≡ Bytes → head.count ≤ length x → head.may_lack ≡ false
@@ -46,5 +48,5 @@ IsRefused head piece old new fault =
     IsCaused (IsMet (work head.stage).means (work head.stage).means.feeding (head.stage.may_lack ≡ true) (EndsWith (HoldsIn Holds) (λ (guard : GuardState HeadState). work guard.stage) head piece) old new) head.is_over head.fed (length piece) old new fault
 
 -- whatever comes after x, the head of it is that of x
-abbrev pub IsDone : Counted → Bool → ℕ → List ℕ → Type 0
-IsDone unit but_last n x = (y : List ℕ) → AreBytes y → head_of unit but_last n (x ++ y) ≡ head_of unit but_last n x
+abbrev pub IsDone : ℕ → Counted → Bool → ℕ → List ℕ → Type 0
+IsDone delim unit but_last n x = (y : List ℕ) → AreBytes y → head_of delim unit but_last n (x ++ y) ≡ head_of delim unit but_last n x

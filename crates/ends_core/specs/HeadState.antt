@@ -4,6 +4,8 @@ use Rattle.ends_core.specs.declared.unit.Unit.{Unit as Counted}
 
 pub record HeadState : Type 0 where
   pub unit : Counted
+  -- the byte with which lines end, where it counts lines
+  pub delim : ℕ
   -- all but the last are written, and not the first
   pub but_last : Bool
   -- how many lines or bytes were asked for

@@ -13,10 +13,10 @@ use Rattle.ends_core.specs.TailState.{TailState}
 
 -- What a tail makes of its input: from the nth on, all that it has is written at once; the last are written at the end.
 -- There is always more that can come. It takes memory where the last are asked for, since those wait.
-abbrev pub tail_work : Counted → Bool → ℕ → Work
-tail_work unit from_nth n = record {
-  settled = λ x. if from_nth then only_out (tail_of unit true n x) else nothing;
-  whole = λ x. only_out (tail_of unit from_nth n x);
+abbrev pub tail_work : ℕ → Counted → Bool → ℕ → Work
+tail_work delim unit from_nth n = record {
+  settled = λ x. if from_nth then only_out (tail_of delim unit true n x) else nothing;
+  whole = λ x. only_out (tail_of delim unit from_nth n x);
   is_complete = λ x. false;
   verdict = always_well;
   clears = false;
@@ -25,16 +25,16 @@ tail_work unit from_nth n = record {
 
 -- the work of a tail in this state
 abbrev pub work : TailState → Work
-work tail = tail_work tail.unit tail.from_nth tail.count
+work tail = tail_work tail.delim tail.unit tail.from_nth tail.count
 
 -- what came in and isn't written yet, since what follows decides it: the last lines or bytes, where these are asked for
-abbrev pub tail_waiting : Counted → Bool → ℕ → List ℕ → List ℕ
-tail_waiting unit from_nth n x = if from_nth then [] else last_of unit n x
+abbrev pub tail_waiting : ℕ → Counted → Bool → ℕ → List ℕ → List ℕ
+tail_waiting delim unit from_nth n x = if from_nth then [] else last_of delim unit n x
 
 -- the tail can have been fed x
 pub record Holds (tail : TailState) (x : List ℕ) : Type 0 where
-  pub left : tail.from_nth ≡ true → tail.left ≡ (tail.count - 1) - measure tail.unit x
-  pub waits : tail.waiting ≡ tail_waiting tail.unit tail.from_nth tail.count x
+  pub left : tail.from_nth ≡ true → tail.left ≡ (tail.count - 1) - measure tail.delim tail.unit x
+  pub waits : tail.waiting ≡ tail_waiting tail.delim tail.unit tail.from_nth tail.count x
   -- where nothing waits no memory can be wanting, nor once as many bytes came in as wait
   pub none : tail.from_nth ≡ true → tail.may_lack ≡ false
   pub full : tail.unit ≡ Bytes → tail.count ≤ length x → tail.may_lack ≡ false

@@ -4,6 +4,8 @@ use Rattle.ends_core.specs.declared.unit.Unit.{Unit as Counted}
 
 pub record TailState : Type 0 where
   pub unit : Counted
+  -- the byte with which lines end, where it counts lines
+  pub delim : ℕ
   -- all from the nth on are written, and not the last
   pub from_nth : Bool
   -- which n that is, or how many of the last were asked for

@@ -5,12 +5,17 @@ use Rattle.ends_core.specs.declared.unit.Unit.TheVariants.{Bytes}
 use Rattle.ends_core.specs.declared.tail.Way.{Way}
 use Rattle.ends_core.specs.declared.tail.Way.TheVariants.{FromNth, Last}
 use Rattle.ends_core.specs.Ends.{behind_of, last_of}
-use Rattle.ends_core.specs.Kept.{held_of, most_of, may_lack_of, unit_of as kept_unit}
+use Rattle.ends_core.specs.Kept.{held_of, most_of, may_lack_of, delim_of as kept_delim, unit_of as kept_unit}
 use Rattle.ends_core.specs.TailState.{TailState}
 
 abbrev pub unit_of : Way → Counted
 unit_of (FromNth count front) = front.unit
 unit_of (Last kept) = kept_unit kept
+
+-- the byte with which lines end
+abbrev pub delim_of : Way → ℕ
+delim_of (FromNth count front) = front.delim
+delim_of (Last kept) = kept_delim kept
 
 abbrev pub is_from_nth : Way → Bool
 is_from_nth (FromNth count front) = true
@@ -41,16 +46,17 @@ FullLacksNone way = unit_of way ≡ Bytes → count_of way ≤ length (waiting_o
 
 -- what is written with a piece
 abbrev pub due : Way → List ℕ → List ℕ
-due (FromNth count front) piece = behind_of front.unit front.left piece
+due (FromNth count front) piece = behind_of front.delim front.unit front.left piece
 due (Last kept) piece = []
 
 -- what waits after the piece
 abbrev pub left_waiting : Way → List ℕ → List ℕ
 left_waiting (FromNth count front) piece = []
-left_waiting (Last kept) piece = last_of (kept_unit kept) (most_of kept) (held_of kept ++ piece)
+left_waiting (Last kept) piece = last_of (kept_delim kept) (kept_unit kept) (most_of kept) (held_of kept ++ piece)
 
 pub record SameWay (old new : Way) : Type 0 where
   pub unit : unit_of new ≡ unit_of old
+  pub delim : delim_of new ≡ delim_of old
   pub from_nth : is_from_nth new ≡ is_from_nth old
   pub count : count_of new ≡ count_of old
 
@@ -58,6 +64,7 @@ pub record SameWay (old new : Way) : Type 0 where
 abbrev pub state_of : Way → TailState
 state_of way = record {
   unit = unit_of way;
+  delim = delim_of way;
   from_nth = is_from_nth way;
   count = count_of way;
   left = left_of way;

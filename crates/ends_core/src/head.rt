@@ -5,7 +5,7 @@ ghost use Rattle.ports_core.specs.Engine.{OwnsNone};
 ghost use Rattle.ports_core.specs.Guard.{GuardState, HoldsIn};
 ghost use Rattle.ends_core.specs.Head.{IsDone, Holds, head_work, work};
 ghost use Rattle.ends_core.specs.HeadState.{HeadState};
-ghost use Rattle.ends_core.specs.HeadWay.{FullLacksNone, SameWay, due, is_full, left_of, left_waiting, may_lack, state_of, unit_of, waiting_of};
+ghost use Rattle.ends_core.specs.HeadWay.{FullLacksNone, SameWay, delim_of, due, is_full, left_of, left_waiting, may_lack, state_of, unit_of, waiting_of};
 ghost use Rattle.ends_core.specs.Ends.{measure};
 ghost use Rattle.ends_core.specs.Stops.{Stops};
 ghost use Rattle.ends_core.specs.HeadLaws.{lawful};
@@ -54,23 +54,30 @@ impl Model for HeadStage {
 }
 
 impl Head {
-    /// A head of the first `count` lines or bytes, or, with `but_last`, of all but the last `count`. With a count of
-    /// 0 it writes nothing, or everything.
+    /// A head of the first `count` lines or bytes, or, with `but_last`, of all but the last `count`. Lines end with
+    /// `delim`. With a count of 0 it writes nothing, or everything.
     ///
     /// # Errors
     ///
     /// `Memory` where there is no room for what waits: only where all but the last are asked for.
-    pub fn open(alloc: Global, unit: Unit, but_last: bool, count: u64) -> Result<Head, Fault>
+    pub fn open(
+        alloc: Global,
+        unit: Unit,
+        but_last: bool,
+        count: u64,
+        delim: u8,
+    ) -> Result<Head, Fault>
         ensures holds { IfOk result (λ head. HoldsIn Holds head []) }
         ensures unit { IfOk result (λ head. head.stage.unit ≡ unit) }
+        ensures delim { IfOk result (λ head. unit ≡ Unit.Lines → head.stage.delim ≡ delim) }
         ensures but_last { IfOk result (λ head. head.stage.but_last ≡ but_last) }
         ensures count { IfOk result (λ head. head.stage.count ≡ count) }
-        ensures does { IfOk result (λ head. work head.stage ≡ head_work unit but_last count) }
+        ensures does { IfOk result (λ head. work head.stage ≡ head_work delim unit but_last count) }
         ensures bound { IfOk result (λ head. head.fed < 2 ^ 63) }
         ensures err { IfErr result (λ fault. (fault ≡ Fault.Memory) × (but_last ≡ true)) }
     {
         if but_last {
-            return match Kept::open(alloc, unit, count) {
+            return match Kept::open(alloc, unit, count, delim) {
                 Ok(kept) => Ok(Head {
                     engine: Guarded::new(HeadStage {
                         way: Way::ButLast(kept),
@@ -81,7 +88,14 @@ impl Head {
         }
         Ok(Head {
             engine: Guarded::new(HeadStage {
-                way: Way::First(count, Front { unit, left: count }),
+                way: Way::First(
+                    count,
+                    Front {
+                        unit,
+                        delim,
+                        left: count,
+                    },
+                ),
             }),
         })
     }
@@ -123,7 +137,7 @@ impl Engine for Head {
 
     fn done(&self) -> bool
         ensures complete { (x : List ℕ) → HoldsIn Holds self.now x → result ≡ (work self.now.stage).is_complete x }
-        ensures exact { (x : List ℕ) → HoldsIn Holds self.now x → (IsTrue result ↔ IsDone self.now.stage.unit self.now.stage.but_last self.now.stage.count x) }
+        ensures exact { (x : List ℕ) → HoldsIn Holds self.now x → (IsTrue result ↔ IsDone self.now.stage.delim self.now.stage.unit self.now.stage.but_last self.now.stage.count x) }
     {
         self.engine.done()
     }
@@ -132,7 +146,7 @@ impl Engine for Head {
 
     ghost counts = { λ head x holds. holds.count };
 
-    ghost lawful = { λ head. lawful head.stage.unit head.stage.but_last head.stage.count };
+    ghost lawful = { λ head. lawful head.stage.delim head.stage.unit head.stage.but_last head.stage.count };
 }
 
 impl Stage for HeadStage {
@@ -164,12 +178,12 @@ impl Stage for HeadStage {
 
     fn is_done(&self) -> bool
         ensures complete { (x : List ℕ) → Holds self.now x → result ≡ (work self.now).is_complete x }
-        ensures exact { (x : List ℕ) → Holds self.now x → (IsTrue result ↔ IsDone self.now.unit self.now.but_last self.now.count x) }
+        ensures exact { (x : List ℕ) → Holds self.now x → (IsTrue result ↔ IsDone self.now.delim self.now.unit self.now.but_last self.now.count x) }
     {
         self.way.is_full()
     }
 
-    ghost lawful = { λ head. lawful head.unit head.but_last head.count };
+    ghost lawful = { λ head. lawful head.delim head.unit head.but_last head.count };
 }
 
 impl Way {
@@ -183,7 +197,7 @@ impl Way {
         requires writable { IsTrue (is_writable (O.slots outs.old) 0) }
         ensures same { SameWay self.old self.new }
         ensures bound { length (waiting_of self.new) ≤ length (waiting_of self.old) + length piece.now }
-        ensures left { OnOk result (left_of self.new ≡ left_of self.old - measure (unit_of self.old) piece.now) }
+        ensures left { OnOk result (left_of self.new ≡ left_of self.old - measure (delim_of self.old) (unit_of self.old) piece.now) }
         ensures waits { OnOk result (waiting_of self.new ≡ left_waiting self.old piece.now) }
         ensures full { OnOk result (FullLacksNone self.new) }
         ensures out { OnOk result (O.slots outs.new ≡ with_written 0 (told_of O.told (due self.old piece.now)) (O.slots outs.old)) }

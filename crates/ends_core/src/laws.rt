@@ -1,6 +1,6 @@
 //! Laws of the definitions, with no code: each stands on the contract of a function whose body is empty.
 ghost use Rattle.std.specs.Prelude.{◌≡◌, ◌<◌, ◌≤◌, ◌+◌, ◌-◌, ◌++◌, ◌⊎◌, ℕ, List, length, true, false};
-ghost use Rattle.seg_core.specs.Line.{ends_with_newline, line_count, newlines};
+ghost use Rattle.seg_core.specs.Line.{delimiters, ends_with, line_count};
 ghost use Rattle.ends_core.specs.Ends.{behind_of, but_last_of, first_of, last_of, measure, size, tail_of};
 ghost use Rattle.ends_core.specs.Head.{work, Holds as HeadHolds, IsRefused as HeadRefused};
 ghost use Rattle.ends_core.specs.HeadState.{HeadState};
@@ -16,34 +16,34 @@ use ports_core::Fault;
 /// those of y that are still to come. Of all but the last it has all but the last of x, and then all but the last of
 /// what waited with y after it. So what is written never changes. What waits in a head of all but the last that was
 /// fed a text is the last of it.
-pub fn head_goes_on(unit: Unit)
-    ensures first { (n : ℕ) (x y : List ℕ) → first_of unit n (x ++ y) ≡ first_of unit n x ++ first_of unit (n - measure unit x) y }
-    ensures but_last { (n : ℕ) (x y : List ℕ) → but_last_of unit n (x ++ y) ≡ but_last_of unit n x ++ but_last_of unit n (last_of unit n x ++ y) }
-    ensures waits { (head : GuardState HeadState) (x : List ℕ) → HoldsIn HeadHolds head x → head.stage.but_last ≡ true → head.stage.waiting ≡ last_of head.stage.unit head.stage.count x }
+pub fn head_goes_on(unit: Unit, delim: u8)
+    ensures first { (n : ℕ) (x y : List ℕ) → first_of delim unit n (x ++ y) ≡ first_of delim unit n x ++ first_of delim unit (n - measure delim unit x) y }
+    ensures but_last { (n : ℕ) (x y : List ℕ) → but_last_of delim unit n (x ++ y) ≡ but_last_of delim unit n x ++ but_last_of delim unit n (last_of delim unit n x ++ y) }
+    ensures waits { (head : GuardState HeadState) (x : List ℕ) → HoldsIn HeadHolds head x → head.stage.but_last ≡ true → head.stage.waiting ≡ last_of head.stage.delim head.stage.unit head.stage.count x }
 {
-    let _ = unit;
+    let _ = (unit, delim);
 }
 
 /// The first lines or bytes of a text and what stands after them are together the text, and so are all but the last
 /// and the last. Where all but the last are asked for, what is written and what waits are together what came in.
-pub fn nothing_is_lost(unit: Unit)
-    ensures first { (n : ℕ) (x : List ℕ) → first_of unit n x ++ behind_of unit n x ≡ x }
-    ensures last { (n : ℕ) (x : List ℕ) → but_last_of unit n x ++ last_of unit n x ≡ x }
+pub fn nothing_is_lost(unit: Unit, delim: u8)
+    ensures first { (n : ℕ) (x : List ℕ) → first_of delim unit n x ++ behind_of delim unit n x ≡ x }
+    ensures last { (n : ℕ) (x : List ℕ) → but_last_of delim unit n x ++ last_of delim unit n x ≡ x }
     ensures waits { (head : GuardState HeadState) (x : List ℕ) → HoldsIn HeadHolds head x → head.stage.but_last ≡ true → ((work head.stage).settled x).out ++ head.stage.waiting ≡ x }
 {
-    let _ = unit;
+    let _ = (unit, delim);
 }
 
 /// What a tail has of a text x and of y that follows it. From the nth on it has what it has of x, and then what
 /// stands in y after those that are still to be passed over. The last are the last of what waited with y after it. So
 /// what waits, the last of what came in, is all that has to be kept, and it is no more than was asked for.
-pub fn tail_goes_on(unit: Unit)
-    ensures from_nth { (n : ℕ) (x y : List ℕ) → tail_of unit true n (x ++ y) ≡ tail_of unit true n x ++ behind_of unit (n - 1 - measure unit x) y }
-    ensures last { (n : ℕ) (x y : List ℕ) → last_of unit n (x ++ y) ≡ last_of unit n (last_of unit n x ++ y) }
-    ensures waits { (tail : GuardState TailState) (x : List ℕ) → HoldsIn TailHolds tail x → tail.stage.from_nth ≡ false → tail.stage.waiting ≡ last_of tail.stage.unit tail.stage.count x }
-    ensures few { (n : ℕ) (x : List ℕ) → size unit (last_of unit n x) ≤ n }
+pub fn tail_goes_on(unit: Unit, delim: u8)
+    ensures from_nth { (n : ℕ) (x y : List ℕ) → tail_of delim unit true n (x ++ y) ≡ tail_of delim unit true n x ++ behind_of delim unit (n - 1 - measure delim unit x) y }
+    ensures last { (n : ℕ) (x y : List ℕ) → last_of delim unit n (x ++ y) ≡ last_of delim unit n (last_of delim unit n x ++ y) }
+    ensures waits { (tail : GuardState TailState) (x : List ℕ) → HoldsIn TailHolds tail x → tail.stage.from_nth ≡ false → tail.stage.waiting ≡ last_of tail.stage.delim tail.stage.unit tail.stage.count x }
+    ensures few { (n : ℕ) (x : List ℕ) → size delim unit (last_of delim unit n x) ≤ n }
 {
-    let _ = unit;
+    let _ = (unit, delim);
 }
 
 /// No memory can be wanting for a piece where nothing waits, whatever came in: in a head of the first lines or bytes, and a
@@ -58,8 +58,10 @@ pub fn full_windows_lack_nothing()
     ensures tail_fails { (tail : GuardState TailState) (x piece : List ℕ) (old new : List Slot) (fault : Fault) → HoldsIn TailHolds tail x → tail.stage.may_lack ≡ false → TailRefused tail piece old new fault → (fault ≡ Fault.Write 0) ⊎ (fault ≡ Fault.TooLong) }
 {}
 
-/// How many lines a text has: as many as newlines, and one more if its last line is open.
-pub fn lines_are_counted()
-    ensures ended { (x : List ℕ) → ends_with_newline x ≡ true → line_count x ≡ newlines x }
-    ensures open { (x : List ℕ) → 0 < length x → ends_with_newline x ≡ false → line_count x ≡ newlines x + 1 }
-{}
+/// How many lines a text has: as many as delimiters, and one more if its last line is open.
+pub fn lines_are_counted(delim: u8)
+    ensures ended { (x : List ℕ) → ends_with delim x ≡ true → line_count delim x ≡ delimiters delim x }
+    ensures open { (x : List ℕ) → 0 < length x → ends_with delim x ≡ false → line_count delim x ≡ delimiters delim x + 1 }
+{
+    let _ = delim;
+}

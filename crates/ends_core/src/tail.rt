@@ -5,7 +5,7 @@ ghost use Rattle.ports_core.specs.Engine.{OwnsNone};
 ghost use Rattle.ports_core.specs.Guard.{GuardState, HoldsIn};
 ghost use Rattle.ends_core.specs.Tail.{Holds, tail_work, work};
 ghost use Rattle.ends_core.specs.TailState.{TailState};
-ghost use Rattle.ends_core.specs.TailWay.{FullLacksNone, SameWay, due, left_of, left_waiting, may_lack, state_of, unit_of, waiting_of};
+ghost use Rattle.ends_core.specs.TailWay.{FullLacksNone, SameWay, delim_of, due, left_of, left_waiting, may_lack, state_of, unit_of, waiting_of};
 ghost use Rattle.ends_core.specs.Ends.{measure};
 ghost use Rattle.ends_core.specs.Stops.{Stops};
 ghost use Rattle.ends_core.specs.TailLaws.{lawful};
@@ -54,17 +54,24 @@ impl Model for TailStage {
 
 impl Tail {
     /// A tail of the last `count` lines or bytes, or, with `from_nth`, of all from number `count` on. The first is
-    /// number 1, and 0 is read as 1.
+    /// number 1, and 0 is read as 1. Lines end with `delim`.
     ///
     /// # Errors
     ///
     /// `Memory` where there is no room for what waits: only where the last are asked for.
-    pub fn open(alloc: Global, unit: Unit, from_nth: bool, count: u64) -> Result<Tail, Fault>
+    pub fn open(
+        alloc: Global,
+        unit: Unit,
+        from_nth: bool,
+        count: u64,
+        delim: u8,
+    ) -> Result<Tail, Fault>
         ensures holds { IfOk result (λ tail. HoldsIn Holds tail []) }
         ensures unit { IfOk result (λ tail. tail.stage.unit ≡ unit) }
+        ensures delim { IfOk result (λ tail. unit ≡ Unit.Lines → tail.stage.delim ≡ delim) }
         ensures from_nth { IfOk result (λ tail. tail.stage.from_nth ≡ from_nth) }
         ensures count { IfOk result (λ tail. tail.stage.count ≡ count) }
-        ensures does { IfOk result (λ tail. work tail.stage ≡ tail_work unit from_nth count) }
+        ensures does { IfOk result (λ tail. work tail.stage ≡ tail_work delim unit from_nth count) }
         ensures bound { IfOk result (λ tail. tail.fed < 2 ^ 63) }
         ensures err { IfErr result (λ fault. (fault ≡ Fault.Memory) × (from_nth ≡ false)) }
     {
@@ -75,13 +82,14 @@ impl Tail {
                         count,
                         Front {
                             unit,
+                            delim,
                             left: count.saturating_sub(1),
                         },
                     ),
                 }),
             });
         }
-        match Kept::open(alloc, unit, count) {
+        match Kept::open(alloc, unit, count, delim) {
             Ok(kept) => Ok(Tail {
                 engine: Guarded::new(TailStage {
                     way: Way::Last(kept),
@@ -134,7 +142,7 @@ impl Engine for Tail {
 
     ghost counts = { λ tail x holds. holds.count };
 
-    ghost lawful = { λ tail. lawful tail.stage.unit tail.stage.from_nth tail.stage.count };
+    ghost lawful = { λ tail. lawful tail.stage.delim tail.stage.unit tail.stage.from_nth tail.stage.count };
 }
 
 impl Stage for TailStage {
@@ -167,7 +175,7 @@ impl Stage for TailStage {
         false
     }
 
-    ghost lawful = { λ tail. lawful tail.unit tail.from_nth tail.count };
+    ghost lawful = { λ tail. lawful tail.delim tail.unit tail.from_nth tail.count };
 }
 
 impl Way {
@@ -182,7 +190,7 @@ impl Way {
         requires writable { IsTrue (is_writable (O.slots outs.old) 0) }
         ensures same { SameWay self.old self.new }
         ensures bound { length (waiting_of self.new) ≤ length (waiting_of self.old) + length piece.now }
-        ensures left { OnOk result (left_of self.new ≡ left_of self.old - measure (unit_of self.old) piece.now) }
+        ensures left { OnOk result (left_of self.new ≡ left_of self.old - measure (delim_of self.old) (unit_of self.old) piece.now) }
         ensures waits { OnOk result (waiting_of self.new ≡ left_waiting self.old piece.now) }
         ensures full { OnOk result (FullLacksNone self.new) }
         ensures out { OnOk result (O.slots outs.new ≡ with_written 0 (told_of O.told (due self.old piece.now)) (O.slots outs.old)) }

@@ -1,3 +1,4 @@
+pub mod HandedOn
 pub mod PartLemmas
 pub mod GuardLemmas
 pub mod SweepLemmas

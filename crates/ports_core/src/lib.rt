@@ -37,7 +37,7 @@ pub use dir_out::DirOut;
 pub use engine::Engine;
 pub use fault::{Fault, UsageKind};
 pub use guarded::Guarded;
-pub use inputs::Inputs;
+pub use inputs::{Inputs, STANDARD_INPUT};
 pub use laws::{names_are_in_order, no_name_is_given_twice};
 pub use length::{MOST_BYTES, fed_with};
 pub use mem_in::MemIn;

@@ -13,14 +13,11 @@ ghost use Rattle.run_core.specs.Task.{Task, header_text, of_content, of_input};
 
 use crate::adapter::Adapter;
 use crate::feeding::{Fed, feed_input, feed_nothing, is_verdict};
-use ports_core::{Fault, Inputs, Outs, header, say, tell, write_whole};
-use std::alloc::{AllocError, Global};
+use ports_core::{Fault, Inputs, Outs, STANDARD_INPUT, header, say, tell, write_whole};
+use std::alloc::Global;
 
 /// How many bytes are read at once, at the most.
 const PIECE: usize = 65_536;
-
-/// The operand that stands for standard input.
-pub const STANDARD_INPUT: &str = "-";
 
 /// What all inputs of a run have in common.
 #[derive(Clone, Copy)]
@@ -87,10 +84,7 @@ fn take_inputs<A: Adapter, I: Inputs, O: Outs>(
     ensures asked { AsksAtMost largest_piece (I.sources inputs.new) }
     ensures untouched { has_dash (map (λ name. name.now) names.now) ≡ false → source_at (I.sources inputs.new) 0 ≡ source_at (I.sources inputs.old) 0 }
 {
-    let mut buffer = match vec![in job.alloc; 0u8; PIECE] {
-        Ok(buffer) => buffer,
-        Err(AllocError) => return Err(Fault::Memory),
-    };
+    let mut buffer = vec![in job.alloc; 0u8; PIECE]?;
     take_names(job, names, &mut buffer, inputs, outs)
 }
 
@@ -123,10 +117,7 @@ fn take_names<A: Adapter, I: Inputs, O: Outs>(
     };
     let mut left = names;
     while let [name, rest @ ..] = left {
-        match take_name(job, name, progress, buffer, inputs, outs) {
-            Ok(next) => progress = next,
-            Err(fault) => return Err(fault),
-        }
+        progress = take_name(job, name, progress, buffer, inputs, outs)?;
         left = rest;
     }
     Ok(progress.failed)
@@ -233,10 +224,7 @@ fn take_input<A: Adapter, I: Inputs, O: Outs>(
     ensures others { KeepsOther source (I.sources inputs.old) (I.sources inputs.new) }
     ensures laid { I.laid inputs.new ≡ I.laid inputs.old }
 {
-    match put_header(job, name, progress.is_first, outs) {
-        Ok(()) => {}
-        Err(fault) => return Err(fault),
-    }
+    put_header(job, name, progress.is_first, outs)?;
     let after = Progress {
         is_first: false,
         ..progress
@@ -284,14 +272,8 @@ fn put_header<A: Adapter, O: Outs>(
     if !job.adapter.with_header() {
         return Ok(());
     }
-    let text = match header(job.alloc, name, is_first) {
-        Ok(text) => text,
-        Err(fault) => return Err(fault),
-    };
-    match write_whole(outs, 0, &text) {
-        Ok(()) => Ok(()),
-        Err(_) => Err(Fault::Write(0)),
-    }
+    let text = header(job.alloc, name, is_first)?;
+    Ok(write_whole(outs, 0, &text)?)
 }
 
 /// Feeds all of a source to an engine of its own.
@@ -317,10 +299,7 @@ fn feed_source<A: Adapter, I: Inputs, O: Outs>(
     ensures others { KeepsOther source (I.sources inputs.old) (I.sources inputs.new) }
     ensures laid { I.laid inputs.new ≡ I.laid inputs.old }
 {
-    let mut engine = match job.adapter.open(job.alloc, outs) {
-        Ok(engine) => engine,
-        Err(fault) => return Err(fault),
-    };
+    let mut engine = job.adapter.open(job.alloc, outs)?;
     match source {
         Some(slot) => feed_input(&mut engine, slot, buffer, inputs, outs),
         None => feed_nothing(&mut engine, outs),

@@ -7,4 +7,4 @@ mod inputs;
 
 pub use adapter::Adapter;
 pub use feeding::{Fed, feed_input, feed_nothing};
-pub use inputs::{STANDARD_INPUT, is_dash, run_inputs};
+pub use inputs::{is_dash, run_inputs};

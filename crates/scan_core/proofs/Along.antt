@@ -5,16 +5,13 @@ use Rattle.bre_core.specs.ByteSet.{has}
 use Rattle.bre_core.specs.Match.{Parts}
 use Rattle.scan_core.specs.declared.node.Node.{Node}
 use Rattle.scan_core.specs.declared.node.Node.TheVariants.{Take, First, Last, Choose, Back}
-use Rattle.scan_core.specs.declared.reach.Reach.{Reach}
-use Rattle.scan_core.specs.declared.search.Search.{Search}
 use Rattle.std.specs.Prelude.{◌==◌}
 use Rattle.std.proofs.Common.{length-append}
 use Rattle.std.proofs.Math.Nat.{mul-le-mul}
-use Rattle.scan_core.specs.Sets.{IsSet, positions_among}
-use Rattle.scan_core.specs.Counted.{set_at, positions_in_all, AreSteps, IsStepCount, EndsIn}
-use Rattle.scan_core.proofs.Enterings.{is_set}
+use Rattle.scan_core.specs.Sets.{positions_among}
+use Rattle.scan_core.specs.Counted.{set_at, positions_in_all, AreSteps}
 use Rattle.scan_core.specs.Code.{At, Leads, Goes, Walks, Entered}
-use Rattle.scan_core.specs.Sets.{IsMarked, IsReach, Has, Gains, LeadsOn, Flows, FlowsOn, Opens, Passes, PassesFrom, IsEmptied, Came}
+use Rattle.scan_core.specs.Sets.{IsMarked, LeadsOn, Flows, FlowsOn, Passes, Came}
 use Rattle.scan_core.proofs.Walks.{path_on}
 
 -- which place of the line this is
@@ -55,10 +52,6 @@ walk_forward code line (suc count) at place to stop w = step (leads_place w.2.0 
 
 pub entered_on : (code : List Node) (line : List ℕ) (at place to stop : ℕ) → Entered code line at place → Goes code line at place to stop → Entered code line to stop
 entered_on code line at place to stop e g = (e.0, e.1, path_on code line 0 e.0 at place to stop e.2 (1, (to, stop, g, (refl, refl))))
-
--- what was entered at a place is just what can be
-pub record IsAt (code : List Node) (line : List ℕ) (place : ℕ) (now : Reach) : Type 0 where
-  pub exact : (number : ℕ) → Has now number ↔ Entered code line number place
 
 pub closes_exact : (code : List Node) (line : List ℕ) (place : ℕ) (at_first at_last : Bool) (Old Now : ℕ → Type 0) → IsPlace line place at_first at_last → ((number : ℕ) → Old number ↔ Came code line place number)
     → ((number : ℕ) → Now number ↔ ((from : ℕ) × (Old from ⊎ (from ≡ 0)) × FlowsOn code at_first at_last from number)) → (number : ℕ) → Now number ↔ Entered code line number place
@@ -104,31 +97,6 @@ closes_exact code line place at_first at_last Old Now p came o number = (λ h. t
         let l = walk_forward code line e.2.0 0 e.0 number place e.2.1 in
         arrive e.2.0 0 e.0 number l e.2.1 (e.0, e.1, (0, (refl, refl))) (λ q. (o 0).1 (0, inr refl, (0, refl)))
 
-pub opens_exact : (code : List Node) (line : List ℕ) (place : ℕ) (at_first at_last : Bool) (old now : Reach) → IsPlace line place at_first at_last → ((number : ℕ) → Has old number ↔ Came code line place number) → Opens code at_first at_last old now
-    → IsAt code line place now
-opens_exact code line place at_first at_last old now p came o = record { exact = closes_exact code line place at_first at_last (Has old) (Has now) p came o.exact }
-
--- a byte leads on from the set of one place to what comes at the next
-pub passes_exact : (code : List Node) (line : List ℕ) (place byte : ℕ) (now empty next : Reach) → IsAt code line place now → place < length line → byte ≡ slice_index line place → ((number : ℕ) → Has empty number → ⊥) → Gains code (PassesFrom now code byte) empty next
-    → (number : ℕ) → Has next number ↔ Came code line (place + 1) number
-passes_exact code line place byte now empty next a h e none g number = (λ k. there ((g.exact number).0 k), λ c. here c)
-  where
-    there : Has empty number ⊎ PassesFrom now code byte number → Came code line (place + 1) number
-    there (inl k) = absurd (none number k)
-    there (inr k) = (place, refl, k.0, (a.exact k.0).0 k.1, (Take k.2.0, k.2.1, (k.2.3, refl, h, subst (λ b. IsTrue (has k.2.0 b)) e k.2.2)))
-
-    here : Came code line (place + 1) number → Has next number
-    here c = (g.exact number).1 (inr (back c (leads_place c.4.0 line c.2 c.0 number (place + 1) c.4.2)))
-      where
-        back : (c : Came code line (place + 1) number) → (place + 1 ≡ c.0) ⊎ ((place + 1 ≡ c.0 + 1) × (bytes : List Bool) × (c.4.0 ≡ Take bytes) × (c.0 < length line) × IsTrue (has bytes (slice_index line c.0)) × (number ≡ c.2 + 1)) → PassesFrom now code byte number
-        back c (inl s) = let q = c.1 in absurd (omega (arith, s, q))
-        back c (inr s) =
-            let same : c.0 ≡ place = omega (arith, s.0) in
-            (c.2, (a.exact c.2).1 (subst (λ n. Entered code line c.2 n) same c.3), (s.1, subst (At code c.2) s.2 c.4.1, subst (λ b. IsTrue (has s.1 b)) (ap (λ n. slice_index line n) same ∙ sym e) s.4, s.5))
-
-pub none_came : (code : List Node) (line : List ℕ) (old : Reach) → ((number : ℕ) → Has old number → ⊥) → (number : ℕ) → Has old number ↔ Came code line 0 number
-none_came code line old none number = (λ h. absurd (none number h), λ c. absurd (omega (arith, c.1)))
-
 pub inner : (line : List ℕ) (place : ℕ) (at_first : Bool) → place < length line → at_first ≡ (place == 0) → IsPlace line place at_first false
 inner line place at_first h f = record {
   within = omega (arith, h);
@@ -166,62 +134,6 @@ one_counted code line place steps steps' set a x e = record {
   ];
   total = let m = more_positions code a.sets set in let t = a.total in omega (arith, m, t, e);
 }
-
--- the line was searched up to a place, and no match has ended
-pub record Searched (code : List Node) (line : List ℕ) (place : ℕ) (scan : Search) : Type 0 where
-  pub now : IsReach code scan.now
-  pub next : IsSet scan.next
-  pub room : length code < length scan.next.marks.items
-  pub came : (number : ℕ) → Has scan.now number ↔ Came code line place number
-  pub none : (before : ℕ) → before < place → Entered code line (length code) before → ⊥
-  pub counted : AreSteps code line place scan.steps
-
-pub search_starts : (code : List Node) (line : List ℕ) (old : Reach) (scan : Search) → IsEmptied code old scan.now → IsSet scan.next → length code < length scan.next.marks.items → scan.steps ≡ 0 → Searched code line 0 scan
-search_starts code line old scan e r t z = record {
-  now = e.sound;
-  next = r;
-  room = t;
-  came = none_came code line scan.now e.none;
-  none = λ before h. absurd (omega (arith, h));
-  counted = subst (AreSteps code line 0) (sym z) (none_counted code line);
-}
-
-pub search_more : (code : List Node) (line : List ℕ) (place byte : ℕ) (scan new : Search) (now empty next : Reach) (found at_first : Bool) → Searched code line place scan → place < length line → byte ≡ slice_index line place → at_first ≡ (place == 0)
-    → Opens code at_first false scan.now now → IsEmptied code scan.next empty → Gains code (PassesFrom now code byte) empty next → found ≡ false → (IsTrue found ↔ Has now (length code)) → new.now ≡ next → new.next ≡ now → new.steps ≡ scan.steps + now.positions → Searched code line (place + 1) new
-search_more code line place byte scan new now empty next found at_first s h e f o m g absent test en ex es = record {
-  now = subst (IsReach code) (sym en) g.sound;
-  next = subst IsSet (sym ex) (is_set now o.sound);
-  room = let l = ap (λ r. length r.marks.items) ex in omega (arith, l, o.sound.room);
-  came = λ number. subst (λ r. Has r number ↔ Came code line (place + 1) number) (sym en) (passes_exact code line place byte now empty next here h e m.none g number);
-  none = λ before l k. elim (cases_eq before place) [
-    | inl same ↦ absurd (false≢true (sym absent ∙ test.1 ((here.exact (length code)).1 (subst (λ p. Entered code line (length code) p) same k))))
-    | inr other ↦ s.none before (omega (arith, l, other)) k
-  ];
-  counted = one_counted code line place scan.steps new.steps now.marks.items s.counted here.exact (es ∙ ap (λ p. scan.steps + p) o.sound.weighed);
-}
-  where
-    here : IsAt code line place now
-    here = opens_exact code line place at_first false scan.now now (inner line place at_first h f) s.came o
-
-pub search_found : (code : List Node) (line : List ℕ) (place : ℕ) (scan : Search) (now : Reach) (at_first at_last : Bool) → Searched code line place scan → IsPlace line place at_first at_last → Opens code at_first at_last scan.now now → Has now (length code) → EndsIn code line
-search_found code line place scan now at_first at_last s p o h = (place, p.within, ((opens_exact code line place at_first at_last scan.now now p s.came o).exact (length code)).0 h)
-
-pub search_ends : (code : List Node) (line : List ℕ) (place : ℕ) (scan : Search) (now : Reach) (at_first at_last found : Bool) → Searched code line place scan → IsPlace line place at_first at_last → place ≡ length line → Opens code at_first at_last scan.now now
-    → (IsTrue found ↔ Has now (length code)) → IsTrue found ↔ EndsIn code line
-search_ends code line place scan now at_first at_last found s p e o test = (
-  λ h. search_found code line place scan now at_first at_last s p o (test.0 h),
-  λ k. elim (cases_eq k.0 place) [
-    | inl same ↦ test.1 (((opens_exact code line place at_first at_last scan.now now p s.came o).exact (length code)).1 (subst (λ q. Entered code line (length code) q) same k.2))
-    | inr other ↦ absurd (s.none k.0 (omega (arith, k.1, e, other)) k.2)
-  ],
-)
-
--- the last place is counted
-pub search_counted : (code : List Node) (line : List ℕ) (place steps : ℕ) (scan : Search) (now : Reach) (at_first at_last : Bool) → Searched code line place scan → IsPlace line place at_first at_last → place ≡ length line → Opens code at_first at_last scan.now now
-    → steps ≡ scan.steps + now.positions → IsStepCount code line steps
-search_counted code line place steps scan now at_first at_last s p e o es =
-    subst (λ n. AreSteps code line (n + 1) steps) e
-    (one_counted code line place scan.steps steps now.marks.items s.counted (opens_exact code line place at_first at_last scan.now now p s.came o).exact (es ∙ ap (λ q. scan.steps + q) o.sound.weighed))
 
 pub final : (line : List ℕ) (place : ℕ) (at_first : Bool) → place ≡ length line → at_first ≡ (length line == 0) → IsPlace line place at_first true
 final line place at_first h f = record {

@@ -21,7 +21,7 @@ marked_most [] = omega arith
 marked_most (true ∷ marks) = let l = marked_most marks in omega (arith, l)
 marked_most (false ∷ marks) = let l = marked_most marks in omega (arith, l)
 
-weight_most : (node : Node) → weight_of node ≤ 1
+pub weight_most : (node : Node) → weight_of node ≤ 1
 weight_most (Take bytes) = omega arith
 weight_most First = omega arith
 weight_most Last = omega arith

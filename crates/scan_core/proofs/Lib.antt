@@ -10,6 +10,13 @@ pub mod Enterings
 pub mod Spreadings
 pub mod Along
 pub mod Whole
+pub mod Bits
+pub mod Growings
+pub mod Visitings
+pub mod Passings
+pub mod Countings
+pub mod Searchings
 pub mod Inners
 pub mod Tables
+pub mod Masking
 pub mod Shiftings

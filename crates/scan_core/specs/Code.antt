@@ -1,5 +1,5 @@
 -- A pattern's code: a list of nodes, each at its number. The number after the last node is the pattern's end.
-use Rattle.std.specs.Prelude.{◌≡◌, ◌⊎◌, ℕ, zero, suc, ◌+◌, ◌-◌, ◌<◌, ◌≤◌, IsTrue, List, [], ◌∷◌, ◌++◌, length, slice_index, Option, Some, None}
+use Rattle.std.specs.Prelude.{◌≡◌, ◌⊎◌, ℕ, zero, suc, ◌+◌, ◌-◌, ◌<◌, ◌≤◌, Bool, true, false, IsTrue, List, [], ◌∷◌, ◌++◌, length, slice_index, Option, Some, None}
 use Rattle.bre_core.specs.ByteSet.{has}
 use Rattle.scan_core.specs.declared.node.Node.{Node}
 use Rattle.scan_core.specs.declared.node.Node.TheVariants.{Take, First, Last, Choose, Back}
@@ -86,6 +86,14 @@ weight_of First = 1
 weight_of Last = 1
 weight_of (Choose skip) = 1
 weight_of (Back by) = 0
+
+-- whether a node leads on without a byte
+abbrev pub is_lead : Node → Bool
+is_lead (Take bytes) = false
+is_lead First = true
+is_lead Last = true
+is_lead (Choose skip) = true
+is_lead (Back by) = true
 
 -- how many nodes are positions
 abbrev pub weight : List Node → ℕ

@@ -4,7 +4,7 @@ pub mod Compiling
 pub mod Sets
 pub mod Counted
 pub mod ScanState
-pub mod Searching
 pub mod Table
 pub mod Built
 pub mod Shifts
+pub mod Words

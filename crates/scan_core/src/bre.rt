@@ -1,6 +1,6 @@
 //! Patterns that are ready for matching.
 
-ghost use Rattle.std.specs.Prelude.{◌≡◌, ◌<◌, ◌≤◌, IfOk, IfErr, IfSome, IsErrOf, length};
+ghost use Rattle.std.specs.Prelude.{◌≡◌, ◌<◌, ◌≤◌, ◌+◌, ◌*◌, ◌/◌, IfOk, IfErr, IfSome, IsErrOf, length};
 ghost use Rattle.bre_core.specs.Pattern.{Pattern, Reads, positions_of, depth_of};
 ghost use Rattle.bre_core.specs.Refusal.{IsOfText, IsTooLarge};
 ghost use Rattle.bre_core.specs.Search.{contains};
@@ -10,7 +10,9 @@ ghost use Rattle.scan_core.specs.Table.{IsOutcome};
 
 use crate::build::build;
 use crate::compile::compile;
+use crate::masks::{Masks, masks_of};
 use crate::node::Node;
+use crate::search::search;
 use crate::shift_table::{ShiftTable, shifts_of};
 use crate::shift_walk::walk_by_shifts;
 use crate::table::Table;
@@ -24,6 +26,7 @@ use std::marker::Model;
 pub struct Bre {
     expression: Expression,
     code: Vec<Node>,
+    masks: Masks,
     table: Option<Table>,
     shifts: Option<ShiftTable>,
 }
@@ -35,6 +38,7 @@ impl Model for Bre {
     ghost use Rattle.scan_core.specs.Code.{code_of, IsOrdered};
     ghost use Rattle.scan_core.specs.Table.{IsTable};
     ghost use Rattle.scan_core.specs.Shifts.{IsShiftTable};
+    ghost use Rattle.scan_core.specs.Words.{IsMasks};
 
     ghost Value = { Pattern };
 
@@ -43,7 +47,7 @@ impl Model for Bre {
     ghost view = { λ b. b.expression };
 
     ghost invariant = { λ b. (b.code.items ≡ code_of b.expression) × IsOrdered b.expression × (positions_of b.expression ≤ 65535)
-        × IfSome b.table (IsTable b.code.items) × IfSome b.shifts (IsShiftTable b.code.items) };
+        × IsMasks b.code.items b.masks × IfSome b.table (IsTable b.code.items) × IfSome b.shifts (IsShiftTable b.code.items) };
 }
 
 impl Bre {
@@ -55,7 +59,7 @@ impl Bre {
     /// has more than 65,535 positions, and with `Memory` where a growth is refused.
     ///
     /// A pattern keeps one entry for each of its tokens, of which it has no more than the text has bytes, at most two nodes
-    /// of 40 bytes for each of its positions, and where it has at most 512 nodes a table of up to 4,096 sets with 544 bytes
+    /// of 73 bytes for each of its positions, and where it has at most 512 nodes a table of up to 4,096 sets with 544 bytes
     /// for each; where these are at most nine, also 4,096 bytes of words.
     pub fn read(alloc: Global, text: &[u8]) -> Result<Bre, BreFault>
         ensures reads { IfOk result (Reads text.now) }
@@ -67,11 +71,13 @@ impl Bre {
     {
         let expression = Expression::read(alloc, text)?;
         let code = compile(alloc, &expression)?;
+        let masks = masks_of(alloc, &code)?;
         let table = build(alloc, &code)?;
         let shifts = shifts_of(alloc, &code, &table)?;
         Ok(Bre {
             expression,
             code,
+            masks,
             table,
             shifts,
         })
@@ -111,12 +117,17 @@ impl Bre {
         }
     }
 
-    /// The pattern's code.
-    pub(crate) fn code(&self) -> &[Node]
-        ensures code { result.now ≡ code_of self.now }
+    /// Whether a line has a match, by sets of what is entered at each place. `words` is room for a set: a bit for each of
+    /// twice as many numbers as the pattern has positions.
+    pub(crate) fn search(&self, line: &[u8], words: &mut [u64]) -> Outcome
+        requires { length words.old ≡ 2 * positions_of self.now / 64 + 1 }
+        ensures size { length words.new ≡ length words.old }
+        ensures outcome { IsOutcome (code_of self.now) line.now result }
         ensures order { IsOrdered self.now }
     {
-        &self.code
+        let code = &self.code;
+        let width = code.len() / 64 + 1;
+        search(&self.masks, code, line, &mut words[..width])
     }
 }
 

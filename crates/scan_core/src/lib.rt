@@ -11,6 +11,7 @@ mod build;
 mod compile;
 mod emit;
 pub mod laws;
+mod masks;
 mod node;
 mod reach;
 mod scan;
@@ -19,6 +20,7 @@ mod shift_table;
 mod shift_walk;
 mod table;
 mod walk;
+mod words;
 
 pub use bre::{Bre, matches_plain};
 pub use bre_core::BreFault;

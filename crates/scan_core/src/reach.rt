@@ -190,7 +190,7 @@ impl Reach {
 }
 
 /// Whether a byte leads on from a number.
-fn passes(nodes: &[Node], number: usize, byte: u8) -> bool
+pub fn passes(nodes: &[Node], number: usize, byte: u8) -> bool
     ensures yes { IsTrue result → Passes nodes.now byte number (number + 1) }
     ensures no { (to : ℕ) → Passes nodes.now byte number to → IsTrue result }
 {

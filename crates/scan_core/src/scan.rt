@@ -8,7 +8,6 @@ ghost use Rattle.scan_core.specs.Code.{code_of};
 ghost use Rattle.scan_core.specs.Counted.{IsStepCount};
 
 use crate::bre::Bre;
-use crate::search::Search;
 use bre_core::BreFault;
 use std::alloc::Global;
 use std::marker::Model;
@@ -18,24 +17,26 @@ use std::marker::Model;
 pub struct Scan {
     /// How many positions there is room for.
     positions: u64,
-    search: Search,
+    /// Room for a set of the numbers of a pattern's code.
+    words: Vec<u64>,
+    /// The steps of the last search.
+    steps: u128,
 }
 
 impl Model for Scan {
-    ghost use Rattle.std.specs.Prelude.{◌*◌};
+    ghost use Rattle.std.specs.Prelude.{◌≡◌, ◌+◌, ◌*◌, ◌/◌, length};
     ghost use Rattle.scan_core.specs.ScanState.{ScanState};
-    ghost use Rattle.scan_core.specs.Searching.{IsReady};
 
     ghost Value = { ScanState };
 
-    ghost view = { λ s. record { positions = s.positions; steps = s.search.steps } };
+    ghost view = { λ s. record { positions = s.positions; steps = s.steps } };
 
-    ghost invariant = { λ s. IsReady (2 * s.positions) s.search };
+    ghost invariant = { λ s. length s.words.items ≡ 2 * s.positions / 64 + 1 };
 }
 
 impl Scan {
-    /// Room for patterns of as many positions as this one. It takes 18 bytes for each number of a node, of which there may
-    /// be two for each position, twice.
+    /// Room for patterns of as many positions as this one. It takes one bit for each number of a node, of which there may be
+    /// two for each position.
     ///
     /// Fails with `Memory` alone.
     pub fn new(alloc: Global, bre: &Bre) -> Result<Scan, BreFault>
@@ -44,9 +45,12 @@ impl Scan {
         ensures err { IfErr result (λ fault. fault ≡ Memory) }
     {
         let positions = bre.positions();
-        let size = 2 * positions as usize;
-        let search = Search::new(alloc, size)?;
-        Ok(Scan { positions, search })
+        let words = vec![in alloc; 0u64; 2 * positions as usize / 64 + 1]?;
+        Ok(Scan {
+            positions,
+            words,
+            steps: 0,
+        })
     }
 
     /// Whether some stretch of the line, taken without its newline, matches the pattern (XBD 9.1). The pattern has as many
@@ -64,18 +68,19 @@ impl Scan {
     {
         if !line.is_empty() {
             if let Some(outcome) = bre.walk(line) {
-                self.search.steps = outcome.steps;
+                self.steps = outcome.steps;
                 return outcome.found;
             }
         }
-        let code = bre.code();
-        self.search.run(code, line)
+        let outcome = bre.search(line, &mut self.words);
+        self.steps = outcome.steps;
+        outcome.found
     }
 
     /// The steps of the last `matches`, 0 before the first.
     pub fn steps(&self) -> u128
         ensures { result ≡ self.now.steps }
     {
-        self.search.steps
+        self.steps
     }
 }

@@ -1,69 +1,41 @@
 //! Searching a line place by place, with the set of what is entered at each.
 
-ghost use Rattle.std.specs.Prelude.{◌≡◌, ◌↔◌, ◌<◌, ◌≤◌, ◌+◌, ◌*◌, IsTrue, IsFalse, IfOk, IfErr, length};
-ghost use Rattle.bre_core.specs.declared.fault.BreFault.TheVariants.{Memory};
-ghost use Rattle.scan_core.specs.Code.{weight};
+ghost use Rattle.std.specs.Prelude.{◌≡◌, length};
 ghost use Rattle.scan_core.specs.Sets.{IsCode};
-ghost use Rattle.scan_core.specs.Counted.{EndsIn, IsStepCount};
-ghost use Rattle.scan_core.specs.Searching.{IsReady};
+ghost use Rattle.scan_core.specs.Table.{IsOutcome};
+ghost use Rattle.scan_core.specs.Words.{IsMasks, width};
 
+use crate::masks::Masks;
 use crate::node::Node;
-use crate::reach::Reach;
-use bre_core::BreFault;
-use std::alloc::Global;
-use std::mem;
+use crate::walk::Outcome;
+use crate::words::{clear, enter, has, pass, positions, spread};
 
-/// Room for a search.
-#[derive(Drop)]
-pub struct Search {
-    /// What is entered at the place that the search has come to.
-    now: Reach,
-    /// What the next byte leads to.
-    next: Reach,
-    /// The steps of the last search.
-    pub steps: u128,
-}
-
-impl Search {
-    /// Room for a search over `size` numbers.
-    pub fn new(alloc: Global, size: usize) -> Result<Search, BreFault>
-        ensures ready { IfOk result (IsReady size) }
-        ensures steps { IfOk result (λ search. search.steps ≡ 0) }
-        ensures err { IfErr result (λ fault. fault ≡ Memory) }
-    {
-        let now = Reach::new(alloc, size)?;
-        let next = Reach::new(alloc, size)?;
-        Ok(Search {
-            now,
-            next,
-            steps: 0,
-        })
-    }
-
-    /// Whether the code's end is entered at some place of the line. Counts the positions that are entered at each place.
-    pub fn run(&mut self, nodes: &[Node], line: &[u8]) -> bool
-        requires ready { IsReady (length self.old.now.marks.items) self.old }
-        requires room { length nodes.now < length self.old.now.marks.items }
-        requires code { IsCode nodes.now }
-        ensures exact { IsTrue result ↔ EndsIn nodes.now line.now }
-        ensures counted { IsFalse result → IsStepCount nodes.now line.now self.new.steps }
-        ensures bound { self.new.steps ≤ (length line.now + 1) * (weight nodes.now + 1) }
-        ensures ready { IsReady (length self.old.now.marks.items) self.new }
-    {
-        self.now.clear(nodes);
-        self.steps = 0;
-        for place in 0..line.len() {
-            self.now.open(nodes, place == 0, false);
-            self.steps += self.now.positions() as u128;
-            if self.now.has(nodes.len()) {
-                return true;
-            }
-            self.next.clear(nodes);
-            self.now.pass(nodes, line[place], &mut self.next);
-            mem::swap(&mut self.now, &mut self.next);
+/// Whether the code's end is entered at some place of the line, with the positions that are entered at each place. The
+/// masks are those of these nodes, and `words` is room for a set.
+pub fn search(masks: &Masks, nodes: &[Node], line: &[u8], words: &mut [u64]) -> Outcome
+    requires masks { IsMasks nodes.now masks.now }
+    requires code { IsCode nodes.now }
+    requires room { length words.old ≡ width nodes.now }
+    ensures size { length words.new ≡ length words.old }
+    ensures outcome { IsOutcome nodes.now line.now result }
+{
+    let mut steps = 0;
+    clear(words);
+    for place in 0..line.len() {
+        enter(words, 0, 0);
+        spread(words, nodes, &masks.leads, place == 0, false);
+        steps += positions(words, nodes, &masks.counts) as u128;
+        if has(words, nodes.len()) {
+            return Outcome { found: true, steps };
         }
-        self.now.open(nodes, line.is_empty(), true);
-        self.steps += self.now.positions() as u128;
-        self.now.has(nodes.len())
+        let byte = line[place];
+        pass(words, nodes, &masks.takes, byte as usize * words.len(), byte);
+    }
+    enter(words, 0, 0);
+    spread(words, nodes, &masks.leads, line.is_empty(), true);
+    steps += positions(words, nodes, &masks.counts) as u128;
+    Outcome {
+        found: has(words, nodes.len()),
+        steps,
     }
 }

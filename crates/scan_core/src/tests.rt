@@ -1,10 +1,6 @@
 //! Rows of steps, patterns at the limits, and the matcher beside the plain one.
 
-ghost use Rattle.std.specs.Prelude.{◌≡◌, ◌*◌};
-ghost use Rattle.bre_core.specs.Pattern.{positions_of};
-ghost use Rattle.scan_core.specs.Searching.{IsReady};
 
-use crate::search::Search;
 use crate::{Bre, BreFault, Scan, matches_plain};
 use std::alloc::Global;
 use std::process::Abort;
@@ -207,29 +203,22 @@ fn line_of(rt: &impl Abort, alloc: Global, number: usize) -> Vec<u8> {
 /// Compares the table, the sets and the plain matcher; where the line doesn't match, the steps of the first two as well.
 fn agree(rt: &impl Abort, alloc: Global, bre: &Bre, line: &[u8]) {
     let plain = matches_plain(alloc, bre, line).expect(rt, "there is memory");
-    let mut search = Search::new(alloc, 2 * bre.positions() as usize).expect(rt, "there is memory");
-    let by_sets = searched(bre, &mut search, line);
-    assert_eq!(rt; by_sets, plain, "by sets: {line:?}");
+    let size = 2 * bre.positions() as usize / 64 + 1;
+    let mut words = vec![in alloc; u64::MAX; size].expect(rt, "there is memory");
+    let by_sets = bre.search(line, &mut words);
+    assert_eq!(rt; by_sets.found, plain, "by sets: {line:?}");
     if !line.is_empty() {
         if let Some(outcome) = bre.walk(line) {
             assert_eq!(rt; outcome.found, plain, "by the table: {line:?}");
             assert!(rt;
-                outcome.found || outcome.steps == search.steps,
+                outcome.found || outcome.steps == by_sets.steps,
                 "steps: {line:?}"
             );
         }
     }
     let mut scan = Scan::new(alloc, bre).expect(rt, "there is memory");
     assert_eq!(rt; scan.matches(bre, line), plain, "{line:?}");
-    assert!(rt; plain || scan.steps() == search.steps, "steps: {line:?}");
-}
-
-/// What the sets return.
-fn searched(bre: &Bre, search: &mut Search, line: &[u8]) -> bool
-    requires { IsReady (2 * positions_of bre.now) search.old }
-{
-    let code = bre.code();
-    search.run(code, line)
+    assert!(rt; plain || scan.steps() == by_sets.steps, "steps: {line:?}");
 }
 
 #[test]

@@ -1,55 +1,55 @@
--- Newlines that are counted from the end of a text.
+-- Delimiters that are counted from the end of a text.
 use Rattle.std.proofs.Common.{◌≡◌, ℕ, ◌+◌, ◌-◌, ◌<◌, ◌≤◌, Bool, true, false, cond, eqb, List, [], ◌∷◌, ◌++◌, length, take, drop, get_or, refl, sym, ap, ◌∙◌, arith, drop-cons, add-one}
 use Rattle.std.proofs.lemmas.List.{take_more, drop-drop}
 use mir.Val.{bool_byte}
-use Rattle.seg_core.specs.Line.{newlines, ends_with_newline, BeginsAt}
-use Rattle.seg_core.proofs.Newlines.{newlines-append, newlines-take-drop}
-use Rattle.seg_core.proofs.LineCounts.{ends_with_newline-append}
+use Rattle.seg_core.specs.Line.{delimiters, ends_with, BeginsAt}
+use Rattle.seg_core.proofs.Delimiters.{delimiters-append, delimiters-take-drop}
+use Rattle.seg_core.proofs.LineCounts.{ends_with-append}
 
-as_number : (is_newline : Bool) → bool_byte is_newline ≡ cond is_newline (0 + 1) 0
+as_number : (is_delim : Bool) → bool_byte is_delim ≡ cond is_delim (0 + 1) 0
 as_number true = refl
 as_number false = refl
 
--- what is added for a byte is its newlines
-pub added : (byte n : ℕ) → n ≡ bool_byte (eqb byte 10) → n ≡ newlines (byte ∷ [])
-added byte n is = is ∙ as_number (eqb byte 10)
+-- what is added for a byte is its delimiters
+pub added : (delim byte n : ℕ) → n ≡ bool_byte (eqb byte delim) → n ≡ delimiters delim (byte ∷ [])
+added delim byte n is = is ∙ as_number (eqb byte delim)
 
-is_one : (is_newline : Bool) → 0 < bool_byte is_newline → is_newline ≡ true
+is_one : (is_delim : Bool) → 0 < bool_byte is_delim → is_delim ≡ true
 is_one true some = refl
 is_one false some = absurd (omega arith)
 
-at_most_one : (is_newline : Bool) → bool_byte is_newline ≤ 1
+at_most_one : (is_delim : Bool) → bool_byte is_delim ≤ 1
 at_most_one true = omega arith
 at_most_one false = omega arith
 
-pub most_one : (x : List ℕ) (i one : ℕ) → one ≡ bool_byte (eqb (get_or x i 0) 10) → one ≤ 1
-most_one x i one is = omega (arith, at_most_one (eqb (get_or x i 0) 10))
+pub most_one : (delim : ℕ) (x : List ℕ) (i one : ℕ) → one ≡ bool_byte (eqb (get_or x i 0) delim) → one ≤ 1
+most_one delim x i one is = omega (arith, at_most_one (eqb (get_or x i 0) delim))
 
--- the newlines from a byte on
-pub count_back : (x : List ℕ) (i n one : ℕ) → i < length x → n ≡ newlines (drop (i + 1) x) → one ≡ bool_byte (eqb (get_or x i 0) 10) → n + one ≡ newlines (drop i x)
-count_back x i n one here so_far is =
+-- the delimiters from a byte on
+pub count_back : (delim : ℕ) (x : List ℕ) (i n one : ℕ) → i < length x → n ≡ delimiters delim (drop (i + 1) x) → one ≡ bool_byte (eqb (get_or x i 0) delim) → n + one ≡ delimiters delim (drop i x)
+count_back delim x i n one here so_far is =
     let parts : drop i x ≡ (get_or x i 0 ∷ []) ++ drop (i + 1) x = drop-cons x i 0 here ∙ ap (λ k. get_or x i 0 ∷ drop k x) (sym (add-one i)) in
-    let all = ap newlines parts ∙ newlines-append (get_or x i 0 ∷ []) (drop (i + 1) x) in
-    let this = added (get_or x i 0) one is in
+    let all = ap (delimiters delim) parts ∙ delimiters-append delim (get_or x i 0 ∷ []) (drop (i + 1) x) in
+    let this = added delim (get_or x i 0) one is in
     omega arith
 
--- the byte that brings the count to n is a newline
-pub begins_behind : (x : List ℕ) (i n seen one : ℕ) → i < length x → seen ≡ newlines (drop (i + 1) x) → one ≡ bool_byte (eqb (get_or x i 0) 10) → seen < n → seen + one ≡ n → BeginsAt n x (i + 1)
-begins_behind x i n seen one here so_far is fewer full =
-    let most = at_most_one (eqb (get_or x i 0) 10) in
-    let yes_it_is : eqb (get_or x i 0) 10 ≡ true = is_one (eqb (get_or x i 0) 10) (omega arith) in
+-- the byte that brings the count to n is a delimiter
+pub begins_behind : (delim : ℕ) (x : List ℕ) (i n seen one : ℕ) → i < length x → seen ≡ delimiters delim (drop (i + 1) x) → one ≡ bool_byte (eqb (get_or x i 0) delim) → seen < n → seen + one ≡ n → BeginsAt delim n x (i + 1)
+begins_behind delim x i n seen one here so_far is fewer full =
+    let most = at_most_one (eqb (get_or x i 0) delim) in
+    let yes_it_is : eqb (get_or x i 0) delim ≡ true = is_one (eqb (get_or x i 0) delim) (omega arith) in
     record {
       within = omega arith;
-      behind = ap ends_with_newline (take_more x i 0 here) ∙ ends_with_newline-append (take i x) (get_or x i 0 ∷ []) (omega arith) ∙ yes_it_is;
+      after = ap (ends_with delim) (take_more x i 0 here) ∙ ends_with-append delim (take i x) (get_or x i 0 ∷ []) (omega arith) ∙ yes_it_is;
       counted = omega arith;
     }
 
--- the newlines of a stretch that ends at `end`, and those after it
-pub stretch_back : (x : List ℕ) (end width n more : ℕ) → width ≤ end → n ≡ newlines (drop end x) → more ≡ newlines (take (end - (end - width)) (drop (end - width) x)) → n + more ≡ newlines (drop (end - width) x)
-stretch_back x end width n more fits so_far is =
+-- the delimiters of a stretch that ends at `end`, and those after it
+pub stretch_back : (delim : ℕ) (x : List ℕ) (end width n more : ℕ) → width ≤ end → n ≡ delimiters delim (drop end x) → more ≡ delimiters delim (take (end - (end - width)) (drop (end - width) x)) → n + more ≡ delimiters delim (drop (end - width) x)
+stretch_back delim x end width n more fits so_far is =
     let all : end - (end - width) ≡ width = omega arith in
     let at : end - width + width ≡ end = omega arith in
-    let here = is ∙ ap (λ k. newlines (take k (drop (end - width) x))) all in
-    let behind = so_far ∙ ap (λ k. newlines (drop k x)) (sym at) ∙ ap newlines (sym (drop-drop width (end - width) x)) in
-    let both = newlines-take-drop width (drop (end - width) x) in
+    let here = is ∙ ap (λ k. delimiters delim (take k (drop (end - width) x))) all in
+    let behind = so_far ∙ ap (λ k. delimiters delim (drop k x)) (sym at) ∙ ap (delimiters delim) (sym (drop-drop width (end - width) x)) in
+    let both = delimiters-take-drop delim width (drop (end - width) x) in
     omega arith

@@ -1,179 +1,247 @@
 -- A text in blocks.
-use Rattle.std.proofs.Common.{◌≡◌, ℕ, zero, suc, ◌+◌, ◌-◌, ◌^◌, ◌<◌, ◌≤◌, List, [], ◌∷◌, ◌++◌, length, take, drop, get_or, set, refl, sym, ap, ◌∙◌, arith, drop-cons, add-one}
-use Rattle.std.proofs.lemmas.List.{append-nil, append_assoc, length-append, length-drop, drop-append-le, take-append-le, drop-drop}
+use Rattle.std.proofs.Common.{◌≡◌, ℕ, zero, suc, ◌+◌, ◌-◌, ◌^◌, ◌<◌, ◌≤◌, List, [], ◌∷◌, ◌++◌, length, take, drop, get_or, set, refl, sym, ap, subst, ◌∙◌, arith, drop-cons, add-one}
+use Rattle.std.proofs.lemmas.List.{append-nil, append_assoc, length-append, length-drop, drop-append-le, take-append-le, drop-drop, take_at, drop_at}
+use Rattle.std.proofs.lemmas.List.Elements.{All-get_or, All-set, All-append, All-take, All-drop}
 use Rattle.std.proofs.Math.Seq.{drop-append-add, take-append-add}
-use Rattle.seg_core.specs.Line.{joined, newlines, first_lines, line_count, but_last_lines}
-use Rattle.seg_core.specs.Blocks.{Gone, IsCounted, first_of}
-use Rattle.seg_core.proofs.Newlines.{newlines-append, newlines-take-drop, newlines-le-length}
+use Rattle.seg_core.specs.Line.{delimiters, first_lines, line_count, but_last_lines}
+use Rattle.seg_core.specs.Blocks.{BlockState, text_of, count_of, HasCount, HaveCounts, Gone, IsCounted, first_of}
+use Rattle.seg_core.proofs.Delimiters.{delimiters-append, delimiters-take-drop}
 use Rattle.seg_core.proofs.LineCounts.{line_count-drop}
 use Rattle.seg_core.proofs.LastLines.{few_from_nothing}
-use Rattle.seg_core.proofs.FirstLines.{first_lines-append, first_lines-full, first_lines-short, joined-append}
+use Rattle.seg_core.proofs.FirstLines.{first_lines-append, first_lines-full, first_lines-short}
+
+pub text_of-append : (front back : List BlockState) → text_of (front ++ back) ≡ text_of front ++ text_of back
+text_of-append [] back = refl
+text_of-append (block ∷ front) back =
+    ap (λ x. block.bytes ++ x) (text_of-append front back) ∙ sym (append_assoc block.bytes (text_of front) (text_of back))
+
+pub count_of-append : (front back : List BlockState) → count_of (front ++ back) ≡ count_of front + count_of back
+count_of-append [] back = omega arith
+count_of-append (block ∷ front) back = let rest = count_of-append front back in omega arith
 
 -- one more block at the end
-pub joined_push : (blocks : List (List ℕ)) (block rest : List ℕ) → joined (blocks ++ block ∷ []) ++ rest ≡ joined blocks ++ (block ++ rest)
-joined_push blocks block rest =
-    ap (λ x. x ++ rest) (joined-append blocks (block ∷ []) ∙ ap (λ x. joined blocks ++ x) (append-nil block))
-    ∙ append_assoc (joined blocks) block rest
+pub text_push : (blocks : List BlockState) (block : BlockState) (rest : List ℕ) → text_of (blocks ++ block ∷ []) ++ rest ≡ text_of blocks ++ (block.bytes ++ rest)
+text_push blocks block rest =
+    ap (λ x. x ++ rest) (text_of-append blocks (block ∷ []) ∙ ap (λ x. text_of blocks ++ x) (append-nil block.bytes))
+    ∙ append_assoc (text_of blocks) block.bytes rest
 
 -- bytes appended to those of the last block
-pub joined_set : (blocks : List (List ℕ)) (n : ℕ) (last new part : List ℕ) → n + 1 ≡ length blocks → last ≡ get_or blocks n last → new ≡ last ++ part → joined (set blocks n new) ≡ joined blocks ++ part
-joined_set [] n last new part is was now = absurd (omega arith)
-joined_set (block ∷ []) zero last new part is was now =
-    append-nil new ∙ now ∙ ap (λ x. x ++ part) (was ∙ sym (append-nil block))
-joined_set (block ∷ []) (suc n) last new part is was now = absurd (omega arith)
-joined_set (block ∷ next ∷ blocks) zero last new part is was now = absurd (omega arith)
-joined_set (block ∷ next ∷ blocks) (suc n) last new part is was now =
-    ap (λ x. block ++ x) (joined_set (next ∷ blocks) n last new part (omega arith) was now)
-    ∙ sym (append_assoc block (joined (next ∷ blocks)) part)
+pub text_set : (blocks : List BlockState) (n : ℕ) (last new : BlockState) (part : List ℕ) → n + 1 ≡ length blocks → last ≡ get_or blocks n last → new.bytes ≡ last.bytes ++ part → text_of (set blocks n new) ≡ text_of blocks ++ part
+text_set [] n last new part is was now = absurd (omega arith)
+text_set (block ∷ []) zero last new part is was now =
+    append-nil new.bytes ∙ now ∙ ap (λ x. x ++ part) (ap (λ (b : BlockState). b.bytes) was ∙ sym (append-nil block.bytes))
+text_set (block ∷ []) (suc n) last new part is was now = absurd (omega arith)
+text_set (block ∷ next ∷ blocks) zero last new part is was now = absurd (omega arith)
+text_set (block ∷ next ∷ blocks) (suc n) last new part is was now =
+    ap (λ x. block.bytes ++ x) (text_set (next ∷ blocks) n last new part (omega arith) was now)
+    ∙ sym (append_assoc block.bytes (text_of (next ∷ blocks)) part)
 
 -- from the i-th block on
-pub joined_from : (blocks : List (List ℕ)) (i : ℕ) (block : List ℕ) → i < length blocks → block ≡ get_or blocks i block → joined (drop i blocks) ≡ block ++ joined (drop (i + 1) blocks)
-joined_from blocks i block here is =
-    ap joined (drop-cons blocks i block here)
-    ∙ ap (λ b. b ++ joined (drop (suc i) blocks)) (sym is)
-    ∙ ap (λ k. block ++ joined (drop k blocks)) (sym (add-one i))
+pub text_from : (blocks : List BlockState) (i : ℕ) (block : BlockState) → i < length blocks → block ≡ get_or blocks i block → text_of (drop i blocks) ≡ block.bytes ++ text_of (drop (i + 1) blocks)
+text_from blocks i block here is =
+    ap text_of (drop-cons blocks i block here)
+    ∙ ap (λ (b : BlockState). b.bytes ++ text_of (drop (suc i) blocks)) (sym is)
+    ∙ ap (λ k. block.bytes ++ text_of (drop k blocks)) (sym (add-one i))
+
+-- the count of the i-th block
+pub counted_at : (delim : ℕ) (blocks : List BlockState) (i : ℕ) (block : BlockState) → i < length blocks → block ≡ get_or blocks i block → HaveCounts delim blocks → block.count ≡ delimiters delim block.bytes
+counted_at delim blocks i block here is each = subst (HasCount delim) (sym is) (All-get_or (HasCount delim) blocks i block here each)
+
+-- the count of all blocks
+pub all_counted : (delim : ℕ) (blocks : List BlockState) → HaveCounts delim blocks → count_of blocks ≡ delimiters delim (text_of blocks)
+all_counted delim [] each = refl
+all_counted delim (block ∷ blocks) each =
+    let here = counted_at delim (block ∷ blocks) 0 block (omega arith) refl each in
+    let rest = all_counted delim blocks (All-drop (HasCount delim) 1 (block ∷ blocks) each) in
+    let both = delimiters-append delim block.bytes (text_of blocks) in
+    omega arith
 
 -- the first block
-pub joined_first : (blocks : List (List ℕ)) → joined blocks ≡ first_of blocks ++ joined (drop 1 blocks)
-joined_first [] = refl
-joined_first (block ∷ blocks) = refl
+pub text_first : (blocks : List BlockState) → text_of blocks ≡ first_of blocks ++ text_of (drop 1 blocks)
+text_first [] = refl
+text_first (block ∷ blocks) = refl
 
 -- bytes that go at the front of the first block
-pub joined_set_first : (blocks : List (List ℕ)) (first : List ℕ) (n : ℕ) → 0 < length blocks → first ≡ get_or blocks 0 first → n ≤ length first → joined (set blocks 0 (drop n first)) ≡ drop n (joined blocks)
-joined_set_first [] first n some is fits = absurd (omega arith)
-joined_set_first (block ∷ blocks) first n some is fits =
-    sym (ap (λ b. drop n (b ++ joined blocks)) (sym is) ∙ drop-append-le n first (joined blocks) fits)
+pub text_set_first : (blocks : List BlockState) (first new : BlockState) (n : ℕ) → 0 < length blocks → first ≡ get_or blocks 0 first → n ≤ length first.bytes → new.bytes ≡ drop n first.bytes → text_of (set blocks 0 new) ≡ drop n (text_of blocks)
+text_set_first [] first new n some is fits left = absurd (omega arith)
+text_set_first (block ∷ blocks) first new n some is fits left =
+    ap (λ x. x ++ text_of blocks) left
+    ∙ sym (ap (λ (b : BlockState). drop n (b.bytes ++ text_of blocks)) (sym is) ∙ drop-append-le n first.bytes (text_of blocks) fits)
 
-pub taken_first : (blocks : List (List ℕ)) (first : List ℕ) (n : ℕ) → 0 < length blocks → first ≡ get_or blocks 0 first → n ≤ length first → newlines (take n first) ≡ newlines (take n (joined blocks))
-taken_first [] first n some is fits = absurd (omega arith)
-taken_first (block ∷ blocks) first n some is fits =
-    sym (ap (λ b. newlines (take n (b ++ joined blocks))) (sym is) ∙ ap newlines (take-append-le n first (joined blocks) fits))
+pub taken_first : (delim : ℕ) (blocks : List BlockState) (first : BlockState) (n : ℕ) → 0 < length blocks → first ≡ get_or blocks 0 first → n ≤ length first.bytes → delimiters delim (take n first.bytes) ≡ delimiters delim (take n (text_of blocks))
+taken_first delim [] first n some is fits = absurd (omega arith)
+taken_first delim (block ∷ blocks) first n some is fits =
+    sym (ap (λ (b : BlockState). delimiters delim (take n (b.bytes ++ text_of blocks))) (sym is) ∙ ap (delimiters delim) (take-append-le n first.bytes (text_of blocks) fits))
+
+-- the counts stay right, once bytes went at the front of the first block, once some came to the last, and once there is one block more
+pub dropped_counts : (delim n gone : ℕ) (blocks : List BlockState) (first new : BlockState) → 0 < length blocks → first ≡ get_or blocks 0 first → new ≡ record { bytes = drop n first.bytes; count = first.count - gone } → gone ≡ delimiters delim (take n first.bytes) → HaveCounts delim blocks
+    → HaveCounts delim (set blocks 0 new)
+dropped_counts delim n gone blocks first new some is now of each =
+    let here = counted_at delim blocks 0 first some is each in
+    let cut = delimiters-take-drop delim n first.bytes in
+    let left : first.count - gone ≡ delimiters delim (drop n first.bytes) = omega arith in
+    All-set (HasCount delim) blocks 0 new (subst (HasCount delim) (sym now) left) each
+
+pub grown_counts : (delim n more : ℕ) (blocks : List BlockState) (last new : BlockState) (part : List ℕ) → n + 1 ≡ length blocks → last ≡ get_or blocks n last → new ≡ record { bytes = last.bytes ++ part; count = last.count + more } → more ≡ delimiters delim part → HaveCounts delim blocks
+    → HaveCounts delim (set blocks n new)
+grown_counts delim n more blocks last new part at is now of each =
+    let here = counted_at delim blocks n last (omega arith) is each in
+    let both = delimiters-append delim last.bytes part in
+    let all : last.count + more ≡ delimiters delim (last.bytes ++ part) = omega arith in
+    All-set (HasCount delim) blocks n new (subst (HasCount delim) (sym now) all) each
+
+pub pushed_counts : (delim : ℕ) (blocks : List BlockState) (block : BlockState) → block.count ≡ delimiters delim block.bytes → HaveCounts delim blocks → HaveCounts delim (blocks ++ block ∷ [])
+pushed_counts delim blocks block here each = All-append (HasCount delim) blocks (block ∷ []) each (one here) where
+  one : block.count ≡ delimiters delim block.bytes → HaveCounts delim (block ∷ [])
+  one here zero d low = here
+  one here (suc k) d low = absurd (omega arith)
 
 -- a block stands before a text: the lines end after the block, or in it
-pub lines_pass : (n : ℕ) (block rest : List ℕ) → newlines block < n → length (first_lines n (block ++ rest)) ≡ length block + length (first_lines (n - newlines block) rest)
-lines_pass n block rest fewer =
-    ap length (first_lines-append n block rest ∙ ap (λ x. x ++ first_lines (n - newlines block) rest) (first_lines-short n block fewer))
-    ∙ length-append block (first_lines (n - newlines block) rest)
+pub lines_pass : (delim n : ℕ) (block rest : List ℕ) → delimiters delim block < n → length (first_lines delim n (block ++ rest)) ≡ length block + length (first_lines delim (n - delimiters delim block) rest)
+lines_pass delim n block rest fewer =
+    ap length (first_lines-append delim n block rest ∙ ap (λ x. x ++ first_lines delim (n - delimiters delim block) rest) (first_lines-short delim n block fewer))
+    ∙ length-append block (first_lines delim (n - delimiters delim block) rest)
 
-pub lines_end : (n : ℕ) (block rest : List ℕ) → n ≤ newlines block → length (first_lines n (block ++ rest)) ≡ length (first_lines n block)
-lines_end n block rest enough = ap length (first_lines-full n block rest enough)
+pub lines_end : (delim n : ℕ) (block rest : List ℕ) → n ≤ delimiters delim block → length (first_lines delim n (block ++ rest)) ≡ length (first_lines delim n block)
+lines_end delim n block rest enough = ap length (first_lines-full delim n block rest enough)
 
 -- no block is gone yet
-pub none_gone : (n : ℕ) (blocks : List (List ℕ)) → Gone n (joined blocks) blocks n 0
+pub none_gone : (n : ℕ) (blocks : List BlockState) → Gone n blocks blocks n 0
 none_gone n blocks = record { gone = []; whole = refl; long = omega arith; counted = refl }
 
 -- the first block goes too
-pub first_goes : (n : ℕ) (text first : List ℕ) (blocks : List (List ℕ)) (bytes count : ℕ) → 0 < length blocks → first ≡ get_or blocks 0 first → length first ≤ bytes → Gone n text blocks bytes count
-    → Gone n text (drop 1 blocks) (bytes - length first) (count + newlines first)
-first_goes n text first [] bytes count some is fits so_far = absurd (omega arith)
-first_goes n text first (block ∷ blocks) bytes count some is fits so_far =
+pub first_goes : (n : ℕ) (blocks : List BlockState) (first : BlockState) (left : List BlockState) (bytes count : ℕ) → 0 < length left → first ≡ get_or left 0 first → length first.bytes ≤ bytes → Gone n blocks left bytes count
+    → Gone n blocks (drop 1 left) (bytes - length first.bytes) (count + first.count)
+first_goes n blocks first [] bytes count some is fits so_far = absurd (omega arith)
+first_goes n blocks first (block ∷ left) bytes count some is fits so_far =
+    let gone = so_far.gone in
     let long = so_far.long in
     let counted = so_far.counted in
-    let both = length-append so_far.gone first in
-    let all = newlines-append so_far.gone first in
+    let both = ap length (text_of-append gone (first ∷ []) ∙ ap (λ x. text_of gone ++ x) (append-nil first.bytes)) ∙ length-append (text_of gone) first.bytes in
+    let all = count_of-append gone (first ∷ []) in
     record {
-      gone = so_far.gone ++ first;
-      whole = so_far.whole ∙ ap (λ b. so_far.gone ++ (b ++ joined blocks)) (sym is) ∙ sym (append_assoc so_far.gone first (joined blocks));
+      gone = gone ++ first ∷ [];
+      whole = so_far.whole ∙ ap (λ (b : BlockState). gone ++ (b ∷ left)) (sym is) ∙ sym (append_assoc gone (first ∷ []) left);
       long = omega arith;
       counted = omega arith;
     }
 
--- the newlines counted so far and those of the first block are no more than the text's bytes
-pub gone_fits : (n : ℕ) (text : List ℕ) (blocks : List (List ℕ)) (bytes count : ℕ) → Gone n text blocks bytes count → count + newlines (first_of blocks) ≤ length text
-gone_fits n text blocks bytes count so_far =
+first_few : (blocks : List BlockState) (first : BlockState) → 0 < length blocks → first ≡ get_or blocks 0 first → first.count ≤ count_of blocks
+first_few [] first some is = absurd (omega arith)
+first_few (block ∷ blocks) first some is = let same = ap (λ (b : BlockState). b.count) is in omega arith
+
+-- the count so far and that of the first block are no more than that of all blocks
+pub gone_fits : (n : ℕ) (blocks : List BlockState) (first : BlockState) (left : List BlockState) (bytes count : ℕ) → 0 < length left → first ≡ get_or left 0 first → Gone n blocks left bytes count → count + first.count ≤ count_of blocks
+gone_fits n blocks first left bytes count some is so_far =
     let counted = so_far.counted in
-    let whole = ap length so_far.whole ∙ length-append so_far.gone (joined blocks) in
-    let rest = ap length (joined_first blocks) ∙ length-append (first_of blocks) (joined (drop 1 blocks)) in
-    let few = newlines-le-length so_far.gone in
-    let first = newlines-le-length (first_of blocks) in
+    let all = ap count_of so_far.whole ∙ count_of-append so_far.gone left in
+    let few = first_few left first some is in
     omega arith
+
+text_whole : (n : ℕ) (blocks left : List BlockState) (bytes count : ℕ) (so_far : Gone n blocks left bytes count) → text_of blocks ≡ text_of so_far.gone ++ text_of left
+text_whole n blocks left bytes count so_far = ap text_of so_far.whole ∙ text_of-append so_far.gone left
 
 -- all blocks are gone: nothing more is to go
-pub all_gone : (n : ℕ) (text : List ℕ) (blocks : List (List ℕ)) (bytes count : ℕ) → Gone n text blocks bytes count → length blocks ≡ 0 → n ≤ length text → bytes ≤ length (first_of blocks)
-all_gone n text [] bytes count so_far none fits =
+pub all_gone : (n : ℕ) (blocks left : List BlockState) (bytes count : ℕ) → Gone n blocks left bytes count → length left ≡ 0 → n ≤ length (text_of blocks) → bytes ≤ length (first_of left)
+all_gone n blocks [] bytes count so_far none fits =
     let long = so_far.long in
-    let whole = ap length so_far.whole ∙ length-append so_far.gone [] in
+    let whole = ap length (text_whole n blocks [] bytes count so_far) ∙ length-append (text_of so_far.gone) [] in
     omega arith
-all_gone n text (block ∷ blocks) bytes count so_far none fits = absurd (omega arith)
+all_gone n blocks (block ∷ left) bytes count so_far none fits = absurd (omega arith)
 
 -- what is left once the rest of the n bytes goes too
-pub rest_goes : (n : ℕ) (text : List ℕ) (blocks : List (List ℕ)) (bytes count : ℕ) → Gone n text blocks bytes count → drop bytes (joined blocks) ≡ drop n text
-rest_goes n text blocks bytes count so_far =
-    sym (ap (drop n) so_far.whole ∙ ap (λ k. drop k (so_far.gone ++ joined blocks)) so_far.long ∙ drop-append-add so_far.gone (joined blocks) bytes)
+pub rest_goes : (n : ℕ) (blocks left : List BlockState) (bytes count : ℕ) → Gone n blocks left bytes count → drop bytes (text_of left) ≡ drop n (text_of blocks)
+rest_goes n blocks left bytes count so_far =
+    let gone = text_of so_far.gone in
+    sym (ap (drop n) (text_whole n blocks left bytes count so_far) ∙ ap (λ k. drop k (gone ++ text_of left)) so_far.long ∙ drop-append-add gone (text_of left) bytes)
 
-pub rest_counted : (n : ℕ) (text : List ℕ) (blocks : List (List ℕ)) (bytes count : ℕ) → Gone n text blocks bytes count → count + newlines (take bytes (joined blocks)) ≡ newlines (take n text)
-rest_counted n text blocks bytes count so_far =
-    let front : take n text ≡ so_far.gone ++ take bytes (joined blocks) =
-    ap (take n) so_far.whole ∙ ap (λ k. take k (so_far.gone ++ joined blocks)) so_far.long ∙ take-append-add so_far.gone (joined blocks) bytes in
-    let all = ap newlines front ∙ newlines-append so_far.gone (take bytes (joined blocks)) in
-    let counted = so_far.counted in
+-- the blocks that are left have their counts
+pub rest_have_counts : (delim n : ℕ) (blocks left : List BlockState) (bytes count : ℕ) → Gone n blocks left bytes count → HaveCounts delim blocks → HaveCounts delim left
+rest_have_counts delim n blocks left bytes count so_far each =
+    let gone = so_far.gone in
+    subst (HaveCounts delim) (drop_at gone left (length gone) refl)
+    (All-drop (HasCount delim) (length gone) (gone ++ left) (subst (HaveCounts delim) so_far.whole each))
+
+pub rest_counted : (delim n : ℕ) (blocks left : List BlockState) (bytes count : ℕ) → Gone n blocks left bytes count → HaveCounts delim blocks → count + delimiters delim (take bytes (text_of left)) ≡ delimiters delim (take n (text_of blocks))
+rest_counted delim n blocks left bytes count so_far each =
+    let gone = so_far.gone in
+    let text = text_of gone in
+    let front : take n (text_of blocks) ≡ text ++ take bytes (text_of left) =
+    ap (take n) (text_whole n blocks left bytes count so_far) ∙ ap (λ k. take k (text ++ text_of left)) so_far.long ∙ take-append-add text (text_of left) bytes in
+    let all = ap (delimiters delim) front ∙ delimiters-append delim text (take bytes (text_of left)) in
+    let counts : HaveCounts delim gone = subst (HaveCounts delim) (take_at gone left (length gone) refl)
+    (All-take (HasCount delim) (length gone) (gone ++ left) (subst (HaveCounts delim) so_far.whole each)) in
+    let counted = so_far.counted ∙ all_counted delim gone counts in
     omega arith
 
--- newlines of a part that begins at `start`, and of what follows it
-pub part_counted : (x : List ℕ) (start n count part : ℕ) → count ≡ newlines (drop start x) → part ≡ newlines (take n (drop start x)) → part + newlines (drop (start + n) x) ≡ count
-part_counted x start n count part is of =
-    let cut = newlines-take-drop n (drop start x) in
-    let rest = ap newlines (drop-drop n start x) in
+-- delimiters of a part that begins at `start`, and of what follows it
+pub part_counted : (delim : ℕ) (x : List ℕ) (start n count part : ℕ) → count ≡ delimiters delim (drop start x) → part ≡ delimiters delim (take n (drop start x)) → part + delimiters delim (drop (start + n) x) ≡ count
+part_counted delim x start n count part is of =
+    let cut = delimiters-take-drop delim n (drop start x) in
+    let rest = ap (delimiters delim) (drop-drop n start x) in
     omega arith
 
 -- bytes after those of a block of which the front has left
-pub block_grows : (x part new : List ℕ) (start count more : ℕ) → start ≤ length x → count ≡ newlines (drop start x) → more ≡ newlines part → new ≡ x ++ part
-    → (start ≤ length new) × (count + more ≡ newlines (drop start new))
-block_grows x part new start count more within is of grown =
+pub block_grows : (x part new : List ℕ) (start count more : ℕ) → start ≤ length x → count ≤ length (drop start x) → more ≤ length part → new ≡ x ++ part
+    → (start ≤ length new) × (count + more ≤ length (drop start new))
+block_grows x part new start count more within few no_more grown =
     let long = ap length grown ∙ length-append x part in
-    let all = ap (λ y. newlines (drop start y)) grown ∙ ap newlines (drop-append-le start x part within) ∙ newlines-append (drop start x) part in
+    let old = length-drop start x in
+    let all = length-drop start new in
     (omega arith, omega arith)
 
-pub first_is : (blocks : List (List ℕ)) (first : List ℕ) → 0 < length blocks → first ≡ get_or blocks 0 first → first_of blocks ≡ first
+pub first_is : (blocks : List BlockState) (first : BlockState) → 0 < length blocks → first ≡ get_or blocks 0 first → first_of blocks ≡ first.bytes
 first_is [] first some is = absurd (omega arith)
-first_is (block ∷ blocks) first some is = sym is
+first_is (block ∷ blocks) first some is = ap (λ (b : BlockState). b.bytes) (sym is)
 
--- what a window knows of its text, once bytes go at the front
-pub counted_drop : (most n : ℕ) (text new : List ℕ) (len count gone : ℕ) → IsCounted most text len count → n ≤ length text → new ≡ drop n text → gone ≡ newlines (take n text)
-    → IsCounted most new (len - n) (count - gone)
-counted_drop most n text new len count gone so_far within left is =
+-- what a window knows of its blocks, once bytes go at the front
+pub counted_drop : (delim most n : ℕ) (blocks new : List BlockState) (len count gone : ℕ) → IsCounted delim most blocks len count → n ≤ length (text_of blocks) → text_of new ≡ drop n (text_of blocks) → gone ≡ delimiters delim (take n (text_of blocks)) → HaveCounts delim new
+    → IsCounted delim most new (len - n) (count - gone)
+counted_drop delim most n blocks new len count gone so_far within left is each =
+    let text = text_of blocks in
     let few = so_far.few in
     let long = so_far.long in
     let counted = so_far.counted in
-    let fewer = line_count-drop n text in
-    let same = ap line_count left in
+    let fewer = line_count-drop delim n text in
+    let same = ap (line_count delim) left in
     let short = ap length left ∙ length-drop n text in
-    let cut = newlines-take-drop n text in
-    let rest = ap newlines left in
+    let cut = delimiters-take-drop delim n text in
+    let rest = ap (delimiters delim) left in
     let fits = so_far.fits in
-    record { few = omega arith; fits = omega arith; long = omega arith; counted = omega arith }
+    record { few = omega arith; fits = omega arith; long = omega arith; counted = omega arith; each = each }
 
 -- and once a piece is appended
-pub counted_put : (most : ℕ) (text piece new : List ℕ) (len count more : ℕ) → IsCounted most text len count → len + length piece < 2 ^ 63 → but_last_lines most (text ++ piece) ≡ [] → new ≡ text ++ piece → more ≡ newlines piece
-    → IsCounted most new (len + length piece) (count + more)
-counted_put most text piece new len count more so_far fits within grown is =
+pub counted_put : (delim most : ℕ) (blocks new : List BlockState) (piece : List ℕ) (len count more : ℕ) → IsCounted delim most blocks len count → len + length piece < 2 ^ 63 → but_last_lines delim most (text_of blocks ++ piece) ≡ [] → text_of new ≡ text_of blocks ++ piece → more ≡ delimiters delim piece → HaveCounts delim new
+    → IsCounted delim most new (len + length piece) (count + more)
+counted_put delim most blocks new piece len count more so_far fits within grown is each =
+    let text = text_of blocks in
     let long = so_far.long in
     let counted = so_far.counted in
-    let few = few_from_nothing most (text ++ piece) within in
-    let same = ap line_count grown in
+    let few = few_from_nothing delim most (text ++ piece) within in
+    let same = ap (line_count delim) grown in
     let all = ap length grown ∙ length-append text piece in
-    let both = ap newlines grown ∙ newlines-append text piece in
-    record { few = omega arith; fits = omega arith; long = omega arith; counted = omega arith }
+    let both = ap (delimiters delim) grown ∙ delimiters-append delim text piece in
+    record { few = omega arith; fits = omega arith; long = omega arith; counted = omega arith; each = each }
 
 -- fresh blocks after those of which the last was filled
-pub extended : (old mid filled fresh new : List (List ℕ)) (near far piece : List ℕ) → new ≡ filled ++ fresh → joined filled ≡ joined mid ++ near → joined fresh ≡ far → mid ≡ old → piece ≡ near ++ far
-    → joined new ≡ joined old ++ piece
+pub extended : (old mid filled fresh new : List BlockState) (near far piece : List ℕ) → new ≡ filled ++ fresh → text_of filled ≡ text_of mid ++ near → text_of fresh ≡ far → mid ≡ old → piece ≡ near ++ far
+    → text_of new ≡ text_of old ++ piece
 extended old mid filled fresh new near far piece all fill_is of same split =
-    ap joined all
-    ∙ joined-append filled fresh
-    ∙ ap (λ x. x ++ joined fresh) (fill_is ∙ ap (λ bs. joined bs ++ near) same)
-    ∙ ap (λ x. (joined old ++ near) ++ x) of
-    ∙ append_assoc (joined old) near far
-    ∙ ap (λ x. joined old ++ x) (sym split)
+    ap text_of all
+    ∙ text_of-append filled fresh
+    ∙ ap (λ x. x ++ text_of fresh) (fill_is ∙ ap (λ (bs : List BlockState). text_of bs ++ near) same)
+    ∙ ap (λ x. (text_of old ++ near) ++ x) of
+    ∙ append_assoc (text_of old) near far
+    ∙ ap (λ x. text_of old ++ x) (sym split)
 
--- the newlines of a text in two parts
-pub split_counted : (text near far : List ℕ) (count : ℕ) → count ≡ newlines text → text ≡ near ++ far → count ≡ newlines near + newlines far
-split_counted text near far count is split = is ∙ ap newlines split ∙ newlines-append near far
+-- the delimiters of a text in two parts
+pub split_counted : (delim : ℕ) (text near far : List ℕ) (count : ℕ) → count ≡ delimiters delim text → text ≡ near ++ far → count ≡ delimiters delim near + delimiters delim far
+split_counted delim text near far count is split = is ∙ ap (delimiters delim) split ∙ delimiters-append delim near far
 
 -- and so the back of it
-pub back_counted : (text near far : List ℕ) (count m : ℕ) → count ≡ newlines text → text ≡ near ++ far → m ≡ newlines near → (m ≤ count) × (count - m ≡ newlines far)
-back_counted text near far count m is split of =
-    let all = split_counted text near far count is split in
+pub back_counted : (delim : ℕ) (text near far : List ℕ) (count m : ℕ) → count ≡ delimiters delim text → text ≡ near ++ far → m ≡ delimiters delim near → (m ≤ count) × (count - m ≡ delimiters delim far)
+back_counted delim text near far count m is split of =
+    let all = split_counted delim text near far count is split in
     (omega arith, omega arith)
 
 -- all of a text is in blocks

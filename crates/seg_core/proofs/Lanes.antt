@@ -1,40 +1,40 @@
--- Newlines that are counted in the lanes of a vector.
+-- Delimiters that are counted in the lanes of a vector.
 use Rattle.std.proofs.Common.{◌≡◌, ℕ, zero, suc, ◌+◌, ◌-◌, ◌*◌, ◌≤◌, Bool, true, false, cond, eqb, List, [], ◌∷◌, length, map, replicate, refl, sym, ap, ◌∙◌, arith, w8, w32, Fits}
 use Rattle.std.specs.Simd.Lanes.{Each1, Each2, zip2, sum_l, sel_l, top, products, dots, Steps, fold_l}
 use Rattle.std.proofs.lemmas.Simd.{tops_compared, zip2_splat, Each2-of, Each1-zip2, sum_bound, bytes_below, sum_fits, sum_dots, sum_by-ones, fold-sum}
 use Rattle.seg_core.specs.declared.line.TheConstants.{STEP, RUN}
-use Rattle.seg_core.specs.Line.{newlines}
+use Rattle.seg_core.specs.Line.{delimiters}
 
--- 1 for each newline, and 0 for each other byte
-abbrev pub flags_of : List ℕ → List ℕ
-flags_of x = map (λ byte. cond (eqb byte 10) 1 0) x
+-- 1 for each delimiter, and 0 for each other byte
+abbrev pub flags_of : ℕ → List ℕ → List ℕ
+flags_of delim x = map (λ byte. cond (eqb byte delim) 1 0) x
 
 chosen : (p : ℕ → Bool) (x : List ℕ) (n one none : ℕ) → length x ≡ n → sel_l (map p x) (replicate n one) (replicate n none) ≡ map (λ byte. cond (p byte) one none) x
 chosen p [] n one none long = refl
 chosen p (byte ∷ x) zero one none long = absurd (omega arith)
 chosen p (byte ∷ x) (suc n) one none long = ap (λ z. cond (p byte) one none ∷ z) (chosen p x n one none (omega arith))
 
--- what is chosen by the comparison with a newline
-pub chosen_flags : (x : List ℕ) (n : ℕ) → length x ≡ n → sel_l {A = ℕ} (map (top 7) (zip2 (λ a b. cond (eqb a b) 255 0) x (replicate n 10))) (replicate n 1) (replicate n 0) ≡ flags_of x
-chosen_flags x n long =
-    ap (λ m. sel_l {A = ℕ} m (replicate n 1) (replicate n 0)) (tops_compared w8 eqb x (replicate n 10) ∙ zip2_splat eqb x n 10 long)
-    ∙ chosen (λ byte. eqb byte 10) x n 1 0 long
+-- what is chosen by the comparison with a delimiter
+pub chosen_flags : (delim : ℕ) (x : List ℕ) (n : ℕ) → length x ≡ n → sel_l {A = ℕ} (map (top 7) (zip2 (λ a b. cond (eqb a b) 255 0) x (replicate n delim))) (replicate n 1) (replicate n 0) ≡ flags_of delim x
+chosen_flags delim x n long =
+    ap (λ m. sel_l {A = ℕ} m (replicate n 1) (replicate n 0)) (tops_compared w8 eqb x (replicate n delim) ∙ zip2_splat eqb x n delim long)
+    ∙ chosen (λ byte. eqb byte delim) x n 1 0 long
 
-sum_step : (is_newline : Bool) (n : ℕ) → cond is_newline 1 0 + n ≡ cond is_newline (n + 1) n
+sum_step : (is_delim : Bool) (n : ℕ) → cond is_delim 1 0 + n ≡ cond is_delim (n + 1) n
 sum_step true n = omega arith
 sum_step false n = omega arith
 
-pub sum-flags : (x : List ℕ) → sum_l (flags_of x) ≡ newlines x
-sum-flags [] = refl
-sum-flags (byte ∷ x) = ap (λ n. cond (eqb byte 10) 1 0 + n) (sum-flags x) ∙ sum_step (eqb byte 10) (newlines x)
+pub sum-flags : (delim : ℕ) (x : List ℕ) → sum_l (flags_of delim x) ≡ delimiters delim x
+sum-flags delim [] = refl
+sum-flags delim (byte ∷ x) = ap (λ n. cond (eqb byte delim) 1 0 + n) (sum-flags delim x) ∙ sum_step (eqb byte delim) (delimiters delim x)
 
-flag_small : (is_newline : Bool) → cond is_newline 1 0 ≤ 1
+flag_small : (is_delim : Bool) → cond is_delim 1 0 ≤ 1
 flag_small true = omega arith
 flag_small false = omega arith
 
-pub flags_small : (x : List ℕ) → Each1 (λ lane. lane ≤ 1) (flags_of x)
-flags_small [] = tt
-flags_small (byte ∷ x) = (flag_small (eqb byte 10), flags_small x)
+pub flags_small : (delim : ℕ) (x : List ℕ) → Each1 (λ lane. lane ≤ 1) (flags_of delim x)
+flags_small delim [] = tt
+flags_small delim (byte ∷ x) = (flag_small (eqb byte delim), flags_small delim x)
 
 -- after some steps of a run, of which `left` bytes are left
 abbrev pub IsFew : ℕ → ℕ → Type 0

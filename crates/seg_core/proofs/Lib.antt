@@ -1,6 +1,6 @@
 pub mod Counts
 pub mod Value
-pub mod Newlines
+pub mod Delimiters
 pub mod FirstLines
 pub mod LinesOf
 pub mod NextLine

@@ -1,68 +1,68 @@
--- The first line of a text and the rest, from where the first newline stands.
+-- The first line of a text and the rest, from where the first delimiter stands.
 use Rattle.std.proofs.Common.{◌≡◌, ℕ, zero, suc, ◌+◌, ◌<◌, ◌≤◌, Bool, true, false, cond, List, [], ◌∷◌, ◌++◌, length, take, drop, get_or, refl, sym, ap, subst, ◌∙◌, arith}
 use Rattle.std.proofs.lemmas.Bool.{eq-eqb, ne_eqb, eqb-true, false≢true}
 use Rattle.std.proofs.lemmas.List.{take_more, take-append-drop, take_all, drop_all, length-append}
 use Rattle.memchr.specs.Find.{Nowhere, Passes, is_byte}
-use Rattle.seg_core.specs.Line.{HasNoNewline, lines_of, newlines, ends_with_newline}
-use Rattle.seg_core.proofs.Newlines.{newlines-append}
+use Rattle.seg_core.specs.Line.{HasNone, lines_of, delimiters, ends_with}
+use Rattle.seg_core.proofs.Delimiters.{delimiters-append, delimiters-one_yes}
 use Rattle.seg_core.proofs.LinesOf.{lines_of-complete, lines_of-open}
 
 -- what `next_line` says of a text x, its first line and the rest
-pub record IsCutFrom (x line rest : List ℕ) : Type 0 where
-  pub first : 0 < length x → lines_of x ≡ line ∷ lines_of rest
+pub record IsCutFrom (delim : ℕ) (x line rest : List ℕ) : Type 0 where
+  pub first : 0 < length x → lines_of delim x ≡ line ∷ lines_of delim rest
   pub some : 0 < length x → 0 < length line
-  pub count : newlines x ≡ cond (ends_with_newline line) (newlines rest + 1) (newlines rest)
-  pub last : ends_with_newline line ≡ false → rest ≡ []
+  pub count : delimiters delim x ≡ cond (ends_with delim line) (delimiters delim rest + 1) (delimiters delim rest)
+  pub last : ends_with delim line ≡ false → rest ≡ []
 
-HasNoNewline-take : (k : ℕ) (x : List ℕ) → k ≤ length x → Nowhere (Passes (is_byte 10) x) 0 k → HasNoNewline (take k x)
-HasNoNewline-take zero x h none = tt
-HasNoNewline-take (suc k) [] h none = tt
-HasNoNewline-take (suc k) (byte ∷ x) h none =
-    (λ e. none 0 (omega arith) (omega arith) (eq-eqb byte 10 e), HasNoNewline-take k x (omega arith) (λ i low high. none (suc i) (omega arith) (omega arith)))
+HasNone-take : (delim k : ℕ) (x : List ℕ) → k ≤ length x → Nowhere (Passes (is_byte delim) x) 0 k → HasNone delim (take k x)
+HasNone-take delim zero x h none = tt
+HasNone-take delim (suc k) [] h none = tt
+HasNone-take delim (suc k) (byte ∷ x) h none =
+    (λ e. none 0 (omega arith) (omega arith) (eq-eqb byte delim e), HasNone-take delim k x (omega arith) (λ i low high. none (suc i) (omega arith) (omega arith)))
 
-pub newlines-none : (x : List ℕ) → HasNoNewline x → newlines x ≡ 0
-newlines-none [] none = refl
-newlines-none (byte ∷ x) (other, none) = ap (λ (c : Bool). cond c (newlines x + 1) (newlines x)) (ne_eqb byte 10 other) ∙ newlines-none x none
+pub delimiters-none : (delim : ℕ) (x : List ℕ) → HasNone delim x → delimiters delim x ≡ 0
+delimiters-none delim [] none = refl
+delimiters-none delim (byte ∷ x) (other, none) = ap (λ (c : Bool). cond c (delimiters delim x + 1) (delimiters delim x)) (ne_eqb byte delim other) ∙ delimiters-none delim x none
 
-ends-complete : (text : List ℕ) → ends_with_newline (text ++ 10 ∷ []) ≡ true
-ends-complete [] = refl
-ends-complete (byte ∷ []) = refl
-ends-complete (byte ∷ next ∷ text) = ends-complete (next ∷ text)
+ends-complete : (delim : ℕ) (text : List ℕ) → ends_with delim (text ++ delim ∷ []) ≡ true
+ends-complete delim [] = eq-eqb delim delim refl
+ends-complete delim (byte ∷ []) = eq-eqb delim delim refl
+ends-complete delim (byte ∷ next ∷ text) = ends-complete delim (next ∷ text)
 
-ends-none : (x : List ℕ) → HasNoNewline x → ends_with_newline x ≡ false
-ends-none [] none = refl
-ends-none (byte ∷ []) (other, none) = ne_eqb byte 10 other
-ends-none (byte ∷ next ∷ x) (other, none) = ends-none (next ∷ x) none
+ends-none : (delim : ℕ) (x : List ℕ) → HasNone delim x → ends_with delim x ≡ false
+ends-none delim [] none = refl
+ends-none delim (byte ∷ []) (other, none) = ne_eqb byte delim other
+ends-none delim (byte ∷ next ∷ x) (other, none) = ends-none delim (next ∷ x) none
 
-complete_cut : (text rest : List ℕ) → HasNoNewline text → IsCutFrom ((text ++ 10 ∷ []) ++ rest) (text ++ 10 ∷ []) rest
-complete_cut text rest none =
-    let counted : newlines ((text ++ 10 ∷ []) ++ rest) ≡ newlines rest + 1 =
-    omega (arith, newlines-append (text ++ 10 ∷ []) rest, newlines-append text (10 ∷ []), newlines-none text none) in
+complete_cut : (delim : ℕ) (text rest : List ℕ) → HasNone delim text → IsCutFrom delim ((text ++ delim ∷ []) ++ rest) (text ++ delim ∷ []) rest
+complete_cut delim text rest none =
+    let counted : delimiters delim ((text ++ delim ∷ []) ++ rest) ≡ delimiters delim rest + 1 =
+    omega (arith, delimiters-append delim (text ++ delim ∷ []) rest, delimiters-append delim text (delim ∷ []), delimiters-one_yes delim delim (eq-eqb delim delim refl), delimiters-none delim text none) in
     record {
-      first = λ some. lines_of-complete text rest none;
-      some = λ some. omega (arith, length-append text (10 ∷ []));
-      count = counted ∙ sym (ap (λ (c : Bool). cond c (newlines rest + 1) (newlines rest)) (ends-complete text));
-      last = λ no. absurd (false≢true (sym no ∙ ends-complete text));
+      first = λ some. lines_of-complete delim text rest none;
+      some = λ some. omega (arith, length-append text (delim ∷ []));
+      count = counted ∙ sym (ap (λ (c : Bool). cond c (delimiters delim rest + 1) (delimiters delim rest)) (ends-complete delim text));
+      last = λ no. absurd (false≢true (sym no ∙ ends-complete delim text));
     }
 
-open_cut : (x : List ℕ) → HasNoNewline x → IsCutFrom x x []
-open_cut x none = record {
-  first = λ some. lines_of-open x some none;
+open_cut : (delim : ℕ) (x : List ℕ) → HasNone delim x → IsCutFrom delim x x []
+open_cut delim x none = record {
+  first = λ some. lines_of-open delim x some none;
   some = λ some. some;
-  count = newlines-none x none ∙ sym (ap (λ (c : Bool). cond c (newlines [] + 1) (newlines [])) (ends-none x none));
+  count = delimiters-none delim x none ∙ sym (ap (λ (c : Bool). cond c (delimiters delim [] + 1) (delimiters delim [])) (ends-none delim x none));
   last = λ no. refl;
 }
 
-pub cut_behind : (x : List ℕ) (k : ℕ) → k < length x → Passes (is_byte 10) x k → Nowhere (Passes (is_byte 10) x) 0 k
-    → IsCutFrom x (take (k + 1) x) (drop (k + 1) x)
-cut_behind x k h here none =
-    let line : take (k + 1) x ≡ take k x ++ 10 ∷ [] = take_more x k 0 h ∙ ap (λ byte. take k x ++ byte ∷ []) (eqb-true (get_or x k 0) 10 here) in
-    let whole : (take k x ++ 10 ∷ []) ++ drop (k + 1) x ≡ x = ap (λ z. z ++ drop (k + 1) x) (sym line) ∙ take-append-drop (k + 1) x in
-    let cut = complete_cut (take k x) (drop (k + 1) x) (HasNoNewline-take k x (omega arith) none) in
-    subst (λ l. IsCutFrom x l (drop (k + 1) x)) (sym line) (subst (λ z. IsCutFrom z (take k x ++ 10 ∷ []) (drop (k + 1) x)) whole cut)
+pub cut_behind : (delim : ℕ) (x : List ℕ) (k : ℕ) → k < length x → Passes (is_byte delim) x k → Nowhere (Passes (is_byte delim) x) 0 k
+    → IsCutFrom delim x (take (k + 1) x) (drop (k + 1) x)
+cut_behind delim x k h here none =
+    let line : take (k + 1) x ≡ take k x ++ delim ∷ [] = take_more x k 0 h ∙ ap (λ byte. take k x ++ byte ∷ []) (eqb-true (get_or x k 0) delim here) in
+    let whole : (take k x ++ delim ∷ []) ++ drop (k + 1) x ≡ x = ap (λ z. z ++ drop (k + 1) x) (sym line) ∙ take-append-drop (k + 1) x in
+    let cut = complete_cut delim (take k x) (drop (k + 1) x) (HasNone-take delim k x (omega arith) none) in
+    subst (λ l. IsCutFrom delim x l (drop (k + 1) x)) (sym line) (subst (λ z. IsCutFrom delim z (take k x ++ delim ∷ []) (drop (k + 1) x)) whole cut)
 
-pub cut_at_end : (x : List ℕ) → Nowhere (Passes (is_byte 10) x) 0 (length x) → IsCutFrom x (take (length x) x) (drop (length x) x)
-cut_at_end x none =
+pub cut_at_end : (delim : ℕ) (x : List ℕ) → Nowhere (Passes (is_byte delim) x) 0 (length x) → IsCutFrom delim x (take (length x) x) (drop (length x) x)
+cut_at_end delim x none =
     let whole = take_all (length x) x (omega arith) in
-    let cut = open_cut x (subst HasNoNewline whole (HasNoNewline-take (length x) x (omega arith) none)) in
-    subst (λ l. IsCutFrom x l (drop (length x) x)) (sym whole) (subst (λ r. IsCutFrom x x r) (sym (drop_all (length x) x (omega arith))) cut)
+    let cut = open_cut delim x (subst (HasNone delim) whole (HasNone-take delim (length x) x (omega arith) none)) in
+    subst (λ l. IsCutFrom delim x l (drop (length x) x)) (sym whole) (subst (λ r. IsCutFrom delim x x r) (sym (drop_all (length x) x (omega arith))) cut)

@@ -1,22 +1,45 @@
 -- A text in blocks.
-use Rattle.std.specs.Prelude.{◌≡◌, ℕ, ◌+◌, ◌^◌, ◌<◌, ◌≤◌, List, [], ◌∷◌, ◌++◌, length}
-use Rattle.seg_core.specs.Line.{joined, newlines, line_count}
+use Rattle.std.specs.Prelude.{◌≡◌, ℕ, ◌+◌, ◌^◌, ◌<◌, ◌≤◌, List, [], ◌∷◌, ◌++◌, length, All}
+use Rattle.seg_core.specs.Line.{delimiters, line_count}
 
-abbrev pub first_of : List (List ℕ) → List ℕ
+-- a run of bytes, and how many of them were counted as delimiters
+pub record BlockState : Type 0 where
+  pub bytes : List ℕ
+  pub count : ℕ
+
+-- the bytes of the blocks, one block after another
+abbrev pub text_of : List BlockState → List ℕ
+text_of [] = []
+text_of (block ∷ blocks) = block.bytes ++ text_of blocks
+
+abbrev pub first_of : List BlockState → List ℕ
 first_of [] = []
-first_of (block ∷ blocks) = block
+first_of (block ∷ blocks) = block.bytes
 
--- of a text of which n bytes are to go, whole blocks are gone: `blocks` are left, `bytes` of the n bytes are still to go,
--- and what is gone had `count` newlines
-pub record Gone (n : ℕ) (text : List ℕ) (blocks : List (List ℕ)) (bytes count : ℕ) : Type 0 where
-  pub gone : List ℕ
-  pub whole : text ≡ gone ++ joined blocks
-  pub long : n ≡ length gone + bytes
-  pub counted : count ≡ newlines gone
+-- how many delimiters were counted in the blocks
+abbrev pub count_of : List BlockState → ℕ
+count_of [] = 0
+count_of (block ∷ blocks) = block.count + count_of blocks
 
--- what a window over lines knows of the text it holds: no more than `most` lines, fewer than 2^63 bytes, and their counts
-pub record IsCounted (most : ℕ) (text : List ℕ) (len count : ℕ) : Type 0 where
-  pub few : line_count text ≤ most
-  pub fits : length text < 2 ^ 63
-  pub long : len ≡ length text
-  pub counted : count ≡ newlines text
+-- the count is right
+abbrev pub HasCount : ℕ → BlockState → Type 0
+HasCount delim block = block.count ≡ delimiters delim block.bytes
+
+abbrev pub HaveCounts : ℕ → List BlockState → Type 0
+HaveCounts delim blocks = All (HasCount delim) blocks
+
+-- of blocks of whose bytes n are to go, whole ones are gone: those of `left` are left, `bytes` of the n bytes are still to go, and
+-- in what is gone `count` delimiters were counted
+pub record Gone (n : ℕ) (blocks left : List BlockState) (bytes count : ℕ) : Type 0 where
+  pub gone : List BlockState
+  pub whole : blocks ≡ gone ++ left
+  pub long : n ≡ length (text_of gone) + bytes
+  pub counted : count ≡ count_of gone
+
+-- what a window over lines knows of the blocks that it holds: no more than `most` lines, fewer than 2^63 bytes, and their counts
+pub record IsCounted (delim most : ℕ) (blocks : List BlockState) (len count : ℕ) : Type 0 where
+  pub few : line_count delim (text_of blocks) ≤ most
+  pub fits : length (text_of blocks) < 2 ^ 63
+  pub long : len ≡ length (text_of blocks)
+  pub counted : count ≡ delimiters delim (text_of blocks)
+  pub each : HaveCounts delim blocks

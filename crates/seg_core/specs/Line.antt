@@ -1,4 +1,5 @@
--- The lines of a text. A text is a list of bytes, and the byte 10 is the newline.
+-- The lines of a text. A text is a list of bytes. A line ends with a delimiter: a byte that is chosen once for the text, and that
+-- the definitions have as their first argument. POSIX's lines are those that end with the newline, byte 10.
 use Rattle.std.specs.Prelude.{◌≡◌, ◌≢◌, ℕ, ◌+◌, ◌-◌, ◌<◌, ◌≤◌, ◌==◌, Bool, true, false, List, [], ◌∷◌, ◌++◌, ◌⊎◌, if◌then◌else◌, length, take, drop, All}
 use Rattle.std.specs.List.{onto_first}
 use Rattle.seg_core.specs.declared.line_reach.Reach.{Reach}
@@ -15,96 +16,105 @@ abbrev pub joined : List (List ℕ) → List ℕ
 joined [] = []
 joined (line ∷ lines) = line ++ joined lines
 
-abbrev pub HasNoNewline : List ℕ → Type 0
-HasNoNewline [] = Unit {0}
-HasNoNewline (byte ∷ bytes) = (byte ≢ 10) × HasNoNewline bytes
+-- the delimiter doesn't stand among the bytes
+abbrev pub HasNone : ℕ → List ℕ → Type 0
+HasNone delim [] = Unit {0}
+HasNone delim (byte ∷ bytes) = (byte ≢ delim) × HasNone delim bytes
 
--- the line ends with a newline, and has no other
-abbrev pub IsComplete : List ℕ → Type 0
-IsComplete line = (text : List ℕ) × (line ≡ text ++ 10 ∷ []) × HasNoNewline text
+-- the line ends with a delimiter, and has no other
+abbrev pub IsComplete : ℕ → List ℕ → Type 0
+IsComplete delim line = (text : List ℕ) × (line ≡ text ++ delim ∷ []) × HasNone delim text
 
--- the line lacks its newline, and isn't empty
-abbrev pub IsOpen : List ℕ → Type 0
-IsOpen line = (0 < length line) × HasNoNewline line
+-- the line lacks its delimiter, and isn't empty
+abbrev pub IsOpen : ℕ → List ℕ → Type 0
+IsOpen delim line = (0 < length line) × HasNone delim line
 
 -- each line but the last is complete, and the last is complete or open
-abbrev pub AreLines : List (List ℕ) → Type 0
-AreLines [] = Unit {0}
-AreLines (line ∷ []) = IsComplete line ⊎ IsOpen line
-AreLines (line ∷ next ∷ lines) = IsComplete line × AreLines (next ∷ lines)
+abbrev pub AreLines : ℕ → List (List ℕ) → Type 0
+AreLines delim [] = Unit {0}
+AreLines delim (line ∷ []) = IsComplete delim line ⊎ IsOpen delim line
+AreLines delim (line ∷ next ∷ lines) = IsComplete delim line × AreLines delim (next ∷ lines)
 
--- x cut into its lines: joined they are x, none is empty, a newline stands only last in a line, and only the last line may lack it
-pub record IsLines (x : List ℕ) (lines : List (List ℕ)) : Type 0 where
+-- x cut into its lines: joined they are x, none is empty, a delimiter stands only last in a line, and only the last line may lack it
+pub record IsLines (delim : ℕ) (x : List ℕ) (lines : List (List ℕ)) : Type 0 where
   pub whole : joined lines ≡ x
-  pub each : AreLines lines
+  pub each : AreLines delim lines
 
 -- the one list that `IsLines` holds of
-abbrev pub lines_of : List ℕ → List (List ℕ)
-lines_of [] = []
-lines_of (byte ∷ bytes) = if byte == 10 then (byte ∷ []) ∷ lines_of bytes else onto_first byte (lines_of bytes)
+abbrev pub lines_of : ℕ → List ℕ → List (List ℕ)
+lines_of delim [] = []
+lines_of delim (byte ∷ bytes) = if byte == delim then (byte ∷ []) ∷ lines_of delim bytes else onto_first byte (lines_of delim bytes)
 
--- how many newlines a text has, and so how many complete lines
-abbrev pub newlines : List ℕ → ℕ
-newlines [] = 0
-newlines (byte ∷ bytes) = if byte == 10 then newlines bytes + 1 else newlines bytes
+-- how often the delimiter stands in a text, and so how many complete lines it has
+abbrev pub delimiters : ℕ → List ℕ → ℕ
+delimiters delim [] = 0
+delimiters delim (byte ∷ bytes) = if byte == delim then delimiters delim bytes + 1 else delimiters delim bytes
 
-abbrev pub ends_with_newline : List ℕ → Bool
-ends_with_newline [] = false
-ends_with_newline (byte ∷ []) = byte == 10
-ends_with_newline (byte ∷ next ∷ bytes) = ends_with_newline (next ∷ bytes)
+abbrev pub ends_with : ℕ → List ℕ → Bool
+ends_with delim [] = false
+ends_with delim (byte ∷ []) = byte == delim
+ends_with delim (byte ∷ next ∷ bytes) = ends_with delim (next ∷ bytes)
 
 -- the first n lines of a text, or all of it where it has no more
-abbrev pub first_lines : ℕ → List ℕ → List ℕ
-first_lines n x = joined (take n (lines_of x))
+abbrev pub first_lines : ℕ → ℕ → List ℕ → List ℕ
+first_lines delim n x = joined (take n (lines_of delim x))
 
 -- how many lines a text has; an open last line counts
-abbrev pub line_count : List ℕ → ℕ
-line_count x = length (lines_of x)
+abbrev pub line_count : ℕ → List ℕ → ℕ
+line_count delim x = length (lines_of delim x)
 
 -- what stands after the first n lines of a text
-abbrev pub behind_lines : ℕ → List ℕ → List ℕ
-behind_lines n x = joined (drop n (lines_of x))
+abbrev pub after_lines : ℕ → ℕ → List ℕ → List ℕ
+after_lines delim n x = joined (drop n (lines_of delim x))
 
 -- the last n lines of a text, or all of it where it has no more
-abbrev pub last_lines : ℕ → List ℕ → List ℕ
-last_lines n x = behind_lines (line_count x - n) x
+abbrev pub last_lines : ℕ → ℕ → List ℕ → List ℕ
+last_lines delim n x = after_lines delim (line_count delim x - n) x
 
 -- what stands before the last n lines of a text
-abbrev pub but_last_lines : ℕ → List ℕ → List ℕ
-but_last_lines n x = first_lines (line_count x - n) x
+abbrev pub but_last_lines : ℕ → ℕ → List ℕ → List ℕ
+but_last_lines delim n x = first_lines delim (line_count delim x - n) x
 
 -- the first n lines of the text are complete, and they are its first `end` bytes
-pub record EndsAt (n : ℕ) (x : List ℕ) (end : ℕ) : Type 0 where
+pub record EndsAt (delim n : ℕ) (x : List ℕ) (end : ℕ) : Type 0 where
   pub within : end ≤ length x
-  pub lines : take end x ≡ first_lines n x
-  pub complete : newlines (take end x) ≡ n
+  pub lines : take end x ≡ first_lines delim n x
+  pub complete : delimiters delim (take end x) ≡ n
 
 -- the text has fewer complete lines than n: it has `count`
-pub record FallsShort (n : ℕ) (x : List ℕ) (count : ℕ) : Type 0 where
-  pub counted : count ≡ newlines x
+pub record FallsShort (delim n : ℕ) (x : List ℕ) (count : ℕ) : Type 0 where
+  pub counted : count ≡ delimiters delim x
   pub fewer : count < n
 
 -- where n lines end in a text
-abbrev pub Reaches : ℕ → List ℕ → Reach → Type 0
-Reaches n x (Ends end) = EndsAt n x end
-Reaches n x (Short count) = FallsShort n x count
+abbrev pub Reaches : ℕ → ℕ → List ℕ → Reach → Type 0
+Reaches delim n x (Ends end) = EndsAt delim n x end
+Reaches delim n x (Short count) = FallsShort delim n x count
 
--- the n-th newline from the end is the last byte before `at`
-pub record BeginsAt (n : ℕ) (x : List ℕ) (at : ℕ) : Type 0 where
+-- the n-th delimiter from the end is the last byte before `at`
+pub record BeginsAt (delim n : ℕ) (x : List ℕ) (at : ℕ) : Type 0 where
   pub within : at ≤ length x
-  pub behind : ends_with_newline (take at x) ≡ true
-  pub counted : newlines (drop at x) + 1 ≡ n
+  pub after : ends_with delim (take at x) ≡ true
+  pub counted : delimiters delim (drop at x) + 1 ≡ n
 
--- where the part of a text begins that follows its n-th newline from the end
-abbrev pub ReachesBack : ℕ → List ℕ → ReachBack → Type 0
-ReachesBack n x (back.Begins at) = BeginsAt n x at
-ReachesBack n x (back.Short count) = FallsShort n x count
+-- where the part of a text begins that follows its n-th delimiter from the end
+abbrev pub ReachesBack : ℕ → ℕ → List ℕ → ReachBack → Type 0
+ReachesBack delim n x (back.Begins at) = BeginsAt delim n x at
+ReachesBack delim n x (back.Short count) = FallsShort delim n x count
 
--- the last newline of the text ends at `end`: its complete lines stand before that place, and an open last line or nothing after it
-pub record LastEndsAt (x : List ℕ) (end : ℕ) : Type 0 where
+-- the last delimiter of the text ends at `end`: its complete lines stand before that place, and an open last line or nothing after it
+pub record LastEndsAt (delim : ℕ) (x : List ℕ) (end : ℕ) : Type 0 where
   pub some : 0 < end
   pub within : end ≤ length x
-  pub newline : 0 < newlines x
-  pub complete : take end x ≡ first_lines (newlines x) x
-  pub behind : drop end x ≡ behind_lines (newlines x) x
-  pub none_behind : newlines (drop end x) ≡ 0
+  pub delimiter : 0 < delimiters delim x
+  pub complete : take end x ≡ first_lines delim (delimiters delim x) x
+  pub after : drop end x ≡ after_lines delim (delimiters delim x) x
+  pub none_after : delimiters delim (drop end x) ≡ 0
+
+-- the lines that an iterator has still to give: those of a text
+pub record LinesLeft : Type 0 where
+  pub delim : ℕ
+  pub text : List ℕ
+
+abbrev pub lines_left : LinesLeft → List (List ℕ)
+lines_left left = lines_of left.delim left.text

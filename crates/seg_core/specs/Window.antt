@@ -5,6 +5,8 @@ use Rattle.std.specs.Prelude.{ℕ, Bool, ◌==◌, ◌||◌, List, ◌++◌, len
 pub record Window : Type 0 where
   -- how many lines it is to keep
   pub most : ℕ
+  -- the byte with which they end
+  pub delim : ℕ
   -- the bytes that it holds: what was put, less what left at the front
   pub held : List ℕ
 
@@ -31,4 +33,4 @@ without_front window n = record { most = window.most; held = drop n window.held;
 
 -- the same for a window over lines
 abbrev pub without_first : Window → ℕ → Window
-without_first window n = record { most = window.most; held = drop n window.held }
+without_first window n = record { most = window.most; delim = window.delim; held = drop n window.held }

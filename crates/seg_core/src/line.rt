@@ -1,13 +1,17 @@
-//! The lines of a text: a line is a run of bytes that ends with a newline, and the last line of a
-//! text may lack it (POSIX.1-2017, XBD 3.206).
+//! The lines of a text: a line is a run of bytes that ends with a delimiter, a byte of the caller's
+//! choice, and the last line of a text may lack it. With the newline they are POSIX's lines
+//! (POSIX.1-2017, XBD 3.206).
 ghost use Rattle.std.specs.Prelude.{◌≡◌, ℕ, ◌+◌, ◌<◌, ◌≤◌, false, List, [], ◌∷◌, ◌++◌, if◌then◌else◌, length, take};
 ghost use Rattle.std.specs.Simd.Lanes.{Each1, sum_l};
-ghost use Rattle.seg_core.specs.Line.{IsLines, Reaches, ends_with_newline, lines_of, newlines};
+ghost use Rattle.seg_core.specs.Line.{IsLines, Reaches, delimiters, ends_with, lines_of};
 
 use crate::line_iter::Lines;
 use crate::line_reach::Reach;
 use memchr::memchr;
 use std::simd::prelude::*;
+
+/// The newline, with which POSIX's lines end.
+pub const NEWLINE: u8 = b'\n';
 
 // How many bytes are looked at in one step, each in a lane of its own.
 pub(crate) const STEP: usize = 64;
@@ -15,67 +19,68 @@ pub(crate) const STEP: usize = 64;
 // How many bytes are counted at a time: 64 steps, and a lane can count 255.
 pub(crate) const RUN: usize = 4096;
 
-/// The lines of `bytes`, each a slice of it. It takes no memory.
-pub fn lines(bytes: &[u8]) -> Lines<'_>
-    ensures left { result ≡ bytes.now }
-    ensures are { IsLines bytes.now (lines_of bytes.now) }
-    ensures only { (others : List (List ℕ)) → IsLines bytes.now others → others ≡ lines_of bytes.now }
+/// The lines of `bytes`, each ended by `delim` and a slice of it. It takes no memory.
+pub fn lines(bytes: &[u8], delim: u8) -> Lines<'_>
+    ensures left { result ≡ record { delim = delim; text = bytes.now } }
+    ensures are { IsLines delim bytes.now (lines_of delim bytes.now) }
+    ensures only { (others : List (List ℕ)) → IsLines delim bytes.now others → others ≡ lines_of delim bytes.now }
 {
-    Lines::new(bytes)
+    Lines::new(bytes, delim)
 }
 
-/// The first line of `bytes`, which is empty where `bytes` is, and the rest. It takes no memory.
-pub fn next_line(bytes: &[u8]) -> (&[u8], &[u8])
+/// The first line of `bytes`, which is empty where `bytes` is, and the rest. Lines end with `delim`.
+/// It takes no memory.
+pub fn next_line(bytes: &[u8], delim: u8) -> (&[u8], &[u8])
     ensures joined { bytes.now ≡ result.0.now ++ result.1.now }
-    ensures first { 0 < length bytes.now → lines_of bytes.now ≡ result.0.now ∷ lines_of result.1.now }
+    ensures first { 0 < length bytes.now → lines_of delim bytes.now ≡ result.0.now ∷ lines_of delim result.1.now }
     ensures some { 0 < length bytes.now → 0 < length result.0.now }
-    ensures count { newlines bytes.now ≡ (if ends_with_newline result.0.now then newlines result.1.now + 1 else newlines result.1.now) }
-    ensures last { ends_with_newline result.0.now ≡ false → result.1.now ≡ [] }
+    ensures count { delimiters delim bytes.now ≡ (if ends_with delim result.0.now then delimiters delim result.1.now + 1 else delimiters delim result.1.now) }
+    ensures last { ends_with delim result.0.now ≡ false → result.1.now ≡ [] }
 {
-    match memchr(b'\n', bytes) {
+    match memchr(delim, bytes) {
         Some(place) => bytes.split_at(place + 1),
         None => bytes.split_at(bytes.len()),
     }
 }
 
-/// How many newlines `bytes` has, and so how many complete lines. It takes no memory.
-pub fn count_newlines(bytes: &[u8]) -> usize
-    ensures { result ≡ newlines bytes.now }
+/// How often `delim` stands in `bytes`, and so how many complete lines they have. It takes no memory.
+pub fn count_delimiters(bytes: &[u8], delim: u8) -> usize
+    ensures { result ≡ delimiters delim bytes.now }
 {
     let mut count = 0;
     let mut left = bytes;
     while STEP <= left.len() {
         let (run, rest) = left.split_at(left.len().min(RUN));
-        count += count_in_run(run);
+        count += count_in_run(run, delim);
         left = rest;
     }
-    count + count_one_by_one(left)
+    count + count_one_by_one(left, delim)
 }
 
-// Each lane counts the newlines that it meets, and at the end the lanes are summed.
-fn count_in_run(run: &[u8]) -> usize
+// Each lane counts the delimiters that it meets, and at the end the lanes are summed.
+fn count_in_run(run: &[u8], delim: u8) -> usize
     requires { length run.now ≤ RUN }
-    ensures { result ≡ newlines run.now }
+    ensures { result ≡ delimiters delim run.now }
 {
     let mut lanes = u8x64::splat(0);
     let mut left = run;
     while STEP <= left.len() {
-        lanes = lanes.strict_add(newlines_in_step(left));
+        lanes = lanes.strict_add(delimiters_in_step(left, delim));
         left = &left[STEP..];
     }
-    sum_of(lanes) as usize + count_one_by_one(left)
+    sum_of(lanes) as usize + count_one_by_one(left, delim)
 }
 
-// A vector with 1 in its lane for each newline among the first bytes, and 0 for each other byte.
+// A vector with 1 in its lane for each delimiter among the first bytes, and 0 for each other byte.
 #[inline(always)]
-fn newlines_in_step(bytes: &[u8]) -> u8x64
+fn delimiters_in_step(bytes: &[u8], delim: u8) -> u8x64
     requires { STEP ≤ length bytes.now }
     ensures long { length result ≡ STEP }
     ensures each { Each1 (λ lane. lane ≤ 1) result }
-    ensures sum { sum_l result ≡ newlines (take STEP bytes.now) }
+    ensures sum { sum_l result ≡ delimiters delim (take STEP bytes.now) }
 {
-    let is_newline = u8x64::from_slice(bytes).simd_eq(u8x64::splat(b'\n'));
-    is_newline.select(u8x64::splat(1), u8x64::splat(0))
+    let is_delim = u8x64::from_slice(bytes).simd_eq(u8x64::splat(delim));
+    is_delim.select(u8x64::splat(1), u8x64::splat(0))
 }
 
 #[inline(always)]
@@ -85,47 +90,54 @@ fn sum_of(lanes: u8x64) -> u32
     lanes.dot4(u8x64::splat(1)).strict_reduce_sum()
 }
 
-fn count_one_by_one(bytes: &[u8]) -> usize
-    ensures { result ≡ newlines bytes.now }
+fn count_one_by_one(bytes: &[u8], delim: u8) -> usize
+    ensures { result ≡ delimiters delim bytes.now }
 {
     let mut count = 0;
     for byte in bytes {
-        if *byte == b'\n' {
+        if *byte == delim {
             count += 1;
         }
     }
     count
 }
 
-/// Where the first `lines` lines of `bytes` end, if it has that many complete lines. It takes no
-/// memory.
-pub fn reach(bytes: &[u8], lines: u64) -> Reach
-    ensures { Reaches lines bytes.now result }
+/// Where the first `lines` lines of `bytes` end, if it has that many complete lines, each ended by
+/// `delim`. It takes no memory.
+pub fn reach(bytes: &[u8], lines: u64, delim: u8) -> Reach
+    ensures { Reaches delim lines bytes.now result }
 {
     if lines == 0 {
         return Reach::Ends(0);
     }
-    let (at, count) = skip(bytes, 0, 0, lines, RUN);
-    let (at, count) = skip(bytes, at, count, lines, STEP);
-    reach_from(bytes, at, count, lines)
+    let (at, count) = skip(bytes, 0, 0, lines, RUN, delim);
+    let (at, count) = skip(bytes, at, count, lines, STEP, delim);
+    reach_from(bytes, at, count, lines, delim)
 }
 
-// Passes stretches of `width` bytes after the first `from` bytes, which have `before` newlines, as
+// Passes stretches of `width` bytes after the first `from` bytes, which have `before` delimiters, as
 // long as the last of the lines ends after them. Returns how many bytes were passed in all, and how
-// many newlines they have.
-fn skip(bytes: &[u8], from: usize, before: usize, lines: u64, width: usize) -> (usize, usize)
+// many delimiters they have.
+fn skip(
+    bytes: &[u8],
+    from: usize,
+    before: usize,
+    lines: u64,
+    width: usize,
+    delim: u8,
+) -> (usize, usize)
     requires some { 0 < width }
     requires within { from ≤ length bytes.now }
-    requires counted { before ≡ newlines (take from bytes.now) }
+    requires counted { before ≡ delimiters delim (take from bytes.now) }
     requires fewer { before < lines }
     ensures within { result.0 ≤ length bytes.now }
-    ensures counted { result.1 ≡ newlines (take result.0 bytes.now) }
+    ensures counted { result.1 ≡ delimiters delim (take result.0 bytes.now) }
     ensures fewer { result.1 < lines }
 {
     let mut count = before;
     let mut at = from;
     while width <= bytes.len() - at {
-        let more = count + count_newlines(&bytes[at..at + width]);
+        let more = count + count_delimiters(&bytes[at..at + width], delim);
         if lines <= more as u64 {
             return (at, count);
         }
@@ -136,17 +148,17 @@ fn skip(bytes: &[u8], from: usize, before: usize, lines: u64, width: usize) -> (
 }
 
 // Where the first `lines` lines end, which is after the first `at` bytes, which have `count`
-// newlines. It goes byte by byte.
-fn reach_from(bytes: &[u8], at: usize, count: usize, lines: u64) -> Reach
+// delimiters. It goes byte by byte.
+fn reach_from(bytes: &[u8], at: usize, count: usize, lines: u64, delim: u8) -> Reach
     requires within { at ≤ length bytes.now }
-    requires counted { count ≡ newlines (take at bytes.now) }
+    requires counted { count ≡ delimiters delim (take at bytes.now) }
     requires fewer { count < lines }
-    ensures { Reaches lines bytes.now result }
+    ensures { Reaches delim lines bytes.now result }
 {
     let mut seen = count;
     for i in at..bytes.len() {
         // Added and not branched on: where lines are short, a branch would often be guessed wrong.
-        seen += usize::from(bytes[i] == b'\n');
+        seen += usize::from(bytes[i] == delim);
         if seen as u64 == lines {
             return Reach::Ends(i + 1);
         }
@@ -161,21 +173,42 @@ mod tests {
     #[test]
     fn cuts_a_text(rt: HostRuntime) {
         let text: &[u8] = b"a\nbc\n\nd";
-        let (line, rest) = next_line(text);
+        let (line, rest) = next_line(text, NEWLINE);
         assert_eq!(rt; line, b"a\n".as_slice());
         assert_eq!(rt; rest, b"bc\n\nd".as_slice());
         let wanted: [&[u8]; 4] = [b"a\n", b"bc\n", b"\n", b"d"];
         let mut at = 0;
-        for line in lines(text) {
+        for line in lines(text, NEWLINE) {
             assert!(rt; at < 4);
             assert_eq!(rt; line, wanted[at]);
             at += 1;
         }
         assert_eq!(rt; at, 4);
-        assert_eq!(rt; count_newlines(text), 3);
+        assert_eq!(rt; count_delimiters(text, NEWLINE), 3);
         let none: &[u8] = b"";
-        assert_eq!(rt; next_line(none).0.len(), 0);
-        assert!(rt; lines(none).next().is_none());
+        assert_eq!(rt; next_line(none, NEWLINE).0.len(), 0);
+        assert!(rt; lines(none, NEWLINE).next().is_none());
+    }
+
+    #[test]
+    fn cuts_at_another_byte(rt: HostRuntime) {
+        let text: &[u8] = b"a\nb\0c\0\n";
+        let wanted: [&[u8]; 3] = [b"a\nb\0", b"c\0", b"\n"];
+        let mut at = 0;
+        for line in lines(text, 0) {
+            assert!(rt; at < 3);
+            assert_eq!(rt; line, wanted[at]);
+            at += 1;
+        }
+        assert_eq!(rt; at, 3);
+        assert_eq!(rt; next_line(text, b'c').0, b"a\nb\0c".as_slice());
+        assert_eq!(rt; count_delimiters(text, 0), 2);
+        assert_eq!(rt; reach(text, 2, 0), Reach::Ends(6));
+        assert_eq!(rt; reach(text, 3, 0), Reach::Short(2));
+        let mut long = [b'\n'; 10_000];
+        long[9_000] = 255;
+        assert_eq!(rt; count_delimiters(&long, 255), 1);
+        assert_eq!(rt; reach(&long, 1, 255), Reach::Ends(9_001));
     }
 
     #[test]
@@ -188,28 +221,28 @@ mod tests {
             (3, Reach::Ends(6)),
             (4, Reach::Short(3)),
         ] {
-            assert_eq!(rt; reach(text, lines), wanted, "at {lines}");
+            assert_eq!(rt; reach(text, lines, NEWLINE), wanted, "at {lines}");
         }
         let mut long = [b'\n'; 200];
         for byte in long[..150].iter_mut() {
             *byte = b'x';
         }
-        assert_eq!(rt; count_newlines(&long), 50);
-        assert_eq!(rt; reach(&long, 1), Reach::Ends(151));
-        assert_eq!(rt; reach(&long, 50), Reach::Ends(200));
-        assert_eq!(rt; reach(&long, 51), Reach::Short(50));
+        assert_eq!(rt; count_delimiters(&long, NEWLINE), 50);
+        assert_eq!(rt; reach(&long, 1, NEWLINE), Reach::Ends(151));
+        assert_eq!(rt; reach(&long, 50, NEWLINE), Reach::Ends(200));
+        assert_eq!(rt; reach(&long, 51, NEWLINE), Reach::Short(50));
     }
 
     #[test]
     fn counts_in_a_long_text(rt: HostRuntime) {
         let mut text = [b'\n'; 10_000];
-        assert_eq!(rt; count_newlines(&text), 10_000);
-        assert_eq!(rt; reach(&text, 9_000), Reach::Ends(9_000));
-        assert_eq!(rt; reach(&text, 10_001), Reach::Short(10_000));
+        assert_eq!(rt; count_delimiters(&text, NEWLINE), 10_000);
+        assert_eq!(rt; reach(&text, 9_000, NEWLINE), Reach::Ends(9_000));
+        assert_eq!(rt; reach(&text, 10_001, NEWLINE), Reach::Short(10_000));
         for byte in text[..9_999].iter_mut() {
             *byte = b'x';
         }
-        assert_eq!(rt; count_newlines(&text), 1);
-        assert_eq!(rt; reach(&text, 1), Reach::Ends(10_000));
+        assert_eq!(rt; count_delimiters(&text, NEWLINE), 1);
+        assert_eq!(rt; reach(&text, 1, NEWLINE), Reach::Ends(10_000));
     }
 }

@@ -1,64 +1,71 @@
 //! The lines of a text, looked at from its end.
 ghost use Rattle.std.specs.Prelude.{◌≡◌, ℕ, ◌+◌, ◌-◌, ◌<◌, ◌≤◌, List, ◌++◌, length, take, drop, IfSome, IfNone};
-ghost use Rattle.seg_core.specs.Line.{LastEndsAt, ReachesBack, line_count, newlines};
+ghost use Rattle.seg_core.specs.Line.{LastEndsAt, ReachesBack, delimiters, line_count};
 
-use crate::line::{RUN, STEP, count_newlines};
+use crate::line::{RUN, STEP, count_delimiters};
 use crate::line_reach::ReachBack;
 use memchr::memrchr;
 
-/// The text without its last newline, if it ends with one. Each newline that is left then ends a
+/// The text without its last byte, if that is `delim`. Each delimiter that is left then ends a
 /// line after which another one follows. It takes no memory.
-pub fn last_newline_off(text: &[u8]) -> &[u8]
+pub fn last_delimiter_off(text: &[u8], delim: u8) -> &[u8]
     requires { 0 < length text.now }
     ensures front { result.now ≡ take (length result.now) text.now }
-    ensures count { (before : List ℕ) → line_count (before ++ text.now) ≡ newlines before + newlines result.now + 1 }
-    ensures newlines { newlines text.now ≡ newlines result.now + (length text.now - length result.now) }
+    ensures count { (before : List ℕ) → line_count delim (before ++ text.now) ≡ delimiters delim before + delimiters delim result.now + 1 }
+    ensures delimiters { delimiters delim text.now ≡ delimiters delim result.now + (length text.now - length result.now) }
     ensures shorter { length result.now ≤ length text.now }
 {
     let last = text.len() - 1;
-    if text[last] == b'\n' {
+    if text[last] == delim {
         &text[..last]
     } else {
         text
     }
 }
 
-/// Where the last newline of `bytes` ends, if there is one. The complete lines stand before that
+/// Where the last `delim` of `bytes` ends, if there is one. The complete lines stand before that
 /// place, and an open last line or nothing after it. It takes no memory.
-pub fn last_newline_end(bytes: &[u8]) -> Option<usize>
-    ensures some { IfSome result (λ end. LastEndsAt bytes.now end) }
-    ensures none { IfNone result (newlines bytes.now ≡ 0) }
+pub fn last_delimiter_end(bytes: &[u8], delim: u8) -> Option<usize>
+    ensures some { IfSome result (λ end. LastEndsAt delim bytes.now end) }
+    ensures none { IfNone result (delimiters delim bytes.now ≡ 0) }
 {
-    Some(memrchr(b'\n', bytes)? + 1)
+    Some(memrchr(delim, bytes)? + 1)
 }
 
-/// Where the part of `bytes` begins that follows its newline number `newlines`, counted from the
+/// Where the part of `bytes` begins that follows its delimiter number `delimiters`, counted from the
 /// end. It looks at fewer than 4096 bytes before that place, and takes no memory.
-pub fn reach_back(bytes: &[u8], newlines: u64) -> ReachBack
-    requires { 0 < newlines }
-    ensures { ReachesBack newlines bytes.now result }
+pub fn reach_back(bytes: &[u8], delimiters: u64, delim: u8) -> ReachBack
+    requires { 0 < delimiters }
+    ensures { ReachesBack delim delimiters bytes.now result }
 {
-    let (end, count) = skip_back(bytes, bytes.len(), 0, newlines, RUN);
-    let (end, count) = skip_back(bytes, end, count, newlines, STEP);
-    reach_back_from(bytes, end, count, newlines)
+    let (end, count) = skip_back(bytes, bytes.len(), 0, delimiters, RUN, delim);
+    let (end, count) = skip_back(bytes, end, count, delimiters, STEP, delim);
+    reach_back_from(bytes, end, count, delimiters, delim)
 }
 
-// Passes stretches of `width` bytes before `from`, after which there are `behind` newlines, as long
-// as the wanted newline stands before them. Returns the place that it comes to, and how many
-// newlines there are after it.
-fn skip_back(bytes: &[u8], from: usize, behind: usize, wanted: u64, width: usize) -> (usize, usize)
+// Passes stretches of `width` bytes before `from`, after which there are `after` delimiters, as long
+// as the wanted delimiter stands before them. Returns the place that it comes to, and how many
+// delimiters there are after it.
+fn skip_back(
+    bytes: &[u8],
+    from: usize,
+    after: usize,
+    wanted: u64,
+    width: usize,
+    delim: u8,
+) -> (usize, usize)
     requires some { 0 < width }
     requires within { from ≤ length bytes.now }
-    requires counted { behind ≡ newlines (drop from bytes.now) }
-    requires fewer { behind < wanted }
+    requires counted { after ≡ delimiters delim (drop from bytes.now) }
+    requires fewer { after < wanted }
     ensures within { result.0 ≤ length bytes.now }
-    ensures counted { result.1 ≡ newlines (drop result.0 bytes.now) }
+    ensures counted { result.1 ≡ delimiters delim (drop result.0 bytes.now) }
     ensures fewer { result.1 < wanted }
 {
-    let mut count = behind;
+    let mut count = after;
     let mut end = from;
     while width <= end {
-        let more = count + count_newlines(&bytes[end - width..end]);
+        let more = count + count_delimiters(&bytes[end - width..end], delim);
         if wanted <= more as u64 {
             return (end, count);
         }
@@ -68,18 +75,18 @@ fn skip_back(bytes: &[u8], from: usize, behind: usize, wanted: u64, width: usize
     (end, count)
 }
 
-// The same before `end`, after which there are `count` newlines. It goes byte by byte.
-fn reach_back_from(bytes: &[u8], end: usize, count: usize, wanted: u64) -> ReachBack
+// The same before `end`, after which there are `count` delimiters. It goes byte by byte.
+fn reach_back_from(bytes: &[u8], end: usize, count: usize, wanted: u64, delim: u8) -> ReachBack
     requires within { end ≤ length bytes.now }
-    requires counted { count ≡ newlines (drop end bytes.now) }
+    requires counted { count ≡ delimiters delim (drop end bytes.now) }
     requires fewer { count < wanted }
-    ensures { ReachesBack wanted bytes.now result }
+    ensures { ReachesBack delim wanted bytes.now result }
 {
     let mut seen = count;
     let mut at = end;
     while 0 < at {
         // Added and not branched on, as in `reach_from`.
-        seen += usize::from(bytes[at - 1] == b'\n');
+        seen += usize::from(bytes[at - 1] == delim);
         if seen as u64 == wanted {
             return ReachBack::Begins(at);
         }
@@ -91,26 +98,32 @@ fn reach_back_from(bytes: &[u8], end: usize, count: usize, wanted: u64) -> Reach
 #[cfg(test)]
 mod tests {
     use super::*;
+    use crate::line::NEWLINE;
 
     #[test]
-    fn finds_the_last_newline(rt: HostRuntime) {
-        assert_eq!(rt; last_newline_end(b"a\nbc\nd"), Some(5));
-        assert_eq!(rt; last_newline_end(b"a\n\n"), Some(3));
-        assert_eq!(rt; last_newline_end(b"\nabc"), Some(1));
-        assert_eq!(rt; last_newline_end(b"abc"), None);
-        assert_eq!(rt; last_newline_end(b""), None);
+    fn finds_the_last_delimiter(rt: HostRuntime) {
+        assert_eq!(rt; last_delimiter_end(b"a\nbc\nd", NEWLINE), Some(5));
+        assert_eq!(rt; last_delimiter_end(b"a\n\n", NEWLINE), Some(3));
+        assert_eq!(rt; last_delimiter_end(b"\nabc", NEWLINE), Some(1));
+        assert_eq!(rt; last_delimiter_end(b"abc", NEWLINE), None);
+        assert_eq!(rt; last_delimiter_end(b"", NEWLINE), None);
+        assert_eq!(rt; last_delimiter_end(b"a\0b\n", 0), Some(2));
     }
 
     #[test]
     fn reaches_back_in_a_long_text(rt: HostRuntime) {
         let mut text = [b'\n'; 10_000];
-        assert_eq!(rt; reach_back(&text, 9_000), ReachBack::Begins(1_001));
-        assert_eq!(rt; reach_back(&text, 10_000), ReachBack::Begins(1));
-        assert_eq!(rt; reach_back(&text, 10_001), ReachBack::Short(10_000));
+        assert_eq!(rt; reach_back(&text, 9_000, NEWLINE), ReachBack::Begins(1_001));
+        assert_eq!(rt; reach_back(&text, 10_000, NEWLINE), ReachBack::Begins(1));
+        assert_eq!(rt;
+            reach_back(&text, 10_001, NEWLINE),
+            ReachBack::Short(10_000)
+        );
         for byte in text[1..].iter_mut() {
             *byte = b'x';
         }
-        assert_eq!(rt; reach_back(&text, 1), ReachBack::Begins(1));
-        assert_eq!(rt; reach_back(&text, 2), ReachBack::Short(1));
+        assert_eq!(rt; reach_back(&text, 1, NEWLINE), ReachBack::Begins(1));
+        assert_eq!(rt; reach_back(&text, 2, NEWLINE), ReachBack::Short(1));
+        assert_eq!(rt; reach_back(&text, 9_000, b'x'), ReachBack::Begins(1_001));
     }
 }

@@ -1,8 +1,9 @@
-//! Runs of bytes whose newlines are counted: a line window is made of them.
-ghost use Rattle.std.specs.Prelude.{◌≡◌, ℕ, ◌+◌, ◌≤◌, ◌<◌, List, [], ◌++◌, length, take, drop, IfOk, OnOk, OnErr};
-ghost use Rattle.seg_core.specs.Line.{newlines};
+//! Runs of bytes with a count of the delimiters among them: a line window is made of them.
+ghost use Rattle.std.specs.Prelude.{◌≡◌, ◌+◌, ◌-◌, ◌≤◌, ◌++◌, length, take, drop, IfOk, OnOk, OnErr};
+ghost use Rattle.seg_core.specs.Line.{delimiters};
+ghost use Rattle.seg_core.specs.Blocks.{BlockState};
 
-use crate::line::count_newlines;
+use crate::line::count_delimiters;
 use std::alloc::{AllocError, Global};
 use std::marker::Model;
 
@@ -15,24 +16,24 @@ pub(crate) struct Block {
     bytes: Vec<u8>,
     /// How many of the bytes have left at the front.
     start: usize,
-    /// How many newlines the others have.
+    /// How many of the others are delimiters.
     count: usize,
 }
 
 impl Model for Block {
-    ghost Value = { List ℕ };
+    ghost Value = { BlockState };
 
-    ghost view = { λ b. drop b.start b.bytes.items };
+    ghost view = { λ b. record { bytes = drop b.start b.bytes.items; count = b.count } };
 
-    ghost invariant = { λ b. (b.start ≤ length b.bytes.items) × (b.count ≡ newlines (drop b.start b.bytes.items)) };
+    ghost invariant = { λ b. (b.start ≤ length b.bytes.items) × (b.count ≤ length (drop b.start b.bytes.items)) };
 }
 
 impl Block {
-    /// A block that holds these bytes, of which `count` are newlines. It has room for `BLOCK`
+    /// A block that holds these bytes, of which `count` are delimiters. It has room for `BLOCK`
     /// bytes, or for these if they are more.
     pub(crate) fn holding(alloc: Global, bytes: &[u8], count: usize) -> Result<Block, AllocError>
-        requires { count ≡ newlines bytes.now }
-        ensures { IfOk result (λ block. block ≡ bytes.now) }
+        requires { count ≤ length bytes.now }
+        ensures { IfOk result (λ block. block ≡ record { bytes = bytes.now; count = count }) }
     {
         let mut room: Vec<u8> = Vec::with_capacity(alloc, BLOCK)?;
         room.extend_from_slice(bytes)?;
@@ -45,21 +46,21 @@ impl Block {
 
     /// The bytes that it holds.
     pub(crate) fn bytes(&self) -> &[u8]
-        ensures { result.now ≡ self.now }
+        ensures { result.now ≡ self.now.bytes }
     {
         &self.bytes[self.start..]
     }
 
     /// How many bytes it holds.
     pub(crate) fn len(&self) -> usize
-        ensures { result ≡ length self.now }
+        ensures { result ≡ length self.now.bytes }
     {
         self.bytes.len() - self.start
     }
 
-    /// How many newlines they have.
-    pub(crate) fn newlines(&self) -> usize
-        ensures { result ≡ newlines self.now }
+    /// How many of them are delimiters.
+    pub(crate) fn delimiters(&self) -> usize
+        ensures { result ≡ self.now.count }
     {
         self.count
     }
@@ -69,11 +70,11 @@ impl Block {
         BLOCK.saturating_sub(self.bytes.len())
     }
 
-    /// Appends bytes, of which `count` are newlines. Where there is no memory, the block stays as
+    /// Appends bytes, of which `count` are delimiters. Where there is no memory, the block stays as
     /// it was.
     pub(crate) fn append(&mut self, part: &[u8], count: usize) -> Result<(), AllocError>
-        requires { count ≡ newlines part.now }
-        ensures ok { OnOk result (self.new ≡ self.old ++ part.now) }
+        requires { count ≤ length part.now }
+        ensures ok { OnOk result (self.new ≡ record { bytes = self.old.bytes ++ part.now; count = self.old.count + count }) }
         ensures err { OnErr result (self.new ≡ self.old) }
     {
         self.bytes.extend_from_slice(part)?;
@@ -81,29 +82,30 @@ impl Block {
         Ok(())
     }
 
-    /// Drops `n` bytes at the front, and returns how many newlines they had.
-    pub(crate) fn drop_front(&mut self, n: usize) -> usize
-        requires { n ≤ length self.old }
-        ensures left { self.new ≡ drop n self.old }
-        ensures newlines { result ≡ newlines (take n self.old) }
+    /// Drops `n` bytes at the front, and returns how many of them were delimiters.
+    pub(crate) fn drop_front(&mut self, n: usize, delim: u8) -> usize
+        requires within { n ≤ length self.old.bytes }
+        requires counted { self.old.count ≡ delimiters delim self.old.bytes }
+        ensures left { self.new ≡ record { bytes = drop n self.old.bytes; count = self.old.count - result } }
+        ensures delimiters { result ≡ delimiters delim (take n self.old.bytes) }
     {
         let (first, others) = self.bytes().split_at(n);
-        let gone = count_first(first, others, self.count);
+        let gone = count_first(first, others, self.count, delim);
         self.count -= gone;
         self.start += n;
         gone
     }
 }
 
-/// How many newlines the first part of a text has, where both parts together have `count`. Only the
-/// shorter part is looked at.
-pub(crate) fn count_first(first: &[u8], others: &[u8], count: usize) -> usize
-    requires { count ≡ newlines first.now + newlines others.now }
-    ensures { result ≡ newlines first.now }
+/// How many delimiters the first part of a text has, where both parts together have `count`. Only
+/// the shorter part is looked at.
+pub(crate) fn count_first(first: &[u8], others: &[u8], count: usize, delim: u8) -> usize
+    requires { count ≡ delimiters delim first.now + delimiters delim others.now }
+    ensures { result ≡ delimiters delim first.now }
 {
     if first.len() <= others.len() {
-        count_newlines(first)
+        count_delimiters(first, delim)
     } else {
-        count - count_newlines(others)
+        count - count_delimiters(others, delim)
     }
 }

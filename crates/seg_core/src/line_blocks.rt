@@ -1,9 +1,9 @@
 //! A queue of bytes in blocks: bytes are added at its end and dropped at its front, and none of
 //! them is moved.
-ghost use Rattle.std.specs.Prelude.{◌≡◌, ℕ, ◌+◌, ◌^◌, ◌≤◌, ◌<◌, List, [], ◌++◌, length, take, drop, IfOk, OnOk, OnErr};
+ghost use Rattle.std.specs.Prelude.{◌≡◌, ℕ, ◌^◌, ◌≤◌, ◌<◌, List, [], ◌++◌, length, take, drop, IfOk, OnOk, OnErr};
 ghost use Rattle.std.specs.VecDeque.{deque_len, deque_capacity};
-ghost use Rattle.seg_core.specs.Line.{joined, newlines, first_lines};
-ghost use Rattle.seg_core.specs.Blocks.{Gone, first_of};
+ghost use Rattle.seg_core.specs.Line.{delimiters, first_lines};
+ghost use Rattle.seg_core.specs.Blocks.{Gone, HaveCounts, count_of, first_of, text_of};
 
 use crate::line::reach;
 use crate::line_back::reach_back;
@@ -12,29 +12,32 @@ use crate::line_reach::{Reach, ReachBack};
 use std::alloc::{AllocError, Global};
 use std::collections::VecDeque;
 
-/// How many bytes are still to be dropped once whole blocks are gone, and how many newlines those
+/// How many bytes are still to be dropped once whole blocks are gone, and how many delimiters those
 /// blocks had.
 #[derive(Clone, Copy)]
 pub(crate) struct Left {
     pub(crate) bytes: u64,
-    pub(crate) newlines: u64,
+    pub(crate) delimiters: u64,
 }
 
-/// Appends a piece that has `count` newlines. Room for all of it is found before anything is
+/// Appends a piece that has `count` delimiters. Room for all of it is found before anything is
 /// changed.
 pub(crate) fn extend(
     queue: &mut VecDeque<Block>,
     alloc: Global,
     piece: &[u8],
     count: usize,
+    delim: u8,
 ) -> Result<(), AllocError>
-    requires { count ≡ newlines piece.now }
-    ensures ok { OnOk result (joined queue.new.items ≡ joined queue.old.items ++ piece.now) }
+    requires counted { count ≡ delimiters delim piece.now }
+    requires each { HaveCounts delim queue.old.items }
+    ensures ok { OnOk result (text_of queue.new.items ≡ text_of queue.old.items ++ piece.now) }
+    ensures each { OnOk result (HaveCounts delim queue.new.items) }
     ensures err { OnErr result (queue.new.items ≡ queue.old.items) }
 {
     let (near, far) = piece.split_at(room_behind(queue).min(piece.len()));
-    let near_count = count_first(near, far, count);
-    let mut fresh = blocks_of(alloc, far, count - near_count)?;
+    let near_count = count_first(near, far, count, delim);
+    let mut fresh = blocks_of(alloc, far, count - near_count, delim)?;
     queue.reserve(fresh.len())?;
     fill(queue, near, near_count)?;
     match queue.append(&mut fresh) {
@@ -53,17 +56,23 @@ fn room_behind(queue: &VecDeque<Block>) -> usize
     }
 }
 
-// New blocks that hold these bytes, of which `count` are newlines.
-fn blocks_of(alloc: Global, bytes: &[u8], count: usize) -> Result<VecDeque<Block>, AllocError>
-    requires { count ≡ newlines bytes.now }
-    ensures { IfOk result (λ fresh. joined fresh.items ≡ bytes.now) }
+// New blocks that hold these bytes, of which `count` are delimiters.
+fn blocks_of(
+    alloc: Global,
+    bytes: &[u8],
+    count: usize,
+    delim: u8,
+) -> Result<VecDeque<Block>, AllocError>
+    requires { count ≡ delimiters delim bytes.now }
+    ensures text { IfOk result (λ fresh. text_of fresh.items ≡ bytes.now) }
+    ensures each { IfOk result (λ fresh. HaveCounts delim fresh.items) }
 {
     let mut queue: VecDeque<Block> = VecDeque::new(alloc);
     let mut count = count;
     let mut left = bytes;
     while !left.is_empty() {
         let (near, far) = left.split_at(BLOCK.min(left.len()));
-        let near_count = count_first(near, far, count);
+        let near_count = count_first(near, far, count, delim);
         let block = Block::holding(alloc, near, near_count)?;
         match queue.push_back(block) {
             Ok(()) => {}
@@ -75,11 +84,12 @@ fn blocks_of(alloc: Global, bytes: &[u8], count: usize) -> Result<VecDeque<Block
     Ok(queue)
 }
 
-// Appends bytes, of which `count` are newlines, to those of the last block.
+// Appends bytes, of which `count` are delimiters, to those of the last block.
 fn fill(queue: &mut VecDeque<Block>, part: &[u8], count: usize) -> Result<(), AllocError>
     requires none { deque_len queue.old ≡ 0 → part.now ≡ [] }
-    requires counted { count ≡ newlines part.now }
-    ensures ok { OnOk result (joined queue.new.items ≡ joined queue.old.items ++ part.now) }
+    requires few { count ≤ length part.now }
+    ensures ok { OnOk result (text_of queue.new.items ≡ text_of queue.old.items ++ part.now) }
+    ensures each { OnOk result ((delim : ℕ) → count ≡ delimiters delim part.now → HaveCounts delim queue.old.items → HaveCounts delim queue.new.items) }
     ensures err { OnErr result (queue.new.items ≡ queue.old.items) }
     ensures len { deque_len queue.new ≡ deque_len queue.old }
     ensures capacity { deque_capacity queue.new ≡ deque_capacity queue.old }
@@ -92,8 +102,8 @@ fn fill(queue: &mut VecDeque<Block>, part: &[u8], count: usize) -> Result<(), Al
 
 /// The bytes of the first block that has any; none where no block has.
 pub(crate) fn front_of(queue: &VecDeque<Block>) -> &[u8]
-    ensures front { (rest : List ℕ) × (joined queue.now.items ≡ result.now ++ rest) }
-    ensures some { 0 < length (joined queue.now.items) → 0 < length result.now }
+    ensures front { (rest : List ℕ) × (text_of queue.now.items ≡ result.now ++ rest) }
+    ensures some { 0 < length (text_of queue.now.items) → 0 < length result.now }
 {
     for i in 0..queue.len() {
         let bytes = queue[i].bytes();
@@ -104,85 +114,91 @@ pub(crate) fn front_of(queue: &VecDeque<Block>) -> &[u8]
     &[]
 }
 
-/// Drops `n` bytes at the front, and returns how many newlines they had.
-pub(crate) fn drop_front(queue: &mut VecDeque<Block>, n: u64) -> u64
-    requires within { n ≤ length (joined queue.old.items) }
-    requires fits { length (joined queue.old.items) < 2 ^ 64 }
-    ensures left { joined queue.new.items ≡ drop n (joined queue.old.items) }
-    ensures newlines { result ≡ newlines (take n (joined queue.old.items)) }
+/// Drops `n` bytes at the front, and returns how many of them were delimiters.
+pub(crate) fn drop_front(queue: &mut VecDeque<Block>, n: u64, delim: u8) -> u64
+    requires within { n ≤ length (text_of queue.old.items) }
+    requires fits { length (text_of queue.old.items) < 2 ^ 64 }
+    requires each { HaveCounts delim queue.old.items }
+    ensures left { text_of queue.new.items ≡ drop n (text_of queue.old.items) }
+    ensures delimiters { result ≡ delimiters delim (take n (text_of queue.old.items)) }
+    ensures each { HaveCounts delim queue.new.items }
 {
     let left = drop_whole(queue, n);
-    left.newlines + drop_within(queue, left.bytes)
+    left.delimiters + drop_within(queue, left.bytes, delim)
 }
 
 // Drops the blocks that lie within the first `n` bytes.
 fn drop_whole(queue: &mut VecDeque<Block>, n: u64) -> Left
-    requires fits { length (joined queue.old.items) < 2 ^ 64 }
-    ensures gone { Gone n (joined queue.old.items) queue.new.items result.bytes result.newlines }
-    ensures within { n ≤ length (joined queue.old.items) → result.bytes ≤ length (first_of queue.new.items) }
+    requires fits { count_of queue.old.items < 2 ^ 64 }
+    ensures gone { Gone n queue.old.items queue.new.items result.bytes result.delimiters }
+    ensures within { n ≤ length (text_of queue.old.items) → result.bytes ≤ length (first_of queue.new.items) }
 {
     let mut left = Left {
         bytes: n,
-        newlines: 0,
+        delimiters: 0,
     };
     while let Some(first) = queue.front() {
         if left.bytes < first.len() as u64 {
             break;
         }
         left.bytes -= first.len() as u64;
-        left.newlines += first.newlines() as u64;
+        left.delimiters += first.delimiters() as u64;
         queue.pop_front();
     }
     left
 }
 
-// Drops `n` bytes at the front of the first block, and returns how many newlines they had.
-fn drop_within(queue: &mut VecDeque<Block>, n: u64) -> u64
-    requires { n ≤ length (first_of queue.old.items) }
-    ensures left { joined queue.new.items ≡ drop n (joined queue.old.items) }
-    ensures newlines { result ≡ newlines (take n (joined queue.old.items)) }
+// Drops `n` bytes at the front of the first block, and returns how many of them were delimiters.
+fn drop_within(queue: &mut VecDeque<Block>, n: u64, delim: u8) -> u64
+    requires within { n ≤ length (first_of queue.old.items) }
+    requires each { HaveCounts delim queue.old.items }
+    ensures left { text_of queue.new.items ≡ drop n (text_of queue.old.items) }
+    ensures delimiters { result ≡ delimiters delim (take n (text_of queue.old.items)) }
+    ensures each { HaveCounts delim queue.new.items }
 {
     match queue.front_mut() {
-        Some(first) => first.drop_front(n as usize) as u64,
+        Some(first) => first.drop_front(n as usize, delim) as u64,
         None => 0,
     }
 }
 
 /// Where the first `lines` lines end, all of which are complete.
-pub(crate) fn reach_in(queue: &VecDeque<Block>, lines: u64) -> u64
+pub(crate) fn reach_in(queue: &VecDeque<Block>, lines: u64, delim: u8) -> u64
     requires some { 0 < lines }
-    requires enough { lines ≤ newlines (joined queue.now.items) }
-    requires fits { length (joined queue.now.items) < 2 ^ 64 }
-    ensures { result ≡ length (first_lines lines (joined queue.now.items)) }
+    requires enough { lines ≤ delimiters delim (text_of queue.now.items) }
+    requires each { HaveCounts delim queue.now.items }
+    requires fits { length (text_of queue.now.items) < 2 ^ 64 }
+    ensures { result ≡ length (first_lines delim lines (text_of queue.now.items)) }
 {
     let mut passed: u64 = 0;
     let mut left = lines;
     for i in 0..queue.len() {
         let block = &queue[i];
-        if left <= block.newlines() as u64 {
-            return passed + end_of(block, left);
+        if left <= block.delimiters() as u64 {
+            return passed + end_of(block, left, delim);
         }
-        left -= block.newlines() as u64;
+        left -= block.delimiters() as u64;
         passed += block.len() as u64;
     }
     unreachable!()
 }
 
 // Where the first `lines` lines of a block end, all of which are complete.
-fn end_of(block: &Block, lines: u64) -> u64
-    requires { lines ≤ newlines block.now }
-    ensures { result ≡ length (first_lines lines block.now) }
+fn end_of(block: &Block, lines: u64, delim: u8) -> u64
+    requires enough { lines ≤ delimiters delim block.now.bytes }
+    requires counted { block.now.count ≡ delimiters delim block.now.bytes }
+    ensures { result ≡ length (first_lines delim lines block.now.bytes) }
 {
-    let behind = block.newlines() as u64 - lines;
-    if behind < lines {
+    let after = block.delimiters() as u64 - lines;
+    if after < lines {
         // The place is nearer to the block's end, so it is looked for from there: the last of these
-        // lines ends with the newline that has `behind` others after it.
-        return match reach_back(block.bytes(), behind + 1) {
+        // lines ends with the delimiter that has `after` others after it.
+        return match reach_back(block.bytes(), after + 1, delim) {
             ReachBack::Begins(at) => at as u64,
             ReachBack::Short(_) => unreachable!(),
         };
     }
-    match reach(block.bytes(), lines) {
+    match reach(block.bytes(), lines, delim) {
         Reach::Ends(end) => end as u64,
         Reach::Short(_) => unreachable!(),
     }

@@ -6,17 +6,17 @@ pub enum Reach {
     /// The text has at least as many complete lines as were asked for. They are its first bytes,
     /// this many.
     Ends(usize),
-    /// The text has fewer newlines. It has this many.
+    /// The text has fewer delimiters. It has this many.
     Short(usize),
 }
 
-/// Where the part of a text begins that follows a newline, which is asked for by its number from
+/// Where the part of a text begins that follows a delimiter, which is asked for by its number from
 /// the end.
 #[derive(Clone, Copy, Debug, PartialEq, Eq)]
 pub enum ReachBack {
-    /// The text has at least as many newlines. The part begins at this place, just after the one
+    /// The text has at least as many delimiters. The part begins at this place, just after the one
     /// that was asked for.
     Begins(usize),
-    /// The text has fewer newlines. It has this many.
+    /// The text has fewer delimiters. It has this many.
     Short(usize),
 }

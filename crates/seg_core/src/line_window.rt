@@ -1,11 +1,11 @@
 //! The last lines of what came in.
 ghost use Rattle.std.specs.Prelude.{◌≡◌, ℕ, ◌+◌, ◌-◌, ◌<◌, ◌≤◌, ◌==◌, List, [], ◌++◌, length, take, drop, min, IsOk, IfOk, IfErr, IfSome, OnOk, None};
-ghost use Rattle.seg_core.specs.Line.{but_last_lines, first_lines, line_count, newlines};
+ghost use Rattle.seg_core.specs.Line.{but_last_lines, delimiters, first_lines, line_count};
 ghost use Rattle.seg_core.specs.Window.{without_first};
 
 use crate::fault::Fault;
-use crate::line::count_newlines;
-use crate::line_back::{last_newline_off, reach_back};
+use crate::line::count_delimiters;
+use crate::line_back::{last_delimiter_off, reach_back};
 use crate::line_block::Block;
 use crate::line_blocks::{drop_front, extend, front_of, reach_in};
 use crate::line_reach::ReachBack;
@@ -21,57 +21,60 @@ const MOST_HELD: u64 = 0x7fff_ffff_ffff_ffff;
 pub struct Over {
     /// How many bytes must leave at the front, of what the window holds and of the piece after it.
     pub bytes: u64,
-    /// How many newlines the piece has, if all of it stays and they were counted.
-    pub newlines: Option<usize>,
+    /// How many delimiters the piece has, if all of it stays and they were counted.
+    pub delimiters: Option<usize>,
 }
 
-/// A window over lines: it keeps the last `most` of what came in, at most 2^63-1 bytes. It takes as
-/// much memory as it holds bytes, in blocks of 64 KiB, of which the first and the last may be used in
-/// part only. No byte moves from block to block.
+/// A window over lines: it keeps the last `most` of what came in, at most 2^63-1 bytes. All lines end
+/// with the byte that it was given when it was made. It takes as much memory as it holds bytes, in
+/// blocks of 64 KiB, of which the first and the last may be used in part only. No byte moves from
+/// block to block.
 #[derive(Drop)]
 pub struct LineWindow {
     alloc: Global,
     most: u64,
+    delim: u8,
     blocks: VecDeque<Block>,
     len: u64,
-    newlines: u64,
+    delimiters: u64,
 }
 
 impl Model for LineWindow {
     ghost use Rattle.seg_core.specs.Window.{Window};
-    ghost use Rattle.seg_core.specs.Blocks.{IsCounted};
-    ghost use Rattle.seg_core.specs.Line.{joined};
+    ghost use Rattle.seg_core.specs.Blocks.{IsCounted, text_of};
 
     ghost Value = { Window };
 
-    ghost view = { λ w. record { most = w.most; held = joined w.blocks.items } };
+    ghost view = { λ w. record { most = w.most; delim = w.delim; held = text_of w.blocks.items } };
 
-    ghost invariant = { λ w. IsCounted w.most (joined w.blocks.items) w.len w.newlines };
+    ghost invariant = { λ w. IsCounted w.delim w.most w.blocks.items w.len w.delimiters };
 }
 
 impl LineWindow {
-    /// A window that is to keep the last `most` lines, and holds none yet. An open last line counts.
+    /// A window that is to keep the last `most` lines, each ended by `delim`, and holds none yet. An
+    /// open last line counts.
     ///
     /// # Errors
     ///
     /// `Memory` where there is no room for it.
-    pub fn new(alloc: Global, most: u64) -> Result<Self, Fault>
-        ensures ok { IfOk result (λ window. window ≡ record { most = most; held = [] }) }
+    pub fn new(alloc: Global, most: u64, delim: u8) -> Result<Self, Fault>
+        ensures ok { IfOk result (λ window. window ≡ record { most = most; delim = delim; held = [] }) }
         ensures err { IfErr result (λ fault. fault ≡ Fault.Memory) }
     {
         Ok(LineWindow {
             alloc,
             most,
+            delim,
             blocks: VecDeque::new(alloc),
             len: 0,
-            newlines: 0,
+            delimiters: 0,
         })
     }
 
     /// How many bytes it holds.
     pub fn len(&self) -> u64
         ensures len { result ≡ length self.now.held }
-        ensures lines { line_count self.now.held ≤ self.now.most }
+        ensures lines { line_count self.now.delim self.now.held ≤ self.now.most }
     {
         self.len
     }
@@ -86,16 +89,16 @@ impl LineWindow {
     /// How many bytes stand before the last `most` lines of what it holds and the piece together:
     /// this many must leave at the front. It may be more than it holds.
     pub fn over(&self, piece: &[u8]) -> u64
-        ensures { result ≡ length (but_last_lines self.now.most (self.now.held ++ piece.now)) }
+        ensures { result ≡ length (but_last_lines self.now.delim self.now.most (self.now.held ++ piece.now)) }
     {
         self.count_over(piece).bytes
     }
 
-    /// What `over` returns, and how many newlines the piece has if they were counted meanwhile, so
+    /// What `over` returns, and how many delimiters the piece has if they were counted meanwhile, so
     /// that `put_counted` needn't count them again.
     pub fn count_over(&self, piece: &[u8]) -> Over
-        ensures bytes { result.bytes ≡ length (but_last_lines self.now.most (self.now.held ++ piece.now)) }
-        ensures newlines { IfSome result.newlines (λ count. (count ≡ newlines piece.now) × (result.bytes ≤ length self.now.held)) }
+        ensures bytes { result.bytes ≡ length (but_last_lines self.now.delim self.now.most (self.now.held ++ piece.now)) }
+        ensures delimiters { IfSome result.delimiters (λ count. (count ≡ delimiters self.now.delim piece.now) × (result.bytes ≤ length self.now.held)) }
     {
         let len = self.len;
         if piece.is_empty() {
@@ -104,14 +107,14 @@ impl LineWindow {
         if self.most == 0 {
             return uncounted(len + piece.len() as u64);
         }
-        let text = last_newline_off(piece);
-        match reach_back(text, self.most) {
+        let text = last_delimiter_off(piece, self.delim);
+        match reach_back(text, self.most, self.delim) {
             ReachBack::Begins(at) => uncounted(len + at as u64),
             ReachBack::Short(count) => {
-                let lines = self.newlines + count as u64 + 1;
+                let lines = self.delimiters + count as u64 + 1;
                 Over {
                     bytes: self.end_of_first(lines.saturating_sub(self.most)),
-                    newlines: Some(count + (piece.len() - text.len())),
+                    delimiters: Some(count + (piece.len() - text.len())),
                 }
             }
         }
@@ -119,15 +122,15 @@ impl LineWindow {
 
     // Where the first `lines` lines end, all of which are complete.
     fn end_of_first(&self, lines: u64) -> u64
-        requires { lines ≤ newlines self.now.held }
-        ensures end { result ≡ length (first_lines lines self.now.held) }
+        requires { lines ≤ delimiters self.now.delim self.now.held }
+        ensures end { result ≡ length (first_lines self.now.delim lines self.now.held) }
         ensures within { result ≤ length self.now.held }
     {
         if lines == 0 {
             return 0;
         }
         let _len = self.len;
-        reach_in(&self.blocks, lines)
+        reach_in(&self.blocks, lines, self.delim)
     }
 
     /// The longest run of bytes at the front that lie in one slice. It is empty only where the
@@ -160,7 +163,7 @@ impl LineWindow {
         requires { n ≤ length self.old.held }
         ensures { self.new ≡ without_first self.old n }
     {
-        self.newlines -= drop_front(&mut self.blocks, n);
+        self.delimiters -= drop_front(&mut self.blocks, n, self.delim);
         self.len -= n;
     }
 
@@ -171,24 +174,24 @@ impl LineWindow {
     /// `Memory` where there is no room for it, or where both together have more than 2^63-1 bytes.
     /// The window then stays as it was.
     pub fn put(&mut self, piece: &[u8]) -> Result<(), Fault>
-        requires { but_last_lines self.old.most (self.old.held ++ piece.now) ≡ [] }
-        ensures ok { OnOk result (self.new ≡ record { most = self.old.most; held = self.old.held ++ piece.now }) }
+        requires { but_last_lines self.old.delim self.old.most (self.old.held ++ piece.now) ≡ [] }
+        ensures ok { OnOk result (self.new ≡ record { most = self.old.most; delim = self.old.delim; held = self.old.held ++ piece.now }) }
         ensures err { IfErr result (λ fault. (fault ≡ Fault.Memory) × (self.new ≡ self.old)) }
         ensures empty { length piece.now ≡ 0 → IsOk result }
     {
-        self.put_counted(piece, count_newlines(piece))
+        self.put_counted(piece, count_delimiters(piece, self.delim))
     }
 
-    /// Appends a piece that has `count` newlines, as `put` does.
+    /// Appends a piece that has `count` delimiters, as `put` does.
     ///
     /// # Errors
     ///
     /// `Memory` where there is no room for it, or where both together have more than 2^63-1 bytes.
     /// The window then stays as it was.
     pub fn put_counted(&mut self, piece: &[u8], count: usize) -> Result<(), Fault>
-        requires within { but_last_lines self.old.most (self.old.held ++ piece.now) ≡ [] }
-        requires counted { count ≡ newlines piece.now }
-        ensures ok { OnOk result (self.new ≡ record { most = self.old.most; held = self.old.held ++ piece.now }) }
+        requires within { but_last_lines self.old.delim self.old.most (self.old.held ++ piece.now) ≡ [] }
+        requires counted { count ≡ delimiters self.old.delim piece.now }
+        ensures ok { OnOk result (self.new ≡ record { most = self.old.most; delim = self.old.delim; held = self.old.held ++ piece.now }) }
         ensures err { IfErr result (λ fault. (fault ≡ Fault.Memory) × (self.new ≡ self.old)) }
         ensures empty { length piece.now ≡ 0 → IsOk result }
     {
@@ -198,24 +201,24 @@ impl LineWindow {
         if piece.len() as u64 > MOST_HELD - self.len {
             return Err(Fault::Memory);
         }
-        match extend(&mut self.blocks, self.alloc, piece, count) {
+        match extend(&mut self.blocks, self.alloc, piece, count, self.delim) {
             Ok(()) => {}
             Err(AllocError) => return Err(Fault::Memory),
         }
         self.len += piece.len() as u64;
-        self.newlines += count as u64;
+        self.delimiters += count as u64;
         Ok(())
     }
 }
 
-// What must leave is this many bytes, and no newlines were counted.
+// What must leave is this many bytes, and no delimiters were counted.
 fn uncounted(bytes: u64) -> Over
     ensures bytes { result.bytes ≡ bytes }
-    ensures newlines { result.newlines ≡ None }
+    ensures delimiters { result.delimiters ≡ None }
 {
     Over {
         bytes,
-        newlines: None,
+        delimiters: None,
     }
 }
 

@@ -4,6 +4,7 @@ ghost use Rattle.seg_core.specs.Line.{last_lines};
 
 use crate::byte_window::ByteWindow;
 use crate::fault::Fault;
+use crate::line::NEWLINE;
 use crate::line_window::LineWindow;
 use std::alloc::Global;
 use std::process::Abort;
@@ -12,7 +13,7 @@ const LETTERS: &[u8; 26] = b"abcdefghijklmnopqrstuvwxyz";
 
 // Drops what is over at the front, and puts a piece into the window.
 fn keep_lines(window: &mut LineWindow, piece: &[u8]) -> Result<(), Fault>
-    ensures { OnOk result (window.new.held ≡ last_lines window.old.most (window.old.held ++ piece.now)) }
+    ensures { OnOk result (window.new.held ≡ last_lines window.old.delim window.old.most (window.old.held ++ piece.now)) }
 {
     let over = window.over(piece);
     let held = window.len();
@@ -62,7 +63,7 @@ fn keeps_bytes(rt: HostRuntime) {
 
 #[test]
 fn keeps_lines(rt: HostRuntime) {
-    let mut window = LineWindow::new(rt.alloc(), 2).expect(&rt, "room");
+    let mut window = LineWindow::new(rt.alloc(), 2, NEWLINE).expect(&rt, "room");
     assert!(rt; window.is_empty());
     for (piece, len) in [
         ("a", 1),
@@ -74,11 +75,11 @@ fn keeps_lines(rt: HostRuntime) {
         ("1\n2\n3\n4", 3),
     ] {
         keep_lines(&mut window, piece.as_bytes()).expect(&rt, "room");
-        assert_eq!(rt; window.len(), len, "behind {piece}");
+        assert_eq!(rt; window.len(), len, "after {piece}");
     }
     assert_eq!(rt; window.over(b"\n5\n"), 2);
     assert_eq!(rt; window.over(b"\n5\n6"), 4);
-    assert_eq!(rt; window.count_over(b"\n5\n").newlines, Some(2));
+    assert_eq!(rt; window.count_over(b"\n5\n").delimiters, Some(2));
     assert_eq!(rt; window.front(), b"3\n4".as_slice());
     assert!(rt; 1 <= window.len());
     window.drop_front(1);
@@ -87,8 +88,21 @@ fn keeps_lines(rt: HostRuntime) {
     assert_eq!(rt; out, [b'\n', b'4', 0, 0]);
 }
 
-// Lines of 0 to 99 bytes, but for one of 70,000 bytes in the middle. The last line is open.
-fn long_text(rt: &impl Abort, alloc: Global) -> Vec<u8> {
+#[test]
+fn keeps_lines_that_end_with_another_byte(rt: HostRuntime) {
+    let mut window = LineWindow::new(rt.alloc(), 2, 0).expect(&rt, "room");
+    for (piece, len) in [("a\n", 2), ("b\0c", 5), ("\0d\n", 4), ("\0\0", 4)] {
+        keep_lines(&mut window, piece.as_bytes()).expect(&rt, "room");
+        assert_eq!(rt; window.len(), len, "after {piece}");
+    }
+    assert_eq!(rt; window.over(b"\n"), 3);
+    assert_eq!(rt; window.count_over(b"\n\n\0").delimiters, Some(1));
+    assert_eq!(rt; window.front(), b"d\n\0\0".as_slice());
+}
+
+// Lines of 0 to 99 bytes, but for one of 70,000 bytes in the middle. The last line is open. Where
+// the delimiter is a letter, it stands within these lines too.
+fn long_text(rt: &impl Abort, alloc: Global, delim: u8) -> Vec<u8> {
     let mut text: Vec<u8> = Vec::new(alloc);
     let mut state: u32 = 1;
     let mut left: u32 = 0;
@@ -99,7 +113,7 @@ fn long_text(rt: &impl Abort, alloc: Global) -> Vec<u8> {
             if i < 100_000 && 99_900 <= i {
                 left = 70_000;
             }
-            text.push(b'\n').expect(rt, "room");
+            text.push(delim).expect(rt, "room");
         } else {
             left -= 1;
             text.push(LETTERS[i % LETTERS.len()]).expect(rt, "room");
@@ -109,13 +123,13 @@ fn long_text(rt: &impl Abort, alloc: Global) -> Vec<u8> {
 }
 
 // Where the last lines begin, counted byte by byte.
-fn slow_start(text: &[u8], lines: u64) -> usize {
-    let mut newlines: u64 = 0;
-    for behind in 0..text.len() {
-        let at = text.len() - behind;
-        if text[at - 1] == b'\n' && behind != 0 || lines == 0 {
-            newlines = newlines.saturating_add(1);
-            if lines <= newlines {
+fn slow_start(text: &[u8], lines: u64, delim: u8) -> usize {
+    let mut delimiters: u64 = 0;
+    for after in 0..text.len() {
+        let at = text.len() - after;
+        if text[at - 1] == delim && after != 0 || lines == 0 {
+            delimiters = delimiters.saturating_add(1);
+            if lines <= delimiters {
                 return at;
             }
         }
@@ -123,13 +137,13 @@ fn slow_start(text: &[u8], lines: u64) -> usize {
     0
 }
 
-fn same_lines(rt: &impl Abort, alloc: Global, text: &[u8], lines: u64, size: usize) {
-    let mut window = LineWindow::new(alloc, lines).expect(rt, "room");
+fn same_lines(rt: &impl Abort, alloc: Global, text: &[u8], lines: u64, delim: u8, size: usize) {
+    let mut window = LineWindow::new(alloc, lines, delim).expect(rt, "room");
     assert!(rt; 0 < size);
     for piece in text.chunks(size) {
         keep_lines(&mut window, piece).expect(rt, "room");
     }
-    let mut at = slow_start(text, lines);
+    let mut at = slow_start(text, lines, delim);
     let mut out = [0; 1000];
     for _ in 0..201 {
         let count = window.take_front(&mut out);
@@ -140,18 +154,32 @@ fn same_lines(rt: &impl Abort, alloc: Global, text: &[u8], lines: u64, size: usi
     assert_eq!(rt; at, text.len());
 }
 
-#[test]
-fn keeps_lines_of_long_text(rt: HostRuntime) {
-    let text = long_text(&rt, rt.alloc());
+fn keeps_lines_of_long_text(rt: &impl Abort, alloc: Global, delim: u8) {
+    let text = long_text(rt, alloc, delim);
     let whole = text.as_slice();
     assert!(rt; 150_000 <= whole.len());
     let front = &whole[..150_000];
     for lines in [0, 1, 5, 1000, 1_000_000] {
-        same_lines(&rt, rt.alloc(), whole, lines, 7);
-        same_lines(&rt, rt.alloc(), whole, lines, 70_000);
-        same_lines(&rt, rt.alloc(), front, lines, 70_000);
+        same_lines(rt, alloc, whole, lines, delim, 7);
+        same_lines(rt, alloc, whole, lines, delim, 70_000);
+        same_lines(rt, alloc, front, lines, delim, 70_000);
     }
-    same_lines(&rt, rt.alloc(), whole, 1000, 1);
+    same_lines(rt, alloc, whole, 1000, delim, 1);
+}
+
+#[test]
+fn keeps_lines_of_long_text_by_newline(rt: HostRuntime) {
+    keeps_lines_of_long_text(&rt, rt.alloc(), NEWLINE);
+}
+
+#[test]
+fn keeps_lines_of_long_text_by_zero(rt: HostRuntime) {
+    keeps_lines_of_long_text(&rt, rt.alloc(), 0);
+}
+
+#[test]
+fn keeps_lines_of_long_text_by_letter(rt: HostRuntime) {
+    keeps_lines_of_long_text(&rt, rt.alloc(), b'e');
 }
 
 fn same_bytes(rt: &impl Abort, alloc: Global, text: &[u8], most: u64, size: usize) {
@@ -173,7 +201,7 @@ fn same_bytes(rt: &impl Abort, alloc: Global, text: &[u8], most: u64, size: usiz
 
 #[test]
 fn keeps_bytes_of_long_text(rt: HostRuntime) {
-    let text = long_text(&rt, rt.alloc());
+    let text = long_text(&rt, rt.alloc(), NEWLINE);
     for most in [0, 1, 65_536, 150_000, 1_000_000] {
         same_bytes(&rt, rt.alloc(), &text, most, 7);
         same_bytes(&rt, rt.alloc(), &text, most, 70_000);

@@ -5,7 +5,7 @@ use Rattle.std.proofs.lemmas.Bool.{cases_eq, eq-eqb, ne_eqb, eqb-true, eqb-false
 use Rattle.std.proofs.lemmas.List.{append-nil, ext_get_or, take_at, take-append-le, take-take, length-take-le}
 use Rattle.std.proofs.Math.Seq.{take-append-add}
 use Rattle.std.proofs.lemmas.List.FromFn.{length-map-range_with_len, get_or-map-range_with_len}
-use Rattle.seg_core.specs.Line.{lines_of, newlines, line_count, HasNoNewline}
+use Rattle.seg_core.specs.Line.{lines_of, delimiters, line_count, HasNone}
 use Rattle.seg_core.proofs.LinesOf.{lines_of-open}
 use Rattle.ports_core.specs.Slot.{changed_at}
 use Rattle.ports_core.proofs.SlotLemmas.{length-changed_at, set-changed}
@@ -15,12 +15,12 @@ use Rattle.split_core.specs.FirstLine.{IsFirstLine}
 use Rattle.split_core.specs.DealLaws.{dealt_same}
 
 -- of a piece what is left is still to be gathered
-pub record Dealing (n start : ℕ) (piece : List ℕ) (gathered : List (List ℕ)) (next reached : ℕ) (left : List ℕ) : Type 0 where
+pub record Dealing (delim n start : ℕ) (piece : List ℕ) (gathered : List (List ℕ)) (next reached : ℕ) (left : List ℕ) : Type 0 where
   pub count : length gathered ≡ n
   pub within : next < n
-  pub shares : (file : ℕ) → file < n → get_or gathered file [] ++ dealt n file next (lines_of left) ≡ dealt n file start (lines_of piece)
-  pub ends : (next + newlines left) % n ≡ (start + newlines piece) % n
-  pub reaches : max reached (min n (next + line_count left)) ≡ min n (start + line_count piece)
+  pub shares : (file : ℕ) → file < n → get_or gathered file [] ++ dealt n file next (lines_of delim left) ≡ dealt n file start (lines_of delim piece)
+  pub ends : (next + delimiters delim left) % n ≡ (start + delimiters delim piece) % n
+  pub reaches : max reached (min n (next + line_count delim left)) ≡ min n (start + line_count delim piece)
   pub few : reached ≤ n
   pub over : next ≤ reached
 
@@ -28,17 +28,17 @@ none_first : (is_newline : Bool) (count : ℕ) → cond is_newline (count + 1) c
 none_first true count none = absurd (omega (arith, none))
 none_first false count none = (refl, none)
 
-pub has_none : (x : List ℕ) → newlines x ≡ 0 → HasNoNewline x
-has_none [] none = tt
-has_none (byte ∷ x) none =
-    let first = none_first (eqb byte 10) (newlines x) none in
-    ((λ is. false≢true (sym first.0 ∙ eq-eqb byte 10 is)), has_none x first.1)
+pub has_none : (delim : ℕ) (x : List ℕ) → delimiters delim x ≡ 0 → HasNone delim x
+has_none delim [] none = tt
+has_none delim (byte ∷ x) none =
+    let first = none_first (eqb byte delim) (delimiters delim x) none in
+    ((λ is. false≢true (sym first.0 ∙ eq-eqb byte delim is)), has_none delim x first.1)
 
-pub starts : (n start : ℕ) (piece : List ℕ) (gathered : List (List ℕ)) → length gathered ≡ n → start < n → ((file : ℕ) → get_or gathered file [] ≡ []) → Dealing n start piece gathered start start piece
-starts n start piece gathered count within none = record {
+pub starts : (delim n start : ℕ) (piece : List ℕ) (gathered : List (List ℕ)) → length gathered ≡ n → start < n → ((file : ℕ) → get_or gathered file [] ≡ []) → Dealing delim n start piece gathered start start piece
+starts delim n start piece gathered count within none = record {
   count = count;
   within = within;
-  shares = λ file inside. ap (λ had. had ++ dealt n file start (lines_of piece)) (none file);
+  shares = λ file inside. ap (λ had. had ++ dealt n file start (lines_of delim piece)) (none file);
   ends = refl;
   reaches = omega arith;
   few = omega arith;
@@ -73,76 +73,76 @@ shares_next n next place gathered line lines file count within inside same =
     ∙ ap (λ rest. get_or gathered file [] ++ cond (eqb next file) (line ++ rest) rest) same
     ∙ ap (λ at. get_or gathered file [] ++ cond (eqb at file) (line ++ dealt n file (next + 1) lines) (dealt n file (next + 1) lines)) (sym (mod-eq_of_lt within))
 
-counted : (left line rest : List ℕ) → lines_of left ≡ line ∷ lines_of rest → line_count left ≡ suc (line_count rest)
-counted left line rest cut = ap length cut
+counted : (delim : ℕ) (left line rest : List ℕ) → lines_of delim left ≡ line ∷ lines_of delim rest → line_count delim left ≡ suc (line_count delim rest)
+counted delim left line rest cut = ap length cut
 
 -- one line more was gathered
-complete_line : (n start : ℕ) (piece : List ℕ) (gathered now : List (List ℕ)) (next reached reached_now : ℕ) (left line rest : List ℕ) → Dealing n start piece gathered next reached left
-    → lines_of left ≡ line ∷ lines_of rest → newlines left ≡ newlines rest + 1 → now ≡ changed_at next (λ had. had ++ line) gathered → reached_now ≡ max reached (next + 1)
-    → Dealing n start piece now ((next + 1) % n) reached_now rest
-complete_line n start piece gathered now next reached reached_now left line rest so_far cut more is reached_is = record {
+complete_line : (delim n start : ℕ) (piece : List ℕ) (gathered now : List (List ℕ)) (next reached reached_now : ℕ) (left line rest : List ℕ) → Dealing delim n start piece gathered next reached left
+    → lines_of delim left ≡ line ∷ lines_of delim rest → delimiters delim left ≡ delimiters delim rest + 1 → now ≡ changed_at next (λ had. had ++ line) gathered → reached_now ≡ max reached (next + 1)
+    → Dealing delim n start piece now ((next + 1) % n) reached_now rest
+complete_line delim n start piece gathered now next reached reached_now left line rest so_far cut more is reached_is = record {
   count = ap length is ∙ length-changed_at next _ gathered ∙ so_far.count;
   within = let inside : next < n = so_far.within in omega arith;
-  shares = λ file inside. ap (λ those. get_or those file [] ++ dealt n file ((next + 1) % n) (lines_of rest)) is
-      ∙ shares_next n next ((next + 1) % n) gathered line (lines_of rest) file so_far.count so_far.within inside (dealt_same n file ((next + 1) % n) (next + 1) (lines_of rest) (mod-mod (next + 1) n))
+  shares = λ file inside. ap (λ those. get_or those file [] ++ dealt n file ((next + 1) % n) (lines_of delim rest)) is
+      ∙ shares_next n next ((next + 1) % n) gathered line (lines_of delim rest) file so_far.count so_far.within inside (dealt_same n file ((next + 1) % n) (next + 1) (lines_of delim rest) (mod-mod (next + 1) n))
       ∙ ap (λ lines. get_or gathered file [] ++ dealt n file next lines) (sym cut) ∙ so_far.shares file inside;
-  ends = mod-add-mod (next + 1) n (newlines rest) ∙ ap (λ place. place % n) sum ∙ so_far.ends;
+  ends = mod-add-mod (next + 1) n (delimiters delim rest) ∙ ap (λ place. place % n) sum ∙ so_far.ends;
   reaches = reaches;
   few = let inside : next < n = so_far.within in let few : reached ≤ n = so_far.few in omega arith;
   over = let small = mod-le (next + 1) n in omega arith;
 } where
-  sum : next + 1 + newlines rest ≡ next + newlines left
+  sum : next + 1 + delimiters delim rest ≡ next + delimiters delim left
   sum = omega arith
 
-  reaches : max reached_now (min n ((next + 1) % n + line_count rest)) ≡ min n (start + line_count piece)
+  reaches : max reached_now (min n ((next + 1) % n + line_count delim rest)) ≡ min n (start + line_count delim piece)
   reaches = elim (cases_eq (next + 1) n) [
-    | inl last ↦ (let none : (next + 1) % n ≡ 0 = ap (λ place. place % n) last ∙ mod_self n in let all = so_far.reaches in let one = counted left line rest cut in let few : reached ≤ n = so_far.few in omega arith)
-    | inr other ↦ (let inside : next < n = so_far.within in let same : (next + 1) % n ≡ next + 1 = mod-eq_of_lt (omega (arith, other)) in let all = so_far.reaches in let one = counted left line rest cut in let few : reached ≤ n = so_far.few in omega arith)
+    | inl last ↦ (let none : (next + 1) % n ≡ 0 = ap (λ place. place % n) last ∙ mod_self n in let all = so_far.reaches in let one = counted delim left line rest cut in let few : reached ≤ n = so_far.few in omega arith)
+    | inr other ↦ (let inside : next < n = so_far.within in let same : (next + 1) % n ≡ next + 1 = mod-eq_of_lt (omega (arith, other)) in let all = so_far.reaches in let one = counted delim left line rest cut in let few : reached ≤ n = so_far.few in omega arith)
   ]
 
 -- the same, where the place is known by its number
-pub line_more : (n start : ℕ) (piece : List ℕ) (gathered now : List (List ℕ)) (next reached reached_now size place : ℕ) (left line rest : List ℕ) → Dealing n start piece gathered next reached left
-    → IsFirstLine left line rest → now ≡ changed_at next (λ had. had ++ line) gathered → reached_now ≡ max reached (next + 1) → size ≡ n → place ≡ (next + 1) % size
-    → Dealing n start piece now place reached_now rest
-line_more n start piece gathered now next reached reached_now size place left line rest so_far cut is reached_is same goes =
-    rw (goes, same) (complete_line n start piece gathered now next reached reached_now left line rest so_far cut.first cut.counted is reached_is)
+pub line_more : (delim n start : ℕ) (piece : List ℕ) (gathered now : List (List ℕ)) (next reached reached_now size place : ℕ) (left line rest : List ℕ) → Dealing delim n start piece gathered next reached left
+    → IsFirstLine delim left line rest → now ≡ changed_at next (λ had. had ++ line) gathered → reached_now ≡ max reached (next + 1) → size ≡ n → place ≡ (next + 1) % size
+    → Dealing delim n start piece now place reached_now rest
+line_more delim n start piece gathered now next reached reached_now size place left line rest so_far cut is reached_is same goes =
+    rw (goes, same) (complete_line delim n start piece gathered now next reached reached_now left line rest so_far cut.first cut.counted is reached_is)
 
 -- no complete line is left: there is nothing after the open line
-open_line : (n start : ℕ) (piece : List ℕ) (gathered now : List (List ℕ)) (next reached reached_now : ℕ) (line : List ℕ) → Dealing n start piece gathered next reached line
-    → newlines line ≡ 0 → 0 < length line → now ≡ changed_at next (λ had. had ++ line) gathered → reached_now ≡ max reached (next + 1) → Dealing n start piece now next reached_now []
-open_line n start piece gathered now next reached reached_now line so_far none some is reached_is = record {
+open_line : (delim n start : ℕ) (piece : List ℕ) (gathered now : List (List ℕ)) (next reached reached_now : ℕ) (line : List ℕ) → Dealing delim n start piece gathered next reached line
+    → delimiters delim line ≡ 0 → 0 < length line → now ≡ changed_at next (λ had. had ++ line) gathered → reached_now ≡ max reached (next + 1) → Dealing delim n start piece now next reached_now []
+open_line delim n start piece gathered now next reached reached_now line so_far none some is reached_is = record {
   count = ap length is ∙ length-changed_at next _ gathered ∙ so_far.count;
   within = so_far.within;
   shares = λ file inside. ap (λ those. get_or those file [] ++ []) is
       ∙ shares_next n next next gathered line [] file so_far.count so_far.within inside refl
       ∙ ap (λ lines. get_or gathered file [] ++ dealt n file next lines) (sym one_line) ∙ so_far.shares file inside;
   ends = ap (λ count. (next + count) % n) (sym none) ∙ so_far.ends;
-  reaches = let all = so_far.reaches in let one : line_count line ≡ 1 = ap length one_line in let few : reached ≤ n = so_far.few in let inside : next < n = so_far.within in omega arith;
+  reaches = let all = so_far.reaches in let one : line_count delim line ≡ 1 = ap length one_line in let few : reached ≤ n = so_far.few in let inside : next < n = so_far.within in omega arith;
   few = let inside : next < n = so_far.within in let few : reached ≤ n = so_far.few in omega arith;
   over = omega arith;
 } where
-  one_line : lines_of line ≡ line ∷ []
-  one_line = lines_of-open line some (has_none line none)
+  one_line : lines_of delim line ≡ line ∷ []
+  one_line = lines_of-open delim line some (has_none delim line none)
 
 -- all is gathered
 
-gathered_all : (n start : ℕ) (piece : List ℕ) (gathered : List (List ℕ)) (next reached : ℕ) (left : List ℕ) → Dealing n start piece gathered next reached left → left ≡ [] → gathered ≡ dealt_piece n start piece
-gathered_all n start piece gathered next reached left so_far none =
-    ext_get_or [] gathered (dealt_piece n start piece) (so_far.count ∙ sym (length-map-range_with_len (λ file. dealt n file start (lines_of piece)) 0 n))
+gathered_all : (delim n start : ℕ) (piece : List ℕ) (gathered : List (List ℕ)) (next reached : ℕ) (left : List ℕ) → Dealing delim n start piece gathered next reached left → left ≡ [] → gathered ≡ dealt_piece delim n start piece
+gathered_all delim n start piece gathered next reached left so_far none =
+    ext_get_or [] gathered (dealt_piece delim n start piece) (so_far.count ∙ sym (length-map-range_with_len (λ file. dealt n file start (lines_of delim piece)) 0 n))
     (λ file inside. each file (let count : length gathered ≡ n = so_far.count in omega arith)) where
-      each : (file : ℕ) → file < n → get_or gathered file [] ≡ get_or (dealt_piece n start piece) file []
+      each : (file : ℕ) → file < n → get_or gathered file [] ≡ get_or (dealt_piece delim n start piece) file []
       each file inside =
-          sym (append-nil (get_or gathered file [])) ∙ sym (ap (λ those. get_or gathered file [] ++ dealt n file next (lines_of those)) none) ∙ so_far.shares file inside
-          ∙ sym (get_or-map-range_with_len (λ at. dealt n at start (lines_of piece)) 0 n file file [] inside (omega arith))
+          sym (append-nil (get_or gathered file [])) ∙ sym (ap (λ those. get_or gathered file [] ++ dealt n file next (lines_of delim those)) none) ∙ so_far.shares file inside
+          ∙ sym (get_or-map-range_with_len (λ at. dealt n at start (lines_of delim piece)) 0 n file file [] inside (omega arith))
 
-ends_at : (n start : ℕ) (piece : List ℕ) (gathered : List (List ℕ)) (next reached : ℕ) (left : List ℕ) → Dealing n start piece gathered next reached left → left ≡ [] → next ≡ (start + newlines piece) % n
-ends_at n start piece gathered next reached left so_far none =
-    let here : next + newlines left ≡ next = (let zero : newlines left ≡ 0 = ap newlines none in omega arith) in
+ends_at : (delim n start : ℕ) (piece : List ℕ) (gathered : List (List ℕ)) (next reached : ℕ) (left : List ℕ) → Dealing delim n start piece gathered next reached left → left ≡ [] → next ≡ (start + delimiters delim piece) % n
+ends_at delim n start piece gathered next reached left so_far none =
+    let here : next + delimiters delim left ≡ next = (let zero : delimiters delim left ≡ 0 = ap (delimiters delim) none in omega arith) in
     sym (ap (λ place. place % n) here ∙ mod-eq_of_lt so_far.within) ∙ so_far.ends
 
-reached_all : (n start : ℕ) (piece : List ℕ) (gathered : List (List ℕ)) (next reached : ℕ) (left : List ℕ) → Dealing n start piece gathered next reached left → left ≡ [] → reached ≡ reached_by n start piece
-reached_all n start piece gathered next reached left so_far none =
-    let over : next ≤ reached = so_far.over in let no_more : line_count left ≡ 0 = ap line_count none in let all = so_far.reaches in let few : reached ≤ n = so_far.few in let inside : next < n = so_far.within in omega arith
+reached_all : (delim n start : ℕ) (piece : List ℕ) (gathered : List (List ℕ)) (next reached : ℕ) (left : List ℕ) → Dealing delim n start piece gathered next reached left → left ≡ [] → reached ≡ reached_by delim n start piece
+reached_all delim n start piece gathered next reached left so_far none =
+    let over : next ≤ reached = so_far.over in let no_more : line_count delim left ≡ 0 = ap (line_count delim) none in let all = so_far.reaches in let few : reached ≤ n = so_far.few in let inside : next < n = so_far.within in omega arith
 
 -- one member was put in its place
 pub appended : (gathered : List (List ℕ)) (place : ℕ) (had now line : List ℕ) {E : Type 0} (result : Result (Unit {0}) E) → place < length gathered → had ≡ get_or gathered place had → OnOk result (now ≡ had ++ line)
@@ -151,40 +151,43 @@ appended gathered place had now line (Ok u) within at is = ap (set gathered plac
 appended gathered place had now line (Err fault) within at is = tt
 
 -- what `gather` owes where nothing is left
-pub record Gathers (n start : ℕ) (piece : List ℕ) (gathered : List (List ℕ)) (next reached : ℕ) : Type 0 where
-  pub gathered_is : gathered ≡ dealt_piece n start piece
-  pub next_is : next ≡ (start + newlines piece) % n
-  pub reached_is : reached ≡ reached_by n start piece
+pub record Gathers (delim n start : ℕ) (piece : List ℕ) (gathered : List (List ℕ)) (next reached : ℕ) : Type 0 where
+  pub gathered_is : gathered ≡ dealt_piece delim n start piece
+  pub next_is : next ≡ (start + delimiters delim piece) % n
+  pub reached_is : reached ≡ reached_by delim n start piece
 
-ended : (n start : ℕ) (piece : List ℕ) (gathered : List (List ℕ)) (next reached : ℕ) → Dealing n start piece gathered next reached [] → Gathers n start piece gathered next reached
-ended n start piece gathered next reached so_far = record {
-  gathered_is = gathered_all n start piece gathered next reached [] so_far refl;
-  next_is = ends_at n start piece gathered next reached [] so_far refl;
-  reached_is = reached_all n start piece gathered next reached [] so_far refl;
+ended : (delim n start : ℕ) (piece : List ℕ) (gathered : List (List ℕ)) (next reached : ℕ) → Dealing delim n start piece gathered next reached [] → Gathers delim n start piece gathered next reached
+ended delim n start piece gathered next reached so_far = record {
+  gathered_is = gathered_all delim n start piece gathered next reached [] so_far refl;
+  next_is = ends_at delim n start piece gathered next reached [] so_far refl;
+  reached_is = reached_all delim n start piece gathered next reached [] so_far refl;
 }
 
 none_left : (x : List ℕ) → length x ≡ 0 → x ≡ []
 none_left [] none = refl
 none_left (byte ∷ x) none = absurd (omega (arith, none))
 
-pub ends_here : (n start : ℕ) (piece : List ℕ) (gathered : List (List ℕ)) (next reached : ℕ) (left line : List ℕ) → Dealing n start piece gathered next reached left → line ≡ left → eqb (length line) 0 ≡ true
-    → Gathers n start piece gathered next reached
-ends_here n start piece gathered next reached left line so_far same none =
-    ended n start piece gathered next reached (subst (λ those. Dealing n start piece gathered next reached those) (none_left left (ap length (sym same) ∙ eqb-true (length line) 0 none)) so_far)
+pub ends_here : (delim n start : ℕ) (piece : List ℕ) (gathered : List (List ℕ)) (next reached : ℕ) (left line : List ℕ) → Dealing delim n start piece gathered next reached left → line ≡ left → eqb (length line) 0 ≡ true
+    → Gathers delim n start piece gathered next reached
+ends_here delim n start piece gathered next reached left line so_far same none =
+    ended delim n start piece gathered next reached (subst (λ those. Dealing delim n start piece gathered next reached those) (none_left left (ap length (sym same) ∙ eqb-true (length line) 0 none)) so_far)
 
-pub ends_open : (n start : ℕ) (piece : List ℕ) (gathered now : List (List ℕ)) (next reached reached_now : ℕ) (left line : List ℕ) → Dealing n start piece gathered next reached left → line ≡ left → newlines left ≡ 0
-    → eqb (length line) 0 ≡ false → now ≡ changed_at next (λ had. had ++ line) gathered → reached_now ≡ max reached (next + 1) → Gathers n start piece now next reached_now
-ends_open n start piece gathered now next reached reached_now left line so_far same none some is reached_is =
+pub ends_open : (delim n start : ℕ) (piece : List ℕ) (gathered now : List (List ℕ)) (next reached reached_now : ℕ) (left line : List ℕ) → Dealing delim n start piece gathered next reached left → line ≡ left → delimiters delim left ≡ 0
+    → eqb (length line) 0 ≡ false → now ≡ changed_at next (λ had. had ++ line) gathered → reached_now ≡ max reached (next + 1) → Gathers delim n start piece now next reached_now
+ends_open delim n start piece gathered now next reached reached_now left line so_far same none some is reached_is =
     let more : length line ≢ 0 = eqb-false (length line) 0 some in
-    ended n start piece now next reached_now
-    (open_line n start piece gathered now next reached reached_now line (subst (λ those. Dealing n start piece gathered next reached those) (sym same) so_far) (ap newlines same ∙ none) (omega (arith, more)) is reached_is)
+    ended delim n start piece now next reached_now
+    (open_line delim n start piece gathered now next reached reached_now line (subst (λ those. Dealing delim n start piece gathered next reached those) (sym same) so_far) (ap (delimiters delim) same ∙ none) (omega (arith, more)) is reached_is)
 
 -- a line that is the first of what was left stands at its beginning
-pub first_taken : (left x line rest : List ℕ) → IsFirstLine x line rest → left ≡ x → take (length line) left ≡ line
-first_taken left x line rest cut same = ap (take (length line)) (same ∙ cut.whole) ∙ take_at line rest (length line) refl
+pub first_taken : (delim : ℕ) (left x line rest : List ℕ) → IsFirstLine delim x line rest → left ≡ x → take (length line) left ≡ line
+first_taken delim left x line rest cut same = ap (take (length line)) (same ∙ cut.whole) ∙ take_at line rest (length line) refl
 
-pub line_within : (left x line rest : List ℕ) → IsFirstLine x line rest → left ≡ x → length line ≤ length left
-line_within left x line rest cut same = let long = ap length (same ∙ cut.whole) ∙ length-append line rest in omega arith
+pub by_delimiter : (one other : ℕ) (x line rest : List ℕ) → one ≡ other → IsFirstLine one x line rest → IsFirstLine other x line rest
+by_delimiter one other x line rest same first = subst (λ delim. IsFirstLine delim x line rest) same first
+
+pub line_within : (delim : ℕ) (left x line rest : List ℕ) → IsFirstLine delim x line rest → left ≡ x → length line ≤ length left
+line_within delim left x line rest cut same = let long = ap length (same ∙ cut.whole) ∙ length-append line rest in omega arith
 
 -- of a chunk that was copied the first bytes count
 pub chunk_taken : (room new text : List ℕ) (at n chunk : ℕ) → new ≡ take at room ++ (take chunk text ++ drop (at + chunk) room) → at ≤ length room → n ≤ chunk → chunk ≤ length text → take (at + n) new ≡ take at room ++ take n text

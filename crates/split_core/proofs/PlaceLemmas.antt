@@ -26,15 +26,15 @@ dealt_are n file place (line ∷ lines) = joined_step (eqb (place % n) file) lin
 
 -- what the file gets still consists of lines
 
-others : (line : List ℕ) (lines : List (List ℕ)) → AreLines (line ∷ lines) → AreLines lines
-others line [] each = tt
-others line (next ∷ lines) each = each.1
+others : (delim : ℕ) (line : List ℕ) (lines : List (List ℕ)) → AreLines delim (line ∷ lines) → AreLines delim lines
+others delim line [] each = tt
+others delim line (next ∷ lines) each = each.1
 
-before_some : (line : List ℕ) (lines chosen : List (List ℕ)) → AreLines (line ∷ lines) → length chosen ≤ length lines → AreLines chosen → AreLines (line ∷ chosen)
-before_some line [] [] each few those = each
-before_some line (next ∷ lines) [] each few those = inl each.0
-before_some line [] (first ∷ chosen) each few those = absurd (omega arith)
-before_some line (next ∷ lines) (first ∷ chosen) each few those = (each.0, those)
+before_some : (delim : ℕ) (line : List ℕ) (lines chosen : List (List ℕ)) → AreLines delim (line ∷ lines) → length chosen ≤ length lines → AreLines delim chosen → AreLines delim (line ∷ chosen)
+before_some delim line [] [] each few those = each
+before_some delim line (next ∷ lines) [] each few those = inl each.0
+before_some delim line [] (first ∷ chosen) each few those = absurd (omega arith)
+before_some delim line (next ∷ lines) (first ∷ chosen) each few those = (each.0, those)
 
 few_step : (gets : Bool) (line : List ℕ) (chosen lines : List (List ℕ)) → length chosen ≤ length lines → length (cond gets (line ∷ chosen) chosen) ≤ suc (length lines)
 few_step true line chosen lines few = omega arith
@@ -44,17 +44,17 @@ few_dealt : (n file place : ℕ) (lines : List (List ℕ)) → length (lines_dea
 few_dealt n file place [] = omega arith
 few_dealt n file place (line ∷ lines) = few_step (eqb (place % n) file) line _ lines (few_dealt n file (place + 1) lines)
 
-lines_step : (gets : Bool) (line : List ℕ) (lines chosen : List (List ℕ)) → AreLines (line ∷ lines) → length chosen ≤ length lines → AreLines chosen → AreLines (cond gets (line ∷ chosen) chosen)
-lines_step true line lines chosen each few those = before_some line lines chosen each few those
-lines_step false line lines chosen each few those = those
+lines_step : (delim : ℕ) (gets : Bool) (line : List ℕ) (lines chosen : List (List ℕ)) → AreLines delim (line ∷ lines) → length chosen ≤ length lines → AreLines delim chosen → AreLines delim (cond gets (line ∷ chosen) chosen)
+lines_step delim true line lines chosen each few those = before_some delim line lines chosen each few those
+lines_step delim false line lines chosen each few those = those
 
-are_dealt : (n file place : ℕ) (lines : List (List ℕ)) → AreLines lines → AreLines (lines_dealt n file place lines)
-are_dealt n file place [] each = tt
-are_dealt n file place (line ∷ lines) each =
-    lines_step (eqb (place % n) file) line lines _ each (few_dealt n file (place + 1) lines) (are_dealt n file (place + 1) lines (others line lines each))
+are_dealt : (delim n file place : ℕ) (lines : List (List ℕ)) → AreLines delim lines → AreLines delim (lines_dealt n file place lines)
+are_dealt delim n file place [] each = tt
+are_dealt delim n file place (line ∷ lines) each =
+    lines_step delim (eqb (place % n) file) line lines _ each (few_dealt n file (place + 1) lines) (are_dealt delim n file (place + 1) lines (others delim line lines each))
 
-lines_of-dealt : (n file place : ℕ) (lines : List (List ℕ)) → AreLines lines → lines_of (dealt n file place lines) ≡ lines_dealt n file place lines
-lines_of-dealt n file place lines each = ap lines_of (dealt_are n file place lines) ∙ lines_of-joined _ (are_dealt n file place lines each)
+lines_of-dealt : (delim n file place : ℕ) (lines : List (List ℕ)) → AreLines delim lines → lines_of delim (dealt n file place lines) ≡ lines_dealt n file place lines
+lines_of-dealt delim n file place lines each = ap (lines_of delim) (dealt_are n file place lines) ∙ lines_of-joined delim _ (are_dealt delim n file place lines each)
 
 -- the places of a file's lines are n apart
 
@@ -95,12 +95,12 @@ nth_dealt n file place [] left k few at = refl
 nth_dealt n file place (line ∷ lines) left k few at = nth_step n file place left k line lines (eqb (place % n) file) few at refl (λ left k few at. nth_dealt n file (place + 1) lines left k few at)
 
 -- line k of the file at a place is the line of the text at that place plus k times n
-pub line_at : (n file k : ℕ) (x : List ℕ) → file < n → get_or (lines_of (get_or (round_robin n x) file [])) k [] ≡ get_or (lines_of x) (file + k * n) []
-line_at n file k x within =
+pub line_at : (delim n file k : ℕ) (x : List ℕ) → file < n → get_or (lines_of delim (get_or (round_robin delim n x) file [])) k [] ≡ get_or (lines_of delim x) (file + k * n) []
+line_at delim n file k x within =
     let here : 0 + file ≡ file = omega arith in
-    ap (λ text. get_or (lines_of text) k []) (get_or-map-range_with_len (share_of n x) 0 n file file [] within here)
-    ∙ ap (λ lines. get_or lines k []) (lines_of-dealt n file 0 (lines_of x) (AreLines-lines_of x))
-    ∙ nth_dealt n file 0 (lines_of x) file k within (ap (λ place. place % n) here ∙ mod-eq_of_lt within)
+    ap (λ text. get_or (lines_of delim text) k []) (get_or-map-range_with_len (share_of delim n x) 0 n file file [] within here)
+    ∙ ap (λ lines. get_or lines k []) (lines_of-dealt delim n file 0 (lines_of delim x) (AreLines-lines_of delim x))
+    ∙ nth_dealt n file 0 (lines_of delim x) file k within (ap (λ place. place % n) here ∙ mod-eq_of_lt within)
 
 -- each line goes to one file
 
@@ -140,17 +140,17 @@ all_from n place (line ∷ lines) some =
     ∙ ap (λ rest. length line + rest) (all_from n (place + 1) lines some) ∙ sym (length-append line (joined lines))
 
 -- all bytes are dealt
-pub all_dealt : (n : ℕ) (x : List ℕ) → 0 < n → length (joined (round_robin n x)) ≡ length x
-all_dealt n x some = all_from n 0 (lines_of x) some ∙ ap length (joined-lines_of x)
+pub all_dealt : (delim n : ℕ) (x : List ℕ) → 0 < n → length (joined (round_robin delim n x)) ≡ length x
+all_dealt delim n x some = all_from n 0 (lines_of delim x) some ∙ ap length (joined-lines_of delim x)
 
 -- the files that have a line are the first ones
-pub first_files : (n : ℕ) (x : List ℕ) → dealt_files true n x ≡ take (line_count x) (round_robin n x)
-first_files n x = dealt_files_are true n x ∙ elim (cases_lt (line_count x) n) [
+pub first_files : (delim n : ℕ) (x : List ℕ) → dealt_files delim true n x ≡ take (line_count delim x) (round_robin delim n x)
+first_files delim n x = dealt_files_are delim true n x ∙ elim (cases_lt (line_count delim x) n) [
   | inl fewer ↦
-      let here : min n (line_count x) ≡ line_count x = omega (arith, fewer) in
-      ap (λ count. map (share_of n x) (range_with_len 0 count)) here ∙ sym (take-map-range_with_len (share_of n x) 0 n (line_count x) (omega (arith, fewer)))
+      let here : min n (line_count delim x) ≡ line_count delim x = omega (arith, fewer) in
+      ap (λ count. map (share_of delim n x) (range_with_len 0 count)) here ∙ sym (take-map-range_with_len (share_of delim n x) 0 n (line_count delim x) (omega (arith, fewer)))
   | inr many ↦
-      let here : min n (line_count x) ≡ n = omega (arith, many) in
-      ap (λ count. map (share_of n x) (range_with_len 0 count)) here
-      ∙ sym (take_all (line_count x) (round_robin n x) (let count : length (round_robin n x) ≡ n = length-map-range_with_len (share_of n x) 0 n in omega (arith, many)))
+      let here : min n (line_count delim x) ≡ n = omega (arith, many) in
+      ap (λ count. map (share_of delim n x) (range_with_len 0 count)) here
+      ∙ sym (take_all (line_count delim x) (round_robin delim n x) (let count : length (round_robin delim n x) ≡ n = length-map-range_with_len (share_of delim n x) 0 n in omega (arith, many)))
 ]

@@ -8,8 +8,8 @@ use Rattle.std.proofs.lemmas.Bool.{cases_lt, false≢true}
 use Rattle.std.proofs.lemmas.Bool.Decides.{nat_tests}
 use Rattle.std.proofs.lemmas.List.{append-nil, length-map}
 use Rattle.std.proofs.lemmas.List.FromFn.{length-map-range_with_len, take-map-range_with_len}
-use Rattle.seg_core.specs.Line.{joined, lines_of, newlines, line_count}
-use Rattle.seg_core.proofs.Newlines.{newlines-append}
+use Rattle.seg_core.specs.Line.{joined, lines_of, delimiters, line_count}
+use Rattle.seg_core.proofs.Delimiters.{delimiters-append}
 use Rattle.seg_core.proofs.LineCounts.{line_count-some}
 use Rattle.seg_core.proofs.EndLines.{line_count_near}
 use Rattle.ports_core.specs.Name.{Naming, name_count}
@@ -69,35 +69,35 @@ all_filed names count place (one ∷ shares) are few =
 
 -- The files of a text
 
-abbrev pub files_of : Bool → ℕ → List ℕ → List (List ℕ)
-files_of elide n x = map (share_of n x) (range_with_len 0 (opened_by elide n x))
+abbrev pub files_of : ℕ → Bool → ℕ → List ℕ → List (List ℕ)
+files_of delim elide n x = map (share_of delim n x) (range_with_len 0 (opened_by delim elide n x))
 
-pub length-files_of : (elide : Bool) (n : ℕ) (x : List ℕ) → length (files_of elide n x) ≡ opened_by elide n x
-length-files_of elide n x = length-map-range_with_len (share_of n x) 0 (opened_by elide n x)
+pub length-files_of : (delim : ℕ) (elide : Bool) (n : ℕ) (x : List ℕ) → length (files_of delim elide n x) ≡ opened_by delim elide n x
+length-files_of delim elide n x = length-map-range_with_len (share_of delim n x) 0 (opened_by delim elide n x)
 
-filed_are : (state : State) (names : Naming) (elide : Bool) (n : ℕ) (x : List ℕ) → are_named names n ≡ true
-    → named (from_start names) 0 (map (share state) (dealt_files elide n x)) ≡ filed (from_start names) 0 (map (share state) (files_of elide n x))
-filed_are state names elide n x are =
-    ap (λ those. named (from_start names) 0 (map (share state) those)) (dealt_files_are elide n x)
-    ∙ all_filed names n 0 (map (share state) (files_of elide n x)) are
-    (let long = length-map (files_of elide n x) (share state) in let count = length-files_of elide n x in let most = opened_by-most elide n x in omega arith)
+filed_are : (delim : ℕ) (state : State) (names : Naming) (elide : Bool) (n : ℕ) (x : List ℕ) → are_named names n ≡ true
+    → named (from_start names) 0 (map (share state) (dealt_files delim elide n x)) ≡ filed (from_start names) 0 (map (share state) (files_of delim elide n x))
+filed_are delim state names elide n x are =
+    ap (λ those. named (from_start names) 0 (map (share state) those)) (dealt_files_are delim elide n x)
+    ∙ all_filed names n 0 (map (share state) (files_of delim elide n x)) are
+    (let long = length-map (files_of delim elide n x) (share state) in let count = length-files_of delim elide n x in let most = opened_by-most delim elide n x in omega arith)
 
 -- what must be written is what the files that are open have
-pub settled_is : (names : Naming) (elide : Bool) (n : ℕ) (x : List ℕ) → are_named names n ≡ true → settled_by (round_plan n elide (from_start names)) x ≡ open_part names (files_of elide n x)
-settled_is names elide n x are = ap only_files (filed_are Open names elide n x are)
+pub settled_is : (delim : ℕ) (names : Naming) (elide : Bool) (n : ℕ) (x : List ℕ) → are_named names n ≡ true → settled_by (round_plan delim n elide (from_start names)) x ≡ open_part names (files_of delim elide n x)
+settled_is delim names elide n x are = ap only_files (filed_are delim Open names elide n x are)
 
-pub whole_is : (names : Naming) (elide : Bool) (n : ℕ) (x : List ℕ) → are_named names n ≡ true → whole_by (round_plan n elide (from_start names)) x ≡ closing_part names (opened_by elide n x) (files_of elide n x)
-whole_is names elide n x are =
-    ap only_files (filed_are Closed names elide n x are)
-    ∙ ap (λ shares. only_files (filed (from_start names) 0 shares)) (sym (closed_all (files_of elide n x)))
-    ∙ ap (λ count. closing_part names count (files_of elide n x)) (length-files_of elide n x)
+pub whole_is : (delim : ℕ) (names : Naming) (elide : Bool) (n : ℕ) (x : List ℕ) → are_named names n ≡ true → whole_by (round_plan delim n elide (from_start names)) x ≡ closing_part names (opened_by delim elide n x) (files_of delim elide n x)
+whole_is delim names elide n x are =
+    ap only_files (filed_are delim Closed names elide n x are)
+    ∙ ap (λ shares. only_files (filed (from_start names) 0 shares)) (sym (closed_all (files_of delim elide n x)))
+    ∙ ap (λ count. closing_part names count (files_of delim elide n x)) (length-files_of delim elide n x)
 
-pub never_short : (names : Naming) (elide : Bool) (n : ℕ) (x : List ℕ) → are_named names n ≡ true → false ≡ is_short (round_plan n elide names) x
-never_short names elide n x are =
-    let long = length-map (dealt_files elide n x) (share Closed) in
-    let count : length (dealt_files elide n x) ≡ opened_by elide n x = ap length (dealt_files_are elide n x) ∙ length-files_of elide n x in
-    let most = opened_by-most elide n x in
-    sym (ap not (named_fewer names (length (map (share Closed) (dealt_files elide n x))) n are (omega arith)))
+pub never_short : (delim : ℕ) (names : Naming) (elide : Bool) (n : ℕ) (x : List ℕ) → are_named names n ≡ true → false ≡ is_short (round_plan delim n elide names) x
+never_short delim names elide n x are =
+    let long = length-map (dealt_files delim elide n x) (share Closed) in
+    let count : length (dealt_files delim elide n x) ≡ opened_by delim elide n x = ap length (dealt_files_are delim elide n x) ∙ length-files_of delim elide n x in
+    let most = opened_by-most delim elide n x in
+    sym (ap not (named_fewer names (length (map (share Closed) (dealt_files delim elide n x))) n are (omega arith)))
 
 -- One more piece
 
@@ -123,84 +123,85 @@ added_maps f more whole start (suc m) (suc b) none no_more both =
     ap (λ bytes. bytes ∷ added (map f (range_with_len (start + 1) m)) (map more (range_with_len (start + 1) b))) (both start) ∙ ap (λ those. whole start ∷ those) rest ∙ ap (λ n. map whole (range_with_len start n)) count
 
 -- files that aren't open yet have nothing
-none_yet : (elide : Bool) (n : ℕ) (x : List ℕ) (file : ℕ) → opened_by elide n x ≤ file → file < n → share_of n x file ≡ []
-none_yet true n x file past within = share_none n x file (omega arith) within
-none_yet false n x file past within = absurd (omega arith)
+none_yet : (delim : ℕ) (elide : Bool) (n : ℕ) (x : List ℕ) (file : ℕ) → opened_by delim elide n x ≤ file → file < n → share_of delim n x file ≡ []
+none_yet delim true n x file past within = share_none delim n x file (omega arith) within
+none_yet delim false n x file past within = absurd (omega arith)
 
-lines_after : (n : ℕ) (x y : List ℕ) → 0 < n → max (min n (line_count x)) (min n (newlines x % n + line_count y)) ≡ min n (line_count (x ++ y))
-lines_after n x [] some =
-    let none : line_count [] ≡ 0 = refl in
-    let same : line_count (x ++ []) ≡ line_count x = ap line_count (append-nil x) in
-    let near = (line_count_near x).0 in
-    let small = mod-le (newlines x) n in
+lines_after : (delim n : ℕ) (x y : List ℕ) → 0 < n → max (min n (line_count delim x)) (min n (delimiters delim x % n + line_count delim y)) ≡ min n (line_count delim (x ++ y))
+lines_after delim n x [] some =
+    let none : line_count delim [] ≡ 0 = refl in
+    let same : line_count delim (x ++ []) ≡ line_count delim x = ap (line_count delim) (append-nil x) in
+    let near = (line_count_near delim x).0 in
+    let small = mod-le (delimiters delim x) n in
     omega arith
-lines_after n x (byte ∷ y) some =
-    let more = line_count-append x (byte ∷ y) (omega arith) in
-    let near = (line_count_near x).1 in
-    let low = (line_count_near x).0 in
-    let one = line_count-some (byte ∷ y) (omega arith) in
-    elim (cases_lt (newlines x) n) [
-      | inl before ↦ (let same : newlines x % n ≡ newlines x = mod-eq_of_lt before in omega arith)
+lines_after delim n x (byte ∷ y) some =
+    let more = line_count-append delim x (byte ∷ y) (omega arith) in
+    let near = (line_count_near delim x).1 in
+    let low = (line_count_near delim x).0 in
+    let one = line_count-some delim (byte ∷ y) (omega arith) in
+    elim (cases_lt (delimiters delim x) n) [
+      | inl before ↦ (let same : delimiters delim x % n ≡ delimiters delim x = mod-eq_of_lt before in omega arith)
       | inr past ↦ omega arith
     ]
 
-pub opened_after : (elide : Bool) (n : ℕ) (x y : List ℕ) → 0 < n → max (opened_by elide n x) (reached_by n (newlines x % n) y) ≡ opened_by elide n (x ++ y)
-opened_after true n x y some = lines_after n x y some
-opened_after false n x y some = omega arith
+pub opened_after : (delim : ℕ) (elide : Bool) (n : ℕ) (x y : List ℕ) → 0 < n → max (opened_by delim elide n x) (reached_by delim n (delimiters delim x % n) y) ≡ opened_by delim elide n (x ++ y)
+opened_after delim true n x y some = lines_after delim n x y some
+opened_after delim false n x y some = omega arith
 
 -- what the files have of a text that goes on
-pub files_after : (elide : Bool) (n : ℕ) (x y : List ℕ) → 0 < n → added (files_of elide n x) (dealt_first n (newlines x % n) y) ≡ files_of elide n (x ++ y)
-files_after elide n x y some =
-    added_maps (share_of n x) (λ file. dealt n file (newlines x % n) (lines_of y)) (share_of n (x ++ y)) 0 (opened_by elide n x) (reached_by n (newlines x % n) y)
-    (λ file past within. none_yet elide n x file (omega arith) (omega arith))
-    (λ file past within. dealt_none n file (newlines x % n) (lines_of y) (let most = opened_by-most elide n x in omega arith) (let most = opened_by-most elide n x in omega arith))
-    (λ file. ap (λ more. share_of n x file ++ more) (dealt_same n file (newlines x % n) (newlines x) (lines_of y) (mod-mod (newlines x) n) ∙ ap (λ place. dealt n file place (lines_of y)) from_zero) ∙ sym (dealt_append n file 0 x y))
-    ∙ ap (λ count. map (share_of n (x ++ y)) (range_with_len 0 count)) (opened_after elide n x y some) where
-      from_zero : newlines x ≡ 0 + newlines x
+pub files_after : (delim : ℕ) (elide : Bool) (n : ℕ) (x y : List ℕ) → 0 < n → added (files_of delim elide n x) (dealt_first delim n (delimiters delim x % n) y) ≡ files_of delim elide n (x ++ y)
+files_after delim elide n x y some =
+    added_maps (share_of delim n x) (λ file. dealt n file (delimiters delim x % n) (lines_of delim y)) (share_of delim n (x ++ y)) 0 (opened_by delim elide n x) (reached_by delim n (delimiters delim x % n) y)
+    (λ file past within. none_yet delim elide n x file (omega arith) (omega arith))
+    (λ file past within. dealt_none n file (delimiters delim x % n) (lines_of delim y) (let most = opened_by-most delim elide n x in omega arith) (let most = opened_by-most delim elide n x in omega arith))
+    (λ file. ap (λ more. share_of delim n x file ++ more) (dealt_same n file (delimiters delim x % n) (delimiters delim x) (lines_of delim y) (mod-mod (delimiters delim x) n) ∙ ap (λ place. dealt n file place (lines_of delim y)) from_zero) ∙ sym (dealt_append delim n file 0 x y))
+    ∙ ap (λ count. map (share_of delim n (x ++ y)) (range_with_len 0 count)) (opened_after delim elide n x y some) where
+      from_zero : delimiters delim x ≡ 0 + delimiters delim x
       from_zero = omega arith
 
 -- The gathered piece
 
-pub first_gathered : (n start reached : ℕ) (piece : List ℕ) (gathered : List (List ℕ)) → gathered ≡ dealt_piece n start piece → reached ≡ reached_by n start piece → take reached gathered ≡ dealt_first n start piece
-first_gathered n start reached piece gathered is reached_is =
-    ap (take reached) is ∙ ap (λ count. take count (dealt_piece n start piece)) reached_is
-    ∙ take-map-range_with_len (λ file. dealt n file start (lines_of piece)) 0 n (reached_by n start piece) (omega arith)
+pub first_gathered : (delim n start reached : ℕ) (piece : List ℕ) (gathered : List (List ℕ)) → gathered ≡ dealt_piece delim n start piece → reached ≡ reached_by delim n start piece → take reached gathered ≡ dealt_first delim n start piece
+first_gathered delim n start reached piece gathered is reached_is =
+    ap (take reached) is ∙ ap (λ count. take count (dealt_piece delim n start piece)) reached_is
+    ∙ take-map-range_with_len (λ file. dealt n file start (lines_of delim piece)) 0 n (reached_by delim n start piece) (omega arith)
 
 pub no_room : (told : Bool) (files : FilesState) (more : List (List ℕ)) (slots : List Slot) → StopsShort told files (λ these. added these more) slots slots fault.Memory
 no_room told files more slots before these at =
     stopped_here told before (open_part files.names these) (open_part files.names (added these more)) fault.Memory slots slots at.outputs (open_begins files.names these _ (added_begin these more)) refl tt
 
-pub became_dealt : (told : Bool) (files next : FilesState) (n start : ℕ) (piece : List ℕ) (more : List (List ℕ)) (old new : List Slot) → more ≡ dealt_first n start piece → Became told files (λ these. added these more) (length more) old next new
-    → Became told files (λ these. added these (dealt_first n start piece)) (reached_by n start piece) old next new
-became_dealt told files next n start piece more old new is became =
-    subst (λ count. Became told files (λ these. added these (dealt_first n start piece)) count old next new) (length-map-range_with_len (λ file. dealt n file start (lines_of piece)) 0 (reached_by n start piece))
+pub became_dealt : (delim : ℕ) (told : Bool) (files next : FilesState) (n start : ℕ) (piece : List ℕ) (more : List (List ℕ)) (old new : List Slot) → more ≡ dealt_first delim n start piece → Became told files (λ these. added these more) (length more) old next new
+    → Became told files (λ these. added these (dealt_first delim n start piece)) (reached_by delim n start piece) old next new
+became_dealt delim told files next n start piece more old new is became =
+    subst (λ count. Became told files (λ these. added these (dealt_first delim n start piece)) count old next new) (length-map-range_with_len (λ file. dealt n file start (lines_of delim piece)) 0 (reached_by delim n start piece))
     (subst (λ those. Became told files (λ these. added these those) (length those) old next new) is became)
 
 -- What a piece leaves
 
-pub same_work : (old new : RoundState) → new.count ≡ old.count → new.elide ≡ old.elide → from_start new.files.names ≡ from_start old.files.names → work new ≡ work old
-same_work old new count elide names = ap round_work same where
+pub same_work : (old new : RoundState) → new.delim ≡ old.delim → new.count ≡ old.count → new.elide ≡ old.elide → from_start new.files.names ≡ from_start old.files.names → work new ≡ work old
+same_work old new delim count elide names = ap round_work same where
   same : plan_of new ≡ plan_of old
-  same = ap (λ n. round_plan n new.elide (from_start new.files.names)) count ∙ ap (λ those. round_plan old.count those (from_start new.files.names)) elide ∙ ap (λ those. round_plan old.count old.elide those) names
+  same = ap (λ d. round_plan d new.count new.elide (from_start new.files.names)) delim ∙ ap (λ n. round_plan old.delim n new.elide (from_start new.files.names)) count
+      ∙ ap (λ those. round_plan old.delim old.count those (from_start new.files.names)) elide ∙ ap (λ those. round_plan old.delim old.count old.elide those) names
 
 -- what a piece makes of the files, where the stage can have been fed x
-made_is : (round : RoundState) (x piece : List ℕ) → Holds round x → open_part round.files.names (added (files_of round.elide round.count x) (dealt_first round.count round.next piece)) ≡ (work round).settled (x ++ piece)
+made_is : (round : RoundState) (x piece : List ℕ) → Holds round x → open_part round.files.names (added (files_of round.delim round.elide round.count x) (dealt_first round.delim round.count round.next piece)) ≡ (work round).settled (x ++ piece)
 made_is round x piece holds =
-    ap (λ next. open_part round.files.names (added (files_of round.elide round.count x) (dealt_first round.count next piece))) holds.next
-    ∙ ap (open_part round.files.names) (files_after round.elide round.count x piece holds.some)
-    ∙ sym (settled_is round.files.names round.elide round.count (x ++ piece) holds.named)
+    ap (λ next. open_part round.files.names (added (files_of round.delim round.elide round.count x) (dealt_first round.delim round.count next piece))) holds.next
+    ∙ ap (open_part round.files.names) (files_after round.delim round.elide round.count x piece holds.some)
+    ∙ sym (settled_is round.delim round.files.names round.elide round.count (x ++ piece) holds.named)
 
 -- where the stage stands, its files do
-stand_at : (told : Bool) (round : RoundState) (before : List Slot) (x : List ℕ) (now : List Slot) → StandsAt Holds Owns round told before x ((work round).settled x) now → StandAt told round.files before (files_of round.elide round.count x) now
+stand_at : (told : Bool) (round : RoundState) (before : List Slot) (x : List ℕ) (now : List Slot) → StandsAt Holds Owns round told before x ((work round).settled x) now → StandAt told round.files before (files_of round.delim round.elide round.count x) now
 stand_at told round before x now at = record {
-  count = length-files_of round.elide round.count x ∙ sym at.holds.opened;
+  count = length-files_of round.delim round.elide round.count x ∙ sym at.holds.opened;
   owns = at.owns;
-  outputs = subst (λ part. OutputsAt told before part now) (settled_is round.files.names round.elide round.count x at.holds.named) at.outputs;
+  outputs = subst (λ part. OutputsAt told before part now) (settled_is round.delim round.files.names round.elide round.count x at.holds.named) at.outputs;
 }
 
-pub puts_out : (told : Bool) (round : RoundState) (piece : List ℕ) (old new : List Slot) → Makes told round.files (λ these. added these (dealt_first round.count round.next piece)) old new → PutsOut Holds Owns work round piece told old new
+pub puts_out : (told : Bool) (round : RoundState) (piece : List ℕ) (old new : List Slot) → Makes told round.files (λ these. added these (dealt_first round.delim round.count round.next piece)) old new → PutsOut Holds Owns work round piece told old new
 puts_out told round piece old new makes before x at =
-    subst (λ part. OutputsAt told before part new) (made_is round x piece at.holds) (makes before (files_of round.elide round.count x) (stand_at told round before x old at))
+    subst (λ part. OutputsAt told before part new) (made_is round x piece at.holds) (makes before (files_of round.delim round.elide round.count x) (stand_at told round before x old at))
 
 no_verdict : (old new : List Slot) (why : Fault) → IsOfFiles old new why → is_verdict why ≡ false
 no_verdict old new fault.Memory is = refl
@@ -214,23 +215,23 @@ no_verdict old new (fault.Usage kind word) is = absurd is
 no_verdict old new fault.Failed is = absurd is
 no_verdict old new fault.TooLong is = absurd is
 
-pub cuts_off : (told : Bool) (round : RoundState) (piece : List ℕ) (old new : List Slot) (why : Fault) → IsOfFiles old new why → StopsShort told round.files (λ these. added these (dealt_first round.count round.next piece)) old new why → CutsOff Holds Owns work round piece told old new why
+pub cuts_off : (told : Bool) (round : RoundState) (piece : List ℕ) (old new : List Slot) (why : Fault) → IsOfFiles old new why → StopsShort told round.files (λ these. added these (dealt_first round.delim round.count round.next piece)) old new why → CutsOff Holds Owns work round piece told old new why
 cuts_off told round piece old new why is stops before x at =
     cut (no_verdict old new why is)
     (subst (λ high. StoppedBetween told before ((work round).settled x) high why new) (made_is round x piece at.holds)
-    (subst (λ low. StoppedBetween told before low (open_part round.files.names (added (files_of round.elide round.count x) (dealt_first round.count round.next piece))) why new) (sym (settled_is round.files.names round.elide round.count x at.holds.named))
-    (stops before (files_of round.elide round.count x) (stand_at told round before x old at))))
+    (subst (λ low. StoppedBetween told before low (open_part round.files.names (added (files_of round.delim round.elide round.count x) (dealt_first round.delim round.count round.next piece))) why new) (sym (settled_is round.delim round.files.names round.elide round.count x at.holds.named))
+    (stops before (files_of round.delim round.elide round.count x) (stand_at told round before x old at))))
 
-pub takes_in : (old new : RoundState) (piece : List ℕ) → new.count ≡ old.count → new.elide ≡ old.elide → from_start new.files.names ≡ from_start old.files.names → new.next ≡ (old.next + newlines piece) % old.count
-    → length new.files.outputs ≡ max (length old.files.outputs) (reached_by old.count old.next piece) → TakesIn Holds piece old new
-takes_in old new piece count elide names next opened x holds = record {
+pub takes_in : (old new : RoundState) (piece : List ℕ) → new.delim ≡ old.delim → new.count ≡ old.count → new.elide ≡ old.elide → from_start new.files.names ≡ from_start old.files.names → new.next ≡ (old.next + delimiters old.delim piece) % old.count
+    → length new.files.outputs ≡ max (length old.files.outputs) (reached_by old.delim old.count old.next piece) → TakesIn Holds piece old new
+takes_in old new piece delim count elide names next opened x holds = record {
   some = let some : 0 < old.count = holds.some in omega arith;
   named = named_same old.files.names new.files.names new.count names (ap (are_named old.files.names) count ∙ holds.named);
-  next = next ∙ ap (λ place. (place + newlines piece) % old.count) holds.next ∙ mod-add-mod (newlines x) old.count (newlines piece) ∙ ap (λ lines. lines % old.count) (sym (newlines-append x piece))
-      ∙ ap (λ n. newlines (x ++ piece) % n) (sym count);
-  opened = opened ∙ ap (λ n. max n (reached_by old.count old.next piece)) holds.opened ∙ ap (λ place. max (opened_by old.elide old.count x) (reached_by old.count place piece)) holds.next
-      ∙ opened_after old.elide old.count x piece holds.some
-      ∙ sym (ap (λ (those : Bool). opened_by those new.count (x ++ piece)) elide ∙ ap (λ n. opened_by old.elide n (x ++ piece)) count);
+  next = next ∙ ap (λ place. (place + delimiters old.delim piece) % old.count) holds.next ∙ mod-add-mod (delimiters old.delim x) old.count (delimiters old.delim piece) ∙ ap (λ lines. lines % old.count) (sym (delimiters-append old.delim x piece))
+      ∙ ap (λ n. delimiters old.delim (x ++ piece) % n) (sym count) ∙ ap (λ d. delimiters d (x ++ piece) % new.count) (sym delim);
+  opened = opened ∙ ap (λ n. max n (reached_by old.delim old.count old.next piece)) holds.opened ∙ ap (λ place. max (opened_by old.delim old.elide old.count x) (reached_by old.delim old.count place piece)) holds.next
+      ∙ opened_after old.delim old.elide old.count x piece holds.some
+      ∙ sym (ap (λ (those : Bool). opened_by old.delim those new.count (x ++ piece)) elide ∙ ap (λ n. opened_by old.delim old.elide n (x ++ piece)) count) ∙ ap (λ d. opened_by d new.elide new.count (x ++ piece)) (sym delim);
 }
 
 pub caused : (round : RoundState) (piece : List ℕ) (old new : List Slot) (why : Fault) → IsOfFiles old new why → IsMet (work round).means (work round).means.feeding (true ≡ true) (EndsWith Holds work round piece) old new why
@@ -248,20 +249,20 @@ caused round piece old new fault.TooLong is = absurd is
 -- by the result of dealing it out
 
 module _ (told : Bool) (old new : RoundState) (piece : List ℕ) (before after : List Slot) where
-  pub dealt_holds : (result : Result (Unit {0}) Fault) → new.count ≡ old.count → new.elide ≡ old.elide → from_start new.files.names ≡ from_start old.files.names → OnOk result (new.next ≡ (old.next + newlines piece) % old.count)
-      → OnOk result (Became told old.files (λ these. added these (dealt_first old.count old.next piece)) (reached_by old.count old.next piece) before new.files after) → OnOk result (TakesIn Holds piece old new)
-  dealt_holds (Ok u) count elide names next became = takes_in old new piece count elide names next became.opened
-  dealt_holds (Err why) count elide names next became = tt
+  pub dealt_holds : (result : Result (Unit {0}) Fault) → new.delim ≡ old.delim → new.count ≡ old.count → new.elide ≡ old.elide → from_start new.files.names ≡ from_start old.files.names → OnOk result (new.next ≡ (old.next + delimiters old.delim piece) % old.count)
+      → OnOk result (Became told old.files (λ these. added these (dealt_first old.delim old.count old.next piece)) (reached_by old.delim old.count old.next piece) before new.files after) → OnOk result (TakesIn Holds piece old new)
+  dealt_holds (Ok u) delim count elide names next became = takes_in old new piece delim count elide names next became.opened
+  dealt_holds (Err why) delim count elide names next became = tt
 
-  pub dealt_outputs : (result : Result (Unit {0}) Fault) → OnOk result (Became told old.files (λ these. added these (dealt_first old.count old.next piece)) (reached_by old.count old.next piece) before new.files after) → OnOk result (PutsOut Holds Owns work old piece told before after)
+  pub dealt_outputs : (result : Result (Unit {0}) Fault) → OnOk result (Became told old.files (λ these. added these (dealt_first old.delim old.count old.next piece)) (reached_by old.delim old.count old.next piece) before new.files after) → OnOk result (PutsOut Holds Owns work old piece told before after)
   dealt_outputs (Ok u) became = puts_out told old piece before after became.outputs
   dealt_outputs (Err why) became = tt
 
-  pub dealt_ready : (result : Result (Unit {0}) Fault) → OnOk result (Became told old.files (λ these. added these (dealt_first old.count old.next piece)) (reached_by old.count old.next piece) before new.files after) → OnOk result (AreReady new.files after)
+  pub dealt_ready : (result : Result (Unit {0}) Fault) → OnOk result (Became told old.files (λ these. added these (dealt_first old.delim old.count old.next piece)) (reached_by old.delim old.count old.next piece) before new.files after) → OnOk result (AreReady new.files after)
   dealt_ready (Ok u) became = became.ready
   dealt_ready (Err why) became = tt
 
-  pub dealt_short : (result : Result (Unit {0}) Fault) → IfErr result (IsOfFiles before after) → IfErr result (StopsShort told old.files (λ these. added these (dealt_first old.count old.next piece)) before after)
+  pub dealt_short : (result : Result (Unit {0}) Fault) → IfErr result (IsOfFiles before after) → IfErr result (StopsShort told old.files (λ these. added these (dealt_first old.delim old.count old.next piece)) before after)
       → IfErr result (CutsOff Holds Owns work old piece told before after)
   dealt_short (Ok u) is stops = tt
   dealt_short (Err why) is stops = cuts_off told old piece before after why is stops
@@ -272,20 +273,20 @@ module _ (told : Bool) (old new : RoundState) (piece : List ℕ) (before after :
 
 -- The end
 
-closed_part : (round : RoundState) (x : List ℕ) → Holds round x → closing_part round.files.names (length round.files.outputs) (files_of round.elide round.count x) ≡ (work round).whole x
-closed_part round x holds = ap (λ count. closing_part round.files.names count (files_of round.elide round.count x)) holds.opened ∙ sym (whole_is round.files.names round.elide round.count x holds.named)
+closed_part : (round : RoundState) (x : List ℕ) → Holds round x → closing_part round.files.names (length round.files.outputs) (files_of round.delim round.elide round.count x) ≡ (work round).whole x
+closed_part round x holds = ap (λ count. closing_part round.files.names count (files_of round.delim round.elide round.count x)) holds.opened ∙ sym (whole_is round.delim round.files.names round.elide round.count x holds.named)
 
 module _ (told : Bool) (round : RoundState) (old new : List Slot) where
   finishes : HaveClosed told round.files (length round.files.outputs) old new → Finishes Holds Owns work round told old new
   finishes closed before x at =
-      (refl, subst (λ part. OutputsAt told before part new) (closed_part round x at.holds) (closed before (files_of round.elide round.count x) (stand_at told round before x old at)))
+      (refl, subst (λ part. OutputsAt told before part new) (closed_part round x at.holds) (closed before (files_of round.delim round.elide round.count x) (stand_at told round before x old at)))
 
   ends_short : (why : Fault) → CannotClose old new why → ClosesShort told round.files (length round.files.outputs) old new why → EndsShort Holds Owns work round told old new why
   ends_short why is stops before x at =
       cut (ap is_verdict is.1)
       (subst (λ high. StoppedBetween told before ((work round).settled x) high why new) (closed_part round x at.holds)
-      (subst (λ low. StoppedBetween told before low (closing_part round.files.names (length round.files.outputs) (files_of round.elide round.count x)) why new) (sym (settled_is round.files.names round.elide round.count x at.holds.named))
-      (stops before (files_of round.elide round.count x) (stand_at told round before x old at))))
+      (subst (λ low. StoppedBetween told before low (closing_part round.files.names (length round.files.outputs) (files_of round.delim round.elide round.count x)) why new) (sym (settled_is round.delim round.files.names round.elide round.count x at.holds.named))
+      (stops before (files_of round.delim round.elide round.count x) (stand_at told round before x old at))))
 
   end_met : (why : Fault) → CannotClose old new why → IsMet (work round).means (work round).means.closing (Unit {0}) (EndsThere Holds work round) old new why
   end_met why is = subst (λ those. IsMet (work round).means (work round).means.closing (Unit {0}) (EndsThere Holds work round) old new those) (sym is.1)
@@ -307,14 +308,19 @@ module _ (told : Bool) (round : RoundState) (old new : List Slot) where
 
 -- The start
 
-none_dealt : (n start count : ℕ) → map (share_of n []) (range_with_len start count) ≡ filled count []
-none_dealt n start zero = refl
-none_dealt n start (suc count) = ap (λ rest. [] ∷ rest) (none_dealt n (start + 1) count)
+none_dealt : (delim n start count : ℕ) → map (share_of delim n []) (range_with_len start count) ≡ filled count []
+none_dealt delim n start zero = refl
+none_dealt delim n start (suc count) = ap (λ rest. [] ∷ rest) (none_dealt delim n (start + 1) count)
 
-at_start : (names : Naming) (elide : Bool) (n count : ℕ) → names.drawn ≡ 0 → are_named names n ≡ true → count ≡ opened_by elide n [] → open_part names (filled count []) ≡ settled_by (round_plan n elide names) []
-at_start names elide n count fresh are is =
-    ap (λ k. open_part names (filled k [])) is ∙ ap (open_part names) (sym (none_dealt n 0 (opened_by elide n []))) ∙ sym (settled_is names elide n [] are)
-    ∙ ap (λ drawn. settled_by (round_plan n elide (record names { drawn = drawn })) []) (sym fresh)
+-- no line has come in yet
+pub starts_with : (delim : ℕ) (elide : Bool) (n : ℕ) → cond elide 0 n ≡ opened_by delim elide n []
+starts_with delim true n = omega arith
+starts_with delim false n = refl
+
+at_start : (delim : ℕ) (names : Naming) (elide : Bool) (n count : ℕ) → names.drawn ≡ 0 → are_named names n ≡ true → count ≡ opened_by delim elide n [] → open_part names (filled count []) ≡ settled_by (round_plan delim n elide names) []
+at_start delim names elide n count fresh are is =
+    ap (λ k. open_part names (filled k [])) is ∙ ap (open_part names) (sym (none_dealt delim n 0 (opened_by delim elide n []))) ∙ sym (settled_is delim names elide n [] are)
+    ∙ ap (λ drawn. settled_by (round_plan delim n elide (record names { drawn = drawn })) []) (sym fresh)
 
 -- no file is open yet, and the next will be the next output
 abbrev pub no_files : Naming → FilesState
@@ -330,33 +336,33 @@ none_stand told names before slots at = record {
   outputs = at;
 }
 
-pub opens_all : (told elide : Bool) (names : Naming) (n count : ℕ) (files next : FilesState) (old new : List Slot) → files ≡ no_files names → names.drawn ≡ 0 → are_named names n ≡ true → count ≡ opened_by elide n []
-    → Became told files (filled count) count old next new → (before : List Slot) → OutputsAt told before nothing old → OutputsAt told before (settled_by (round_plan n elide names) []) new
-opens_all told elide names n count files next old new is fresh are counted became before at =
-    subst (λ part. OutputsAt told before part new) (at_start names elide n count fresh are counted)
+pub opens_all : (delim : ℕ) (told elide : Bool) (names : Naming) (n count : ℕ) (files next : FilesState) (old new : List Slot) → files ≡ no_files names → names.drawn ≡ 0 → are_named names n ≡ true → count ≡ opened_by delim elide n []
+    → Became told files (filled count) count old next new → (before : List Slot) → OutputsAt told before nothing old → OutputsAt told before (settled_by (round_plan delim n elide names) []) new
+opens_all delim told elide names n count files next old new is fresh are counted became before at =
+    subst (λ part. OutputsAt told before part new) (at_start delim names elide n count fresh are counted)
     ((subst (λ (those : FilesState). Makes told those (filled count) old new) is became.outputs) before [] (none_stand told names before old at))
 
-pub opens_short : (told elide : Bool) (names : Naming) (n count : ℕ) (files : FilesState) (old new : List Slot) (why : Fault) → files ≡ no_files names → names.drawn ≡ 0 → are_named names n ≡ true → count ≡ opened_by elide n []
-    → StopsShort told files (filled count) old new why → (before : List Slot) → OutputsAt told before nothing old → StoppedBetween told before nothing (settled_by (round_plan n elide names) []) why new
-opens_short told elide names n count files old new why is fresh are counted stops before at =
-    subst (λ high. StoppedBetween told before nothing high why new) (at_start names elide n count fresh are counted)
+pub opens_short : (delim : ℕ) (told elide : Bool) (names : Naming) (n count : ℕ) (files : FilesState) (old new : List Slot) (why : Fault) → files ≡ no_files names → names.drawn ≡ 0 → are_named names n ≡ true → count ≡ opened_by delim elide n []
+    → StopsShort told files (filled count) old new why → (before : List Slot) → OutputsAt told before nothing old → StoppedBetween told before nothing (settled_by (round_plan delim n elide names) []) why new
+opens_short delim told elide names n count files old new why is fresh are counted stops before at =
+    subst (λ high. StoppedBetween told before nothing high why new) (at_start delim names elide n count fresh are counted)
     ((subst (λ (those : FilesState). StopsShort told those (filled count) old new why) is stops) before [] (none_stand told names before old at))
 
 pub opens_own : (told : Bool) (names : Naming) (count : ℕ) (files next : FilesState) (old new : List Slot) → files ≡ no_files names → Became told files (filled count) count old next new → OwnsFiles next (length old) new
 opens_own told names count files next old new is became = became.owned (length old) (subst (λ (those : FilesState). OwnsFiles those (length old) old) (sym is) (none_owned names old))
 
 -- where all files have names, the work is what was asked for
-pub does_all : (names others : Naming) (elide : Bool) (n : ℕ) → names.drawn ≡ 0 → are_named names n ≡ true → from_start others ≡ from_start names → round_work (round_plan n elide (from_start others)) ≡ split_work (round_plan n elide names)
-does_all names others elide n fresh are same =
-    ap (λ those. round_work (round_plan n elide those)) (same ∙ ap (λ drawn. record names { drawn = drawn }) (sym fresh))
+pub does_all : (delim : ℕ) (names others : Naming) (elide : Bool) (n : ℕ) → names.drawn ≡ 0 → are_named names n ≡ true → from_start others ≡ from_start names → round_work (round_plan delim n elide (from_start others)) ≡ split_work (round_plan delim n elide names)
+does_all delim names others elide n fresh are same =
+    ap (λ those. round_work (round_plan delim n elide those)) (same ∙ ap (λ drawn. record names { drawn = drawn }) (sym fresh))
     ∙ ap work_by never where
-      never : ◌≡◌ {A = List ℕ → Bool} (λ x. false) (is_short (round_plan n elide names))
-      never = fun_ext (λ x. never_short names elide n x are)
+      never : ◌≡◌ {A = List ℕ → Bool} (λ x. false) (is_short (round_plan delim n elide names))
+      never = fun_ext (λ x. never_short delim names elide n x are)
 
       work_by : (List ℕ → Bool) → Work
       work_by short = record {
-        settled = settled_by (round_plan n elide names);
-        whole = whole_by (round_plan n elide names);
+        settled = settled_by (round_plan delim n elide names);
+        whole = whole_by (round_plan delim n elide names);
         is_complete = short;
         verdict = λ x. cond (short x) (Some fault.Suffixes) None;
         clears = false;
@@ -370,9 +376,9 @@ joined_some [] = refl
 joined_some ([] ∷ these) = joined_some these
 joined_some ((byte ∷ bytes) ∷ these) = ap (λ rest. (byte ∷ bytes) ++ rest) (joined_some these)
 
-joined_files : (elide : Bool) (n : ℕ) (x : List ℕ) → joined (dealt_files elide n x) ≡ joined (round_robin n x)
-joined_files true n x = joined_some (round_robin n x)
-joined_files false n x = refl
+joined_files : (delim : ℕ) (elide : Bool) (n : ℕ) (x : List ℕ) → joined (dealt_files delim elide n x) ≡ joined (round_robin delim n x)
+joined_files delim true n x = joined_some (round_robin delim n x)
+joined_files delim false n x = refl
 
 bytes_filed : (names : Naming) (place : ℕ) (these : List (List ℕ)) → map (λ (file : File). file.bytes) (filed names place (map (share Open) these)) ≡ these
 bytes_filed names place [] = refl
@@ -381,9 +387,9 @@ bytes_filed names place (bytes ∷ these) = ap (λ rest. bytes ∷ rest) (bytes_
 pub none_waits : (round : RoundState) (x : List ℕ) → Holds round x → 0 ≡ length (waiting (work round) x)
 none_waits round x holds = sym (ap length (ap (λ count. drop count x) all ∙ drop-length x)) where
   files : List (List ℕ)
-  files = files_of round.elide round.count x
+  files = files_of round.delim round.elide round.count x
 
   all : length (bytes_in ((work round).settled x)) ≡ length x
-  all = ap (λ part. length (bytes_in part)) (settled_is round.files.names round.elide round.count x holds.named)
-      ∙ ap (λ those. length (joined those)) (bytes_filed (from_start round.files.names) 0 (files_of round.elide round.count x) ∙ sym (dealt_files_are round.elide round.count x))
-      ∙ ap length (joined_files round.elide round.count x) ∙ all_dealt round.count x holds.some
+  all = ap (λ part. length (bytes_in part)) (settled_is round.delim round.files.names round.elide round.count x holds.named)
+      ∙ ap (λ those. length (joined those)) (bytes_filed (from_start round.files.names) 0 (files_of round.delim round.elide round.count x) ∙ sym (dealt_files_are round.delim round.elide round.count x))
+      ∙ ap length (joined_files round.delim round.elide round.count x) ∙ all_dealt round.delim round.count x holds.some

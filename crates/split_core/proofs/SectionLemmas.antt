@@ -6,8 +6,8 @@ use Rattle.std.proofs.Math.Seq.{take-nil, drop-nil}
 use Rattle.std.specs.List.{All}
 use Rattle.std.proofs.lemmas.List.Elements.{All-nil, All-cons}
 use Rattle.std.proofs.lemmas.List.{append-nil, take_all, drop-drop, length-map, length-take-le, map-append}
-use Rattle.seg_core.specs.Line.{joined, lines_of, newlines, first_lines, behind_lines, line_count}
-use Rattle.seg_core.proofs.Carried.{lines_of-behind_lines}
+use Rattle.seg_core.specs.Line.{joined, lines_of, delimiters, first_lines, after_lines, line_count}
+use Rattle.seg_core.proofs.Carried.{lines_of-after_lines}
 use Rattle.seg_core.proofs.EndLines.{line_count_near}
 use Rattle.seg_core.proofs.FirstLines.{joined-append, lines_of-first_lines, lines_of-behind}
 use Rattle.seg_core.proofs.LineCounts.{line_count-some}
@@ -99,24 +99,24 @@ runs_count n xs some = count_within (length xs) n xs some (omega arith)
 
 -- Parts of n lines, and of n bytes
 
-last_lines : (n : ℕ) (x : List ℕ) → newlines x < n → unless_empty x ≡ line_parts n x
-last_lines n [] short = refl
-last_lines n (byte ∷ x) short =
-    let few : line_count (byte ∷ x) ≤ newlines (byte ∷ x) + 1 = (line_count_near (byte ∷ x)).1 in
-    sym (ap (map joined) (runs_last n (lines_of (byte ∷ x)) (line_count-some (byte ∷ x) (omega arith)) (omega arith))
-    ∙ ap (λ text. text ∷ []) (joined-lines_of (byte ∷ x)))
+last_lines : (delim n : ℕ) (x : List ℕ) → delimiters delim x < n → unless_empty x ≡ line_parts delim n x
+last_lines delim n [] short = refl
+last_lines delim n (byte ∷ x) short =
+    let few : line_count delim (byte ∷ x) ≤ delimiters delim (byte ∷ x) + 1 = (line_count_near delim (byte ∷ x)).1 in
+    sym (ap (map joined) (runs_last n (lines_of delim (byte ∷ x)) (line_count-some delim (byte ∷ x) (omega arith)) (omega arith))
+    ∙ ap (λ text. text ∷ []) (joined-lines_of delim (byte ∷ x)))
 
-lines_cut : (n : ℕ) (x : List ℕ) (full : List (List ℕ)) (rest : List ℕ) → 0 < n → Cuts (Lines n) x full rest → full ++ unless_empty rest ≡ line_parts n x
-lines_cut n x _ _ some (stops _ short) = last_lines n x (short_some (Lines n) x short some)
-lines_cut n x _ rest some (goes _ full _ is behind) =
-    let enough : n ≤ newlines x = (full_some (Lines n) x is).1 in
-    let lines : newlines x ≤ line_count x = (line_count_near x).0 in
-    ap (λ those. first_lines n x ∷ those) (lines_cut n (behind_first (Lines n) x) full rest some behind)
-    ∙ ap (λ those. first_lines n x ∷ map joined (runs_of n those)) (lines_of-behind n x enough)
-    ∙ sym (ap (map joined) (runs_next n (lines_of x) some (omega arith)))
+lines_cut : (delim n : ℕ) (x : List ℕ) (full : List (List ℕ)) (rest : List ℕ) → 0 < n → Cuts (Lines n delim) x full rest → full ++ unless_empty rest ≡ line_parts delim n x
+lines_cut delim n x _ _ some (stops _ short) = last_lines delim n x (short_some (Lines n delim) x short some)
+lines_cut delim n x _ rest some (goes _ full _ is behind) =
+    let enough : n ≤ delimiters delim x = (full_some (Lines n delim) x is).1 in
+    let lines : delimiters delim x ≤ line_count delim x = (line_count_near delim x).0 in
+    ap (λ those. first_lines delim n x ∷ those) (lines_cut delim n (behind_first (Lines n delim) x) full rest some behind)
+    ∙ ap (λ those. first_lines delim n x ∷ map joined (runs_of n those)) (lines_of-behind delim n x enough)
+    ∙ sym (ap (map joined) (runs_next n (lines_of delim x) some (omega arith)))
 
-pub lines_are_runs : (n : ℕ) (x : List ℕ) → 0 < n → parts (Lines n) x ≡ line_parts n x
-lines_are_runs n x some = lines_cut n x _ _ some (cuts_up (Lines n) x)
+pub lines_are_runs : (delim n : ℕ) (x : List ℕ) → 0 < n → parts (Lines n delim) x ≡ line_parts delim n x
+lines_are_runs delim n x some = lines_cut delim n x _ _ some (cuts_up (Lines n delim) x)
 
 last_bytes : (n : ℕ) (x : List ℕ) → length x < n → unless_empty x ≡ byte_parts n x
 last_bytes n [] short = refl
@@ -134,35 +134,35 @@ pub bytes_are_runs : (n : ℕ) (x : List ℕ) → 0 < n → parts (Bytes n) x �
 bytes_are_runs n x some = bytes_cut n x _ _ some (cuts_up (Bytes n) x)
 
 -- the lines of the part at a place
-pub part_lines : (n i : ℕ) (x : List ℕ) → 0 < n → lines_of (get_or (parts (Lines n) x) i []) ≡ take n (drop (i * n) (lines_of x))
-part_lines n i x some =
-    ap (λ those. lines_of (get_or those i [])) (lines_are_runs n x some)
-    ∙ ap lines_of (get_or-map joined (runs_of n (lines_of x)) i [] ∙ ap joined (run_at n i (lines_of x) some ∙ ap (take n) (sym (lines_of-behind_lines (i * n) x))))
-    ∙ lines_of-first_lines n (behind_lines (i * n) x) ∙ ap (take n) (lines_of-behind_lines (i * n) x)
+pub part_lines : (delim n i : ℕ) (x : List ℕ) → 0 < n → lines_of delim (get_or (parts (Lines n delim) x) i []) ≡ take n (drop (i * n) (lines_of delim x))
+part_lines delim n i x some =
+    ap (λ those. lines_of delim (get_or those i [])) (lines_are_runs delim n x some)
+    ∙ ap (lines_of delim) (get_or-map joined (runs_of n (lines_of delim x)) i [] ∙ ap joined (run_at n i (lines_of delim x) some ∙ ap (take n) (sym (lines_of-after_lines delim (i * n) x))))
+    ∙ lines_of-first_lines delim n (after_lines delim (i * n) x) ∙ ap (take n) (lines_of-after_lines delim (i * n) x)
 
 pub part_bytes : (n i : ℕ) (x : List ℕ) → 0 < n → get_or (parts (Bytes n) x) i [] ≡ take n (drop (i * n) x)
 part_bytes n i x some = ap (λ those. get_or those i []) (bytes_are_runs n x some) ∙ run_at n i x some
 
-pub lines_count : (n : ℕ) (x : List ℕ) → 0 < n → AreFewest (length (parts (Lines n) x)) n (line_count x)
-lines_count n x some =
-    subst (λ count. AreFewest count n (line_count x)) (sym (ap length (lines_are_runs n x some) ∙ length-map (runs_of n (lines_of x)) joined)) (runs_count n (lines_of x) some)
+pub lines_count : (delim n : ℕ) (x : List ℕ) → 0 < n → AreFewest (length (parts (Lines n delim) x)) n (line_count delim x)
+lines_count delim n x some =
+    subst (λ count. AreFewest count n (line_count delim x)) (sym (ap length (lines_are_runs delim n x some) ∙ length-map (runs_of n (lines_of delim x)) joined)) (runs_count n (lines_of delim x) some)
 
 pub bytes_count : (n : ℕ) (x : List ℕ) → 0 < n → AreFewest (length (parts (Bytes n) x)) n (length x)
 bytes_count n x some = subst (λ count. AreFewest count n (length x)) (sym (ap length (bytes_are_runs n x some))) (runs_count n x some)
 
 -- Parts of whole lines within n bytes
 
-last_line_bytes : (n : ℕ) (x : List ℕ) → length x < n → AreLineByteParts n x (unless_empty x)
-last_line_bytes n [] short = none
-last_line_bytes n (byte ∷ x) short = one (byte ∷ x) (omega arith) short
+last_line_bytes : (delim n : ℕ) (x : List ℕ) → length x < n → AreLineByteParts delim n x (unless_empty x)
+last_line_bytes delim n [] short = none
+last_line_bytes delim n (byte ∷ x) short = one (byte ∷ x) (omega arith) short
 
-line_bytes_cut : (n : ℕ) (x : List ℕ) (full : List (List ℕ)) (rest : List ℕ) → 0 < n → Cuts (LineBytes n) x full rest → AreLineByteParts n x (full ++ unless_empty rest)
-line_bytes_cut n x _ _ some (stops _ short) = last_line_bytes n x (short_some (LineBytes n) x short some)
-line_bytes_cut n x _ rest some (goes _ full _ is behind) =
-    more x (full ++ unless_empty rest) (full_some (LineBytes n) x is).1 (line_bytes_cut n (behind_first (LineBytes n) x) full rest some behind)
+line_bytes_cut : (delim n : ℕ) (x : List ℕ) (full : List (List ℕ)) (rest : List ℕ) → 0 < n → Cuts (LineBytes n delim) x full rest → AreLineByteParts delim n x (full ++ unless_empty rest)
+line_bytes_cut delim n x _ _ some (stops _ short) = last_line_bytes delim n x (short_some (LineBytes n delim) x short some)
+line_bytes_cut delim n x _ rest some (goes _ full _ is behind) =
+    more x (full ++ unless_empty rest) (full_some (LineBytes n delim) x is).1 (line_bytes_cut delim n (behind_first (LineBytes n delim) x) full rest some behind)
 
-pub line_bytes_are_parts : (n : ℕ) (x : List ℕ) → 0 < n → AreLineByteParts n x (parts (LineBytes n) x)
-line_bytes_are_parts n x some = line_bytes_cut n x _ _ some (cuts_up (LineBytes n) x)
+pub line_bytes_are_parts : (delim n : ℕ) (x : List ℕ) → 0 < n → AreLineByteParts delim n x (parts (LineBytes n delim) x)
+line_bytes_are_parts delim n x some = line_bytes_cut delim n x _ _ some (cuts_up (LineBytes n delim) x)
 
 too_few : (n all : ℕ) → 0 < n → all ≡ 0 → n ≤ all → ⊥
 too_few n all some is enough = omega arith
@@ -171,31 +171,31 @@ not_both : (n all : ℕ) → all < n → n ≤ all → ⊥
 not_both n all short enough = omega arith
 
 -- no other parts are those
-pub line_bytes_once : (n : ℕ) (x : List ℕ) (these those : List (List ℕ)) → 0 < n → AreLineByteParts n x these → AreLineByteParts n x those → these ≡ those
-line_bytes_once n _ _ _ some none none = refl
-line_bytes_once n _ _ _ some none (one _ has short) = absurd (omega (arith, has))
-line_bytes_once n _ _ _ some none (more _ _ enough behind) = absurd (too_few n 0 some refl enough)
-line_bytes_once n _ _ _ some (one _ has short) none = absurd (omega (arith, has))
-line_bytes_once n _ _ _ some (one x has short) (one _ _ _) = refl
-line_bytes_once n _ _ _ some (one x has short) (more _ _ enough behind) = absurd (not_both n (length x) short enough)
-line_bytes_once n _ _ _ some (more _ _ enough behind) none = absurd (too_few n 0 some refl enough)
-line_bytes_once n _ _ _ some (more x _ enough behind) (one _ has short) = absurd (not_both n (length x) short enough)
-line_bytes_once n _ _ _ some (more x these enough behind) (more _ those _ other) =
-    ap (λ rest. whole_lines (take n x) ∷ rest) (line_bytes_once n (drop (length (whole_lines (take n x))) x) these those some behind other)
+pub line_bytes_once : (delim n : ℕ) (x : List ℕ) (these those : List (List ℕ)) → 0 < n → AreLineByteParts delim n x these → AreLineByteParts delim n x those → these ≡ those
+line_bytes_once delim n _ _ _ some none none = refl
+line_bytes_once delim n _ _ _ some none (one _ has short) = absurd (omega (arith, has))
+line_bytes_once delim n _ _ _ some none (more _ _ enough behind) = absurd (too_few n 0 some refl enough)
+line_bytes_once delim n _ _ _ some (one _ has short) none = absurd (omega (arith, has))
+line_bytes_once delim n _ _ _ some (one x has short) (one _ _ _) = refl
+line_bytes_once delim n _ _ _ some (one x has short) (more _ _ enough behind) = absurd (not_both n (length x) short enough)
+line_bytes_once delim n _ _ _ some (more _ _ enough behind) none = absurd (too_few n 0 some refl enough)
+line_bytes_once delim n _ _ _ some (more x _ enough behind) (one _ has short) = absurd (not_both n (length x) short enough)
+line_bytes_once delim n _ _ _ some (more x these enough behind) (more _ those _ other) =
+    ap (λ rest. whole_lines delim (take n x) ∷ rest) (line_bytes_once delim n (drop (length (whole_lines delim (take n x))) x) these those some behind other)
 
-line_bytes_first : (n : ℕ) (x : List ℕ) → 0 < n → n ≤ length x → (0 < length (whole_lines (take n x))) × (length (whole_lines (take n x)) ≤ n)
-line_bytes_first n x some enough =
+line_bytes_first : (delim n : ℕ) (x : List ℕ) → 0 < n → n ≤ length x → (0 < length (whole_lines delim (take n x))) × (length (whole_lines delim (take n x)) ≤ n)
+line_bytes_first delim n x some enough =
     let all : length (take n x) ≡ n = length-take-le n x enough in
-    let both : length (whole_lines (take n x)) + length (open_line (take n x)) ≡ length (take n x) = sym (length-append (whole_lines (take n x)) (open_line (take n x))) ∙ ap length (whole_then_open (take n x)) in
-    (whole_some (take n x) (omega arith), omega arith)
+    let both : length (whole_lines delim (take n x)) + length (open_line delim (take n x)) ≡ length (take n x) = sym (length-append (whole_lines delim (take n x)) (open_line delim (take n x))) ∙ ap length (whole_then_open delim (take n x)) in
+    (whole_some delim (take n x) (omega arith), omega arith)
 
 -- none is empty, and none has more than n bytes
-pub line_bytes_within : (n : ℕ) (x : List ℕ) (those : List (List ℕ)) → 0 < n → AreLineByteParts n x those → All (λ part. (0 < length part) × (length part ≤ n)) those
-line_bytes_within n _ _ some none = All-nil (λ part. (0 < length part) × (length part ≤ n))
-line_bytes_within n _ _ some (one x has short) = All-cons (λ part. (0 < length part) × (length part ≤ n)) x [] (has, omega (arith, short)) (All-nil (λ part. (0 < length part) × (length part ≤ n)))
-line_bytes_within n _ _ some (more x those enough behind) =
-    All-cons (λ part. (0 < length part) × (length part ≤ n)) (whole_lines (take n x)) those (line_bytes_first n x some enough)
-    (line_bytes_within n (drop (length (whole_lines (take n x))) x) those some behind)
+pub line_bytes_within : (delim n : ℕ) (x : List ℕ) (those : List (List ℕ)) → 0 < n → AreLineByteParts delim n x those → All (λ part. (0 < length part) × (length part ≤ n)) those
+line_bytes_within delim n _ _ some none = All-nil (λ part. (0 < length part) × (length part ≤ n))
+line_bytes_within delim n _ _ some (one x has short) = All-cons (λ part. (0 < length part) × (length part ≤ n)) x [] (has, omega (arith, short)) (All-nil (λ part. (0 < length part) × (length part ≤ n)))
+line_bytes_within delim n _ _ some (more x those enough behind) =
+    All-cons (λ part. (0 < length part) × (length part ≤ n)) (whole_lines delim (take n x)) those (line_bytes_first delim n x some enough)
+    (line_bytes_within delim n (drop (length (whole_lines delim (take n x))) x) those some behind)
 
 -- Texts that go on
 
@@ -208,11 +208,11 @@ joined_parts limit x =
     joined-append (cut_up limit x).full (unless_empty (cut_up limit x).rest) ∙ ap (λ rest. joined (cut_up limit x).full ++ rest) (joined_one (cut_up limit x).rest) ∙ cut_all limit x
 
 waits_few : (limit : Limit) (rest : List ℕ) → 0 < most limit → is_full limit rest ≡ false → length (waiting_rest limit rest) < most limit
-waits_few (Lines n) rest some short = some
+waits_few (Lines n delim) rest some short = some
 waits_few (Bytes n) rest some short = some
-waits_few (LineBytes n) rest some short =
-    let few : length rest < n = short_some (LineBytes n) rest short some in
-    let both : length (whole_lines rest) + length (open_line rest) ≡ length rest = sym (length-append (whole_lines rest) (open_line rest)) ∙ ap length (whole_then_open rest) in omega arith
+waits_few (LineBytes n delim) rest some short =
+    let few : length rest < n = short_some (LineBytes n delim) rest short some in
+    let both : length (whole_lines delim rest) + length (open_line delim rest) ≡ length rest = sym (length-append (whole_lines delim rest) (open_line delim rest)) ∙ ap length (whole_then_open delim rest) in omega arith
 
 -- what waits is shorter than a part
 pub waiting_few : (limit : Limit) (x : List ℕ) → 0 < most limit → length (waiting_rest limit (cut_up limit x).rest) < most limit

@@ -1,16 +1,21 @@
--- What was seen of a text: where newlines stand.
+-- What was seen of a text: where delimiters stand.
 use Rattle.std.specs.Prelude.{◌≡◌, ℕ, ◌+◌, ◌≤◌, eqb, List, length, take, drop, map}
 use Rattle.std.specs.Simd.Lanes.{mask_l}
-use Rattle.seg_core.specs.Line.{HasNoNewline}
+use Rattle.seg_core.specs.Line.{HasNone}
 use Rattle.split_core.specs.declared.complete_lines.Ahead.{Ahead}
 
--- a bit for each byte, set where it is a newline; the first is the lowest
-abbrev pub newline_mask : List ℕ → ℕ
-newline_mask bytes = mask_l (map (λ byte. eqb byte 10) bytes)
+-- the lines of a text that are left, and the byte that they end with
+pub record LinesLeft : Type 0 where
+  pub delim : ℕ
+  pub text : List ℕ
 
--- the first bytes have no newline, and the mask tells which of the bytes after them are newlines
-pub record Sees (x : List ℕ) (ahead : Ahead) : Type 0 where
+-- a bit for each byte, set where it is the delimiter; the first is the lowest
+abbrev pub delimiter_mask : ℕ → List ℕ → ℕ
+delimiter_mask delim bytes = mask_l (map (λ byte. eqb byte delim) bytes)
+
+-- the first bytes have no delimiter, and the mask tells which of the bytes after them are delimiters
+pub record Sees (delim : ℕ) (x : List ℕ) (ahead : Ahead) : Type 0 where
   pub within : ahead.passed + ahead.width ≤ length x
   pub narrow : ahead.width ≤ 64
-  pub none : HasNoNewline (take ahead.passed x)
-  pub marked : ahead.mask ≡ newline_mask (take ahead.width (drop ahead.passed x))
+  pub none : HasNone delim (take ahead.passed x)
+  pub marked : ahead.mask ≡ delimiter_mask delim (take ahead.width (drop ahead.passed x))

@@ -4,7 +4,7 @@ use Rattle.std.proofs.Math.Nat.{mod-add-mod, mod-eq_of_lt}
 use Rattle.std.specs.List.{filter, range_with_len, onto_first}
 use Rattle.std.proofs.lemmas.Bool.{cases_eq, cases_lt, eq-eqb, ne_eqb}
 use Rattle.std.proofs.lemmas.List.{append-nil}
-use Rattle.seg_core.specs.Line.{lines_of, newlines, line_count}
+use Rattle.seg_core.specs.Line.{lines_of, delimiters, line_count}
 use Rattle.seg_core.proofs.LineCounts.{line_count-some}
 use Rattle.seg_core.proofs.EndLines.{line_count_near}
 use Rattle.split_core.specs.Parts.{dealt}
@@ -20,8 +20,8 @@ dealt_onto : (n file place byte : ℕ) (lines : List (List ℕ)) → dealt n fil
 dealt_onto n file place byte [] = refl
 dealt_onto n file place byte (line ∷ lines) = onto_step (eqb (place % n) file) byte line (dealt n file (place + 1) lines)
 
-dealt_first : (is_newline : Bool) (n file place byte : ℕ) (lines : List (List ℕ)) → dealt n file place (cond is_newline ((byte ∷ []) ∷ lines) (onto_first byte lines))
-    ≡ cond (eqb (place % n) file) (byte ∷ dealt n file (cond is_newline (place + 1) place) lines) (dealt n file (cond is_newline (place + 1) place) lines)
+dealt_first : (ends : Bool) (n file place byte : ℕ) (lines : List (List ℕ)) → dealt n file place (cond ends ((byte ∷ []) ∷ lines) (onto_first byte lines))
+    ≡ cond (eqb (place % n) file) (byte ∷ dealt n file (cond ends (place + 1) place) lines) (dealt n file (cond ends (place + 1) place) lines)
 dealt_first true n file place byte lines = refl
 dealt_first false n file place byte lines = dealt_onto n file place byte lines
 
@@ -29,20 +29,20 @@ goes_on : (gets : Bool) (byte : ℕ) (these more : List ℕ) → cond gets (byte
 goes_on true byte these more = refl
 goes_on false byte these more = refl
 
-next_place : (is_newline : Bool) (place count : ℕ) → cond is_newline (place + 1) place + count ≡ place + cond is_newline (count + 1) count
+next_place : (ends : Bool) (place count : ℕ) → cond ends (place + 1) place + count ≡ place + cond ends (count + 1) count
 next_place true place count = omega arith
 next_place false place count = refl
 
 -- an open last line goes on where it began
-pub dealt_append : (n file place : ℕ) (x y : List ℕ) → dealt n file place (lines_of (x ++ y)) ≡ dealt n file place (lines_of x) ++ dealt n file (place + newlines x) (lines_of y)
-dealt_append n file place [] y = let here : place ≡ place + 0 = omega arith in ap (λ at. dealt n file at (lines_of y)) here
-dealt_append n file place (byte ∷ x) y =
-    let next = cond (eqb byte 10) (place + 1) place in
-    dealt_first (eqb byte 10) n file place byte (lines_of (x ++ y))
-    ∙ ap (λ those. cond (eqb (place % n) file) (byte ∷ those) those) (dealt_append n file next x y)
-    ∙ goes_on (eqb (place % n) file) byte (dealt n file next (lines_of x)) (dealt n file (next + newlines x) (lines_of y))
-    ∙ ap (λ those. those ++ dealt n file (next + newlines x) (lines_of y)) (sym (dealt_first (eqb byte 10) n file place byte (lines_of x)))
-    ∙ ap (λ at. dealt n file place (lines_of (byte ∷ x)) ++ dealt n file at (lines_of y)) (next_place (eqb byte 10) place (newlines x))
+pub dealt_append : (delim n file place : ℕ) (x y : List ℕ) → dealt n file place (lines_of delim (x ++ y)) ≡ dealt n file place (lines_of delim x) ++ dealt n file (place + delimiters delim x) (lines_of delim y)
+dealt_append delim n file place [] y = let here : place ≡ place + 0 = omega arith in ap (λ at. dealt n file at (lines_of delim y)) here
+dealt_append delim n file place (byte ∷ x) y =
+    let next = cond (eqb byte delim) (place + 1) place in
+    dealt_first (eqb byte delim) n file place byte (lines_of delim (x ++ y))
+    ∙ ap (λ those. cond (eqb (place % n) file) (byte ∷ those) those) (dealt_append delim n file next x y)
+    ∙ goes_on (eqb (place % n) file) byte (dealt n file next (lines_of delim x)) (dealt n file (next + delimiters delim x) (lines_of delim y))
+    ∙ ap (λ those. those ++ dealt n file (next + delimiters delim x) (lines_of delim y)) (sym (dealt_first (eqb byte delim) n file place byte (lines_of delim x)))
+    ∙ ap (λ at. dealt n file place (lines_of delim (byte ∷ x)) ++ dealt n file at (lines_of delim y)) (next_place (eqb byte delim) place (delimiters delim x))
 
 next_same : (n one other : ℕ) → one % n ≡ other % n → (one + 1) % n ≡ (other + 1) % n
 next_same n one other same = sym (mod-add-mod one n 1) ∙ ap (λ place. (place + 1) % n) same ∙ mod-add-mod other n 1
@@ -91,27 +91,27 @@ onto_each : (byte : ℕ) (lines : List (List ℕ)) → EachSome lines → EachSo
 onto_each byte [] each = (omega arith, tt)
 onto_each byte (line ∷ lines) each = (omega arith, each.1)
 
-each_step : (is_newline : Bool) (byte : ℕ) (lines : List (List ℕ)) → EachSome lines → EachSome (cond is_newline ((byte ∷ []) ∷ lines) (onto_first byte lines))
+each_step : (ends : Bool) (byte : ℕ) (lines : List (List ℕ)) → EachSome lines → EachSome (cond ends ((byte ∷ []) ∷ lines) (onto_first byte lines))
 each_step true byte lines each = (omega arith, each)
 each_step false byte lines each = onto_each byte lines each
 
-each_line : (x : List ℕ) → EachSome (lines_of x)
-each_line [] = tt
-each_line (byte ∷ x) = each_step (eqb byte 10) byte (lines_of x) (each_line x)
+each_line : (delim : ℕ) (x : List ℕ) → EachSome (lines_of delim x)
+each_line delim [] = tt
+each_line delim (byte ∷ x) = each_step (eqb byte delim) byte (lines_of delim x) (each_line delim x)
 
 is_some_of : (bytes : List ℕ) → 0 < length bytes → is_some bytes ≡ true
 is_some_of [] some = absurd (omega arith)
 is_some_of (byte ∷ bytes) some = refl
 
 -- what a file has of a text
-abbrev pub share_of : ℕ → List ℕ → ℕ → List ℕ
-share_of n x file = dealt n file 0 (lines_of x)
+abbrev pub share_of : ℕ → ℕ → List ℕ → ℕ → List ℕ
+share_of delim n x file = dealt n file 0 (lines_of delim x)
 
-pub share_none : (n : ℕ) (x : List ℕ) (file : ℕ) → line_count x ≤ file → file < n → share_of n x file ≡ []
-share_none n x file short within = dealt_none n file 0 (lines_of x) (omega arith) within
+pub share_none : (delim n : ℕ) (x : List ℕ) (file : ℕ) → line_count delim x ≤ file → file < n → share_of delim n x file ≡ []
+share_none delim n x file short within = dealt_none n file 0 (lines_of delim x) (omega arith) within
 
-pub share_some : (n : ℕ) (x : List ℕ) (file : ℕ) → file < line_count x → file < n → is_some (share_of n x file) ≡ true
-share_some n x file before within = is_some_of _ (dealt_some n file 0 (lines_of x) (each_line x) (omega arith) (omega arith) within)
+pub share_some : (delim n : ℕ) (x : List ℕ) (file : ℕ) → file < line_count delim x → file < n → is_some (share_of delim n x file) ≡ true
+share_some delim n x file before within = is_some_of _ (dealt_some n file 0 (lines_of delim x) (each_line delim x) (omega arith) (omega arith) within)
 
 -- where members up to a place aren't empty and those from there on are, the filter leaves those up to that place
 filter_next : (f : ℕ → List ℕ) (start n end : ℕ) → (start < end → is_some (f start) ≡ true) → (end ≤ start → f start ≡ []) → (rest : List (List ℕ))
@@ -140,12 +140,12 @@ filter_first f start (suc n) end some none =
     (filter_first f (start + 1) n end (λ file within before. some file (omega arith) before) (λ file within past. none file (omega arith) past))
 
 -- the files that have a line are the first ones
-pub dealt_files_are : (elide : Bool) (n : ℕ) (x : List ℕ) → dealt_files elide n x ≡ map (share_of n x) (range_with_len 0 (opened_by elide n x))
-dealt_files_are true n x =
-    let all : line_count x - 0 ≡ line_count x = omega arith in
-    filter_first (share_of n x) 0 n (line_count x) (λ file within before. share_some n x file before (omega arith)) (λ file within past. share_none n x file past (omega arith))
-    ∙ ap (λ lines. map (share_of n x) (range_with_len 0 (min n lines))) all
-dealt_files_are false n x = refl
+pub dealt_files_are : (delim : ℕ) (elide : Bool) (n : ℕ) (x : List ℕ) → dealt_files delim elide n x ≡ map (share_of delim n x) (range_with_len 0 (opened_by delim elide n x))
+dealt_files_are delim true n x =
+    let all : line_count delim x - 0 ≡ line_count delim x = omega arith in
+    filter_first (share_of delim n x) 0 n (line_count delim x) (λ file within before. share_some delim n x file before (omega arith)) (λ file within past. share_none delim n x file past (omega arith))
+    ∙ ap (λ lines. map (share_of delim n x) (range_with_len 0 (min n lines))) all
+dealt_files_are delim false n x = refl
 
 -- a text that goes on opens no fewer files
 
@@ -153,28 +153,28 @@ onto_some : (byte : ℕ) (lines : List (List ℕ)) → 0 < length lines → leng
 onto_some byte [] some = absurd (omega arith)
 onto_some byte (line ∷ lines) some = refl
 
-count_step : (is_newline : Bool) (byte newlines more : ℕ) (lines : List (List ℕ)) → 0 < length lines → length lines ≡ newlines + more
-    → length (cond is_newline ((byte ∷ []) ∷ lines) (onto_first byte lines)) ≡ cond is_newline (newlines + 1) newlines + more
-count_step true byte newlines more lines some is = omega arith
-count_step false byte newlines more lines some is = onto_some byte lines some ∙ is
+count_step : (ends : Bool) (byte count more : ℕ) (lines : List (List ℕ)) → 0 < length lines → length lines ≡ count + more
+    → length (cond ends ((byte ∷ []) ∷ lines) (onto_first byte lines)) ≡ cond ends (count + 1) count + more
+count_step true byte count more lines some is = omega arith
+count_step false byte count more lines some is = onto_some byte lines some ∙ is
 
-pub line_count-append : (x y : List ℕ) → 0 < length y → line_count (x ++ y) ≡ newlines x + line_count y
-line_count-append [] y some = omega arith
-line_count-append (byte ∷ x) y some =
-    count_step (eqb byte 10) byte (newlines x) (line_count y) (lines_of (x ++ y)) (line_count-some (x ++ y) (omega (arith, length-append x y))) (line_count-append x y some)
+pub line_count-append : (delim : ℕ) (x y : List ℕ) → 0 < length y → line_count delim (x ++ y) ≡ delimiters delim x + line_count delim y
+line_count-append delim [] y some = omega arith
+line_count-append delim (byte ∷ x) y some =
+    count_step (eqb byte delim) byte (delimiters delim x) (line_count delim y) (lines_of delim (x ++ y)) (line_count-some delim (x ++ y) (omega (arith, length-append x y))) (line_count-append delim x y some)
 
-pub line_count-grows : (x y : List ℕ) → line_count x ≤ line_count (x ++ y)
-line_count-grows x [] = let same : line_count (x ++ []) ≡ line_count x = ap line_count (append-nil x) in omega arith
-line_count-grows x (byte ∷ y) =
-    let more = line_count-append x (byte ∷ y) (omega arith) in
-    let near = (line_count_near x).1 in
-    let some = line_count-some (byte ∷ y) (omega arith) in
+pub line_count-grows : (delim : ℕ) (x y : List ℕ) → line_count delim x ≤ line_count delim (x ++ y)
+line_count-grows delim x [] = let same : line_count delim (x ++ []) ≡ line_count delim x = ap (line_count delim) (append-nil x) in omega arith
+line_count-grows delim x (byte ∷ y) =
+    let more = line_count-append delim x (byte ∷ y) (omega arith) in
+    let near = (line_count_near delim x).1 in
+    let some = line_count-some delim (byte ∷ y) (omega arith) in
     omega arith
 
-pub opened_by-grows : (elide : Bool) (n : ℕ) (x y : List ℕ) → opened_by elide n x ≤ opened_by elide n (x ++ y)
-opened_by-grows true n x y = let more = line_count-grows x y in omega arith
-opened_by-grows false n x y = omega arith
+pub opened_by-grows : (delim : ℕ) (elide : Bool) (n : ℕ) (x y : List ℕ) → opened_by delim elide n x ≤ opened_by delim elide n (x ++ y)
+opened_by-grows delim true n x y = let more = line_count-grows delim x y in omega arith
+opened_by-grows delim false n x y = omega arith
 
-pub opened_by-most : (elide : Bool) (n : ℕ) (x : List ℕ) → opened_by elide n x ≤ n
-opened_by-most true n x = omega arith
-opened_by-most false n x = omega arith
+pub opened_by-most : (delim : ℕ) (elide : Bool) (n : ℕ) (x : List ℕ) → opened_by delim elide n x ≤ n
+opened_by-most delim true n x = omega arith
+opened_by-most delim false n x = omega arith

@@ -6,3 +6,5 @@ pub record DealState : Type 0 where
   pub gathered : List (List ℕ)
   -- the place of the file that the next byte goes to
   pub next : ℕ
+  -- the byte that lines end with
+  pub delim : ℕ

@@ -1,6 +1,6 @@
 -- Lines dealt in turn, as a stage does it: GNU coreutils manual, split, `-n r/N`.
 use Rattle.std.specs.Prelude.{◌≡◌, ℕ, ◌+◌, ◌%◌, ◌<◌, ◌≤◌, Bool, true, false, List, length, min, slice_index_or, if◌then◌else◌}
-use Rattle.seg_core.specs.Line.{newlines, line_count}
+use Rattle.seg_core.specs.Line.{delimiters, line_count}
 use Rattle.ports_core.specs.Name.{Naming}
 use Rattle.ports_core.specs.Slot.{Slot, is_closable}
 use Rattle.ports_core.specs.Work.{Work, always_well}
@@ -9,12 +9,12 @@ use Rattle.split_core.specs.FilesState.{FilesState}
 use Rattle.split_core.specs.RoundState.{RoundState}
 use Rattle.split_core.specs.declared.cut.Cut.TheVariants.{Round}
 
-abbrev pub round_plan : ℕ → Bool → Naming → Plan
-round_plan count elide names = record { cut = Round count; elide = elide; names = names }
+abbrev pub round_plan : (delim count : ℕ) → Bool → Naming → Plan
+round_plan delim count elide names = record { delim = delim; cut = Round count; elide = elide; names = names }
 
 -- what the stage was asked for
 abbrev pub plan_of : RoundState → Plan
-plan_of round = round_plan round.count round.elide (from_start round.files.names)
+plan_of round = round_plan round.delim round.count round.elide (from_start round.files.names)
 
 -- what `split` makes of an input whose lines it deals, where all files have names
 abbrev pub round_work : Plan → Work
@@ -31,15 +31,15 @@ abbrev pub work : RoundState → Work
 work round = round_work (plan_of round)
 
 -- how many files are open once x came in: all of them, or those that have a line
-abbrev pub opened_by : Bool → ℕ → List ℕ → ℕ
-opened_by elide n x = if elide then min n (line_count x) else n
+abbrev pub opened_by : (delim : ℕ) → Bool → (n : ℕ) → List ℕ → ℕ
+opened_by delim elide n x = if elide then min n (line_count delim x) else n
 
 -- the stage can have been fed x
 pub record Holds (round : RoundState) (x : List ℕ) : Type 0 where
   pub some : 0 < round.count
   pub named : are_named round.files.names round.count ≡ true
-  pub next : round.next ≡ newlines x % round.count
-  pub opened : length round.files.outputs ≡ opened_by round.elide round.count x
+  pub next : round.next ≡ delimiters round.delim x % round.count
+  pub opened : length round.files.outputs ≡ opened_by round.delim round.elide round.count x
 
 -- the output of the file at a place
 abbrev pub output_at : FilesState → ℕ → ℕ

@@ -35,15 +35,15 @@ all_begin_themselves [] = tt
 all_begin_themselves (bytes ∷ these) = (begins_itself bytes, all_begin_themselves these)
 
 -- each file only grows, and none is taken back
-pub dealt_begin : (elide : Bool) (n : ℕ) (x y : List ℕ) → AllBegin (dealt_files elide n x) (dealt_files elide n (x ++ y))
-dealt_begin elide n x y =
-    subst (λ those. AllBegin (dealt_files elide n x) those) (sym (dealt_files_are elide n (x ++ y)))
-    (subst (λ these. AllBegin these (map (share_of n (x ++ y)) (range_with_len 0 (opened_by elide n (x ++ y))))) (sym (dealt_files_are elide n x))
-    (maps_begin (share_of n x) (share_of n (x ++ y)) 0 (opened_by elide n x) (opened_by elide n (x ++ y)) (opened_by-grows elide n x y) (λ file. (_, dealt_append n file 0 x y))))
+pub dealt_begin : (delim : ℕ) (elide : Bool) (n : ℕ) (x y : List ℕ) → AllBegin (dealt_files delim elide n x) (dealt_files delim elide n (x ++ y))
+dealt_begin delim elide n x y =
+    subst (λ those. AllBegin (dealt_files delim elide n x) those) (sym (dealt_files_are delim elide n (x ++ y)))
+    (subst (λ these. AllBegin these (map (share_of delim n (x ++ y)) (range_with_len 0 (opened_by delim elide n (x ++ y))))) (sym (dealt_files_are delim elide n x))
+    (maps_begin (share_of delim n x) (share_of delim n (x ++ y)) 0 (opened_by delim elide n x) (opened_by delim elide n (x ++ y)) (opened_by-grows delim elide n x y) (λ file. (_, dealt_append delim n file 0 x y))))
 
-pub lawful : (count : ℕ) (elide : Bool) (names : Naming) → IsLawful (round_work (round_plan count elide names))
-lawful count elide names = record {
-  grows = λ x y. record { out = nothing_begins []; files = named_begin names 0 Open _ _ (dealt_begin elide count x y) };
-  ends = λ x. record { out = nothing_begins []; files = named_begin names 0 Closed _ _ (all_begin_themselves (dealt_files elide count x)) };
+pub lawful : (delim count : ℕ) (elide : Bool) (names : Naming) → IsLawful (round_work (round_plan delim count elide names))
+lawful delim count elide names = record {
+  grows = λ x y. record { out = nothing_begins []; files = named_begin names 0 Open _ _ (dealt_begin delim elide count x y) };
+  ends = λ x. record { out = nothing_begins []; files = named_begin names 0 Closed _ _ (all_begin_themselves (dealt_files delim elide count x)) };
   stays = λ x y never. absurd (false≢true never);
 }

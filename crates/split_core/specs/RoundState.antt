@@ -3,6 +3,8 @@ use Rattle.std.specs.Prelude.{ℕ, Bool}
 use Rattle.split_core.specs.FilesState.{FilesState}
 
 pub record RoundState : Type 0 where
+  -- the byte that lines end with
+  pub delim : ℕ
   -- how many files there are to be
   pub count : ℕ
   -- files are opened at their first byte, and not all at the start

@@ -3,8 +3,8 @@ use Rattle.std.proofs.Common.{◌≡◌, ℕ, ◌+◌, ◌-◌, ◌<◌, ◌≤�
 use Rattle.std.proofs.lemmas.Bool.{false≢true}
 use Rattle.std.proofs.lemmas.Bool.Decides.{nat_tests}
 use Rattle.std.proofs.lemmas.List.{append-nil, map-append, length-map, take_all}
-use Rattle.seg_core.specs.Line.{joined, lines_of, newlines, first_lines}
-use Rattle.seg_core.proofs.Newlines.{newlines-append}
+use Rattle.seg_core.specs.Line.{joined, lines_of, delimiters, first_lines}
+use Rattle.seg_core.proofs.Delimiters.{delimiters-append}
 use Rattle.seg_core.proofs.FirstLines.{first_lines-append, first_lines-full, first_lines-short, first_lines_then_rest, lines_of-first_lines}
 use Rattle.ports_core.specs.Name.{Naming}
 use Rattle.ports_core.specs.Part.{File, IsBeginning, FilesBegin, Begins}
@@ -94,27 +94,27 @@ take_less (suc k) zero xs less = absurd (omega arith)
 take_less (suc k) (suc n) [] less = refl
 take_less (suc k) (suc n) (x ∷ xs) less = ap (λ rest. x ∷ rest) (take_less k n xs (omega arith))
 
-first_lines_begin : (k n : ℕ) (x : List ℕ) → k ≤ n → IsBeginning (first_lines k x) (first_lines n x)
-first_lines_begin k n x less = (
-  joined (drop k (lines_of (first_lines n x))),
-  sym (first_lines_then_rest k (first_lines n x))
-      ∙ ap (λ (lines : List (List ℕ)). joined lines ++ joined (drop k (lines_of (first_lines n x)))) (ap (take k) (lines_of-first_lines n x) ∙ take_less k n (lines_of x) less),
+first_lines_begin : (delim k n : ℕ) (x : List ℕ) → k ≤ n → IsBeginning (first_lines delim k x) (first_lines delim n x)
+first_lines_begin delim k n x less = (
+  joined (drop k (lines_of delim (first_lines delim n x))),
+  sym (first_lines_then_rest delim k (first_lines delim n x))
+      ∙ ap (λ (lines : List (List ℕ)). joined lines ++ joined (drop k (lines_of delim (first_lines delim n x)))) (ap (take k) (lines_of-first_lines delim n x) ∙ take_less k n (lines_of delim x) less),
 )
 
-whole_begins_by : (x y : List ℕ) (k m : ℕ) → newlines x ≡ k → newlines (x ++ y) ≡ m → IsBeginning (whole_lines x) (whole_lines (x ++ y))
-whole_begins_by x y (suc k) (suc m) here all =
-    subst (λ low. IsBeginning low (whole_lines (x ++ y))) (sym (whole_of_lines x (omega arith) ∙ sym (first_lines-full (newlines x) x y (omega arith))))
-    (subst (λ high. IsBeginning (first_lines (newlines x) (x ++ y)) high) (sym (whole_of_lines (x ++ y) (omega arith)))
-    (first_lines_begin (newlines x) (newlines (x ++ y)) (x ++ y) (let sum : newlines (x ++ y) ≡ newlines x + newlines y = newlines-append x y in omega arith)))
-whole_begins_by x y zero (suc m) here all =
-    subst (λ low. IsBeginning low (whole_lines (x ++ y))) (sym (whole_of_none x here))
-    (_, whole_of_lines (x ++ y) (omega arith) ∙ first_lines-append (newlines (x ++ y)) x y ∙ ap (λ front. front ++ first_lines (newlines (x ++ y) - newlines x) y) (first_lines-short (newlines (x ++ y)) x (omega arith)))
-whole_begins_by x y zero zero here all =
-    subst (λ low. IsBeginning low (whole_lines (x ++ y))) (sym (whole_of_none x here)) (y, whole_of_none (x ++ y) all)
-whole_begins_by x y (suc k) zero here all = absurd (let sum : newlines (x ++ y) ≡ newlines x + newlines y = newlines-append x y in omega arith)
+whole_begins_by : (delim : ℕ) (x y : List ℕ) (k m : ℕ) → delimiters delim x ≡ k → delimiters delim (x ++ y) ≡ m → IsBeginning (whole_lines delim x) (whole_lines delim (x ++ y))
+whole_begins_by delim x y (suc k) (suc m) here all =
+    subst (λ low. IsBeginning low (whole_lines delim (x ++ y))) (sym (whole_of_lines delim x (omega arith) ∙ sym (first_lines-full delim (delimiters delim x) x y (omega arith))))
+    (subst (λ high. IsBeginning (first_lines delim (delimiters delim x) (x ++ y)) high) (sym (whole_of_lines delim (x ++ y) (omega arith)))
+    (first_lines_begin delim (delimiters delim x) (delimiters delim (x ++ y)) (x ++ y) (let sum : delimiters delim (x ++ y) ≡ delimiters delim x + delimiters delim y = delimiters-append delim x y in omega arith)))
+whole_begins_by delim x y zero (suc m) here all =
+    subst (λ low. IsBeginning low (whole_lines delim (x ++ y))) (sym (whole_of_none delim x here))
+    (_, whole_of_lines delim (x ++ y) (omega arith) ∙ first_lines-append delim (delimiters delim (x ++ y)) x y ∙ ap (λ front. front ++ first_lines delim (delimiters delim (x ++ y) - delimiters delim x) y) (first_lines-short delim (delimiters delim (x ++ y)) x (omega arith)))
+whole_begins_by delim x y zero zero here all =
+    subst (λ low. IsBeginning low (whole_lines delim (x ++ y))) (sym (whole_of_none delim x here)) (y, whole_of_none delim (x ++ y) all)
+whole_begins_by delim x y (suc k) zero here all = absurd (let sum : delimiters delim (x ++ y) ≡ delimiters delim x + delimiters delim y = delimiters-append delim x y in omega arith)
 
-pub whole_begins : (x y : List ℕ) → IsBeginning (whole_lines x) (whole_lines (x ++ y))
-whole_begins x y = whole_begins_by x y (newlines x) (newlines (x ++ y)) refl refl
+pub whole_begins : (delim : ℕ) (x y : List ℕ) → IsBeginning (whole_lines delim x) (whole_lines delim (x ++ y))
+whole_begins delim x y = whole_begins_by delim x y (delimiters delim x) (delimiters delim (x ++ y)) refl refl
 
 take_begins_long : (n : ℕ) (x y : List ℕ) → length x < n → (more : List ℕ) × (take n (x ++ y) ≡ x ++ more)
 take_begins_long n [] y short = (take n y, refl)
@@ -124,15 +124,15 @@ take_begins_long (suc n) (byte ∷ x) y short = let behind = take_begins_long n 
 -- what is settled of a text without a full part begins the first part of the text that goes on
 
 settled_in_full : (limit : Limit) (x y : List ℕ) → measure limit x < most limit → IsBeginning (settled_rest limit x) (first_part limit (x ++ y))
-settled_in_full (Lines n) x y short = (_, first_lines-append n x y ∙ ap (λ front. front ++ first_lines (n - newlines x) y) (first_lines-short n x short))
+settled_in_full (Lines n delim) x y short = (_, first_lines-append delim n x y ∙ ap (λ front. front ++ first_lines delim (n - delimiters delim x) y) (first_lines-short delim n x short))
 settled_in_full (Bytes n) x y short = take_begins_long n x y short
-settled_in_full (LineBytes n) x y short =
-    let taken = take_begins_long n x y short in subst (λ those. IsBeginning (whole_lines x) (whole_lines those)) (sym taken.1) (whole_begins x taken.0)
+settled_in_full (LineBytes n delim) x y short =
+    let taken = take_begins_long n x y short in subst (λ those. IsBeginning (whole_lines delim x) (whole_lines delim those)) (sym taken.1) (whole_begins delim x taken.0)
 
 settled_in_rest : (limit : Limit) (x y : List ℕ) → IsBeginning (settled_rest limit x) (settled_rest limit (x ++ y))
-settled_in_rest (Lines n) x y = begins_more x y
+settled_in_rest (Lines n delim) x y = begins_more x y
 settled_in_rest (Bytes n) x y = begins_more x y
-settled_in_rest (LineBytes n) x y = whole_begins x y
+settled_in_rest (LineBytes n delim) x y = whole_begins delim x y
 
 pub settled_in_whole : (limit : Limit) (x : List ℕ) → IsBeginning (settled_rest limit x) x
 settled_in_whole limit x = (_, sym (settled_then_waiting limit x))

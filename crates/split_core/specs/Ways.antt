@@ -36,4 +36,4 @@ Owns (Round state) first slots = round.Owns state first slots
 
 pub lawful : (way : Ways) → IsLawful (work way)
 lawful (Parts state) = part_law.lawful state.limit (from_start state.names)
-lawful (Round state) = round_law.lawful state.count state.elide (from_start state.files.names)
+lawful (Round state) = round_law.lawful state.delim state.count state.elide (from_start state.files.names)

@@ -1,7 +1,7 @@
 ghost use Rattle.std.specs.Prelude.{◌≡◌, ◌+◌, ◌-◌, ◌≤◌, ◌<◌, ℕ, List, [], ◌++◌, replicate, length, take, IfSome, IfNone};
-ghost use Rattle.seg_core.specs.Line.{newlines};
+ghost use Rattle.seg_core.specs.Line.{delimiters};
 ghost use Rattle.split_core.specs.FirstLine.{IsFirstLine};
-ghost use Rattle.split_core.specs.Ahead.{Sees, newline_mask};
+ghost use Rattle.split_core.specs.Ahead.{Sees, delimiter_mask};
 
 use std::marker::Model;
 use std::simd::prelude::*;
@@ -9,42 +9,44 @@ use std::simd::prelude::*;
 /// How many bytes are looked at in one step.
 const STEP: usize = 64;
 
-/// The complete lines of a text, one after another, and what is left after the last. It takes no memory. Newlines are
+/// The complete lines of a text, one after another, and what is left after the last. It takes no memory. Delimiters are
 /// found for many bytes at once, so that a short line takes no search of its own.
 #[derive(Drop)]
 pub(crate) struct CompleteLines<'a> {
     left: &'a [u8],
+    /// The byte that lines end with.
+    delim: u8,
     ahead: Ahead,
 }
 
 /// What was seen of the text that is left.
 #[derive(Clone, Copy)]
 struct Ahead {
-    /// This many bytes at the front have no newline.
+    /// This many bytes at the front have no delimiter.
     passed: usize,
     /// This many bytes after those are known.
     width: usize,
-    /// Which of the known bytes are newlines; the first byte is the lowest bit.
+    /// Which of the known bytes are delimiters; the first byte is the lowest bit.
     mask: u64,
 }
 
 impl<'a> Model for CompleteLines<'a> {
-    ghost use Rattle.std.specs.Prelude.{List, ℕ};
-    ghost use Rattle.split_core.specs.Ahead.{Sees};
+    ghost use Rattle.split_core.specs.Ahead.{LinesLeft, Sees};
 
-    ghost Value = { List ℕ };
+    ghost Value = { LinesLeft };
 
-    ghost view = { λ lines. lines.left.now };
+    ghost view = { λ lines. record { delim = lines.delim; text = lines.left.now } };
 
-    ghost invariant = { λ lines. Sees lines.left.now lines.ahead };
+    ghost invariant = { λ lines. Sees lines.delim lines.left.now lines.ahead };
 }
 
 impl<'a> CompleteLines<'a> {
-    pub(crate) fn new(text: &'a [u8]) -> CompleteLines<'a>
-        ensures { result ≡ text.now }
+    pub(crate) fn new(text: &'a [u8], delim: u8) -> CompleteLines<'a>
+        ensures { result ≡ record { delim = delim; text = text.now } }
     {
         CompleteLines {
             left: text,
+            delim,
             ahead: Ahead {
                 passed: 0,
                 width: 0,
@@ -56,11 +58,12 @@ impl<'a> CompleteLines<'a> {
     /// The next line; none where no complete one is left.
     #[inline(always)]
     pub(crate) fn next(&mut self) -> Option<&'a [u8]>
-        ensures some { IfSome result (λ line. IsFirstLine self.old line.now self.new) }
-        ensures none { IfNone result (newlines self.old ≡ 0) }
+        ensures some { IfSome result (λ line. IsFirstLine self.old.delim self.old.text line.now self.new.text) }
+        ensures none { IfNone result (delimiters self.old.delim self.old.text ≡ 0) }
         ensures stays { IfNone result (self.new ≡ self.old) }
+        ensures same { self.new.delim ≡ self.old.delim }
     {
-        let ahead = find(self.left, self.ahead);
+        let ahead = find(self.left, self.delim, self.ahead);
         if ahead.mask == 0 {
             return None;
         }
@@ -77,17 +80,17 @@ impl<'a> CompleteLines<'a> {
 
     /// What is left.
     pub(crate) fn rest(&self) -> &'a [u8]
-        ensures { result.now ≡ self.now }
+        ensures { result.now ≡ self.now.text }
     {
         self.left
     }
 }
 
-/// Looks further until a newline is seen, or the end.
+/// Looks further until a delimiter is seen, or the end.
 #[inline(always)]
-fn find(text: &[u8], ahead: Ahead) -> Ahead
-    requires { Sees text.now ahead }
-    ensures sees { Sees text.now result }
+fn find(text: &[u8], delim: u8, ahead: Ahead) -> Ahead
+    requires { Sees delim text.now ahead }
+    ensures sees { Sees delim text.now result }
     ensures found { result.mask ≡ 0 → result.passed + result.width ≡ length text.now }
 {
     let mut ahead = ahead;
@@ -99,39 +102,39 @@ fn find(text: &[u8], ahead: Ahead) -> Ahead
         ahead = Ahead {
             passed,
             width: STEP.min(text.len() - passed),
-            mask: mask_of(&text[passed..]),
+            mask: mask_of(&text[passed..], delim),
         };
     }
     ahead
 }
 
-/// Which of the first `STEP` bytes are newlines: the first byte is the lowest bit.
+/// Which of the first `STEP` bytes are delimiters: the first byte is the lowest bit.
 #[inline(always)]
-fn mask_of(bytes: &[u8]) -> u64
-    ensures { result ≡ newline_mask (take STEP bytes.now) }
+fn mask_of(bytes: &[u8], delim: u8) -> u64
+    ensures { result ≡ delimiter_mask delim (take STEP bytes.now) }
 {
     if STEP <= bytes.len() {
-        return mask_of_step(bytes);
+        return mask_of_step(bytes, delim);
     }
-    mask_of_step(&padded(bytes))
+    mask_of_step(&padded(bytes, !delim), delim)
 }
 
-/// The bytes, with zeros after them.
-fn padded(bytes: &[u8]) -> [u8; STEP]
+/// The bytes, with another one after them as often as fits.
+fn padded(bytes: &[u8], other: u8) -> [u8; STEP]
     requires { length bytes.now < STEP }
-    ensures { result ≡ bytes.now ++ replicate (STEP - length bytes.now) 0 }
+    ensures { result ≡ bytes.now ++ replicate (STEP - length bytes.now) other }
 {
-    let mut lanes = [0; STEP];
+    let mut lanes = [other; STEP];
     lanes[..bytes.len()].copy_from_slice(bytes);
     lanes
 }
 
 #[inline(always)]
-fn mask_of_step(bytes: &[u8]) -> u64
+fn mask_of_step(bytes: &[u8], delim: u8) -> u64
     requires { STEP ≤ length bytes.now }
-    ensures { result ≡ newline_mask (take STEP bytes.now) }
+    ensures { result ≡ delimiter_mask delim (take STEP bytes.now) }
 {
     u8x64::from_slice(bytes)
-        .simd_eq(u8x64::splat(b'\n'))
+        .simd_eq(u8x64::splat(delim))
         .to_bitmask()
 }

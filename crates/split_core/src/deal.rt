@@ -1,5 +1,5 @@
 ghost use Rattle.std.specs.Prelude.{◌≡◌, ◌+◌, ◌%◌, ◌<◌, ◌≤◌, [], ◌++◌, length, take, slice_index_or, ℕ, IfOk, OnOk};
-ghost use Rattle.seg_core.specs.Line.{newlines};
+ghost use Rattle.seg_core.specs.Line.{delimiters};
 ghost use Rattle.ports_core.specs.Slot.{changed_at};
 ghost use Rattle.split_core.specs.Dealt.{dealt_piece, reached_by};
 
@@ -14,6 +14,8 @@ pub(crate) struct Deal {
     gathered: Vec<Gathered>,
     /// The place of the file that the next byte goes to.
     next: usize,
+    /// The byte that lines end with.
+    delim: u8,
 }
 
 impl Model for Deal {
@@ -22,23 +24,28 @@ impl Model for Deal {
 
     ghost Value = { DealState };
 
-    ghost view = { λ d. record { gathered = d.gathered.items; next = d.next } };
+    ghost view = { λ d. record { gathered = d.gathered.items; next = d.next; delim = d.delim } };
 
     ghost invariant = { λ d. d.next < length d.gathered.items };
 }
 
 impl Deal {
-    /// Deals to `count` files, the first of which gets the first line.
-    pub(crate) fn new(alloc: Global, count: u64) -> Result<Deal, AllocError>
+    /// Deals to `count` files, the first of which gets the first line. Lines end with `delim`.
+    pub(crate) fn new(alloc: Global, count: u64, delim: u8) -> Result<Deal, AllocError>
         requires { 0 < count }
         ensures count { IfOk result (λ deal. length deal.gathered ≡ count) }
         ensures next { IfOk result (λ deal. deal.next ≡ 0) }
+        ensures delim { IfOk result (λ deal. deal.delim ≡ delim) }
     {
         let mut gathered: Vec<Gathered> = Vec::new(alloc);
         for _ in 0..count {
             gathered.push(Gathered::new(alloc))?;
         }
-        Ok(Deal { gathered, next: 0 })
+        Ok(Deal {
+            gathered,
+            next: 0,
+            delim,
+        })
     }
 
     /// What was gathered for the first `count` files.
@@ -52,15 +59,16 @@ impl Deal {
     /// Gathers the lines of a piece, each for its file, in place of what was gathered before. A line that was open
     /// goes on in its file. It returns a number n: only the first n files got any byte.
     pub(crate) fn gather(&mut self, piece: &[u8]) -> Result<usize, AllocError>
+        ensures delim { self.new.delim ≡ self.old.delim }
         ensures count { length self.new.gathered ≡ length self.old.gathered }
-        ensures gathered { OnOk result (self.new.gathered ≡ dealt_piece (length self.old.gathered) self.old.next piece.now) }
-        ensures next { OnOk result (self.new.next ≡ (self.old.next + newlines piece.now) % length self.old.gathered) }
-        ensures reached { IfOk result (λ reached. reached ≡ reached_by (length self.old.gathered) self.old.next piece.now) }
+        ensures gathered { OnOk result (self.new.gathered ≡ dealt_piece self.old.delim (length self.old.gathered) self.old.next piece.now) }
+        ensures next { OnOk result (self.new.next ≡ (self.old.next + delimiters self.old.delim piece.now) % length self.old.gathered) }
+        ensures reached { IfOk result (λ reached. reached ≡ reached_by self.old.delim (length self.old.gathered) self.old.next piece.now) }
     {
         clear(&mut self.gathered);
         let count = self.gathered.len();
         let mut reached = self.next;
-        let mut lines = CompleteLines::new(piece);
+        let mut lines = CompleteLines::new(piece, self.delim);
         let mut left = piece;
         'lines: while let Some(line) = lines.next() {
             append_to(&mut self.gathered, self.next, left, line.len())?;

@@ -2,7 +2,7 @@
 ghost use Rattle.std.specs.Prelude.{◌≡◌, ◌<◌, ◌≤◌, ◌+◌, ◌*◌, ◌++◌, ℕ, List, [], true, get_or, length, map, take, drop, All, false};
 ghost use Rattle.ports_core.specs.Guard.{GuardState, HoldsIn};
 ghost use Rattle.ports_core.specs.declared.slot.State.TheVariants.{Closed};
-ghost use Rattle.seg_core.specs.Line.{joined, line_count, lines_of, newlines};
+ghost use Rattle.seg_core.specs.Line.{delimiters, joined, line_count, lines_of};
 ghost use Rattle.split_core.specs.declared.cut.Limit.TheVariants.{Bytes, LineBytes, Lines};
 ghost use Rattle.split_core.specs.Parts.{cut_up, dealt, most, parts, round_robin, settled_rest, waiting_rest};
 ghost use Rattle.split_core.specs.Sections.{AreLineByteParts, byte_parts, line_parts};
@@ -16,12 +16,12 @@ use crate::Limit;
 /// than (i + 1) * n. There are as many parts as hold all of them, and no more (POSIX.1-2017, XCU split, `-l` and
 /// `-b`).
 pub fn parts_are_runs()
-    ensures lines { (n : ℕ) (x : List ℕ) → 0 < n → parts (Lines n) x ≡ line_parts n x }
+    ensures lines { (delim n : ℕ) (x : List ℕ) → 0 < n → parts (Lines n delim) x ≡ line_parts delim n x }
     ensures bytes { (n : ℕ) (x : List ℕ) → 0 < n → parts (Bytes n) x ≡ byte_parts n x }
-    ensures lines_at { (n i : ℕ) (x : List ℕ) → 0 < n → lines_of (get_or (parts (Lines n) x) i []) ≡ take n (drop (i * n) (lines_of x)) }
+    ensures lines_at { (delim n i : ℕ) (x : List ℕ) → 0 < n → lines_of delim (get_or (parts (Lines n delim) x) i []) ≡ take n (drop (i * n) (lines_of delim x)) }
     ensures bytes_at { (n i : ℕ) (x : List ℕ) → 0 < n → get_or (parts (Bytes n) x) i [] ≡ take n (drop (i * n) x) }
-    ensures all_lines { (n : ℕ) (x : List ℕ) → 0 < n → line_count x ≤ length (parts (Lines n) x) * n }
-    ensures few_by_lines { (n : ℕ) (x : List ℕ) → 0 < n → length (parts (Lines n) x) * n < line_count x + n }
+    ensures all_lines { (delim n : ℕ) (x : List ℕ) → 0 < n → line_count delim x ≤ length (parts (Lines n delim) x) * n }
+    ensures few_by_lines { (delim n : ℕ) (x : List ℕ) → 0 < n → length (parts (Lines n delim) x) * n < line_count delim x + n }
     ensures all_bytes { (n : ℕ) (x : List ℕ) → 0 < n → length x ≤ length (parts (Bytes n) x) * n }
     ensures few_by_bytes { (n : ℕ) (x : List ℕ) → 0 < n → length (parts (Bytes n) x) * n < length x + n }
 {}
@@ -29,9 +29,9 @@ pub fn parts_are_runs()
 /// Parts of whole lines within n bytes are those of the definition by what remains, and no other list is. None is
 /// empty, and none has more than n bytes (GNU coreutils manual, split, `-C`).
 pub fn line_byte_parts()
-    ensures are { (n : ℕ) (x : List ℕ) → 0 < n → AreLineByteParts n x (parts (LineBytes n) x) }
-    ensures once { (n : ℕ) (x : List ℕ) (those : List (List ℕ)) → 0 < n → AreLineByteParts n x those → those ≡ parts (LineBytes n) x }
-    ensures within { (n : ℕ) (x : List ℕ) → 0 < n → All (λ part. (0 < length part) × (length part ≤ n)) (parts (LineBytes n) x) }
+    ensures are { (delim n : ℕ) (x : List ℕ) → 0 < n → AreLineByteParts delim n x (parts (LineBytes n delim) x) }
+    ensures once { (delim n : ℕ) (x : List ℕ) (those : List (List ℕ)) → 0 < n → AreLineByteParts delim n x those → those ≡ parts (LineBytes n delim) x }
+    ensures within { (delim n : ℕ) (x : List ℕ) → 0 < n → All (λ part. (0 < length part) × (length part ≤ n)) (parts (LineBytes n delim) x) }
 {}
 
 /// What a text and what follows it are cut into: the parts that the text has in full, and then those of what is left
@@ -53,11 +53,11 @@ pub fn parts_go_on(limit: Limit)
 /// lines of what follows, in the turn that comes after the text's last newline. Where files that get no line are left
 /// out, the first ones are left: as many as there are lines (GNU coreutils manual, split, `-n r/N` and `-e`).
 pub fn lines_are_dealt()
-    ensures at { (n file k : ℕ) (x : List ℕ) → file < n → get_or (lines_of (get_or (round_robin n x) file [])) k [] ≡ get_or (lines_of x) (file + k * n) [] }
-    ensures all { (n : ℕ) (x : List ℕ) → 0 < n → length (joined (round_robin n x)) ≡ length x }
-    ensures files { (n : ℕ) (x : List ℕ) → length (round_robin n x) ≡ n }
-    ensures goes_on { (n file place : ℕ) (x y : List ℕ) → dealt n file place (lines_of (x ++ y)) ≡ dealt n file place (lines_of x) ++ dealt n file (place + newlines x) (lines_of y) }
-    ensures elided { (n : ℕ) (x : List ℕ) → dealt_files true n x ≡ take (line_count x) (round_robin n x) }
+    ensures at { (delim n file k : ℕ) (x : List ℕ) → file < n → get_or (lines_of delim (get_or (round_robin delim n x) file [])) k [] ≡ get_or (lines_of delim x) (file + k * n) [] }
+    ensures all { (delim n : ℕ) (x : List ℕ) → 0 < n → length (joined (round_robin delim n x)) ≡ length x }
+    ensures files { (delim n : ℕ) (x : List ℕ) → length (round_robin delim n x) ≡ n }
+    ensures goes_on { (delim n file place : ℕ) (x y : List ℕ) → dealt n file place (lines_of delim (x ++ y)) ≡ dealt n file place (lines_of delim x) ++ dealt n file (place + delimiters delim x) (lines_of delim y) }
+    ensures elided { (delim n : ℕ) (x : List ℕ) → dealt_files delim true n x ≡ take (line_count delim x) (round_robin delim n x) }
 {}
 
 /// An engine that has returned no fault has named all files that its input needs: names that ran out are always told.

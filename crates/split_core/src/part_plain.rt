@@ -16,14 +16,14 @@ pub fn plain_parts<'a>(
     let mut rest = text;
     for _ in text {
         let size = first_size(limit, rest);
-        let (Some(part), Some(behind)) = (rest.get(..size), rest.get(size..)) else {
+        let (Some(part), Some(after)) = (rest.get(..size), rest.get(size..)) else {
             return Ok(parts);
         };
         if part.is_empty() {
             return Ok(parts);
         }
         parts.push(part)?;
-        rest = behind;
+        rest = after;
     }
     Ok(parts)
 }
@@ -31,20 +31,20 @@ pub fn plain_parts<'a>(
 /// How many bytes the first part of a text has.
 fn first_size(limit: Limit, text: &[u8]) -> usize {
     match limit {
-        Limit::Lines(most) => lines_size(most, text),
+        Limit::Lines(most, delim) => lines_size(most, text, delim),
         Limit::Bytes(most) => bytes_size(most, text),
-        Limit::LineBytes(most) => {
+        Limit::LineBytes(most, delim) => {
             let size = bytes_size(most, text);
             if (size as u64) < most {
                 return size;
             }
-            whole_lines_size(size, text)
+            whole_lines_size(size, text, delim)
         }
     }
 }
 
 /// How many bytes the first `most` lines have.
-fn lines_size(most: u64, text: &[u8]) -> usize {
+fn lines_size(most: u64, text: &[u8], delim: u8) -> usize {
     let mut size = 0usize;
     let mut lines = 0u64;
     for byte in text {
@@ -52,7 +52,7 @@ fn lines_size(most: u64, text: &[u8]) -> usize {
             return size;
         }
         size = size.saturating_add(1);
-        if *byte == b'\n' {
+        if *byte == delim {
             lines = lines.saturating_add(1);
         }
     }
@@ -70,13 +70,13 @@ fn bytes_size(most: u64, text: &[u8]) -> usize {
     size
 }
 
-/// Where the last newline among the first `most` bytes ends, or `most` where there is none.
-fn whole_lines_size(most: usize, text: &[u8]) -> usize {
+/// Where the last delimiter among the first `most` bytes ends, or `most` where there is none.
+fn whole_lines_size(most: usize, text: &[u8], delim: u8) -> usize {
     let mut end = most;
     let mut size = 0usize;
     for byte in text {
         size = size.saturating_add(1);
-        if size <= most && *byte == b'\n' {
+        if size <= most && *byte == delim {
             end = size;
         }
     }

@@ -18,19 +18,25 @@ const LONG_LINE: &[u8] = b"b\naaaaaaaaaa\nc\n";
 
 #[test]
 fn cuts_into_files(rt: HostRuntime) -> Result<(), Fail> {
-    let rows: [Row<'_>; 9] = [
-        (Limit::Lines(2), b"a\nb\nc", &[b"a\nb\n", b"c"]),
-        (Limit::Lines(2), b"", &[]),
+    let rows: [Row<'_>; 11] = [
+        (Limit::Lines(2, b'\n'), b"a\nb\nc", &[b"a\nb\n", b"c"]),
+        (Limit::Lines(2, b'\n'), b"", &[]),
         (Limit::Bytes(2), b"", &[]),
-        (Limit::LineBytes(2), b"", &[]),
-        (Limit::Lines(3), b"a\nb\nc\nd", &[b"a\nb\nc\n", b"d"]),
+        (Limit::LineBytes(2, b'\n'), b"", &[]),
+        (Limit::Lines(3, b'\n'), b"a\nb\nc\nd", &[b"a\nb\nc\n", b"d"]),
         (Limit::Bytes(4), b"abcdefghij", &[b"abcd", b"efgh", b"ij"]),
-        (Limit::LineBytes(4), b"a\nbc", &[b"a\n", b"bc"]),
-        (Limit::LineBytes(5), b"a\nbc", &[b"a\nbc"]),
+        (Limit::LineBytes(4, b'\n'), b"a\nbc", &[b"a\n", b"bc"]),
+        (Limit::LineBytes(5, b'\n'), b"a\nbc", &[b"a\nbc"]),
         (
-            Limit::LineBytes(4),
+            Limit::LineBytes(4, b'\n'),
             LONG_LINE,
             &[b"b\n", b"aaaa", b"aaaa", b"aa\n", b"c\n"],
+        ),
+        (Limit::Lines(1, b','), b"a,b,c", &[b"a,", b"b,", b"c"]),
+        (
+            Limit::LineBytes(4, b':'),
+            b"b:aaaaa:c:",
+            &[b"b:", b"aaaa", b"a:c:"],
         ),
     ];
     for (limit, text, files) in rows {
@@ -47,7 +53,7 @@ fn cuts_into_files(rt: HostRuntime) -> Result<(), Fail> {
 fn cuts_pieces_as_it_cuts_the_whole(rt: HostRuntime) -> Result<(), Fail> {
     let mut outs = MemOut::new(rt.alloc())?;
     outs.short(1);
-    let mut splitter = open(rt.alloc(), Limit::LineBytes(4), &mut outs)?;
+    let mut splitter = open(rt.alloc(), Limit::LineBytes(4, b'\n'), &mut outs)?;
     let files: [&[u8]; 5] = [b"b\n", b"aaaa", b"aaaa", b"aa\n", b"c\n"];
     feed(&mut splitter, &mut outs, b"")?;
     assert!(rt; feed_cut(&mut splitter, &mut outs, LONG_LINE, u32::MAX, &files)?);
@@ -63,7 +69,7 @@ fn cuts_pieces_as_it_cuts_the_whole(rt: HostRuntime) -> Result<(), Fail> {
 #[test]
 fn holds_an_open_line_behind_a_complete_one(rt: HostRuntime) -> Result<(), Fail> {
     let mut outs = MemOut::new(rt.alloc())?;
-    let mut splitter = open(rt.alloc(), Limit::LineBytes(4), &mut outs)?;
+    let mut splitter = open(rt.alloc(), Limit::LineBytes(4, b'\n'), &mut outs)?;
     feed(&mut splitter, &mut outs, b"a\nb")?;
     assert_eq!(rt; splitter.held(), 1);
     assert!(rt; has_files(&outs, &[b"a\n"]));
@@ -78,7 +84,7 @@ fn holds_an_open_line_behind_a_complete_one(rt: HostRuntime) -> Result<(), Fail>
 #[test]
 fn puts_out_what_held_at_the_end(rt: HostRuntime) -> Result<(), Fail> {
     let mut outs = MemOut::new(rt.alloc())?;
-    let mut splitter = open(rt.alloc(), Limit::LineBytes(4), &mut outs)?;
+    let mut splitter = open(rt.alloc(), Limit::LineBytes(4, b'\n'), &mut outs)?;
     feed(&mut splitter, &mut outs, b"a\nb")?;
     close(&mut splitter, &mut outs)?;
     assert!(rt; has_files(&outs, &[b"a\nb"]));
@@ -88,10 +94,10 @@ fn puts_out_what_held_at_the_end(rt: HostRuntime) -> Result<(), Fail> {
 #[test]
 fn holds_no_other_byte(rt: HostRuntime) -> Result<(), Fail> {
     let rows: [(Limit, &[u8]); 4] = [
-        (Limit::LineBytes(4), b"aa"),
-        (Limit::Lines(2), b"a\nb"),
+        (Limit::LineBytes(4, b'\n'), b"aa"),
+        (Limit::Lines(2, b'\n'), b"a\nb"),
         (Limit::Bytes(4), b"a\nb"),
-        (Limit::Lines(2), b""),
+        (Limit::Lines(2, b'\n'), b""),
     ];
     for (limit, piece) in rows {
         let mut outs = MemOut::new(rt.alloc())?;
@@ -121,8 +127,8 @@ fn opens_a_file_with_its_first_byte(rt: HostRuntime) -> Result<(), Fail> {
 fn ends_where_no_name_is_left(rt: HostRuntime) -> Result<(), Fail> {
     let ten: [&[u8]; 10] = [b"0", b"1", b"2", b"3", b"4", b"5", b"6", b"7", b"8", b"9"];
     let mut outs = MemOut::new(rt.alloc())?;
-    let names = Names::new(rt.alloc(), "x", Alphabet::Digits, 1, false)?;
-    let mut splitter = Splitter::open(rt.alloc(), Cut::Bytes(1), names, false, &mut outs)?;
+    let names = Names::new(rt.alloc(), "x", Alphabet::Digits, 1, false, "")?;
+    let mut splitter = Splitter::open(rt.alloc(), Cut::Bytes(1), names, false, b'\n', &mut outs)?;
     feed(&mut splitter, &mut outs, b"0123456789")?;
     assert!(rt; has_files(&outs, &ten));
     assert_eq!(rt; outs.name(2), "x0");
@@ -138,8 +144,8 @@ fn ends_where_no_name_is_left(rt: HostRuntime) -> Result<(), Fail> {
 #[test]
 fn needs_no_name_behind_the_last_file(rt: HostRuntime) -> Result<(), Fail> {
     let mut outs = MemOut::new(rt.alloc())?;
-    let names = Names::new(rt.alloc(), "x", Alphabet::Digits, 1, false)?;
-    let mut splitter = Splitter::open(rt.alloc(), Cut::Bytes(1), names, false, &mut outs)?;
+    let names = Names::new(rt.alloc(), "x", Alphabet::Digits, 1, false, "")?;
+    let mut splitter = Splitter::open(rt.alloc(), Cut::Bytes(1), names, false, b'\n', &mut outs)?;
     feed(&mut splitter, &mut outs, b"0123456789")?;
     close(&mut splitter, &mut outs)?;
     assert_eq!(rt; outs.bytes(11), b"9".as_slice());
@@ -154,8 +160,15 @@ fn names_grow_wider(rt: HostRuntime) -> Result<(), Fail> {
     ];
     for (alphabet, text, last, next) in rows {
         let mut outs = MemOut::new(rt.alloc())?;
-        let names = Names::new(rt.alloc(), "x", alphabet, 2, true)?;
-        let mut splitter = Splitter::open(rt.alloc(), Cut::Lines(1), names, false, &mut outs)?;
+        let names = Names::new(rt.alloc(), "x", alphabet, 2, true, "")?;
+        let mut splitter = Splitter::open(
+            rt.alloc(),
+            Cut::Lines(1),
+            names,
+            false,
+            b'\n',
+            &mut outs,
+        )?;
         feed(&mut splitter, &mut outs, text)?;
         close(&mut splitter, &mut outs)?;
         assert_eq!(rt; outs.name(text.len()), last);
@@ -169,7 +182,7 @@ fn names_grow_wider(rt: HostRuntime) -> Result<(), Fail> {
 fn stops_at_a_broken_file(rt: HostRuntime) -> Result<(), Fail> {
     let mut outs = MemOut::new(rt.alloc())?;
     outs.limit(2, 1)?;
-    let mut splitter = open(rt.alloc(), Limit::Lines(1), &mut outs)?;
+    let mut splitter = open(rt.alloc(), Limit::Lines(1, b'\n'), &mut outs)?;
     assert_eq!(rt;
         feed(&mut splitter, &mut outs, b"ab\ncd\n"),
         Err(Fault::Write(2))
@@ -193,7 +206,7 @@ fn closes_a_file_before_it_opens_the_next(rt: HostRuntime) -> Result<(), Fail> {
     ];
     for (call, fault, files) in rows {
         let mut outs = MemOut::new(rt.alloc())?;
-        let mut splitter = open(rt.alloc(), Limit::Lines(1), &mut outs)?;
+        let mut splitter = open(rt.alloc(), Limit::Lines(1, b'\n'), &mut outs)?;
         outs.fail_at(call);
         assert_eq!(rt; feed(&mut splitter, &mut outs, b"a\nb\n"), Err(fault));
         assert!(rt; has_files(&outs, files), "where call {call} fails");
@@ -207,7 +220,7 @@ fn closes_a_file_before_it_opens_the_next(rt: HostRuntime) -> Result<(), Fail> {
 #[test]
 fn closes_the_last_file(rt: HostRuntime) -> Result<(), Fail> {
     let mut outs = MemOut::new(rt.alloc())?;
-    let mut splitter = open(rt.alloc(), Limit::Lines(2), &mut outs)?;
+    let mut splitter = open(rt.alloc(), Limit::Lines(2, b'\n'), &mut outs)?;
     feed(&mut splitter, &mut outs, b"a")?;
     outs.fail_at(1);
     assert_eq!(rt; close(&mut splitter, &mut outs), Err(Fault::Write(2)));
@@ -218,7 +231,7 @@ fn closes_the_last_file(rt: HostRuntime) -> Result<(), Fail> {
 #[test]
 fn takes_nothing_behind_the_end(rt: HostRuntime) -> Result<(), Fail> {
     let mut outs = MemOut::new(rt.alloc())?;
-    let mut splitter = open(rt.alloc(), Limit::Lines(2), &mut outs)?;
+    let mut splitter = open(rt.alloc(), Limit::Lines(2, b'\n'), &mut outs)?;
     feed(&mut splitter, &mut outs, b"a")?;
     close(&mut splitter, &mut outs)?;
     assert_eq!(rt; feed(&mut splitter, &mut outs, b"b"), Err(Fault::Failed));
@@ -235,11 +248,15 @@ fn open(alloc: Global, limit: Limit, outs: &mut MemOut) -> Result<Splitter, Faul
     if limit.most() == 0 {
         return Err(Fault::Failed);
     }
-    let names = Names::new(alloc, "x", Alphabet::Letters, 2, true)?;
+    let names = Names::new(alloc, "x", Alphabet::Letters, 2, true, "")?;
     match limit {
-        Limit::Lines(most) => Splitter::open(alloc, Cut::Lines(most), names, false, outs),
-        Limit::Bytes(most) => Splitter::open(alloc, Cut::Bytes(most), names, false, outs),
-        Limit::LineBytes(most) => Splitter::open(alloc, Cut::LineBytes(most), names, false, outs),
+        Limit::Lines(most, delim) => {
+            Splitter::open(alloc, Cut::Lines(most), names, false, delim, outs)
+        }
+        Limit::Bytes(most) => { Splitter::open(alloc, Cut::Bytes(most), names, false, b'\n', outs) }
+        Limit::LineBytes(most, delim) => {
+            Splitter::open(alloc, Cut::LineBytes(most), names, false, delim, outs)
+        }
     }
 }
 
@@ -269,8 +286,11 @@ fn has_files(outs: &MemOut, files: &[&[u8]]) -> bool {
     outs.name(slot).is_empty()
 }
 
-/// For each size of a text: how many texts there are of two letters and a newline, and how many ways to cut one
-/// into pieces.
+/// The bytes that lines end with.
+const DELIMITERS: [u8; 3] = [b'\n', 0, b'c'];
+
+/// For each size of a text: how many texts there are of three bytes, of which one is the delimiter, and how many ways
+/// to cut one into pieces.
 const SIZES: [(usize, u32, u32); 7] = [
     (0, 1, 1),
     (1, 3, 1),
@@ -290,22 +310,24 @@ enum Kind {
 }
 
 impl Kind {
-    fn limit(self, most: u64) -> Limit {
+    fn limit(self, most: u64, delim: u8) -> Limit {
         match self {
-            Kind::Lines => Limit::Lines(most),
+            Kind::Lines => Limit::Lines(most, delim),
             Kind::Bytes => Limit::Bytes(most),
-            Kind::LineBytes => Limit::LineBytes(most),
+            Kind::LineBytes => Limit::LineBytes(most, delim),
         }
     }
 }
 
 #[test]
 fn cuts_lines_as_the_plain_program(rt: HostRuntime) -> Result<(), Fail> {
-    for (size, texts, ways) in SIZES {
-        assert!(rt;
-            agrees_on_size(rt.alloc(), Kind::Lines, size, texts, ways)?,
-            "of size {size}"
-        );
+    for delim in DELIMITERS {
+        for (size, texts, ways) in SIZES {
+            assert!(rt;
+                agrees_on_size(rt.alloc(), Kind::Lines, delim, size, texts, ways)?,
+                "of size {size}, ended with {delim}"
+            );
+        }
     }
     Ok(())
 }
@@ -314,7 +336,7 @@ fn cuts_lines_as_the_plain_program(rt: HostRuntime) -> Result<(), Fail> {
 fn cuts_bytes_as_the_plain_program(rt: HostRuntime) -> Result<(), Fail> {
     for (size, texts, ways) in SIZES {
         assert!(rt;
-            agrees_on_size(rt.alloc(), Kind::Bytes, size, texts, ways)?,
+            agrees_on_size(rt.alloc(), Kind::Bytes, b'\n', size, texts, ways)?,
             "of size {size}"
         );
     }
@@ -323,11 +345,13 @@ fn cuts_bytes_as_the_plain_program(rt: HostRuntime) -> Result<(), Fail> {
 
 #[test]
 fn cuts_whole_lines_as_the_plain_program(rt: HostRuntime) -> Result<(), Fail> {
-    for (size, texts, ways) in SIZES {
-        assert!(rt;
-            agrees_on_size(rt.alloc(), Kind::LineBytes, size, texts, ways)?,
-            "of size {size}"
-        );
+    for delim in DELIMITERS {
+        for (size, texts, ways) in SIZES {
+            assert!(rt;
+                agrees_on_size(rt.alloc(), Kind::LineBytes, delim, size, texts, ways)?,
+                "of size {size}, ended with {delim}"
+            );
+        }
     }
     Ok(())
 }
@@ -336,14 +360,15 @@ fn cuts_whole_lines_as_the_plain_program(rt: HostRuntime) -> Result<(), Fail> {
 fn agrees_on_size(
     alloc: Global,
     kind: Kind,
+    delim: u8,
     size: usize,
     texts: u32,
     ways: u32,
 ) -> Result<bool, Fault> {
     for number in 0..texts {
-        let text = text_of(number);
+        let text = text_of(number, delim);
         if let Some(text) = text.get(..size)
-            && !agrees_on_text(alloc, kind, text, ways)?
+            && !agrees_on_text(alloc, kind, delim, text, ways)?
         {
             return Ok(false);
         }
@@ -351,14 +376,16 @@ fn agrees_on_size(
     Ok(true)
 }
 
-/// The text with this number: its bytes stand for the number's digits.
-fn text_of(number: u32) -> [u8; 6] {
-    let mut text = [b'\n'; 6];
+/// The text with this number: its bytes stand for the number's digits. Where lines end with another byte, a newline is
+/// a byte as any other.
+fn text_of(number: u32, delim: u8) -> [u8; 6] {
+    let other = if delim == b'\n' { b'b' } else { b'\n' };
+    let mut text = [delim; 6];
     let mut left = number;
     for byte in text.iter_mut() {
         match left % 3 {
             0 => *byte = b'a',
-            1 => *byte = b'b',
+            1 => *byte = other,
             _ => {}
         }
         left /= 3;
@@ -366,9 +393,15 @@ fn text_of(number: u32) -> [u8; 6] {
     text
 }
 
-fn agrees_on_text(alloc: Global, kind: Kind, text: &[u8], ways: u32) -> Result<bool, Fault> {
+fn agrees_on_text(
+    alloc: Global,
+    kind: Kind,
+    delim: u8,
+    text: &[u8],
+    ways: u32,
+) -> Result<bool, Fault> {
     for most in 1..5 {
-        if !agrees_under(alloc, kind.limit(most), text, ways)? {
+        if !agrees_under(alloc, kind.limit(most, delim), text, ways)? {
             return Ok(false);
         }
     }

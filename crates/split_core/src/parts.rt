@@ -54,17 +54,17 @@ impl Parts {
         ensures current { IfOk result (λ parts. parts.current ≡ None) }
         ensures err { IfErr result (λ fault. fault ≡ Fault.Memory) }
     {
-        match ByteWindow::new(alloc, limit.most() - 1) {
-            Ok(waiting) => Ok(Parts {
-                names,
-                limit,
-                left: limit.most(),
-                has_line: false,
-                waiting,
-                current: None,
-            }),
-            Err(_) => Err(Fault::Memory),
-        }
+        let Ok(waiting) = ByteWindow::new(alloc, limit.most() - 1) else {
+            return Err(Fault::Memory);
+        };
+        Ok(Parts {
+            names,
+            limit,
+            left: limit.most(),
+            has_line: false,
+            waiting,
+            current: None,
+        })
     }
 
     /// How many bytes wait.
@@ -78,16 +78,12 @@ impl Parts {
     fn find_file<O: Outs>(&mut self, outs: &mut O) -> Result<usize, Fault>
         ensures { FindsFile self.old (O.slots outs.old) (O.slots outs.new) self.new result }
     {
-        match self.current {
-            Some(slot) => Ok(slot),
-            None => match open_next(&mut self.names, outs) {
-                Ok(slot) => {
-                    self.current = Some(slot);
-                    Ok(slot)
-                }
-                Err(fault) => Err(fault),
-            },
+        if let Some(slot) = self.current {
+            return Ok(slot);
         }
+        let slot = open_next(&mut self.names, outs)?;
+        self.current = Some(slot);
+        Ok(slot)
     }
 
     /// Writes what waits, and then these bytes, to the part that was begun, and returns its output.
@@ -95,18 +91,9 @@ impl Parts {
         requires { IsReady self.old.current (O.slots outs.old) }
         ensures { Extends O.told self.old bytes.now (O.slots outs.old) (O.slots outs.new) self.new result }
     {
-        let slot = match self.find_file(outs) {
-            Ok(slot) => slot,
-            Err(fault) => return Err(fault),
-        };
-        match write_held(&mut self.waiting, slot, outs) {
-            Ok(()) => {}
-            Err(fault) => return Err(fault),
-        }
-        match write_bytes(slot, bytes, outs) {
-            Ok(()) => {}
-            Err(fault) => return Err(fault),
-        }
+        let slot = self.find_file(outs)?;
+        write_held(&mut self.waiting, slot, outs)?;
+        write_bytes(slot, bytes, outs)?;
         Ok(slot)
     }
 
@@ -132,19 +119,13 @@ impl Parts {
         ensures { Turns O.told self.old bytes.now (O.slots outs.old) (O.slots outs.new) self.new result }
     {
         let size = self.waiting.len() + bytes.len() as u64;
-        match self.end_file(outs) {
-            Ok(()) => {}
-            Err(fault) => return Err(fault),
-        }
+        self.end_file(outs)?;
         self.left = self.limit.most() - size;
         self.has_line = false;
         if bytes.is_empty() {
             return Ok(());
         }
-        match self.extend(bytes, outs) {
-            Ok(_) => {}
-            Err(fault) => return Err(fault),
-        }
+        self.extend(bytes, outs)?;
         Ok(())
     }
 
@@ -175,30 +156,18 @@ impl Parts {
                 left,
                 has_line,
             } => {
-                match self.extend(&piece[..bytes], outs) {
-                    Ok(_) => {}
-                    Err(fault) => return Err(fault),
-                }
+                self.extend(&piece[..bytes], outs)?;
                 self.left = left;
                 self.has_line = has_line;
                 Ok(bytes)
             }
             Step::Ends { end, bytes } => {
-                match self.extend(&piece[..end], outs) {
-                    Ok(_) => {}
-                    Err(fault) => return Err(fault),
-                }
-                match self.turn(&piece[end..bytes], outs) {
-                    Ok(()) => {}
-                    Err(fault) => return Err(fault),
-                }
+                self.extend(&piece[..end], outs)?;
+                self.turn(&piece[end..bytes], outs)?;
                 Ok(bytes)
             }
             Step::Begins { bytes } => {
-                match self.turn(&piece[..bytes], outs) {
-                    Ok(()) => {}
-                    Err(fault) => return Err(fault),
-                }
+                self.turn(&piece[..bytes], outs)?;
                 Ok(bytes)
             }
             Step::Waits => self.wait(piece),
@@ -217,10 +186,8 @@ impl Parts {
     {
         let mut left = piece;
         'stretches: while !left.is_empty() {
-            match self.step(left, outs) {
-                Ok(n) => left = &left[n..],
-                Err(fault) => return Err(fault),
-            }
+            let n = self.step(left, outs)?;
+            left = &left[n..];
         }
         Ok(())
     }
@@ -239,10 +206,7 @@ impl Parts {
         let Some(slot) = self.current else {
             return Ok(());
         };
-        match write_held(&mut self.waiting, slot, outs) {
-            Ok(()) => {}
-            Err(fault) => return Err(fault),
-        }
+        write_held(&mut self.waiting, slot, outs)?;
         self.current = None;
         outs.close(slot)
     }

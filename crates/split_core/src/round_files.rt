@@ -7,7 +7,7 @@ ghost use Rattle.split_core.specs.Split.{are_named, from_start, is_named};
 
 use crate::gathered::Gathered;
 use ports_core::{Fault, Mode, Names, Outs, write_whole};
-use std::alloc::{AllocError, Global};
+use std::alloc::Global;
 use std::marker::Model;
 
 /// The files that lines are dealt to, in the order of their names.
@@ -52,10 +52,7 @@ impl RoundFiles {
         ensures names { from_start self.new.names ≡ from_start self.old.names }
     {
         for place in 0..count {
-            match self.reach(place, outs) {
-                Ok(()) => {}
-                Err(fault) => return Err(fault),
-            }
+            self.reach(place, outs)?;
         }
         Ok(())
     }
@@ -80,10 +77,7 @@ impl RoundFiles {
         ensures owned { KeepsFiles self.old (O.slots outs.old) self.new (O.slots outs.new) }
     {
         for place in 0..gathered.len() {
-            match self.send(place, gathered[place].bytes(), outs) {
-                Ok(()) => {}
-                Err(fault) => return Err(fault),
-            }
+            self.send(place, gathered[place].bytes(), outs)?;
         }
         Ok(())
     }
@@ -102,10 +96,7 @@ impl RoundFiles {
         ensures owned { KeepsFiles self.old (O.slots outs.old) self.new (O.slots outs.new) }
     {
         for place in 0..self.outputs.len() {
-            match outs.close(self.outputs[place]) {
-                Ok(()) => {}
-                Err(fault) => return Err(fault),
-            }
+            outs.close(self.outputs[place])?;
         }
         Ok(())
     }
@@ -121,16 +112,8 @@ impl RoundFiles {
         ensures names { from_start self.new.names ≡ from_start self.old.names }
         ensures owned { KeepsFiles self.old (O.slots outs.old) self.new (O.slots outs.new) }
     {
-        match self.reach(place, outs) {
-            Ok(()) => {}
-            Err(fault) => return Err(fault),
-        }
-        let slot = self.outputs[place];
-        match write_whole(outs, slot, bytes) {
-            Ok(()) => {}
-            Err(_) => return Err(Fault::Write(slot)),
-        }
-        Ok(())
+        self.reach(place, outs)?;
+        Ok(write_whole(outs, self.outputs[place], bytes)?)
     }
 
     /// Opens the file at a place, if it isn't open. It must be the next one then.
@@ -158,19 +141,11 @@ impl RoundFiles {
         ensures fails { IfErr result (FailsToFollow self.old (O.slots outs.old) self.new (O.slots outs.new)) }
         ensures names { from_start self.new.names ≡ from_start self.old.names }
     {
-        match self.outputs.reserve(1) {
-            Ok(()) => {}
-            Err(AllocError) => return Err(Fault::Memory),
-        }
-        let name = match self.names.next() {
-            Ok(Some(name)) => name,
-            Ok(None) => return Err(Fault::Suffixes),
-            Err(fault) => return Err(fault),
+        self.outputs.reserve(1)?;
+        let Some(name) = self.names.next()? else {
+            return Err(Fault::Suffixes);
         };
-        let slot = match outs.open(&name, Mode::Fresh) {
-            Ok(slot) => slot,
-            Err(fault) => return Err(fault),
-        };
+        let slot = outs.open(&name, Mode::Fresh)?;
         put(&mut self.outputs, slot);
         Ok(())
     }

@@ -12,6 +12,7 @@ pub(crate) fn plain(
     count: u64,
     file: u64,
     text: &[u8],
+    delim: u8,
 ) -> Result<Vec<u8>, AllocError> {
     let mut out = Vec::new(alloc);
     let mut line = 0u64;
@@ -19,7 +20,7 @@ pub(crate) fn plain(
         if line.checked_rem(count) == Some(file) {
             out.push(*byte)?;
         }
-        if *byte == b'\n' {
+        if *byte == delim {
             line = line.saturating_add(1);
         }
     }

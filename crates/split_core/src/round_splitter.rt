@@ -1,9 +1,9 @@
-ghost use Rattle.std.specs.Prelude.{◌≡◌, ℕ, ◌+◌, ◌%◌, ◌<◌, ◌≤◌, List, [], true, length, IfOk, IfErr, OnOk};
-ghost use Rattle.seg_core.specs.Line.{newlines};
+ghost use Rattle.std.specs.Prelude.{◌≡◌, ℕ, ◌+◌, ◌%◌, ◌<◌, ◌≤◌, List, [], true, if◌then◌else◌, length, IfOk, IfErr, OnOk};
+ghost use Rattle.seg_core.specs.Line.{delimiters};
 ghost use Rattle.ports_core.specs.Slot.{Slot};
 ghost use Rattle.ports_core.specs.Part.{OutputsAt, StoppedBetween, nothing};
 ghost use Rattle.split_core.specs.Dealt.{dealt_first, reached_by};
-ghost use Rattle.split_core.specs.Round.{AreReady, Holds, Owns, Ready, opened_by, round_plan, work};
+ghost use Rattle.split_core.specs.Round.{AreReady, Holds, Owns, Ready, round_plan, work};
 ghost use Rattle.split_core.specs.RoundLaws.{lawful};
 ghost use Rattle.split_core.specs.Sharing.{Became, CannotOpen, IsOfFiles, KeepsFiles, StopsShort, added};
 ghost use Rattle.split_core.specs.Split.{are_named, from_start, settled_by, split_work};
@@ -11,7 +11,7 @@ ghost use Rattle.split_core.specs.Split.{are_named, from_start, settled_by, spli
 use crate::deal::Deal;
 use crate::round_files::RoundFiles;
 use ports_core::{Fault, Names, Outs, Stage};
-use std::alloc::{AllocError, Global};
+use std::alloc::Global;
 use std::marker::Model;
 
 /// Deals the lines of an input in turn to a number of files (GNU coreutils manual, split, `-n r/N`). What each file
@@ -32,13 +32,13 @@ impl Model for RoundSplitter {
 
     ghost Value = { RoundState };
 
-    ghost view = { λ r. record { count = length r.deal.gathered; elide = r.elide; files = r.files; next = r.deal.next } };
+    ghost view = { λ r. record { delim = r.deal.delim; count = length r.deal.gathered; elide = r.elide; files = r.files; next = r.deal.next } };
 
     ghost invariant = { λ r. are_named r.files.names (length r.deal.gathered) ≡ true };
 }
 
 impl RoundSplitter {
-    /// Deals lines to `count` files. All of them are opened now; with `elide` each is opened at its first byte, so
+    /// Deals lines, which end with `delim`, to `count` files. All of them are opened now; with `elide` each is opened at its first byte, so
     /// that those that would get none aren't made.
     ///
     /// # Errors
@@ -49,6 +49,7 @@ impl RoundSplitter {
         count: u64,
         names: Names,
         elide: bool,
+        delim: u8,
         outs: &mut O,
     ) -> Result<RoundSplitter, Fault>
         requires some { 0 < count }
@@ -56,22 +57,16 @@ impl RoundSplitter {
         requires enough { are_named names count ≡ true }
         requires streams { 2 ≤ length (O.slots outs.old) }
         ensures holds { IfOk result (λ round. Holds round []) }
-        ensures does { IfOk result (λ round. work round ≡ split_work (round_plan count elide names)) }
+        ensures does { IfOk result (λ round. work round ≡ split_work (round_plan delim count elide names)) }
         ensures ready { IfOk result (λ round. Ready round (O.slots outs.new)) }
         ensures owns { IfOk result (λ round. Owns round (length (O.slots outs.old)) (O.slots outs.new)) }
-        ensures outputs { OnOk result ((before : List Slot) → OutputsAt O.told before nothing (O.slots outs.old) → OutputsAt O.told before (settled_by (round_plan count elide names) []) (O.slots outs.new)) }
-        ensures cut { IfErr result (λ fault. (before : List Slot) → OutputsAt O.told before nothing (O.slots outs.old) → StoppedBetween O.told before nothing (settled_by (round_plan count elide names) []) fault (O.slots outs.new)) }
+        ensures outputs { OnOk result ((before : List Slot) → OutputsAt O.told before nothing (O.slots outs.old) → OutputsAt O.told before (settled_by (round_plan delim count elide names) []) (O.slots outs.new)) }
+        ensures cut { IfErr result (λ fault. (before : List Slot) → OutputsAt O.told before nothing (O.slots outs.old) → StoppedBetween O.told before nothing (settled_by (round_plan delim count elide names) []) fault (O.slots outs.new)) }
         ensures refused { IfErr result (CannotOpen (O.slots outs.old) (O.slots outs.new)) }
     {
-        let deal = match Deal::new(alloc, count) {
-            Ok(deal) => deal,
-            Err(AllocError) => return Err(Fault::Memory),
-        };
+        let deal = Deal::new(alloc, count, delim)?;
         let mut files = RoundFiles::new(alloc, names);
-        match files.open_first(opened_at_start(count, elide), outs) {
-            Ok(()) => {}
-            Err(fault) => return Err(fault),
-        }
+        files.open_first(opened_at_start(count, elide), outs)?;
         Ok(RoundSplitter { deal, files, elide })
     }
 }
@@ -105,12 +100,12 @@ impl Stage for RoundSplitter {
         false
     }
 
-    ghost lawful = { λ round. lawful round.count round.elide (from_start round.files.names) };
+    ghost lawful = { λ round. lawful round.delim round.count round.elide (from_start round.files.names) };
 }
 
 /// How many files are opened before any byte came in.
 fn opened_at_start(count: u64, elide: bool) -> usize
-    ensures { result ≡ opened_by elide count [] }
+    ensures { result ≡ (if elide then 0 else count) }
 {
     if elide { 0 } else { count as usize }
 }
@@ -118,9 +113,9 @@ fn opened_at_start(count: u64, elide: bool) -> usize
 /// Deals a piece, and writes to each file what it gets.
 ///
 /// # Errors
+///
 /// `Memory` where there is no room for a name, or for the piece, of which nothing is written then; `Write` where an
 /// output broke, `Open` where a file can't be opened.
-/// broke, `Open` where a file can't be opened.
 fn deal_out<O: Outs>(
     deal: &mut Deal,
     files: &mut RoundFiles,
@@ -129,21 +124,15 @@ fn deal_out<O: Outs>(
 ) -> Result<(), Fault>
     requires ready { AreReady files.old (O.slots outs.old) }
     requires named { are_named files.old.names (length deal.old.gathered) ≡ true }
+    ensures delim { deal.new.delim ≡ deal.old.delim }
     ensures count { length deal.new.gathered ≡ length deal.old.gathered }
     ensures names { from_start files.new.names ≡ from_start files.old.names }
-    ensures next { OnOk result (deal.new.next ≡ (deal.old.next + newlines piece.now) % length deal.old.gathered) }
-    ensures became { OnOk result (Became O.told files.old (λ these. added these (dealt_first (length deal.old.gathered) deal.old.next piece.now)) (reached_by (length deal.old.gathered) deal.old.next piece.now) (O.slots outs.old) files.new (O.slots outs.new)) }
-    ensures cut { IfErr result (StopsShort O.told files.old (λ these. added these (dealt_first (length deal.old.gathered) deal.old.next piece.now)) (O.slots outs.old) (O.slots outs.new)) }
+    ensures next { OnOk result (deal.new.next ≡ (deal.old.next + delimiters deal.old.delim piece.now) % length deal.old.gathered) }
+    ensures became { OnOk result (Became O.told files.old (λ these. added these (dealt_first deal.old.delim (length deal.old.gathered) deal.old.next piece.now)) (reached_by deal.old.delim (length deal.old.gathered) deal.old.next piece.now) (O.slots outs.old) files.new (O.slots outs.new)) }
+    ensures cut { IfErr result (StopsShort O.told files.old (λ these. added these (dealt_first deal.old.delim (length deal.old.gathered) deal.old.next piece.now)) (O.slots outs.old) (O.slots outs.new)) }
     ensures caused { IfErr result (IsOfFiles (O.slots outs.old) (O.slots outs.new)) }
     ensures owned { KeepsFiles files.old (O.slots outs.old) files.new (O.slots outs.new) }
 {
-    let reached = match deal.gather(piece) {
-        Ok(reached) => reached,
-        Err(AllocError) => return Err(Fault::Memory),
-    };
-    match files.write(deal.first(reached), outs) {
-        Ok(()) => {}
-        Err(fault) => return Err(fault),
-    }
-    Ok(())
+    let reached = deal.gather(piece)?;
+    files.write(deal.first(reached), outs)
 }

@@ -13,8 +13,11 @@ use std::test::Fail;
 /// The first names.
 const NAMES: [&str; 5] = ["xaa", "xab", "xac", "xad", "xae"];
 
-/// For each size of a text: how many texts there are of two letters and a newline, and how many ways to cut one
-/// into pieces.
+/// The bytes that lines end with.
+const DELIMITERS: [u8; 3] = [b'\n', 0, b'c'];
+
+/// For each size of a text: how many texts there are of three bytes, of which one is the delimiter, and how many ways
+/// to cut one into pieces.
 const SIZES: [(usize, u32, u32); 7] = [
     (0, 1, 1),
     (1, 3, 1),
@@ -28,7 +31,7 @@ const SIZES: [(usize, u32, u32); 7] = [
 #[test]
 fn deals_in_turn(rt: HostRuntime) -> Result<(), Fail> {
     let mut outs = MemOut::new(rt.alloc())?;
-    let mut engine = start(rt.alloc(), 3, false, &mut outs)?;
+    let mut engine = start(rt.alloc(), 3, false, b'\n', &mut outs)?;
     feed(&mut engine, &mut outs, b"a\nb\nc\nd")?;
     assert_eq!(rt; outs.bytes(2), b"a\nd".as_slice());
     assert!(rt; !engine.done());
@@ -49,13 +52,13 @@ fn deals_in_turn(rt: HostRuntime) -> Result<(), Fail> {
 #[test]
 fn makes_files_of_an_empty_input(rt: HostRuntime) -> Result<(), Fail> {
     let mut outs = MemOut::new(rt.alloc())?;
-    let mut engine = start(rt.alloc(), 3, false, &mut outs)?;
+    let mut engine = start(rt.alloc(), 3, false, b'\n', &mut outs)?;
     engine.close(&mut outs)?;
     assert_eq!(rt; outs.name(4), "xac");
     assert_eq!(rt; outs.bytes(4), b"".as_slice());
     assert_eq!(rt; outs.name(5), "");
     let mut others = MemOut::new(rt.alloc())?;
-    let mut elides = start(rt.alloc(), 3, true, &mut others)?;
+    let mut elides = start(rt.alloc(), 3, true, b'\n', &mut others)?;
     elides.close(&mut others)?;
     assert_eq!(rt; others.name(2), "");
     Ok(())
@@ -64,7 +67,7 @@ fn makes_files_of_an_empty_input(rt: HostRuntime) -> Result<(), Fail> {
 #[test]
 fn leaves_empty_files_out(rt: HostRuntime) -> Result<(), Fail> {
     let mut outs = MemOut::new(rt.alloc())?;
-    let mut engine = start(rt.alloc(), 3, true, &mut outs)?;
+    let mut engine = start(rt.alloc(), 3, true, b'\n', &mut outs)?;
     feed(&mut engine, &mut outs, b"a")?;
     assert_eq!(rt; outs.name(3), "");
     feed(&mut engine, &mut outs, b"\nb")?;
@@ -80,7 +83,7 @@ fn leaves_empty_files_out(rt: HostRuntime) -> Result<(), Fail> {
 fn stops_at_a_broken_output(rt: HostRuntime) -> Result<(), Fail> {
     let mut outs = MemOut::new(rt.alloc())?;
     outs.limit(3, 1)?;
-    let mut engine = start(rt.alloc(), 3, false, &mut outs)?;
+    let mut engine = start(rt.alloc(), 3, false, b'\n', &mut outs)?;
     assert_eq!(rt; engine.feed(b"a\nb\nc\n", &mut outs), Err(Fault::Write(3)));
     assert_eq!(rt; outs.bytes(2), b"a\n".as_slice());
     assert_eq!(rt; outs.bytes(3), b"b".as_slice());
@@ -94,15 +97,26 @@ fn stops_at_a_broken_output(rt: HostRuntime) -> Result<(), Fail> {
 fn stops_where_a_file_is_not_opened(rt: HostRuntime) -> Result<(), Fail> {
     let mut outs = MemOut::new(rt.alloc())?;
     outs.fail_at(2);
-    assert!(rt; start(rt.alloc(), 3, false, &mut outs).is_err());
+    assert!(rt; start(rt.alloc(), 3, false, b'\n', &mut outs).is_err());
     assert!(rt; outs.broken(3));
     assert_eq!(rt; outs.name(4), "");
     let mut others = MemOut::new(rt.alloc())?;
-    let mut engine = start(rt.alloc(), 3, true, &mut others)?;
+    let mut engine = start(rt.alloc(), 3, true, b'\n', &mut others)?;
     others.fail_at(3);
     assert_eq!(rt; engine.feed(b"a\nb\nc\n", &mut others), Err(Fault::Open(3)));
     assert_eq!(rt; others.bytes(2), b"a\n".as_slice());
     assert_eq!(rt; others.name(4), "");
+    Ok(())
+}
+
+#[test]
+fn deals_lines_that_end_with_another_byte(rt: HostRuntime) -> Result<(), Fail> {
+    let mut outs = MemOut::new(rt.alloc())?;
+    let mut engine = start(rt.alloc(), 2, false, 0, &mut outs)?;
+    feed(&mut engine, &mut outs, b"a\0b\n\0c")?;
+    engine.close(&mut outs)?;
+    assert_eq!(rt; outs.bytes(2), b"a\0c".as_slice());
+    assert_eq!(rt; outs.bytes(3), b"b\n\0".as_slice());
     Ok(())
 }
 
@@ -115,28 +129,43 @@ fn deals_many_lines_of_a_piece(rt: HostRuntime) -> Result<(), Fail> {
         }
     }
     for count in [1, 2, 5, 64, 65] {
-        assert!(rt; agree_on_pieces(rt.alloc(), count, &text)?, "for {count}");
+        assert!(rt;
+            agree_on_pieces(rt.alloc(), count, &text, b'\n')?,
+            "for {count}"
+        );
+        assert!(rt;
+            agree_on_pieces(rt.alloc(), count, &text, b'x')?,
+            "for {count}"
+        );
     }
     Ok(())
 }
 
 #[test]
 fn does_as_the_plain_program(rt: HostRuntime) -> Result<(), Fail> {
-    for (size, texts, ways) in SIZES {
-        assert!(rt;
-            agree_on_size(rt.alloc(), size, texts, ways)?,
-            "of size {size}"
-        );
+    for delim in DELIMITERS {
+        for (size, texts, ways) in SIZES {
+            assert!(rt;
+                agree_on_size(rt.alloc(), size, texts, ways, delim)?,
+                "of size {size}, ended with {delim}"
+            );
+        }
     }
     Ok(())
 }
 
 /// Whether the engine agrees with the plain program on each text of this size.
-fn agree_on_size(alloc: Global, size: usize, texts: u32, ways: u32) -> Result<bool, Fault> {
+fn agree_on_size(
+    alloc: Global,
+    size: usize,
+    texts: u32,
+    ways: u32,
+    delim: u8,
+) -> Result<bool, Fault> {
     for number in 0..texts {
-        let text = text_of(number);
+        let text = text_of(number, delim);
         if let Some(text) = text.get(..size)
-            && !agree_on_text(alloc, text, ways)?
+            && !agree_on_text(alloc, text, ways, delim)?
         {
             return Ok(false);
         }
@@ -144,14 +173,16 @@ fn agree_on_size(alloc: Global, size: usize, texts: u32, ways: u32) -> Result<bo
     Ok(true)
 }
 
-/// The text with this number: its bytes stand for the number's digits.
-fn text_of(number: u32) -> [u8; 6] {
-    let mut text = [b'\n'; 6];
+/// The text with this number: its bytes stand for the number's digits. Where lines end with another byte, a newline is
+/// a byte as any other.
+fn text_of(number: u32, delim: u8) -> [u8; 6] {
+    let other = if delim == b'\n' { b'b' } else { b'\n' };
+    let mut text = [delim; 6];
     let mut left = number;
     for byte in text.iter_mut() {
         match left % 3 {
             0 => *byte = b'a',
-            1 => *byte = b'b',
+            1 => *byte = other,
             _ => {}
         }
         left /= 3;
@@ -159,12 +190,16 @@ fn text_of(number: u32) -> [u8; 6] {
     text
 }
 
-fn agree_on_text(alloc: Global, text: &[u8], ways: u32) -> Result<bool, Fault> {
+fn agree_on_text(alloc: Global, text: &[u8], ways: u32, delim: u8) -> Result<bool, Fault> {
     for cuts in 0..ways {
         for count in 1..5 {
-            if !agrees(alloc, count, false, text, cuts)?
-                || !agrees(alloc, count, true, text, cuts)?
-            {
+            let job = Job {
+                count,
+                elide: false,
+                delim,
+            };
+            let eliding = Job { elide: true, ..job };
+            if !agrees(alloc, job, text, cuts)? || !agrees(alloc, eliding, text, cuts)? {
                 return Ok(false);
             }
         }
@@ -173,42 +208,52 @@ fn agree_on_text(alloc: Global, text: &[u8], ways: u32) -> Result<bool, Fault> {
 }
 
 /// Whether a long text gives what it should, in one piece and in two.
-fn agree_on_pieces(alloc: Global, count: u64, text: &[u8]) -> Result<bool, Fault> {
+fn agree_on_pieces(alloc: Global, count: u64, text: &[u8], delim: u8) -> Result<bool, Fault> {
+    let job = Job {
+        count,
+        elide: false,
+        delim,
+    };
     for cuts in [0, 1, 1 << 7, 1 << 30] {
-        if count > 0 && !agrees(alloc, count, false, text, cuts)? {
+        if count > 0 && !agrees(alloc, job, text, cuts)? {
             return Ok(false);
         }
     }
     Ok(true)
 }
 
+/// How lines are dealt.
+#[derive(Clone, Copy)]
+struct Job {
+    /// To how many files.
+    count: u64,
+    /// Whether empty files are left out.
+    elide: bool,
+    /// The byte that lines end with.
+    delim: u8,
+}
+
 /// Whether all files have what they should, before the end and at the end.
-fn agrees(alloc: Global, count: u64, elide: bool, text: &[u8], cuts: u32) -> Result<bool, Fault>
-    requires { 0 < count }
+fn agrees(alloc: Global, job: Job, text: &[u8], cuts: u32) -> Result<bool, Fault>
+    requires { 0 < job.count }
 {
     let mut outs = MemOut::new(alloc)?;
-    let mut engine = start(alloc, count, elide, &mut outs)?;
+    let mut engine = start(alloc, job.count, job.elide, job.delim, &mut outs)?;
     feed_in_pieces(&mut engine, &mut outs, text, cuts)?;
-    let early = has_all(alloc, count, elide, text, &outs)?;
+    let early = has_all(alloc, job, text, &outs)?;
     engine.close(&mut outs)?;
-    Ok(early && has_all(alloc, count, elide, text, &outs)?)
+    Ok(early && has_all(alloc, job, text, &outs)?)
 }
 
 /// Whether the files are those that are wanted: with `elide` none that is empty.
-fn has_all(
-    alloc: Global,
-    count: u64,
-    elide: bool,
-    text: &[u8],
-    outs: &MemOut,
-) -> Result<bool, Fault> {
+fn has_all(alloc: Global, job: Job, text: &[u8], outs: &MemOut) -> Result<bool, Fault> {
     let mut slot = 2usize;
-    for file in 0..count {
-        let wanted = match plain(alloc, count, file, text) {
+    for file in 0..job.count {
+        let wanted = match plain(alloc, job.count, file, text, job.delim) {
             Ok(wanted) => wanted,
             Err(AllocError) => return Err(Fault::Memory),
         };
-        if elide && wanted.is_empty() {
+        if job.elide && wanted.is_empty() {
             continue;
         }
         if outs.bytes(slot) != wanted.as_slice() || !has_name(outs, slot) {
@@ -227,13 +272,19 @@ fn has_name(outs: &MemOut, slot: usize) -> bool {
     }
 }
 
-fn start(alloc: Global, count: u64, elide: bool, outs: &mut MemOut) -> Result<Splitter, Fault>
+fn start(
+    alloc: Global,
+    count: u64,
+    elide: bool,
+    delim: u8,
+    outs: &mut MemOut,
+) -> Result<Splitter, Fault>
     requires some { 0 < count }
     requires streams { 2 ≤ length outs.old }
     ensures ready { IfOk result (λ engine. Ready engine.stage outs.new) }
 {
-    let names = Names::new(alloc, "x", Alphabet::Letters, 2, true)?;
-    Splitter::open(alloc, Cut::Round(count), names, elide, outs)
+    let names = Names::new(alloc, "x", Alphabet::Letters, 2, true, "")?;
+    Splitter::open(alloc, Cut::Round(count), names, elide, delim, outs)
 }
 
 fn feed(engine: &mut Splitter, outs: &mut MemOut, piece: &[u8]) -> Result<(), Fault>

@@ -31,8 +31,8 @@ impl Model for Splitter {
 }
 
 impl Splitter {
-    /// An engine that cuts in this way, into files with these names, of which none was drawn. The number of the cut
-    /// is at least 1. Where lines are dealt, there must be a name for each file, and all files are opened now, or
+    /// An engine that cuts in this way, into files with these names, of which none was drawn. Lines end with `delim`,
+    /// which changes nothing where bytes are counted. The number of the cut is at least 1. Where lines are dealt, there must be a name for each file, and all files are opened now, or
     /// with `elide` each at its first byte.
     ///
     /// # Errors
@@ -43,6 +43,7 @@ impl Splitter {
         cut: Cut,
         names: Names,
         elide: bool,
+        delim: u8,
         outs: &mut O,
     ) -> Result<Splitter, Fault>
         requires some { IsPositive cut }
@@ -51,28 +52,24 @@ impl Splitter {
         requires streams { 2 ≤ length (O.slots outs.old) }
         ensures holds { IfOk result (λ engine. HoldsIn Holds engine []) }
         ensures bound { IfOk result (λ engine. engine.fed < 2 ^ 63) }
-        ensures does { IfOk result (λ engine. work engine.stage ≡ split_work (record { cut = cut; elide = elide; names = names })) }
+        ensures does { IfOk result (λ engine. work engine.stage ≡ split_work (record { delim = delim; cut = cut; elide = elide; names = names })) }
         ensures ready { IfOk result (λ engine. Ready engine.stage (O.slots outs.new)) }
         ensures owns { IfOk result (λ engine. Owns engine.stage (length (O.slots outs.old)) (O.slots outs.new)) }
-        ensures outputs { OnOk result ((before : List Slot) → OutputsAt O.told before nothing (O.slots outs.old) → OutputsAt O.told before (settled_by (record { cut = cut; elide = elide; names = names }) []) (O.slots outs.new)) }
-        ensures cut { IfErr result (λ fault. (before : List Slot) → OutputsAt O.told before nothing (O.slots outs.old) → StoppedBetween O.told before nothing (settled_by (record { cut = cut; elide = elide; names = names }) []) fault (O.slots outs.new)) }
+        ensures outputs { OnOk result ((before : List Slot) → OutputsAt O.told before nothing (O.slots outs.old) → OutputsAt O.told before (settled_by (record { delim = delim; cut = cut; elide = elide; names = names }) []) (O.slots outs.new)) }
+        ensures cut { IfErr result (λ fault. (before : List Slot) → OutputsAt O.told before nothing (O.slots outs.old) → StoppedBetween O.told before nothing (settled_by (record { delim = delim; cut = cut; elide = elide; names = names }) []) fault (O.slots outs.new)) }
         ensures refused { IfErr result (CannotOpen (O.slots outs.old) (O.slots outs.new)) }
     {
         let limit = match cut {
-            Cut::Lines(most) => Limit::Lines(most),
+            Cut::Lines(most) => Limit::Lines(most, delim),
             Cut::Bytes(most) => Limit::Bytes(most),
-            Cut::LineBytes(most) => Limit::LineBytes(most),
+            Cut::LineBytes(most) => Limit::LineBytes(most, delim),
             Cut::Round(count) => {
-                return match RoundSplitter::open(alloc, count, names, elide, outs) {
-                    Ok(round) => Ok(Splitter::new(Ways::Round(round))),
-                    Err(fault) => Err(fault),
-                };
+                let round = RoundSplitter::open(alloc, count, names, elide, delim, outs)?;
+                return Ok(Splitter::new(Ways::Round(round)));
             }
         };
-        match Parts::open(alloc, limit, names) {
-            Ok(parts) => Ok(Splitter::new(Ways::Parts(parts))),
-            Err(fault) => Err(fault),
-        }
+        let parts = Parts::open(alloc, limit, names)?;
+        Ok(Splitter::new(Ways::Parts(parts)))
     }
 
     /// An engine that cuts in this way, and has been fed nothing.

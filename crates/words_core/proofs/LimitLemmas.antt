@@ -27,7 +27,7 @@ use Rattle.words_core.specs.declared.split_words.SplitOptions.{SplitOptions}
 use Rattle.words_core.specs.declared.split_words.Suffix.{Suffix}
 use Rattle.words_core.specs.declared.settings.Settings.{Settings}
 use Rattle.words_core.specs.Table.{OptionRow, ToolRow}
-use Rattle.words_core.specs.Value.{Meant, Nothing, Counted, Size, Files, Width, Text, not_zero, some, some_amount, up_to, counted, size_in, round_in, as_value, value_in}
+use Rattle.words_core.specs.Value.{Meant, Nothing, Counted, Size, Files, Width, Text, Byte, byte_in, ending_in, not_zero, some, some_amount, up_to, counted, size_in, round_in, as_value, value_in}
 use Rattle.words_core.specs.Given.{Given, GivenOption, bare}
 use Rattle.words_core.specs.Spelling.{Meaning, Reads, before, said, valued, attached, by_letter, lettered, option_lettered, cluster, after_equals, by_name, named, dashed, mixed, foremost, meaning_of, behind, onward, spelled, start_of, given_by}
 use Rattle.words_core.specs.SplitWords.{AreNamed, CanSplit, IsInLimits, IsWidth, names_all, least_width, free, dealt, way_of, sized, way_in, second_way, with_width, split_by, split_after, split_options, no_options, suffix_for, files_in, then_check, split_asked}
@@ -102,6 +102,8 @@ value-sound kind.Size text = as_value-sound (λ n. (1 ≤ n) × ⊤) (λ size. S
 value-sound kind.Round text = as_value-sound (λ n. (1 ≤ n) × (n ≤ 65535)) (λ files. Files files) (round_in text) (round_in-limits text) (λ files is. is)
 value-sound kind.Width text = as_value-sound (λ n. n ≤ 255) (λ width. Width width) (up_to 255 (digits_of text)) (up_to-limit 255 (digits_of text)) (λ width is. is)
 value-sound kind.Text text = tt
+value-sound kind.Byte text = as_value-sound (λ _. ⊤) (λ byte. Byte byte) (byte_in text) (anything (byte_in text)) (λ byte is. tt)
+value-sound kind.Ending text = as_value-sound (λ _. ⊤) (λ ending. Text ending) (ending_in text) (anything (ending_in text)) (λ ending is. tt)
 
 -- one word
 
@@ -203,6 +205,7 @@ way_in-limits choice Nothing is = omega arith
 way_in-limits choice (Counted count) is = omega arith
 way_in-limits choice (Width width) is = omega arith
 way_in-limits choice (Text text) is = omega arith
+way_in-limits choice (Byte byte) is = omega arith
 
 second_way-sound : (asked : SplitOptions) (cut : Cut) (word : ℕ) (first : Option Cut) → IsAskedSoundly asked → IsInLimits cut → IfOk (second_way asked cut word first) IsAskedSoundly
 second_way-sound asked cut word None sound is = (is, sound.1)
@@ -215,6 +218,7 @@ with_width-sound asked (Counted count) sound is = sound
 with_width-sound asked (Size size) sound is = sound
 with_width-sound asked (Files files) sound is = sound
 with_width-sound asked (Text text) sound is = sound
+with_width-sound asked (Byte byte) sound is = sound
 
 split_by-sound : (asked : SplitOptions) (choice : Choice) (value : Meant) (word : ℕ) → IsAskedSoundly asked → IsSound value → IfOk (split_by asked choice value word) IsAskedSoundly
 split_by-sound asked choice.Lines value word sound is = second_way-sound asked (way_in choice.Lines value) word asked.cut sound (way_in-limits choice.Lines value is)
@@ -227,6 +231,9 @@ split_by-sound asked choice.HexSuffixes value word sound is = sound
 split_by-sound asked choice.ElideEmptyFiles value word sound is = sound
 split_by-sound asked choice.Quiet value word sound is = sound
 split_by-sound asked choice.Verbose value word sound is = sound
+split_by-sound asked choice.ZeroTerminated value word sound is = sound
+split_by-sound asked choice.Separator value word sound is = sound
+split_by-sound asked choice.AdditionalSuffix value word sound is = sound
 
 then_check-kept : {A B : Type 0} (P : A → Type 0) (Q : B → Type 0) (first : Result A Fault) (next : A → Result B Fault) → IfOk first P → ((value : A) → P value → IfOk (next value) Q) → IfOk (then_check first next) Q
 then_check-kept P Q (Ok value) next is goes = goes value is

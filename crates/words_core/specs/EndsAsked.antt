@@ -8,5 +8,7 @@ pub record EndsAsked : Type 0 where
   pub unit : Counted
   pub count : Count
   pub headers : Headers
+  -- the byte that lines end with
+  pub delim : ℕ
   -- the names of the inputs
   pub names : List (List ℕ)

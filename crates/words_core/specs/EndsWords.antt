@@ -4,16 +4,16 @@ use Rattle.seg_core.specs.declared.count.Sign.TheVariants.{Plain}
 use Rattle.ends_core.specs.declared.unit.Unit.{Unit as Measured}
 use Rattle.ends_core.specs.declared.unit.Unit.TheVariants as unit
 use Rattle.words_core.specs.declared.table.Choice.{Choice}
-use Rattle.words_core.specs.declared.table.Choice.TheVariants.{Lines, Bytes, Quiet, Verbose}
+use Rattle.words_core.specs.declared.table.Choice.TheVariants.{Lines, Bytes, Quiet, Verbose, ZeroTerminated}
 use Rattle.words_core.specs.declared.settings.Headers.TheVariants.{ForSeveral, Never, Always}
 use Rattle.words_core.specs.declared.ends_words.EndsOptions.{EndsOptions}
 use Rattle.words_core.specs.EndsAsked.{EndsAsked}
 use Rattle.words_core.specs.Value.{Meant, Counted}
 use Rattle.words_core.specs.Given.{Given, GivenOption, GivenOperand}
 
--- without options: ten lines, and headers where there are several inputs
+-- without options: ten lines, which end with the newline, and headers where there are several inputs
 abbrev pub ten_lines : EndsOptions
-ten_lines = record { unit = unit.Lines; count = record { sign = Plain; amount = 10 }; headers = ForSeveral }
+ten_lines = record { unit = unit.Lines; count = record { sign = Plain; amount = 10 }; headers = ForSeveral; delim = 10 }
 
 -- with one more option: the last count decides, and so does the last option for headers
 
@@ -26,6 +26,7 @@ ends_by asked Lines value = counted asked unit.Lines value
 ends_by asked Bytes value = counted asked unit.Bytes value
 ends_by asked Quiet value = record asked { headers = Never }
 ends_by asked Verbose value = record asked { headers = Always }
+ends_by asked ZeroTerminated value = record asked { delim = 0 }
 ends_by asked choice value = asked
 
 abbrev pub ends_after : EndsOptions → GivenOption → EndsOptions
@@ -43,4 +44,4 @@ names_asked operands = or_dash (map (λ operand. operand.text) operands)
 abbrev pub ends_asked : Given → EndsAsked
 ends_asked given =
     let asked = fold ends_after ten_lines given.options in
-    record { unit = asked.unit; count = asked.count; headers = asked.headers; names = names_asked given.operands }
+    record { unit = asked.unit; count = asked.count; headers = asked.headers; delim = asked.delim; names = names_asked given.operands }

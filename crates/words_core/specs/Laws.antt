@@ -111,7 +111,7 @@ pub record IsName (rows : List OptionRow) (name : List ℕ) (choice : Choice) (k
 -- what is asked of `head` or `tail`, and of `split`, for standard input
 
 abbrev pub ends_as : Measured → Count → Headers → EndsAsked
-ends_as unit count headers = record { unit = unit; count = count; headers = headers; names = codes "-" ∷ [] }
+ends_as unit count headers = record { unit = unit; count = count; headers = headers; delim = 10; names = codes "-" ∷ [] }
 
 abbrev pub split_as : Cut → Alphabet → ℕ → Bool → Bool → SplitAsked
-split_as cut alphabet width auto elide = record { cut = cut; alphabet = alphabet; width = width; auto = auto; elide = elide; input = codes "-"; prefix = codes "x" }
+split_as cut alphabet width auto elide = record { cut = cut; alphabet = alphabet; width = width; auto = auto; elide = elide; input = codes "-"; prefix = codes "x"; ending = []; delim = 10 }

@@ -13,3 +13,7 @@ pub record SplitAsked : Type 0 where
   -- the name of the input, and what the names of the files begin with
   pub input : List ℕ
   pub prefix : List ℕ
+  -- what the names of the files end with
+  pub ending : List ℕ
+  -- the byte that lines end with
+  pub delim : ℕ

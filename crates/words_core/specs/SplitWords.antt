@@ -12,7 +12,7 @@ use Rattle.words_core.specs.declared.table.Choice.{Choice}
 use Rattle.words_core.specs.declared.table.Choice.TheVariants as choice
 use Rattle.words_core.specs.declared.split_words.SplitOptions.{SplitOptions}
 use Rattle.words_core.specs.declared.split_words.Suffix.{Suffix}
-use Rattle.words_core.specs.Value.{Meant, Size, Files, Width}
+use Rattle.words_core.specs.Value.{Meant, Size, Files, Width, Text, Byte}
 use Rattle.words_core.specs.Given.{Given, GivenOption, GivenOperand}
 use Rattle.words_core.specs.SplitAsked.{SplitAsked}
 
@@ -60,6 +60,9 @@ split_by asked choice.HexSuffixes value word = Ok (record asked { alphabet = Hex
 split_by asked choice.ElideEmptyFiles value word = Ok (record asked { elide = true })
 split_by asked choice.Quiet value word = Ok asked
 split_by asked choice.Verbose value word = Ok asked
+split_by asked choice.ZeroTerminated value word = Ok asked
+split_by asked choice.Separator value word = Ok asked
+split_by asked choice.AdditionalSuffix value word = Ok asked
 
 abbrev pub split_after : SplitOptions → GivenOption → Result SplitOptions Fault
 split_after asked option = split_by asked option.choice option.value option.word
@@ -67,6 +70,30 @@ split_after asked option = split_by asked option.choice option.value option.word
 abbrev pub split_options : List GivenOption → SplitOptions → Result SplitOptions Fault
 split_options [] asked = Ok asked
 split_options (option ∷ options) asked = then_check (split_after asked option) (split_options options)
+
+-- the last separator decides, and so does the last ending of names
+
+abbrev pub separated : ℕ → Choice → Meant → ℕ
+separated delim choice.Separator (Byte byte) = byte
+separated delim choice value = delim
+
+abbrev pub with_separator : ℕ → GivenOption → ℕ
+with_separator delim option = separated delim option.choice option.value
+
+abbrev pub delimiter_in : List GivenOption → ℕ → ℕ
+delimiter_in [] delim = delim
+delimiter_in (option ∷ options) delim = delimiter_in options (with_separator delim option)
+
+abbrev pub ended : List ℕ → Choice → Meant → List ℕ
+ended ending choice.AdditionalSuffix (Text text) = text
+ended ending choice value = ending
+
+abbrev pub with_ending : List ℕ → GivenOption → List ℕ
+with_ending ending option = ended ending option.choice option.value
+
+abbrev pub ending_in : List GivenOption → List ℕ → List ℕ
+ending_in [] ending = ending
+ending_in (option ∷ options) ending = ending_in options (with_ending ending option)
 
 -- the way to split; files have 1,000 lines where none is given
 abbrev pub way_of : Option Cut → Cut
@@ -109,8 +136,9 @@ files_in (input ∷ []) = Ok (input.text, codes "x")
 files_in (input ∷ prefix ∷ []) = Ok (input.text, prefix.text)
 files_in (input ∷ prefix ∷ extra ∷ more) = Err (Usage ExtraOperand extra.word)
 
-abbrev pub asked_of : SplitOptions → Suffix → (List ℕ × List ℕ) → SplitAsked
-asked_of asked suffix files = record {
+-- without an option lines end with the newline, and names with nothing after the suffix
+abbrev pub asked_of : List GivenOption → SplitOptions → Suffix → (List ℕ × List ℕ) → SplitAsked
+asked_of options asked suffix files = record {
   cut = way_of asked.cut;
   alphabet = asked.alphabet;
   width = suffix.width;
@@ -118,6 +146,8 @@ asked_of asked suffix files = record {
   elide = asked.elide;
   input = files.0;
   prefix = files.1;
+  ending = ending_in options [];
+  delim = delimiter_in options 10;
 }
 
 -- the line as a whole: first its ways to split, then the suffixes, then the operands
@@ -126,7 +156,7 @@ split_asked given =
     then_check (split_options given.options no_options) (λ asked.
     then_check (suffix_for (way_of asked.cut) asked.alphabet asked.width) (λ suffix.
     then_check (files_in given.operands) (λ files.
-    Ok (asked_of asked suffix files))))
+    Ok (asked_of given.options asked suffix files))))
 
 -- A file has at least one line or byte, and lines are dealt to 1 to 65,535 files; a suffix has 1 to 255 characters.
 

@@ -1,14 +1,14 @@
 -- The tools and their options, as their manuals list them: POSIX.1-2017, XCU head, tail and split; GNU coreutils manual, for `-q`,
--- `-v` and the `-c` of `head`, the `-C`, `-n`, `-d`, `-x` and `-e` of `split`, and the long names.
+-- `-v`, `-z` and the `-c` of `head`, the `-C`, `-n`, `-d`, `-x`, `-e`, `-t` and `--additional-suffix` of `split`, and the long names.
 use Rattle.std.specs.Prelude.{ℕ, Bool, true, false, List, [], ◌∷◌, map, codes, Option, Some, None, if◌then◌else◌}
 use Rattle.std.specs.Borrow.{Bor}
 use Rattle.std.specs.Str.{bytes_eq}
 use Rattle.ports_core.specs.declared.tool.Tool.{Tool}
 use Rattle.ports_core.specs.declared.tool.Tool.TheVariants.{Head, Tail, Split}
 use Rattle.words_core.specs.declared.table.Choice.{Choice}
-use Rattle.words_core.specs.declared.table.Choice.TheVariants.{Lines, Bytes, LineBytes, Files, Quiet, Verbose, SuffixLength, NumericSuffixes, HexSuffixes, ElideEmptyFiles}
+use Rattle.words_core.specs.declared.table.Choice.TheVariants.{Lines, Bytes, LineBytes, Files, Quiet, Verbose, SuffixLength, NumericSuffixes, HexSuffixes, ElideEmptyFiles, ZeroTerminated, Separator, AdditionalSuffix}
 use Rattle.words_core.specs.declared.table.Kind.{Kind}
-use Rattle.words_core.specs.declared.table.Kind.TheVariants.{Count, Size, Round, Width}
+use Rattle.words_core.specs.declared.table.Kind.TheVariants.{Count, Size, Round, Width, Byte, Ending}
 use Rattle.words_core.specs.declared.table.Takes.{Takes}
 use Rattle.words_core.specs.declared.table.Takes.TheVariants.{Nothing, Value}
 
@@ -38,6 +38,7 @@ ends_table =
     ∷ option (codes "-c" ∷ codes "--bytes" ∷ []) Bytes (Value Count)
     ∷ option (codes "-q" ∷ codes "--quiet" ∷ codes "--silent" ∷ []) Quiet Nothing
     ∷ option (codes "-v" ∷ codes "--verbose" ∷ []) Verbose Nothing
+    ∷ option (codes "-z" ∷ codes "--zero-terminated" ∷ []) ZeroTerminated Nothing
     ∷ []
 
 -- the options of `split`
@@ -51,6 +52,8 @@ split_table =
     ∷ option (codes "-d" ∷ codes "--numeric-suffixes" ∷ []) NumericSuffixes Nothing
     ∷ option (codes "-x" ∷ codes "--hex-suffixes" ∷ []) HexSuffixes Nothing
     ∷ option (codes "-e" ∷ codes "--elide-empty-files" ∷ []) ElideEmptyFiles Nothing
+    ∷ option (codes "-t" ∷ codes "--separator" ∷ []) Separator (Value Byte)
+    ∷ option (codes "--additional-suffix" ∷ []) AdditionalSuffix (Value Ending)
     ∷ []
 
 -- the tools; a hyphen and digits as the first word count lines

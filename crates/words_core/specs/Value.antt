@@ -1,12 +1,13 @@
 -- What the value of an option says, or what is wrong with it, by its kind. A value that isn't of its form is told before one that
 -- is too large, and that before 0.
 use Rattle.std.specs.Prelude.{ℕ, ◌==◌, nat_le, List, [], ◌∷◌, Result, Ok, Err, if◌then◌else◌}
+use Rattle.std.specs.List.{list_any}
 use Rattle.seg_core.specs.Count.{count_of, digits_of}
 use Rattle.seg_core.specs.declared.count.Count.{Count}
 use Rattle.seg_core.specs.declared.count.CountFault.{CountFault}
 use Rattle.seg_core.specs.declared.count.CountFault.TheVariants.{NoDigits, Suffix, TooLarge}
 use Rattle.ports_core.specs.declared.fault.UsageKind.{UsageKind}
-use Rattle.ports_core.specs.declared.fault.UsageKind.TheVariants.{BadNumber, NumberTooLarge, Zero}
+use Rattle.ports_core.specs.declared.fault.UsageKind.TheVariants.{BadNumber, NumberTooLarge, Zero, BadSeparator, BadSuffix}
 use Rattle.words_core.specs.declared.table.Kind.{Kind}
 use Rattle.words_core.specs.declared.table.Kind.TheVariants as kind
 use Rattle.words_core.specs.declared.value.Value.{Value}
@@ -20,6 +21,7 @@ pub data Meant : Type 0 where
   Files : ℕ → Meant
   Width : ℕ → Meant
   Text : List ℕ → Meant
+  Byte : ℕ → Meant
 
 abbrev pub seen : Value → Meant
 seen value.Nothing = Nothing
@@ -28,6 +30,7 @@ seen (value.Size size) = Size size
 seen (value.Files files) = Files files
 seen (value.Width width) = Width width
 seen (value.Text text) = Text text.now
+seen (value.Byte byte) = Byte byte
 
 abbrev pub seen_in : Result Value UsageKind → Result Meant UsageKind
 seen_in (Ok value) = Ok (seen value)
@@ -74,6 +77,20 @@ round_in (byte ∷ next ∷ digits) =
     then (if next == 47 then some (up_to 65535 (digits_of digits)) else Err BadNumber)
     else Err BadNumber
 
+-- the byte that lines end with: one byte, or `\0` (92, 48) for byte 0
+abbrev pub byte_in : List ℕ → Result ℕ UsageKind
+byte_in [] = Err BadSeparator
+byte_in (byte ∷ []) = Ok byte
+byte_in (byte ∷ next ∷ []) =
+    if byte == 92
+    then (if next == 48 then Ok 0 else Err BadSeparator)
+    else Err BadSeparator
+byte_in (byte ∷ next ∷ more ∷ text) = Err BadSeparator
+
+-- the ending of names: a text without `/` (47)
+abbrev pub ending_in : List ℕ → Result (List ℕ) UsageKind
+ending_in text = if list_any (λ byte. byte == 47) text then Err BadSuffix else Ok text
+
 -- a value that was read, or what is wrong with it
 abbrev pub as_value : {A : Type 0} → (A → Meant) → Result A UsageKind → Result Meant UsageKind
 as_value make (Ok value) = Ok (make value)
@@ -86,3 +103,5 @@ value_in kind.Size text = as_value (λ size. Size size) (size_in text)
 value_in kind.Round text = as_value (λ files. Files files) (round_in text)
 value_in kind.Width text = as_value (λ width. Width width) (up_to 255 (digits_of text))
 value_in kind.Text text = Ok (Text text)
+value_in kind.Byte text = as_value (λ byte. Byte byte) (byte_in text)
+value_in kind.Ending text = as_value (λ ending. Text ending) (ending_in text)

@@ -1,18 +1,19 @@
-//! What `head` and `tail` are asked for: POSIX.1-2017, XCU head and tail; `-q`, `-v` and several files for `tail` are
-//! GNU's.
+//! What `head` and `tail` are asked for: POSIX.1-2017, XCU head and tail; `-q`, `-v`, `-z` and several files for `tail`
+//! are GNU's.
 ghost use Rattle.std.specs.Prelude.{◌≡◌, fold, map, IfOk, IfErr};
 ghost use Rattle.words_core.specs.EndsWords.{counted, ends_after, ends_asked, names_asked, ten_lines};
 ghost use Rattle.words_core.specs.Given.{operand_seen, option_seen};
 ghost use Rattle.words_core.specs.Spelling.{Reads};
 ghost use Rattle.words_core.specs.Value.{seen};
 
-use crate::settings::{EndsSettings, Headers, STANDARD_INPUT};
+use crate::settings::{EndsSettings, Headers};
 use crate::spelled::{Chosen, Operand, Spelled};
 use crate::table::Choice;
 use crate::value::Value;
 use ends_core::Unit;
-use ports_core::Fault;
+use ports_core::{Fault, STANDARD_INPUT};
 use seg_core::count::{Count, Sign};
+use seg_core::line::NEWLINE;
 use std::alloc::Global;
 
 /// What the options of `head` or `tail` ask for.
@@ -24,6 +25,8 @@ pub struct EndsOptions {
     pub count: Count,
     /// When a header goes before an input.
     pub headers: Headers,
+    /// The byte that lines end with.
+    pub delim: u8,
 }
 
 /// What is asked for without options.
@@ -34,6 +37,7 @@ const TEN_LINES: EndsOptions = EndsOptions {
         amount: 10,
     },
     headers: Headers::ForSeveral,
+    delim: NEWLINE,
 };
 
 impl EndsOptions {
@@ -52,6 +56,7 @@ impl EndsOptions {
                 headers: Headers::Always,
                 ..self
             },
+            Choice::ZeroTerminated => EndsOptions { delim: 0, ..self },
             _ => self,
         }
     }
@@ -80,15 +85,13 @@ pub fn settle_ends<'a>(alloc: Global, spelled: &Spelled<'a>) -> Result<EndsSetti
     ensures err { IfErr result (λ fault. fault ≡ Fault.Memory) }
 {
     let options = choose_ends(&spelled.options);
-    match names_of(alloc, &spelled.operands) {
-        Ok(names) => Ok(EndsSettings {
-            unit: options.unit,
-            count: options.count,
-            headers: options.headers,
-            names,
-        }),
-        Err(fault) => Err(fault),
-    }
+    Ok(EndsSettings {
+        unit: options.unit,
+        count: options.count,
+        headers: options.headers,
+        delim: options.delim,
+        names: names_of(alloc, &spelled.operands)?,
+    })
 }
 
 /// What all options ask for: the last of those for counts, and the last of those for headers.
@@ -112,16 +115,11 @@ fn names_of<'a>(alloc: Global, operands: &[Operand<'a>]) -> Result<Vec<&'a str>,
     let mut names = Vec::new(alloc);
     let mut left = operands;
     while let [operand, rest @ ..] = left {
-        match names.push(operand.text) {
-            Ok(()) => left = rest,
-            Err(_) => return Err(Fault::Memory),
-        }
+        names.push(operand.text)?;
+        left = rest;
     }
     if operands.is_empty() {
-        match names.push(STANDARD_INPUT) {
-            Ok(()) => {}
-            Err(_) => return Err(Fault::Memory),
-        }
+        names.push(STANDARD_INPUT)?;
     }
     Ok(names)
 }

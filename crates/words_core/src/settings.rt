@@ -9,9 +9,6 @@ use seg_core::count::Count;
 use split_core::Cut;
 use std::marker::Model;
 
-/// The name that stands for standard input.
-pub const STANDARD_INPUT: &str = "-";
-
 /// What a list of words asks for. Names are the words themselves.
 #[derive(Drop)]
 pub enum Settings<'a> {
@@ -32,6 +29,8 @@ pub struct EndsSettings<'a> {
     pub count: Count,
     /// When a header goes before an input.
     pub headers: Headers,
+    /// The byte that lines end with.
+    pub delim: u8,
     /// The names of the inputs, at least one; `-` is standard input.
     pub names: Vec<&'a str>,
 }
@@ -39,7 +38,7 @@ pub struct EndsSettings<'a> {
 impl<'a> Model for EndsSettings<'a> {
     ghost Value = { EndsAsked };
 
-    ghost view = { λ s. record { unit = s.unit; count = s.count; headers = s.headers; names = map (λ name. name.now) s.names.items } };
+    ghost view = { λ s. record { unit = s.unit; count = s.count; headers = s.headers; delim = s.delim; names = map (λ name. name.now) s.names.items } };
 }
 
 /// When a header with its name goes before an input.
@@ -70,10 +69,14 @@ pub struct SplitSettings<'a> {
     pub input: &'a str,
     /// What the files' names begin with.
     pub prefix: &'a str,
+    /// What they end with; it has no `/`.
+    pub ending: &'a str,
+    /// The byte that lines end with.
+    pub delim: u8,
 }
 
 impl<'a> Model for SplitSettings<'a> {
     ghost Value = { SplitAsked };
 
-    ghost view = { λ s. record { cut = s.cut; alphabet = s.alphabet; width = s.width; auto = s.auto; elide = s.elide; input = s.input.now; prefix = s.prefix.now } };
+    ghost view = { λ s. record { cut = s.cut; alphabet = s.alphabet; width = s.width; auto = s.auto; elide = s.elide; input = s.input.now; prefix = s.prefix.now; ending = s.ending.now; delim = s.delim } };
 }

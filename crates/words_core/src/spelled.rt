@@ -64,14 +64,12 @@ impl<'a> Spelled<'a> {
         ensures ok { IfOk result (λ _. self.new ≡ joined self.old (one_option choice (seen value.entry) word)) }
         ensures err { IfErr result (λ fault. fault ≡ Fault.Memory) }
     {
-        match self.options.push(Chosen {
+        let chosen = Chosen {
             choice,
             value,
             word,
-        }) {
-            Ok(()) => Ok(()),
-            Err(_) => Err(Fault::Memory),
-        }
+        };
+        Ok(self.options.push(chosen)?)
     }
 
     /// Adds an operand.
@@ -83,9 +81,6 @@ impl<'a> Spelled<'a> {
         ensures ok { IfOk result (λ _. self.new ≡ joined self.old (one_operand text.now word)) }
         ensures err { IfErr result (λ fault. fault ≡ Fault.Memory) }
     {
-        match self.operands.push(Operand { text, word }) {
-            Ok(()) => Ok(()),
-            Err(_) => Err(Fault::Memory),
-        }
+        Ok(self.operands.push(Operand { text, word })?)
     }
 }

@@ -83,10 +83,10 @@ fn read_word<'a>(
         State::Awaiting(choice, kind, option) => {
             read_option(choice, kind, option, place, word, spelled)
         }
-        State::OnlyOperands => match spelled.add_operand(word, place) {
-            Ok(()) => Ok(State::OnlyOperands),
-            Err(fault) => Err(fault),
-        },
+        State::OnlyOperands => {
+            spelled.add_operand(word, place)?;
+            Ok(State::OnlyOperands)
+        }
     }
 }
 
@@ -150,10 +150,8 @@ fn read_mixed<'a>(
 fn read_operand<'a>(place: usize, word: &'a str, spelled: &mut Spelled<'a>) -> Result<State, Fault>
     ensures { Adds (reading (one_operand word.now place)) spelled.old spelled.new result }
 {
-    match spelled.add_operand(word, place) {
-        Ok(()) => Ok(State::Reading),
-        Err(fault) => Err(fault),
-    }
+    spelled.add_operand(word, place)?;
+    Ok(State::Reading)
 }
 
 /// Reads a long option, with its value where it has one after `=`.
@@ -260,10 +258,10 @@ fn read_option<'a>(
     ensures { Adds (valued choice kind option place text.now) spelled.old spelled.new result }
 {
     match read_value(kind, text) {
-        Ok(value) => match spelled.add_option(choice, value, option) {
-            Ok(()) => Ok(State::Reading),
-            Err(fault) => Err(fault),
-        },
+        Ok(value) => {
+            spelled.add_option(choice, value, option)?;
+            Ok(State::Reading)
+        }
         Err(fault) => Err(Fault::Usage(fault, place)),
     }
 }
@@ -272,8 +270,6 @@ fn read_option<'a>(
 fn read_bare(choice: Choice, place: usize, spelled: &mut Spelled<'_>) -> Result<State, Fault>
     ensures { Adds (reading (bare choice place)) spelled.old spelled.new result }
 {
-    match spelled.add_option(choice, Value::Nothing, place) {
-        Ok(()) => Ok(State::Reading),
-        Err(fault) => Err(fault),
-    }
+    spelled.add_option(choice, Value::Nothing, place)?;
+    Ok(State::Reading)
 }

@@ -1,15 +1,17 @@
-//! What `split` is asked for: POSIX.1-2017, XCU split; `-C`, `-n`, `-d`, `-x` and `-e` are GNU's.
-ghost use Rattle.std.specs.Prelude.{◌≡◌, ℕ, ◌^◌, ◌<◌, ◌≤◌, map, None, IfOk, IfErr};
+//! What `split` is asked for: POSIX.1-2017, XCU split; `-C`, `-n`, `-d`, `-x`, `-e`, `-t` and
+//! `--additional-suffix` are GNU's.
+ghost use Rattle.std.specs.Prelude.{◌≡◌, ℕ, ◌^◌, ◌<◌, ◌≤◌, [], map, None, IfOk, IfErr};
 ghost use Rattle.ports_core.specs.Name.{name_count, radix};
 ghost use Rattle.words_core.specs.Given.{operand_seen, option_seen};
-ghost use Rattle.words_core.specs.SplitWords.{dealt, files_in, fixed, free, least_width, names_all, no_options, one_way, split_after, split_asked, split_options, suffix_for, way_in, with_width};
+ghost use Rattle.words_core.specs.SplitWords.{dealt, delimiter_in, ending_in, files_in, fixed, free, least_width, names_all, no_options, one_way, split_after, split_asked, split_options, suffix_for, way_in, with_ending, with_separator, with_width};
 ghost use Rattle.words_core.specs.Value.{seen};
 
-use crate::settings::{STANDARD_INPUT, SplitSettings};
+use crate::settings::SplitSettings;
 use crate::spelled::{Chosen, Operand, Spelled};
 use crate::table::Choice;
 use crate::value::Value;
-use ports_core::{Alphabet, Fault, UsageKind};
+use ports_core::{Alphabet, Fault, STANDARD_INPUT, UsageKind};
+use seg_core::line::NEWLINE;
 use split_core::Cut;
 
 /// How files are cut where no way is given.
@@ -65,7 +67,11 @@ impl SplitOptions {
                 elide: true,
                 ..self
             }),
-            Choice::Quiet | Choice::Verbose => Ok(self),
+            Choice::Quiet
+            | Choice::Verbose
+            | Choice::ZeroTerminated
+            | Choice::Separator
+            | Choice::AdditionalSuffix => Ok(self),
         }
     }
 
@@ -135,6 +141,8 @@ pub fn settle_split<'a>(spelled: &Spelled<'a>) -> Result<SplitSettings<'a>, Faul
         elide: options.elide,
         input,
         prefix,
+        ending: choose_ending(&spelled.options),
+        delim: choose_delimiter(&spelled.options),
     })
 }
 
@@ -153,6 +161,56 @@ fn choose_split(options: &[Chosen<'_>]) -> Result<SplitOptions, Fault>
         left = rest;
     }
     Ok(asked)
+}
+
+/// The byte that lines end with: the last separator, or the newline.
+fn choose_delimiter(options: &[Chosen<'_>]) -> u8
+    ensures { result ≡ delimiter_in (map option_seen options.now) 10 }
+{
+    let mut delim = NEWLINE;
+    let mut left = options;
+    while let [option, rest @ ..] = left {
+        delim = with_separator(delim, option);
+        left = rest;
+    }
+    delim
+}
+
+fn with_separator(delim: u8, option: &Chosen<'_>) -> u8
+    ensures { result ≡ with_separator delim (option_seen option.now) }
+{
+    match option.choice {
+        Choice::Separator => match option.value {
+            Value::Byte(byte) => byte,
+            _ => delim,
+        },
+        _ => delim,
+    }
+}
+
+/// What names end with: the last text that was given for it, or nothing.
+fn choose_ending<'a>(options: &[Chosen<'a>]) -> &'a str
+    ensures { result.now ≡ ending_in (map option_seen options.now) [] }
+{
+    let mut ending = "";
+    let mut left = options;
+    while let [option, rest @ ..] = left {
+        ending = with_ending(ending, option);
+        left = rest;
+    }
+    ending
+}
+
+fn with_ending<'a>(ending: &'a str, option: &Chosen<'a>) -> &'a str
+    ensures { result.now ≡ with_ending ending.now (option_seen option.now) }
+{
+    match option.choice {
+        Choice::AdditionalSuffix => match option.value {
+            Value::Text(text) => text,
+            _ => ending,
+        },
+        _ => ending,
+    }
 }
 
 /// The suffixes of files that are cut in this way, if this width is given; a width of 0 stands for

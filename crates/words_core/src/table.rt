@@ -1,5 +1,5 @@
-//! The tools and their options, as their manuals list them: POSIX.1-2017, XCU head, tail and split; `-q`, `-v`, the
-//! `-c` of `head`, the `-C`, `-n`, `-d`, `-x` and `-e` of `split` and the long names are GNU's.
+//! The tools and their options, as their manuals list them: POSIX.1-2017, XCU head, tail and split; `-q`, `-v`, `-z`, the
+//! `-c` of `head`, the `-C`, `-n`, `-d`, `-x`, `-e`, `-t` and `--additional-suffix` of `split` and the long names are GNU's.
 ghost use Rattle.std.specs.Prelude.{◌≡◌, map, option_map};
 ghost use Rattle.words_core.specs.Table.{is_among, option_named, row_named, row_seen, tool_seen, tools};
 
@@ -28,6 +28,12 @@ pub enum Choice {
     HexSuffixes,
     /// No empty files.
     ElideEmptyFiles,
+    /// Lines that end with byte 0.
+    ZeroTerminated,
+    /// The byte that lines end with.
+    Separator,
+    /// The ending of names.
+    AdditionalSuffix,
 }
 
 /// What the value of an option says.
@@ -43,6 +49,10 @@ pub enum Kind {
     Width,
     /// Any text.
     Text,
+    /// One byte, or the two bytes `\0`, which stand for byte 0.
+    Byte,
+    /// A text without `/`.
+    Ending,
 }
 
 /// Whether an option takes a value.
@@ -77,6 +87,11 @@ const ENDS: &[OptionRow] = &[
         Takes::Nothing,
     ),
     (&["-v", "--verbose"], Choice::Verbose, Takes::Nothing),
+    (
+        &["-z", "--zero-terminated"],
+        Choice::ZeroTerminated,
+        Takes::Nothing,
+    ),
 ];
 
 /// The options of `split`.
@@ -112,6 +127,16 @@ const SPLIT: &[OptionRow] = &[
         &["-e", "--elide-empty-files"],
         Choice::ElideEmptyFiles,
         Takes::Nothing,
+    ),
+    (
+        &["-t", "--separator"],
+        Choice::Separator,
+        Takes::Value(Kind::Byte),
+    ),
+    (
+        &["--additional-suffix"],
+        Choice::AdditionalSuffix,
+        Takes::Value(Kind::Ending),
     ),
 ];
 

@@ -1,8 +1,8 @@
 //! What the value of an option says (POSIX.1-2017, XBD 12.1; XCU head, tail and split; the suffixes of counts are
 //! GNU's).
-ghost use Rattle.std.specs.Prelude.{◌≡◌, ◌≤◌, IfOk};
+ghost use Rattle.std.specs.Prelude.{◌≡◌, ◌≤◌, Ok, Err, IfOk, IfErr};
 ghost use Rattle.seg_core.specs.Count.{count_of, digits_of};
-ghost use Rattle.words_core.specs.Value.{counted, not_zero, number_fault, round_in, seen_in, size_in, up_to, value_in};
+ghost use Rattle.words_core.specs.Value.{byte_in, counted, ending_in, not_zero, number_fault, round_in, seen_in, size_in, up_to, value_in};
 
 use crate::table::Kind;
 use ports_core::UsageKind;
@@ -24,6 +24,8 @@ pub enum Value<'a> {
     Width(u8),
     /// A text.
     Text(&'a str),
+    /// A byte.
+    Byte(u8),
 }
 
 /// The greatest number of files that lines are dealt to.
@@ -36,7 +38,8 @@ const WIDEST: u64 = 255;
 ///
 /// # Errors
 ///
-/// What is wrong with the value: it isn't of its kind's form, or else its number is too large, or else it is 0.
+/// What is wrong with the value: it isn't of its kind's form, or else its number is too large, or else it is 0. A byte or an ending
+/// that isn't of its form has a fault of its own.
 pub fn read_value(kind: Kind, text: &str) -> Result<Value<'_>, UsageKind>
     ensures { seen_in result ≡ value_in kind text.now }
 {
@@ -47,6 +50,8 @@ pub fn read_value(kind: Kind, text: &str) -> Result<Value<'_>, UsageKind>
         Kind::Round => Ok(Value::Files(read_round(bytes)?)),
         Kind::Width => Ok(Value::Width(read_number(bytes, WIDEST)? as u8)),
         Kind::Text => Ok(Value::Text(text)),
+        Kind::Byte => Ok(Value::Byte(read_byte(bytes)?)),
+        Kind::Ending => Ok(Value::Text(read_ending(text)?)),
     }
 }
 
@@ -66,10 +71,7 @@ fn read_size(text: &[u8]) -> Result<u64, UsageKind>
 {
     match text {
         [b'-', ..] => Err(UsageKind::BadNumber),
-        _ => match read_amount(text) {
-            Ok(count) => not_zero(count.amount),
-            Err(fault) => Err(fault),
-        },
+        _ => not_zero(read_amount(text)?.amount),
     }
 }
 
@@ -78,10 +80,7 @@ fn read_round(text: &[u8]) -> Result<u64, UsageKind>
     ensures { result ≡ round_in text.now }
 {
     match text {
-        [b'r', b'/', digits @ ..] => match read_number(digits, MOST_FILES) {
-            Ok(files) => not_zero(files),
-            Err(fault) => Err(fault),
-        },
+        [b'r', b'/', digits @ ..] => not_zero(read_number(digits, MOST_FILES)?),
         _ => Err(UsageKind::BadNumber),
     }
 }
@@ -96,6 +95,28 @@ fn read_number(text: &[u8], limit: u64) -> Result<u64, UsageKind>
         Ok(_) => Err(UsageKind::NumberTooLarge),
         Err(fault) => Err(number_fault(fault)),
     }
+}
+
+/// Reads one byte, or the two bytes `\0`, which stand for byte 0.
+fn read_byte(text: &[u8]) -> Result<u8, UsageKind>
+    ensures { result ≡ byte_in text.now }
+{
+    match text {
+        [byte] => Ok(*byte),
+        [b'\\', b'0'] => Ok(0),
+        _ => Err(UsageKind::BadSeparator),
+    }
+}
+
+/// Reads the ending of names: a text without `/`.
+fn read_ending(text: &str) -> Result<&str, UsageKind>
+    ensures ok { IfOk result (λ ending. ending_in text.now ≡ Ok ending.now) }
+    ensures err { IfErr result (λ fault. ending_in text.now ≡ Err fault) }
+{
+    if text.as_bytes().contains(&b'/') {
+        return Err(UsageKind::BadSuffix);
+    }
+    Ok(text)
 }
 
 fn not_zero(number: u64) -> Result<u64, UsageKind>

@@ -29,10 +29,8 @@ pub fn read_words<'a>(alloc: Global, words: &[&'a str]) -> Result<Settings<'a>, 
     let Some(row) = find_row(all_tools(), name) else {
         return Err(Fault::Usage(UsageKind::UnknownTool, 0));
     };
-    match read_given(alloc, row, words) {
-        Ok(spelled) => settle(alloc, row.1, &spelled),
-        Err(fault) => Err(fault),
-    }
+    let spelled = read_given(alloc, row, words)?;
+    settle(alloc, row.1, &spelled)
 }
 
 /// The tool of this name.
@@ -50,18 +48,9 @@ fn settle<'a>(alloc: Global, tool: Tool, spelled: &Spelled<'a>) -> Result<Settin
     ensures { Reads (settings_for tool spelled.now) result }
 {
     match tool {
-        Tool::Head => match settle_ends(alloc, spelled) {
-            Ok(settings) => Ok(Settings::Head(settings)),
-            Err(fault) => Err(fault),
-        },
-        Tool::Tail => match settle_ends(alloc, spelled) {
-            Ok(settings) => Ok(Settings::Tail(settings)),
-            Err(fault) => Err(fault),
-        },
-        Tool::Split => match settle_split(spelled) {
-            Ok(settings) => Ok(Settings::Split(settings)),
-            Err(fault) => Err(fault),
-        },
+        Tool::Head => Ok(Settings::Head(settle_ends(alloc, spelled)?)),
+        Tool::Tail => Ok(Settings::Tail(settle_ends(alloc, spelled)?)),
+        Tool::Split => Ok(Settings::Split(settle_split(spelled)?)),
         Tool::Csplit | Tool::Tee | Tool::Cutters => Err(Fault::Usage(UsageKind::UnknownTool, 0)),
     }
 }

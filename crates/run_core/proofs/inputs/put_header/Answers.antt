@@ -1,9 +1,10 @@
 use Rattle.std.proofs.Common.{◌∙◌, sym}
+use Rattle.ports_core.proofs.HandedOn.{fault_is, of_write}
 use Rattle.run_core.proofs.InputLemmas.{no_header, broken_header, header_some}
 use Rattle.run_core.proofs.inputs.put_header.Goals as goal
 
-pub returns-in-Err-clause-err : goal.returns-in-Err-clause-err
-returns-in-Err-clause-err g c = no_header _ _ _ c.in-Err.fault c.in-Err.ensures.err
+pub returns-in_err-text-clause-err : goal.returns-in_err-text-clause-err
+returns-in_err-text-clause-err g c = fault_is _ _ _ c.from_residual.ensures.1 (no_header _ _ _ c.in_err-text.field-0.0 c.in_err-text.ensures.err)
 
-pub returns-clause-err : goal.returns-clause-err
-returns-clause-err g c = broken_header _ _ _ _ _ c.in-Err-write_whole.field-0.written (c.deref.ensures.value ∙ c.in-Ok.ensures.ok ∙ header_some _ _ _ (sym c.with_header.ensures ∙ c.if-not-with_header.false)) c.in-Err-write_whole.ensures.cut
+pub returns-in_err-write_whole-clause-err : goal.returns-in_err-write_whole-clause-err
+returns-in_err-write_whole-clause-err g c = fault_is _ _ _ (of_write _ _ _ c.from_residual-in_err-write_whole.ensures.1 c.in_err-write_whole.ensures.slot) (broken_header _ _ _ _ _ c.in_err-write_whole.field-0.0.written (c.deref.ensures.value ∙ c.in_ok-text.ensures.ok ∙ header_some _ _ _ (sym c.with_header.ensures ∙ c.if-not-with_header.false)) c.in_err-write_whole.ensures.cut)

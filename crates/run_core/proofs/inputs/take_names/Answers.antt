@@ -1,4 +1,5 @@
 use Rattle.std.proofs.Common.{◌∙◌}
+use Rattle.ports_core.proofs.HandedOn.{handed_on}
 use Rattle.run_core.proofs.NamesLemmas.{walk_begins, walk_streams, walk_readable, walk_goes_on_at, walk_stops_at, walk_ends, walk_counts, walk_within_at, asks_on_at, untouched_at_first, untouched_on, untouched_by, none_left, some_left}
 use Rattle.run_core.proofs.inputs.take_names.Goals as goal
 
@@ -18,13 +19,13 @@ take_name-requires-clause-standard g c = walk_readable _ _ _ _ _ _ _ _ _ _ c.loo
 pub take_name-requires-clause-outputs : goal.take_name-requires-clause-outputs
 take_name-requires-clause-outputs g c = walk_streams _ _ _ _ _ _ _ _ _ _ (some_left c.loop-left.left.now c.in-len1-up.len_at_least) c.loop-left.invariant.walked
 
-pub returns-in-Err-clause-took : goal.returns-in-Err-clause-took
-returns-in-Err-clause-took g c =
-    walk_stops_at _ _ _ _ _ _ _ c.loop-left.left.now c.loop-left.progress _ _ _ _ _ c.in-Err.fault c.loop-left.invariant.room c.in-len1-up.len_at_least c.loop-left.invariant.walked c.in-Err.ensures.took c.take_name.ensures.takes
+pub returns-in_err-progress-clause-took : goal.returns-in_err-progress-clause-took
+returns-in_err-progress-clause-took g c =
+    rw (handed_on _ _ c.from_residual.ensures.1) (walk_stops_at _ _ _ _ _ _ _ c.loop-left.left.now c.loop-left.progress _ _ _ _ _ c.in_err-progress.field-0.0 c.loop-left.invariant.room c.in-len1-up.len_at_least c.loop-left.invariant.walked c.in_err-progress.ensures.took c.take_name.ensures.takes)
 
 pub loop-left-preserved : goal.loop-left-preserved
 loop-left-preserved g c = record {
-  walked = walk_goes_on_at _ _ _ _ _ _ _ c.loop-left.left.now c.loop-left.progress c.in-Ok.next _ _ _ _ _ _ c.loop-left.invariant.room c.in-len1-up.len_at_least c.loop-left.invariant.walked c.in-Ok.ensures.took c.take_name.ensures.takes c.in-Ok.ensures.opens c.in-Ok.ensures.laid;
+  walked = walk_goes_on_at _ _ _ _ _ _ _ c.loop-left.left.now c.loop-left.progress c.in_ok-progress.progress _ _ _ _ _ _ c.loop-left.invariant.room c.in-len1-up.len_at_least c.loop-left.invariant.walked c.in_ok-progress.ensures.took c.take_name.ensures.takes c.in_ok-progress.ensures.opens c.in_ok-progress.ensures.laid;
   untouched = untouched_on _ _ c.loop-left.left.now _ _ _ c.in-len1-up.len_at_least c.loop-left.invariant.untouched c.take_name.ensures.takes.unasked;
   room = c.take_name.auto.buffer ∙ c.loop-left.invariant.room;
 }
@@ -32,17 +33,17 @@ loop-left-preserved g c = record {
 pub returns-clause-took : goal.returns-clause-took
 returns-clause-took g c = walk_ends _ _ _ _ _ _ _ _ _ _ (none_left c.loop-left.left.now c.in_default.len_below) c.loop-left.invariant.walked
 
-pub returns-in-Err-clause-untouched : goal.returns-in-Err-clause-untouched
-returns-in-Err-clause-untouched g c = untouched_by _ _ c.loop-left.left.now (g.I.Inputs.sources c.args.inputs.now) (g.I.Inputs.sources c.loop-left.inputs) (g.I.Inputs.sources c.take_name.new.inputs) c.in-len1-up.len_at_least c.loop-left.invariant.untouched c.take_name.ensures.takes.unasked
+pub returns-in_err-progress-clause-untouched : goal.returns-in_err-progress-clause-untouched
+returns-in_err-progress-clause-untouched g c = untouched_by _ _ c.loop-left.left.now (g.I.Inputs.sources c.args.inputs.now) (g.I.Inputs.sources c.loop-left.inputs) (g.I.Inputs.sources c.take_name.new.inputs) c.in-len1-up.len_at_least c.loop-left.invariant.untouched c.take_name.ensures.takes.unasked
 
 pub returns-clause-untouched : goal.returns-clause-untouched
 returns-clause-untouched g c = c.loop-left.invariant.untouched.same
 
-pub returns-in-Err-clause-opened : goal.returns-in-Err-clause-opened
-returns-in-Err-clause-opened g c = walk_within_at _ _ _ _ _ _ _ c.loop-left.left.now c.loop-left.progress _ _ _ _ c.loop-left.invariant.room c.in-len1-up.len_at_least c.loop-left.invariant.walked c.take_name.ensures.takes
+pub returns-in_err-progress-clause-opened : goal.returns-in_err-progress-clause-opened
+returns-in_err-progress-clause-opened g c = walk_within_at _ _ _ _ _ _ _ c.loop-left.left.now c.loop-left.progress _ _ _ _ c.loop-left.invariant.room c.in-len1-up.len_at_least c.loop-left.invariant.walked c.take_name.ensures.takes
 
-pub returns-in-Err-clause-asked : goal.returns-in-Err-clause-asked
-returns-in-Err-clause-asked g c = asks_on_at _ _ _ _ _ c.loop-left.invariant.room c.loop-left.invariant.walked.asked c.take_name.ensures.takes
+pub returns-in_err-progress-clause-asked : goal.returns-in_err-progress-clause-asked
+returns-in_err-progress-clause-asked g c = asks_on_at _ _ _ _ _ c.loop-left.invariant.room c.loop-left.invariant.walked.asked c.take_name.ensures.takes
 
 pub returns-clause-opened : goal.returns-clause-opened
 returns-clause-opened g c = walk_counts _ _ _ _ _ _ _ _ _ _ (none_left c.loop-left.left.now c.in_default.len_below) c.loop-left.invariant.walked

@@ -3,8 +3,8 @@ use Rattle.std.specs.Simd.Lanes.{Each1, zip2}
 use Rattle.std.proofs.lemmas.List.{take_rest, length-drop}
 use Rattle.std.proofs.lemmas.Simd.{Each1-replicate, sum-zip2}
 use Rattle.seg_core.specs.declared.line.TheConstants.{STEP}
-use Rattle.seg_core.specs.Line.{newlines}
-use Rattle.seg_core.proofs.Newlines.{newlines-take-drop, newlines-le-length}
+use Rattle.seg_core.specs.Line.{delimiters}
+use Rattle.seg_core.proofs.Delimiters.{delimiters-take-drop, delimiters-le-length}
 use Rattle.seg_core.proofs.Lanes.{IsFew, more_fit, more_few}
 use Rattle.seg_core.proofs.line.count_in_run.Goals as goal
 
@@ -15,7 +15,7 @@ loop-left-init c = record {
 }
 
 pub overflow_add-lanes : goal.overflow_add-lanes
-overflow_add-lanes c = more_fit c.loop-left.lanes c.newlines_in_step-lanes.result (length c.loop-left.left.now) c.loop-left-test.true c.loop-left.invariant.few c.newlines_in_step-lanes.ensures.each
+overflow_add-lanes c = more_fit c.loop-left.lanes c.delimiters_in_step-lanes.result (length c.loop-left.left.now) c.loop-left-test.true c.loop-left.invariant.few c.delimiters_in_step-lanes.ensures.each
 
 pub loop-left-smaller : goal.loop-left-smaller
 loop-left-smaller c = omega (arith, c.loop-left-test.true, ap length (take_rest c.loop-left.left.now STEP), length-drop STEP c.loop-left.left.now)
@@ -24,16 +24,16 @@ pub loop-left-preserved : goal.loop-left-preserved
 loop-left-preserved c =
     let left = c.loop-left.left.now in
     let lanes = c.loop-left.lanes in
-    let step = c.newlines_in_step-lanes.result in
+    let step = c.delimiters_in_step-lanes.result in
     let so_far = c.loop-left.invariant.counted in
-    let here = c.newlines_in_step-lanes.ensures.sum in
-    let added = sum-zip2 lanes step (c.loop-left.auto.lanes.0 ∙ sym c.newlines_in_step-lanes.ensures.long) in
-    let split = newlines-take-drop STEP left in
-    let rest = ap newlines (take_rest left STEP) in
+    let here = c.delimiters_in_step-lanes.ensures.sum in
+    let added = sum-zip2 lanes step (c.loop-left.auto.lanes.0 ∙ sym c.delimiters_in_step-lanes.ensures.long) in
+    let split = delimiters-take-drop c.args.delim STEP left in
+    let rest = ap (delimiters c.args.delim) (take_rest left STEP) in
     let shorter = ap length (take_rest left STEP) ∙ length-drop STEP left in
     record {
       counted = omega arith;
-      few = subst (λ n. Each1 (IsFew n) (zip2 (λ a b. a + b) lanes step)) (sym shorter) (more_few lanes step (length left) c.loop-left-test.true c.loop-left.invariant.few c.newlines_in_step-lanes.ensures.each);
+      few = subst (λ n. Each1 (IsFew n) (zip2 (λ a b. a + b) lanes step)) (sym shorter) (more_few lanes step (length left) c.loop-left-test.true c.loop-left.invariant.few c.delimiters_in_step-lanes.ensures.each);
     }
 
 pub overflow_add-result : goal.overflow_add-result
@@ -41,7 +41,7 @@ overflow_add-result c =
     let all = c.loop-left.invariant.counted in
     let lanes = c.sum_of.ensures in
     let rest = c.count_one_by_one.ensures in
-    let few = newlines-le-length c.args.run.now in
+    let few = delimiters-le-length c.args.delim c.args.run.now in
     let short = c.requires in
     record { fits = omega arith }
 

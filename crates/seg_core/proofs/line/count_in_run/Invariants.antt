@@ -1,12 +1,12 @@
 use Rattle.std.proofs.Common.{◌≡◌, ◌+◌, length}
 use Rattle.std.specs.Simd.Lanes.{Each1, sum_l}
-use Rattle.seg_core.specs.Line.{newlines}
+use Rattle.seg_core.specs.Line.{delimiters}
 use Rattle.seg_core.proofs.Lanes.{IsFew}
 use Rattle.seg_core.proofs.line.count_in_run.Given as goal
 
 abbrev pub invariant-loop-left : goal.invariant-loop-left
 invariant-loop-left l = record {
-  counted : sum_l l.lanes + newlines l.left ≡ newlines l.run;
+  counted : sum_l l.lanes + delimiters l.delim l.left ≡ delimiters l.delim l.run;
   few : Each1 (IsFew (length l.left)) l.lanes;
 }
 

@@ -1,23 +1,33 @@
 use Rattle.std.proofs.Common.{◌+◌, ◌∙◌, ap, arith}
-use Rattle.seg_core.specs.Line.{joined}
-use Rattle.seg_core.proofs.Newlines.{newlines-le-length, newlines-take-le}
-use Rattle.seg_core.proofs.BlockLemmas.{rest_goes, rest_counted}
+use Rattle.seg_core.specs.Blocks.{text_of}
+use Rattle.seg_core.proofs.Delimiters.{delimiters-le-length, delimiters-take-le}
+use Rattle.seg_core.proofs.BlockLemmas.{all_counted, rest_goes, rest_counted, rest_have_counts}
 use Rattle.seg_core.proofs.line_blocks.drop_front.Goals as goal
 
-pub returns-clause-left : goal.returns-clause-left
-returns-clause-left c = c.drop_within.ensures.left ∙ rest_goes c.args.n (joined c.args.queue.now.items) _ _ _ c.drop_whole-left.ensures.gone
+pub drop_whole-left-requires : goal.drop_whole-left-requires
+drop_whole-left-requires c =
+    let items = c.args.queue.now.items in
+    let few = delimiters-le-length c.args.delim (text_of items) in
+    let fits = c.requires.fits in
+    omega (arith, all_counted c.args.delim items c.requires.each)
 
-pub returns-clause-newlines : goal.returns-clause-newlines
-returns-clause-newlines c =
-    ap (λ k. c.drop_whole-left.result.newlines + k) c.drop_within.ensures.newlines
-    ∙ rest_counted c.args.n (joined c.args.queue.now.items) _ _ _ c.drop_whole-left.ensures.gone
+pub drop_within-requires-clause-each : goal.drop_within-requires-clause-each
+drop_within-requires-clause-each c = rest_have_counts c.args.delim c.args.n c.args.queue.now.items _ _ _ c.drop_whole-left.ensures.gone c.requires.each
+
+pub returns-clause-left : goal.returns-clause-left
+returns-clause-left c = c.drop_within.ensures.left ∙ rest_goes c.args.n c.args.queue.now.items _ _ _ c.drop_whole-left.ensures.gone
+
+pub returns-clause-delimiters : goal.returns-clause-delimiters
+returns-clause-delimiters c =
+    ap (λ k. c.drop_whole-left.result.delimiters + k) c.drop_within.ensures.delimiters
+    ∙ rest_counted c.args.delim c.args.n c.args.queue.now.items _ _ _ c.drop_whole-left.ensures.gone c.requires.each
 
 pub overflow_add-result : goal.overflow_add-result
 overflow_add-result c =
-    let text = joined c.args.queue.now.items in
-    let all = rest_counted c.args.n text _ _ _ c.drop_whole-left.ensures.gone in
-    let this = c.drop_within.ensures.newlines in
-    let part = newlines-take-le c.args.n text in
-    let few = newlines-le-length text in
+    let text = text_of c.args.queue.now.items in
+    let all = rest_counted c.args.delim c.args.n c.args.queue.now.items _ _ _ c.drop_whole-left.ensures.gone c.requires.each in
+    let this = c.drop_within.ensures.delimiters in
+    let part = delimiters-take-le c.args.delim c.args.n text in
+    let few = delimiters-le-length c.args.delim text in
     let fits = c.requires.fits in
     omega arith

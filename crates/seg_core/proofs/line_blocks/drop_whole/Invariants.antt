@@ -1,10 +1,9 @@
 use Rattle.std.proofs.Common.{length}
-use Rattle.seg_core.specs.Line.{joined}
 use Rattle.seg_core.specs.Blocks.{Gone}
 use Rattle.seg_core.proofs.line_blocks.drop_whole.Given as goal
 
 abbrev pub invariant-loop-first : goal.invariant-loop-first
-invariant-loop-first l = Gone l.n (joined l.fn.queue.items) l.queue.items l.left.bytes l.left.newlines
+invariant-loop-first l = Gone l.n l.fn.queue.items l.queue.items l.left.bytes l.left.delimiters
 
 abbrev pub decreases-loop-first : goal.decreases-loop-first
 decreases-loop-first l = length l.queue.items

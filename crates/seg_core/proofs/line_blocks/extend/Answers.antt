@@ -1,16 +1,31 @@
+use Rattle.std.proofs.Common.{sym, subst, arith}
+use Rattle.std.proofs.lemmas.List.Elements.{All-append}
+use Rattle.seg_core.specs.Blocks.{HasCount, HaveCounts}
+use Rattle.seg_core.proofs.Delimiters.{delimiters-le-length}
 use Rattle.seg_core.proofs.BlockLemmas.{back_counted, extended, split_counted}
 use Rattle.seg_core.proofs.line_blocks.extend.Goals as goal
 
 pub count_first-near_count-requires : goal.count_first-near_count-requires
-count_first-near_count-requires c = split_counted c.args.piece.now c.split_at.result.0.now c.split_at.result.1.now c.args.count c.requires c.split_at.ensures.by_index.0
+count_first-near_count-requires c = split_counted c.args.delim c.args.piece.now c.split_at.result.0.now c.split_at.result.1.now c.args.count c.requires.counted c.split_at.ensures.by_index.0
 
 pub overflow_sub-count : goal.overflow_sub-count
-overflow_sub-count c = (back_counted c.args.piece.now c.split_at.result.0.now c.split_at.result.1.now c.args.count c.count_first-near_count.result c.requires c.split_at.ensures.by_index.0 c.count_first-near_count.ensures).0
+overflow_sub-count c = (back_counted c.args.delim c.args.piece.now c.split_at.result.0.now c.split_at.result.1.now c.args.count c.count_first-near_count.result c.requires.counted c.split_at.ensures.by_index.0 c.count_first-near_count.ensures).0
 
 pub blocks_of-requires : goal.blocks_of-requires
-blocks_of-requires c = (back_counted c.args.piece.now c.split_at.result.0.now c.split_at.result.1.now c.args.count c.count_first-near_count.result c.requires c.split_at.ensures.by_index.0 c.count_first-near_count.ensures).1
+blocks_of-requires c = (back_counted c.args.delim c.args.piece.now c.split_at.result.0.now c.split_at.result.1.now c.args.count c.count_first-near_count.result c.requires.counted c.split_at.ensures.by_index.0 c.count_first-near_count.ensures).1
+
+pub fill-requires-clause-few : goal.fill-requires-clause-few
+fill-requires-clause-few c =
+    let near = c.count_first-near_count.ensures in
+    omega (arith, delimiters-le-length c.args.delim c.split_at.result.0.now)
 
 pub returns-clause-ok : goal.returns-clause-ok
 returns-clause-ok c =
     extended c.args.queue.now.items c.reserve.new.self.items c.fill.new.queue.items c.in_ok-fresh.fresh.items c.append.new.self.items c.split_at.result.0.now c.split_at.result.1.now c.args.piece.now
-    c.in-Ok.ensures.items c.in_ok-fill.ensures.ok c.in_ok-fresh.ensures c.reserve.ensures.items c.split_at.ensures.by_index.0
+    c.in-Ok.ensures.items c.in_ok-fill.ensures.ok c.in_ok-fresh.ensures.text c.reserve.ensures.items c.split_at.ensures.by_index.0
+
+pub returns-clause-each : goal.returns-clause-each
+returns-clause-each c =
+    let old = subst (HaveCounts c.args.delim) (sym c.reserve.ensures.items) c.requires.each in
+    let filled = c.in_ok-fill.ensures.each c.args.delim c.count_first-near_count.ensures old in
+    subst (HaveCounts c.args.delim) (sym c.in-Ok.ensures.items) (All-append (HasCount c.args.delim) c.fill.new.queue.items c.in_ok-fresh.fresh.items filled c.in_ok-fresh.ensures.each)

@@ -1,7 +1,8 @@
-use Rattle.std.proofs.Common.{◌≡◌, ◌+◌, ◌-◌, length, refl, arith}
+use Rattle.std.proofs.Common.{◌≡◌, ◌+◌, ◌-◌, ℕ, ap, length, refl, arith}
 use Rattle.std.specs.VecDeque.{deque_len}
 use Rattle.std.proofs.lemmas.Result.{on_ok_weaker}
-use Rattle.seg_core.proofs.BlockLemmas.{joined_set}
+use Rattle.seg_core.specs.Blocks.{BlockState}
+use Rattle.seg_core.proofs.BlockLemmas.{grown_counts, text_set}
 use Rattle.seg_core.proofs.line_blocks.fill.Goals as goal
 
 pub returns-in-Some-clause-ok : goal.returns-in-Some-clause-ok
@@ -9,5 +10,13 @@ returns-in-Some-clause-ok c =
     let blocks = c.args.queue.now in
     let last : deque_len blocks - 1 + 1 ≡ length blocks.items = let v = c.in-Some.ensures.variant.0 refl in let o = blocks.ok in omega arith in
     on_ok_weaker c.append.result
-    (λ grown. joined_set blocks.items (deque_len blocks - 1) c.in-Some.last.now c.append.new.self c.args.part.now last c.in-Some.ensures.value grown)
+    (λ grown. text_set blocks.items (deque_len blocks - 1) c.in-Some.last.now c.append.new.self c.args.part.now last c.in-Some.ensures.value (ap (λ (b : BlockState). b.bytes) grown))
+    c.append.ensures.ok
+
+pub returns-in-Some-clause-each : goal.returns-in-Some-clause-each
+returns-in-Some-clause-each c =
+    let blocks = c.args.queue.now in
+    let last : deque_len blocks - 1 + 1 ≡ length blocks.items = let v = c.in-Some.ensures.variant.0 refl in let o = blocks.ok in omega arith in
+    on_ok_weaker c.append.result
+    (λ grown (delim : ℕ) counted each. grown_counts delim (deque_len blocks - 1) c.args.count blocks.items c.in-Some.last.now c.append.new.self c.args.part.now last c.in-Some.ensures.value grown counted each)
     c.append.ensures.ok

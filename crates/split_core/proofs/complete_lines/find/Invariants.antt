@@ -3,7 +3,7 @@ use Rattle.split_core.specs.Ahead.{Sees}
 use Rattle.split_core.proofs.complete_lines.find.Given as goal
 
 abbrev pub invariant-blocks-2 : goal.invariant-blocks-2
-invariant-blocks-2 l = Sees l.text l.ahead
+invariant-blocks-2 l = Sees l.delim l.text l.ahead
 
 abbrev pub decreases-blocks-2 : goal.decreases-blocks-2
 decreases-blocks-2 l = length l.text - (l.ahead.passed + l.ahead.width)

@@ -4,10 +4,10 @@ use Rattle.split_core.proofs.SectionLemmas.{line_bytes_are_parts, line_bytes_onc
 use Rattle.split_core.proofs.laws.line_byte_parts.Goals as goal
 
 pub returns-clause-are : goal.returns-clause-are
-returns-clause-are c n x some = line_bytes_are_parts n x some
+returns-clause-are c delim n x some = line_bytes_are_parts delim n x some
 
 pub returns-clause-once : goal.returns-clause-once
-returns-clause-once c n x those some are = line_bytes_once n x those (parts (LineBytes n) x) some are (line_bytes_are_parts n x some)
+returns-clause-once c delim n x those some are = line_bytes_once delim n x those (parts (LineBytes n delim) x) some are (line_bytes_are_parts delim n x some)
 
 pub returns-clause-within : goal.returns-clause-within
-returns-clause-within c n x some = line_bytes_within n x (parts (LineBytes n) x) some (line_bytes_are_parts n x some)
+returns-clause-within c delim n x some = line_bytes_within delim n x (parts (LineBytes n delim) x) some (line_bytes_are_parts delim n x some)

@@ -4,4 +4,4 @@ use Rattle.scan_core.proofs.bre.Bre.walk.Goals as goal
 
 pub walk_by_shifts-requires-clause-table : goal.walk_by_shifts-requires-clause-table
 walk_by_shifts-requires-clause-table c =
-    subst (λ code. IsShiftTable code c.in-Some.shifts) (sym c.deref.ensures.value) (subst (λ shifts. IfSome shifts (IsShiftTable c.self.inside.code.items)) c.in-Some.is c.self.invariant.4)
+    subst (λ code. IsShiftTable code c.in-Some.shifts) (sym c.deref.ensures.value) (subst (λ shifts. IfSome shifts (IsShiftTable c.self.inside.code.items)) c.in-Some.is c.self.invariant.5)

@@ -1,6 +1,5 @@
-use Rattle.std.proofs.Common.{drop, arith}
+use Rattle.std.proofs.Common.{arith}
 use Rattle.std.proofs.lemmas.List.{length-drop}
-use Rattle.seg_core.proofs.Newlines.{newlines-le-length}
 use Rattle.seg_core.proofs.BlockLemmas.{block_grows}
 use Rattle.seg_core.proofs.line_block.Block.append.Goals as goal
 
@@ -8,10 +7,8 @@ pub overflow_add-self : goal.overflow_add-self
 overflow_add-self c =
     let old = c.self.inside.bytes in
     let new = c.extend_from_slice.new.self in
-    let counted = c.self.invariant.1 in
-    let few = newlines-le-length (drop c.self.inside.start old.items) in
+    let few = c.self.invariant.1 in
     let short = length-drop c.self.inside.start old.items in
-    let more = newlines-le-length c.args.part.now in
     let long = c.in_ok-extend_from_slice.ensures.len in
     let old_ok = old.ok in
     let ok = new.ok in

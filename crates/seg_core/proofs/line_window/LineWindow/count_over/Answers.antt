@@ -1,31 +1,32 @@
 use Rattle.std.proofs.Common.{◌≡◌, ◌+◌, ◌-◌, ◌++◌, ◌∙◌, ◌≤◌, ℕ, ap, subst, sym, length, arith}
 use Rattle.std.proofs.lemmas.List.{length-append}
-use Rattle.seg_core.specs.Line.{joined, newlines, first_lines, but_last_lines, line_count}
+use Rattle.seg_core.specs.Line.{delimiters, first_lines, but_last_lines, line_count}
 use Rattle.seg_core.specs.Window.{Window}
-use Rattle.seg_core.proofs.Newlines.{newlines-le-length}
+use Rattle.seg_core.specs.Blocks.{text_of}
+use Rattle.seg_core.proofs.Delimiters.{delimiters-le-length}
 use Rattle.seg_core.proofs.LineCounts.{line_count-le-length}
 use Rattle.seg_core.proofs.LastLines.{but_last_lines-zero, over_begins, over_short}
 use Rattle.seg_core.proofs.line_window.LineWindow.count_over.Goals as goal
 
 pub returns-then-self-eq0-clause-bytes : goal.returns-then-self-eq0-clause-bytes
 returns-then-self-eq0-clause-bytes c =
-    let text = joined c.self.inside.blocks.items ++ c.args.piece.now in
-    c.uncounted-then-self-eq0.ensures.bytes ∙ subst (λ (w : Window). c.self.inside.len + length c.args.piece.now ≡ length (but_last_lines w.most (w.held ++ c.args.piece.now))) c.self.view_is
-    (ap (λ n. n + length c.args.piece.now) c.self.invariant.long ∙ sym (length-append (joined c.self.inside.blocks.items) c.args.piece.now)
-    ∙ sym (ap (λ n. length (but_last_lines n text)) c.if-self-eq0.true ∙ ap length (but_last_lines-zero text)))
+    let text = text_of c.self.inside.blocks.items ++ c.args.piece.now in
+    c.uncounted-then-self-eq0.ensures.bytes ∙ subst (λ (w : Window). c.self.inside.len + length c.args.piece.now ≡ length (but_last_lines w.delim w.most (w.held ++ c.args.piece.now))) c.self.view_is
+    (ap (λ n. n + length c.args.piece.now) c.self.invariant.long ∙ sym (length-append (text_of c.self.inside.blocks.items) c.args.piece.now)
+    ∙ sym (ap (λ n. length (but_last_lines c.self.inside.delim n text)) c.if-self-eq0.true ∙ ap length (but_last_lines-zero c.self.inside.delim text)))
 
 pub returns-in-Begins-clause-bytes : goal.returns-in-Begins-clause-bytes
 returns-in-Begins-clause-bytes c =
-    let held = joined c.self.inside.blocks.items in
-    c.uncounted-in-Begins.ensures.bytes ∙ subst (λ (w : Window). c.self.inside.len + c.in-Begins.at ≡ length (but_last_lines w.most (w.held ++ c.args.piece.now))) c.self.view_is
+    let held = text_of c.self.inside.blocks.items in
+    c.uncounted-in-Begins.ensures.bytes ∙ subst (λ (w : Window). c.self.inside.len + c.in-Begins.at ≡ length (but_last_lines w.delim w.most (w.held ++ c.args.piece.now))) c.self.view_is
     (ap (λ n. n + c.in-Begins.at) c.self.invariant.long
-    ∙ over_begins c.self.inside.most held c.args.piece.now c.last_newline_off-text.result.now c.in-Begins.at c.last_newline_off-text.ensures.front (c.last_newline_off-text.ensures.count held) c.in-Begins.ensures)
+    ∙ over_begins c.self.inside.delim c.self.inside.most held c.args.piece.now c.last_delimiter_off-text.result.now c.in-Begins.at c.last_delimiter_off-text.ensures.front (c.last_delimiter_off-text.ensures.count held) c.in-Begins.ensures)
 
 pub overflow_add-lines-in-Short : goal.overflow_add-lines-in-Short
 overflow_add-lines-in-Short c =
-    let held = joined c.self.inside.blocks.items in
-    let lines = c.last_newline_off-text.ensures.count held in
-    let few = line_count-le-length (held ++ c.args.piece.now) in
+    let held = text_of c.self.inside.blocks.items in
+    let lines = c.last_delimiter_off-text.ensures.count held in
+    let few = line_count-le-length c.self.inside.delim (held ++ c.args.piece.now) in
     let long = length-append held c.args.piece.now in
     let is = ap (λ (w : Window). length w.held) c.self.view_is in
     let count = c.in-Short.ensures.counted in
@@ -35,9 +36,9 @@ overflow_add-lines-in-Short c =
 
 pub overflow_add-lines : goal.overflow_add-lines
 overflow_add-lines c =
-    let held = joined c.self.inside.blocks.items in
-    let lines = c.last_newline_off-text.ensures.count held in
-    let few = line_count-le-length (held ++ c.args.piece.now) in
+    let held = text_of c.self.inside.blocks.items in
+    let lines = c.last_delimiter_off-text.ensures.count held in
+    let few = line_count-le-length c.self.inside.delim (held ++ c.args.piece.now) in
     let long = length-append held c.args.piece.now in
     let is = ap (λ (w : Window). length w.held) c.self.view_is in
     let count = c.in-Short.ensures.counted in
@@ -47,23 +48,23 @@ overflow_add-lines c =
 
 pub returns-in-Short-clause-bytes : goal.returns-in-Short-clause-bytes
 returns-in-Short-clause-bytes c =
-    let held = joined c.self.inside.blocks.items in
+    let held = text_of c.self.inside.blocks.items in
     let most = c.self.inside.most in
-    let lines = c.self.inside.newlines + c.in-Short.count + 1 in
+    let lines = c.self.inside.delimiters + c.in-Short.count + 1 in
     let counted = c.self.invariant.counted in
     let count = c.in-Short.ensures.counted in
     let fewer = c.in-Short.ensures.fewer in
-    let is : line_count (held ++ c.args.piece.now) ≡ lines = let all = c.last_newline_off-text.ensures.count held in omega arith in
-    let enough : lines - most ≤ newlines held = omega arith in
-    subst (λ (w : Window). c.end_of_first.result ≡ length (but_last_lines w.most (w.held ++ c.args.piece.now))) c.self.view_is
-    (subst (λ (w : Window). c.end_of_first.result ≡ length (first_lines c.saturating_sub.result w.held)) (sym c.self.view_is) c.end_of_first.ensures.end
-    ∙ ap (λ (k : ℕ). length (first_lines k held)) c.saturating_sub.ensures
-    ∙ over_short most held c.args.piece.now lines is enough)
+    let is : line_count c.self.inside.delim (held ++ c.args.piece.now) ≡ lines = let all = c.last_delimiter_off-text.ensures.count held in omega arith in
+    let enough : lines - most ≤ delimiters c.self.inside.delim held = omega arith in
+    subst (λ (w : Window). c.end_of_first.result ≡ length (but_last_lines w.delim w.most (w.held ++ c.args.piece.now))) c.self.view_is
+    (subst (λ (w : Window). c.end_of_first.result ≡ length (first_lines w.delim c.saturating_sub.result w.held)) (sym c.self.view_is) c.end_of_first.ensures.end
+    ∙ ap (λ (k : ℕ). length (first_lines c.self.inside.delim k held)) c.saturating_sub.ensures
+    ∙ over_short c.self.inside.delim most held c.args.piece.now lines is enough)
 
 pub overflow_add-result : goal.overflow_add-result
 overflow_add-result c =
-    let all = c.last_newline_off-text.ensures.newlines in
-    let few = newlines-le-length c.args.piece.now in
+    let all = c.last_delimiter_off-text.ensures.delimiters in
+    let few = delimiters-le-length c.self.inside.delim c.args.piece.now in
     let count = c.in-Short.ensures.counted in
     let fits = c.type_inv.piece in
     omega arith

@@ -20,6 +20,7 @@ loop-at-preserved c =
     let size = same_size held c.args.out.now c.loop-at.out at was.there was.within was.out in
     record {
       most = ap (λ (w : Window). w.most) c.drop_front.ensures ∙ was.most;
+      delim = ap (λ (w : Window). w.delim) c.drop_front.ensures ∙ was.delim;
       within = omega arith;
       there = omega arith;
       held = ap (λ (w : Window). w.held) c.drop_front.ensures ∙ ap (drop count) was.held ∙ drop-drop count at held;

@@ -4,6 +4,7 @@ use Rattle.seg_core.proofs.line_window.LineWindow.take_front.Given as goal
 abbrev pub invariant-loop-at : goal.invariant-loop-at
 invariant-loop-at l = record {
   most : l.self.most ≡ l.fn.self.most;
+  delim : l.self.delim ≡ l.fn.self.delim;
   within : l.at ≤ length l.fn.out;
   there : l.at ≤ length l.fn.self.held;
   held : l.self.held ≡ drop l.at l.fn.self.held;

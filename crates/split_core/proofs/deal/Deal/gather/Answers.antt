@@ -1,27 +1,31 @@
-use Rattle.std.proofs.Common.{ℕ, List, ◌++◌, length, sym, ap, ◌∙◌, ◌≡◌, arith}
+use Rattle.std.proofs.Common.{ℕ, List, ◌++◌, length, sym, ap, ◌∙◌, ◌≡◌, subst, arith}
 use Rattle.std.proofs.lemmas.List.{take_all}
 use Rattle.ports_core.specs.Slot.{changed_at}
+use Rattle.seg_core.specs.Line.{delimiters}
+use Rattle.split_core.specs.Ahead.{LinesLeft}
 use Rattle.split_core.specs.DealState.{DealState}
-use Rattle.split_core.proofs.DealLemmas.{line_more, line_within, first_taken, ends_here, ends_open, Gathers}
+use Rattle.split_core.proofs.DealLemmas.{by_delimiter, line_more, line_within, first_taken, ends_here, ends_open, Gathers}
 use Rattle.split_core.proofs.deal.Deal.gather.Goals as goal
 
 pub append_to-requires-clause-enough : goal.append_to-requires-clause-enough
-append_to-requires-clause-enough c = line_within _ _ _ _ c.in-Some.ensures.some c.lines.invariant.1
+append_to-requires-clause-enough c = line_within _ _ _ _ _ (by_delimiter _ _ _ _ _ c.lines.invariant.2 c.in-Some.ensures.some) c.lines.invariant.1
 
 pub lines-preserved : goal.lines-preserved
 lines-preserved c = (
-  line_more _ _ _ c.lines.self-inside.gathered.items _ _ _ _ c.len-count.result c.after-self-inside.result _ _ _ c.lines.invariant.0 c.in-Some.ensures.some
-      (c.in_ok-append_to.ensures.ok ∙ ap (λ (line : List ℕ). changed_at c.lines.self-inside.next (λ had. had ++ line) c.lines.self-inside.gathered.items) (first_taken _ _ _ _ c.in-Some.ensures.some c.lines.invariant.1))
+  line_more _ _ _ _ c.lines.self-inside.gathered.items _ _ _ _ c.len-count.result c.after-self-inside.result _ _ _ c.lines.invariant.0 (by_delimiter _ _ _ _ _ c.lines.invariant.2 c.in-Some.ensures.some)
+      (c.in_ok-append_to.ensures.ok ∙ ap (λ (line : List ℕ). changed_at c.lines.self-inside.next (λ had. had ++ line) c.lines.self-inside.gathered.items) (first_taken _ _ _ _ _ (by_delimiter _ _ _ _ _ c.lines.invariant.2 c.in-Some.ensures.some) c.lines.invariant.1))
       c.max-reached.ensures
       (let ok = c.clear.new.gathered.ok in let view : length c.self.inside.gathered.items ≡ length c.args.self.now.gathered = ap (λ (deal : DealState). length deal.gathered) c.self.view_is in omega (arith, c.len-count.ensures, c.clear.ensures.count)) c.after-self-inside.ensures,
   c.rest-left.ensures,
+  c.next.ensures.same ∙ c.lines.invariant.2,
+  c.lines.invariant.3,
 )
 
-at_end : (c : goal.Then-is_empty) → Gathers (length c.args.self.now.gathered) c.args.self.now.next c.args.piece.now c.lines.self-inside.gathered.items c.lines.self-inside.next c.lines.reached
-at_end c = ends_here _ _ _ _ _ _ _ _ c.lines.invariant.0 (c.rest-open.ensures ∙ c.in_default.ensures.stays) (sym c.if-is_empty.ensures)
+at_end : (c : goal.Then-is_empty) → Gathers c.args.self.now.delim (length c.args.self.now.gathered) c.args.self.now.next c.args.piece.now c.lines.self-inside.gathered.items c.lines.self-inside.next c.lines.reached
+at_end c = ends_here _ _ _ _ _ _ _ _ _ c.lines.invariant.0 (c.rest-open.ensures ∙ ap (λ (left : LinesLeft). left.text) c.in_default.ensures.stays) (sym c.if-is_empty.ensures)
 
-at_open : (c : goal.After-max) → Gathers (length c.args.self.now.gathered) c.args.self.now.next c.args.piece.now c.append_to-2.new.gathered.items c.lines.self-inside.next c.max.result
-at_open c = ends_open _ _ _ c.lines.self-inside.gathered.items _ _ _ _ _ _ c.lines.invariant.0 (c.rest-open.ensures ∙ c.in_default.ensures.stays) c.in_default.ensures.none (sym c.if-is_empty.ensures)
+at_open : (c : goal.After-max) → Gathers c.args.self.now.delim (length c.args.self.now.gathered) c.args.self.now.next c.args.piece.now c.append_to-2.new.gathered.items c.lines.self-inside.next c.max.result
+at_open c = ends_open _ _ _ _ c.lines.self-inside.gathered.items _ _ _ _ _ _ c.lines.invariant.0 (c.rest-open.ensures ∙ ap (λ (left : LinesLeft). left.text) c.in_default.ensures.stays) (subst (λ d. delimiters d c.lines.lines.text ≡ 0) c.lines.invariant.2 c.in_default.ensures.none) (sym c.if-is_empty.ensures)
     (c.in_ok-append_to-2.ensures.ok ∙ ap (λ (line : List ℕ). changed_at c.lines.self-inside.next (λ had. had ++ line) c.lines.self-inside.gathered.items) (take_all (length c.rest-open.result.now) c.rest-open.result.now (omega arith))) c.max.ensures
 
 pub returns-then-is_empty-clause-gathered : goal.returns-then-is_empty-clause-gathered

@@ -8,7 +8,7 @@ use Rattle.split_core.proofs.RoundLemmas.{same_work, ended, ended_short, ended_m
 use Rattle.split_core.proofs.round_splitter.RoundSplitterStage.finish.Goals as goal
 
 pub returns-clause-same : goal.returns-clause-same
-returns-clause-same g c = same_work c.args.self.now (record { count = length c.self.inside.deal.gathered; elide = c.self.inside.elide; files = c.close.new.self; next = c.self.inside.deal.next }) (ap (λ (round : RoundState). round.count) c.self.view_is) (ap (λ (round : RoundState). round.elide) c.self.view_is)
+returns-clause-same g c = same_work c.args.self.now (record { delim = c.self.inside.deal.delim; count = length c.self.inside.deal.gathered; elide = c.self.inside.elide; files = c.close.new.self; next = c.self.inside.deal.next }) (ap (λ (round : RoundState). round.delim) c.self.view_is) (ap (λ (round : RoundState). round.count) c.self.view_is) (ap (λ (round : RoundState). round.elide) c.self.view_is)
     (ap (λ (files : FilesState). from_start files.names) c.close.ensures.same ∙ ap (λ (round : RoundState). from_start round.files.names) c.self.view_is)
 
 pub returns-clause-outputs : goal.returns-clause-outputs

@@ -1,0 +1,82 @@
+-- Bits of words, and sets that grow by a number.
+use Rattle.std.proofs.Common.{◌≡◌, ◌⊎◌, ◌↔◌, inl, inr, ℕ, zero, suc, ◌*◌, ◌/◌, ◌%◌, ◌^◌, ◌<◌, ◌≤◌, true, List, [], ◌∷◌, length, get_or, set, eqb, refl, sym, ap, ◌∙◌, subst, arith, eq-eqb, eqb-true, w64, min}
+use Rattle.std.proofs.lemmas.Bool.{cases_eq}
+use Rattle.std.proofs.lemmas.List.{get_or-set_same, get_or-set_other, length-set}
+use Rattle.std.proofs.lemmas.Nat.{le_or_l, or_lt}
+use Rattle.std.proofs.lemmas.Nat.Bits.{shr_and_one, bit_at_set_same, bit_at_set_other}
+use Rattle.std.specs.Prelude.{bit_and, bit_or}
+use Rattle.std.specs.Int.{bit_at}
+use Rattle.scan_core.specs.Words.{IsIn, unset, Grows}
+
+pub has_tests : (words : List ℕ) (number : ℕ) → (eqb (bit_and (get_or words (number / 64) 0 / 2 ^ (number % 64)) 1) 1 ≡ true) ↔ IsIn words number
+unfolding IsIn
+has_tests words number = rw shr_and_one (eqb-true _ 1, eq-eqb _ 1)
+
+unset-set : (words : List ℕ) (at word : ℕ) → at < length words → get_or words at 0 < word → word ≤ 2 ^ 64 → unset (set words at word) < unset words
+unset-set [] at word h l m = absurd (omega (arith, h))
+unset-set (x ∷ words) zero word h l m = omega (arith, l, m)
+unset-set (x ∷ words) (suc at) word h l m = let r = unset-set words at word (omega (arith, h)) l m in omega (arith, r)
+
+-- one number more
+pub grows_one : (old new : List ℕ) (number word before on : ℕ) → number < 64 * length old → (IsIn old number → ⊥) → word ≡ get_or old (number / 64) 0 → word < 2 ^ 64 → new ≡ set old (number / 64) (bit_or word (1 * 2 ^ (number % 64) % 2 ^ 64)) → on ≡ min before (number / 64)
+    → Grows (λ other. other ≡ number) old new before on
+unfolding IsIn
+grows_one old new number word before on h none ew fits en eo = record {
+  size = ap length en ∙ length-set old (number / 64) more;
+  exact = λ other. (there other, back other);
+  low = omega (arith, eo);
+  under = λ other l k. elim (there other k) [ inl was ↦ was | inr same ↦ absurd (omega (arith, l, eo, same)) ];
+  fuller = omega (arith, fuller);
+  less = λ l. fuller;
+}
+  where
+    more : ℕ
+    more = bit_or word (1 * 2 ^ (number % 64) % 2 ^ 64)
+
+    at : number / 64 < length old
+    at = omega (arith, h)
+
+    read : get_or new (number / 64) 0 ≡ bit_or word (1 * 2 ^ (number % 64) % 2 ^ 64)
+    read = ap (λ l. get_or l (number / 64) 0) en ∙ get_or-set_same old (number / 64) (bit_or word (1 * 2 ^ (number % 64) % 2 ^ 64)) 0 at
+
+    fresh : bit_at (get_or new (number / 64) 0) (number % 64) ≡ 1
+    fresh = ap (λ x. bit_at x (number % 64)) read ∙ bit_at_set_same w64 word (number % 64) (omega arith)
+
+    elsewhere : (other : ℕ) → (other ≡ number → ⊥) → bit_at (get_or new (other / 64) 0) (other % 64) ≡ bit_at (get_or old (other / 64) 0) (other % 64)
+    elsewhere other differs = elim (cases_eq (other / 64) (number / 64)) [
+      | inl same ↦
+          ap (λ k. bit_at (get_or new k 0) (other % 64)) same ∙ ap (λ x. bit_at x (other % 64)) read
+          ∙ bit_at_set_other w64 word (number % 64) (omega arith) (other % 64) (λ e. differs (omega (arith, e, same)))
+          ∙ ap (λ x. bit_at x (other % 64)) ew ∙ ap (λ k. bit_at (get_or old k 0) (other % 64)) (sym same)
+      | inr apart ↦ ap (λ x. bit_at x (other % 64)) (ap (λ l. get_or l (other / 64) 0) en ∙ get_or-set_other old (number / 64) (other / 64) (bit_or word (1 * 2 ^ (number % 64) % 2 ^ 64)) 0 apart)
+    ]
+
+    there : (other : ℕ) → bit_at (get_or new (other / 64) 0) (other % 64) ≡ 1 → (bit_at (get_or old (other / 64) 0) (other % 64) ≡ 1) ⊎ (other ≡ number)
+    there other k = elim (cases_eq other number) [ inl same ↦ inr same | inr differs ↦ inl (sym (elsewhere other differs) ∙ k) ]
+
+    back : (other : ℕ) → (bit_at (get_or old (other / 64) 0) (other % 64) ≡ 1) ⊎ (other ≡ number) → bit_at (get_or new (other / 64) 0) (other % 64) ≡ 1
+    back other (inr same) = ap (λ k. bit_at (get_or new (k / 64) 0) (k % 64)) same ∙ fresh
+    back other (inl was) = elim (cases_eq other number) [
+      | inl same ↦ ap (λ k. bit_at (get_or new (k / 64) 0) (k % 64)) same ∙ fresh
+      | inr differs ↦ elsewhere other differs ∙ was
+    ]
+
+    larger : get_or old (number / 64) 0 < bit_or word (1 * 2 ^ (number % 64) % 2 ^ 64)
+    larger = elim (cases_eq word (bit_or word (1 * 2 ^ (number % 64) % 2 ^ 64))) [
+      | inl same ↦ absurd (none (ap (λ x. bit_at x (number % 64)) (sym ew ∙ same ∙ sym read) ∙ fresh))
+      | inr differs ↦ let l = le_or_l word (1 * 2 ^ (number % 64) % 2 ^ 64) in omega (arith, l, differs, ew)
+    ]
+
+    fuller : unset new < unset old
+    fuller = subst (λ l. unset l < unset old) (sym en) (unset-set old (number / 64) (bit_or word (1 * 2 ^ (number % 64) % 2 ^ 64)) at larger
+        (let m = or_lt 64 word (1 * 2 ^ (number % 64) % 2 ^ 64) fits (omega arith) in omega (arith, m)))
+
+pub grows_none : (Added : ℕ → Type 0) (old new : List ℕ) (before on : ℕ) → new ≡ old → on ≡ before → ((number : ℕ) → Added number → IsIn old number) → Grows Added old new before on
+grows_none Added old new before on same e within = subst (λ l. Grows Added old l before on) (sym same) (record {
+  size = refl;
+  exact = λ number. (λ h. inl h, elim [ inl h ↦ h | inr h ↦ within number h ]);
+  low = omega (arith, e);
+  under = λ number l h. h;
+  fuller = omega arith;
+  less = λ l. absurd (omega (arith, l, e));
+})

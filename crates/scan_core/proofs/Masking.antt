@@ -1,0 +1,116 @@
+-- The words of the numbers of a kind.
+use Rattle.std.proofs.Common.{◌≡◌, ◌↔◌, inl, inr, ℕ, zero, suc, ◌+◌, ◌*◌, ◌-◌, ◌/◌, ◌%◌, ◌^◌, ◌<◌, ◌≤◌, IsTrue, List, [], ◌∷◌, ◌++◌, length, get_or, refl, sym, ap, ◌∙◌, subst, arith, length-append, w64}
+use Rattle.std.proofs.lemmas.Bool.{cases_eq, cases_lt}
+use Rattle.std.proofs.lemmas.Nat.Bits.{bit_at_set_same, bit_at_set_other, bit_at-zero}
+use Rattle.std.specs.Prelude.{bit_or}
+use Rattle.std.specs.Int.{bit_at}
+use Rattle.scan_core.specs.declared.masks.Kind.{Kind}
+use Rattle.scan_core.specs.declared.masks.Kind.TheVariants.{Takes, Leads}
+use Rattle.scan_core.specs.declared.node.Node.{Node}
+use Rattle.scan_core.specs.Code.{At, is_lead, weight_of}
+use Rattle.scan_core.specs.Words.{AddsMask, IsMask, IsOf, counted_at, width}
+use Rattle.scan_core.proofs.Enterings.{at_once, at_least}
+use Rattle.scan_core.proofs.Tables.{get-front, get-last}
+
+-- the first bits of a word are those of a kind
+pub record Wording (code : List Node) (kind : Kind) (from bit word : ℕ) : Type 0 where
+  pub past : (b : ℕ) → b < bit → (bit_at word b ≡ 1) ↔ IsOf code kind (from + b)
+  pub rest : (b : ℕ) → bit ≤ b → bit_at word b ≡ 0
+
+pub word_starts : (code : List Node) (kind : Kind) (from : ℕ) → Wording code kind from 0 0
+word_starts code kind from = record { past = λ b h. absurd (omega (arith, h)); rest = λ b h. bit_at-zero b }
+
+pub word_more : (code : List Node) (kind : Kind) (from bit word : ℕ) → Wording code kind from bit word → bit < 64 → IsOf code kind (from + bit) → Wording code kind from (bit + 1) (bit_or word (1 * 2 ^ bit % 2 ^ 64))
+word_more code kind from bit word w h is = record {
+  past = λ b l. elim (cases_eq b bit) [
+    | inl same ↦ (λ k. subst (λ n. IsOf code kind (from + n)) (sym same) is, λ k. ap (bit_at (bit_or word (1 * 2 ^ bit % 2 ^ 64))) same ∙ bit_at_set_same w64 word bit h)
+    | inr other ↦ let e = bit_at_set_other w64 word bit h b other in let p = w.past b (omega (arith, l, other)) in (λ k. p.0 (sym e ∙ k), λ k. e ∙ p.1 k)
+  ];
+  rest = λ b l. bit_at_set_other w64 word bit h b (λ q. omega (arith, q, l)) ∙ w.rest b (omega (arith, l));
+}
+
+pub word_skip : (code : List Node) (kind : Kind) (from bit word : ℕ) → Wording code kind from bit word → (IsOf code kind (from + bit) → ⊥) → Wording code kind from (bit + 1) word
+word_skip code kind from bit word w never = record {
+  past = λ b l. elim (cases_eq b bit) [
+    | inl same ↦ (λ k. let z = w.rest b (omega (arith, same)) in absurd (omega (arith, z, k)), λ k. absurd (never (subst (λ n. IsOf code kind (from + n)) same k)))
+    | inr other ↦ w.past b (omega (arith, l, other))
+  ];
+  rest = λ b l. w.rest b (omega (arith, l));
+}
+
+-- the first words of a kind were added
+pub record Adding (code : List Node) (kind : Kind) (old now : List ℕ) (at : ℕ) : Type 0 where
+  pub size : length now ≡ length old + at
+  pub kept : (n : ℕ) → n < length old → get_or now n 0 ≡ get_or old n 0
+  pub exact : (number : ℕ) → number < 64 * at → (bit_at (get_or now (length old + number / 64) 0) (number % 64) ≡ 1) ↔ IsOf code kind number
+
+pub add_starts : (code : List Node) (kind : Kind) (old : List ℕ) → Adding code kind old old 0
+add_starts code kind old = record { size = omega arith; kept = λ n h. refl; exact = λ number h. absurd (omega (arith, h)) }
+
+pub add_more : (code : List Node) (kind : Kind) (old now new : List ℕ) (at word : ℕ) → Adding code kind old now at → ((bit : ℕ) → bit < 64 → (bit_at word bit ≡ 1) ↔ IsOf code kind (at * 64 + bit)) → new ≡ now ++ word ∷ [] → Adding code kind old new (at + 1)
+add_more code kind old now new at word a is e = record {
+  size = let l = ap length e in let m = length-append now (word ∷ []) in let s = a.size in omega (arith, l, m, s);
+  kept = λ n h. let s = a.size in ap (λ w. get_or w n 0) e ∙ get-front now (word ∷ []) n 0 (omega (arith, s, h)) ∙ a.kept n h;
+  exact = λ number h. elim (cases_lt number (64 * at)) [
+    | inl before ↦
+        let s = a.size in
+        let q = ap (λ w. bit_at (get_or w (length old + number / 64) 0) (number % 64)) e ∙ ap (λ x. bit_at x (number % 64)) (get-front now (word ∷ []) (length old + number / 64) 0 (omega (arith, s, before))) in
+        let p = a.exact number before in
+        (λ k. p.0 (sym q ∙ k), λ k. q ∙ p.1 k)
+    | inr here ↦
+        let s = a.size in
+        let q = ap (λ w. bit_at (get_or w (length old + number / 64) 0) (number % 64)) e ∙ ap (λ x. bit_at x (number % 64)) (get-last now word 0 (length old + number / 64) (omega (arith, s, here, h))) in
+        let same : at * 64 + number % 64 ≡ number = omega (arith, here, h) in
+        let p = is (number % 64) (omega arith) in
+        (λ k. subst (IsOf code kind) same (p.0 (sym q ∙ k)), λ k. q ∙ p.1 (subst (IsOf code kind) (sym same) k))
+  ];
+}
+
+pub add_ends : (code : List Node) (kind : Kind) (old now : List ℕ) (at : ℕ) → Adding code kind old now at → at ≡ width code → AddsMask code kind old now
+add_ends code kind old now at a e = record { size = let s = a.size in omega (arith, s, e); kept = a.kept; exact = λ number h. a.exact number (omega (arith, h, e)) }
+
+-- the numbers that take the first bytes
+pub record Taking (code : List Node) (words : List ℕ) (byte : ℕ) : Type 0 where
+  pub size : length words ≡ byte * width code
+  pub exact : (b : ℕ) → b < byte → IsMask code (Takes b) (b * width code) words
+
+pub take_starts : (code : List Node) → Taking code [] 0
+take_starts code = record { size = (let e : 0 ≡ 0 * width code = grind arith in e); exact = λ b h. absurd (omega (arith, h)) }
+
+pub take_more : (code : List Node) (old new : List ℕ) (byte : ℕ) → Taking code old byte → AddsMask code (Takes byte) old new → Taking code new (byte + 1)
+take_more code old new byte t a = record {
+  size = let s = a.size in let l = t.size in let e : (byte + 1) * width code ≡ byte * width code + width code = grind arith in omega (arith, s, l, e);
+  exact = λ b h number l. elim (cases_eq b byte) [
+    | inl same ↦ subst (λ n. (bit_at (get_or new (n + number / 64) 0) (number % 64) ≡ 1) ↔ IsOf code (Takes b) number) (t.size ∙ ap (λ n. n * width code) (sym same))
+        (subst (λ n. (bit_at (get_or new (length old + number / 64) 0) (number % 64) ≡ 1) ↔ IsOf code (Takes n) number) (sym same) (a.exact number l))
+    | inr other ↦
+        let below : b * width code + number / 64 < length old = inside b (omega (arith, h, other)) number l in
+        subst (λ x. (bit_at x (number % 64) ≡ 1) ↔ IsOf code (Takes b) number) (sym (a.kept (b * width code + number / 64) below)) (t.exact b (omega (arith, h, other)) number l)
+  ];
+}
+  where
+    inside : (b : ℕ) → b < byte → (number : ℕ) → number < 64 * width code → b * width code + number / 64 < length old
+    inside b h number l =
+        let e : byte ≡ b + 1 + (byte - (b + 1)) = omega (arith, h) in
+        let f = ap (λ n. n * width code) e in
+        let g : (b + 1 + (byte - (b + 1))) * width code ≡ b * width code + width code + (byte - (b + 1)) * width code = grind arith in
+        let s = t.size in
+        omega (arith, f, g, s, l)
+
+-- whether a number's node leads on
+pub lead_in : (code : List Node) (number : ℕ) (node : Node) → At code number node → IsTrue (is_lead node) ↔ IsOf code Leads number
+lead_in code number node here = (λ h. (node, here, h), λ is. subst (λ n. IsTrue (is_lead n)) (at_once code number is.0 node is.1 here) is.2)
+
+pub lead_out : (code : List Node) (number : ℕ) → length code ≤ number → IsOf code Leads number → ⊥
+lead_out code number h is = let l = at_least code number is.0 is.1 in omega (arith, l, h)
+
+pub counted_in : (code : List Node) (number : ℕ) (node : Node) → At code number node → weight_of node ≡ counted_at code number
+counted_in [] number node here = absurd here
+counted_in (head ∷ code) zero node here = ap weight_of here
+counted_in (head ∷ code) (suc number) node here = counted_in code number node here
+
+pub counted_out : (code : List Node) (number : ℕ) → length code ≤ number → (number ≡ length code) ↔ (counted_at code number ≡ 1)
+counted_out [] zero h = (λ e. refl, λ e. refl)
+counted_out [] (suc number) h = (λ e. absurd (omega (arith, e)), λ e. absurd (omega (arith, e)))
+counted_out (node ∷ code) zero h = absurd (omega (arith, h))
+counted_out (node ∷ code) (suc number) h = let r = counted_out code number (omega (arith, h)) in (λ e. r.0 (omega (arith, e)), λ e. let q = r.1 e in omega (arith, q))

@@ -1,0 +1,160 @@
+-- A step of a set of words over a byte, word by word.
+use Rattle.std.proofs.Common.{◌≡◌, ◌↔◌, inl, inr, ℕ, zero, suc, ◌+◌, ◌*◌, ◌/◌, ◌%◌, ◌^◌, ◌<◌, ◌≤◌, List, length, get_or, set, min, refl, sym, ap, ◌∙◌, subst, arith}
+use Rattle.std.proofs.lemmas.Bool.{cases_eq, cases_lt}
+use Rattle.std.proofs.lemmas.List.{get_or-set_same, get_or-set_other, length-set}
+use Rattle.std.proofs.lemmas.Nat.Bits.{bit_at_and, bit_at_or, bit_at_lowest, bit_at-suc, bit_at-zero, bit_at_above, bit_at_cat_low}
+use Rattle.std.specs.Prelude.{bit_and, bit_or}
+use Rattle.std.specs.Int.{bit_at}
+use Rattle.scan_core.specs.declared.masks.Kind.TheVariants.{Takes}
+use Rattle.scan_core.specs.declared.node.Node.{Node}
+use Rattle.scan_core.specs.Sets.{Passes}
+use Rattle.scan_core.specs.Words.{IsIn, width, IsMask}
+use Rattle.scan_core.proofs.Enterings.{pass_least}
+use Rattle.scan_core.proofs.Visitings.{is_in_word, is_within}
+
+-- what a byte leads to from a set
+abbrev pub Led : List Node → ℕ → List ℕ → ℕ → Type 0
+Led code byte words number = (before : ℕ) × IsIn words before × Passes code byte before number
+
+-- the bits of a word that is shifted up by one, and of what comes in below
+shifted_low : (kept carry : ℕ) → carry < 2 → bit_at (bit_or (kept * 2 ^ 1 % 2 ^ 64) carry) 0 ≡ carry
+shifted_low kept carry h =
+    let e = bit_at_or (kept * 2 ^ 1 % 2 ^ 64) carry 0 in
+    let a = bit_at_lowest (kept * 2 ^ 1 % 2 ^ 64) in
+    let b = bit_at_lowest carry in
+    omega (arith, e, a, b, h)
+
+shifted_high : (kept carry bit : ℕ) → carry < 2 → bit + 1 < 64 → bit_at (bit_or (kept * 2 ^ 1 % 2 ^ 64) carry) (suc bit) ≡ bit_at kept bit
+shifted_high kept carry bit h small =
+    let e = bit_at_or (kept * 2 ^ 1 % 2 ^ 64) carry (suc bit) in
+    let none = bit_at_above carry 1 (suc bit) h (omega arith) in
+    let half : kept * 2 ^ 1 % 2 ^ 64 / 2 ≡ kept % 2 ^ 63 = omega arith in
+    let a = bit_at-suc (kept * 2 ^ 1 % 2 ^ 64) bit ∙ ap (λ x. bit_at x bit) half in
+    let whole : kept / 2 ^ 63 * 2 ^ 63 + kept % 2 ^ 63 ≡ kept = omega arith in
+    let b = bit_at_cat_low (kept / 2 ^ 63) 63 (kept % 2 ^ 63) bit (omega (arith, small)) in
+    let c = ap (λ x. bit_at x bit) whole in
+    omega (arith, e, none, a, b, c)
+
+-- a bit of a word that the byte is taken from
+kept_bit : (code : List Node) (words takes : List ℕ) (byte from at bit : ℕ) → IsMask code (Takes byte) from takes → at < width code → bit < 64
+    → (bit_at (bit_and (get_or words at 0) (get_or takes (from + at) 0)) bit ≡ 1) ↔ Led code byte words (at * 64 + bit + 1)
+kept_bit code words takes byte from at bit m within small = (
+  λ h.
+      let one : bit_at (get_or words at 0) bit ≡ 1 = omega (arith, both, h) in
+      let two : bit_at (get_or takes (from + at) 0) bit ≡ 1 = omega (arith, both, h) in
+      (at * 64 + bit, (is_in_word words at bit small).0 one, mask.0 two),
+  λ l.
+      let same : l.0 ≡ at * 64 + bit = (let e = l.2.3 in omega (arith, e)) in
+      let one = (is_in_word words at bit small).1 (subst (IsIn words) same l.1) in
+      let two = mask.1 (subst (λ n. Passes code byte n (at * 64 + bit + 1)) same l.2) in
+      omega (arith, both, one, two),
+)
+  where
+    both : bit_at (bit_and (get_or words at 0) (get_or takes (from + at) 0)) bit ≡ min (bit_at (get_or words at 0) bit) (bit_at (get_or takes (from + at) 0) bit)
+    both = bit_at_and (get_or words at 0) (get_or takes (from + at) 0) bit
+
+    mask : (bit_at (get_or takes (from + at) 0) bit ≡ 1) ↔ Passes code byte (at * 64 + bit) (at * 64 + bit + 1)
+    mask =
+        let word : (at * 64 + bit) / 64 ≡ at = omega (arith, small) in
+        let place : (at * 64 + bit) % 64 ≡ bit = omega (arith, small) in
+        let e : bit_at (get_or takes (from + (at * 64 + bit) / 64) 0) ((at * 64 + bit) % 64) ≡ bit_at (get_or takes (from + at) 0) bit = ap (λ k. bit_at (get_or takes (from + k) 0) ((at * 64 + bit) % 64)) word ∙ ap (bit_at (get_or takes (from + at) 0)) place in
+        let i = m (at * 64 + bit) (omega (arith, within, small)) in
+        (λ h. i.0 (e ∙ h), λ p. sym e ∙ i.1 p)
+
+set_elsewhere : (words : List ℕ) (at word number : ℕ) → (number / 64 ≡ at → ⊥) → IsIn (set words at word) number ↔ IsIn words number
+unfolding IsIn
+set_elsewhere words at word number differs =
+    let e = ap (λ x. bit_at x (number % 64)) (get_or-set_other words at (number / 64) word 0 differs) in
+    (λ k. sym e ∙ k, λ k. e ∙ k)
+
+-- the first words hold what the byte leads to
+pub record Passing (code : List Node) (byte : ℕ) (old now : List ℕ) (at carry : ℕ) : Type 0 where
+  pub size : length now ≡ length old
+  pub past : (number : ℕ) → number < 64 * at → IsIn now number ↔ Led code byte old number
+  pub rest : (n : ℕ) → at ≤ n → get_or now n 0 ≡ get_or old n 0
+  pub bit : carry < 2
+  pub over : (carry ≡ 1) ↔ Led code byte old (at * 64)
+
+pub passing_starts : (code : List Node) (byte : ℕ) (old : List ℕ) → Passing code byte old old 0 0
+passing_starts code byte old = record {
+  size = refl;
+  past = λ number h. absurd (omega (arith, h));
+  rest = λ n h. refl;
+  bit = omega arith;
+  over = (λ h. absurd (omega (arith, h)), λ l. let e = l.2.3 in absurd (omega (arith, e)));
+}
+
+pub passing_more : (code : List Node) (byte : ℕ) (old now new takes : List ℕ) (from at carry kept : ℕ) → Passing code byte old now at carry → IsMask code (Takes byte) from takes → length old ≡ width code → at < length old
+    → kept ≡ bit_and (get_or now at 0) (get_or takes (from + at) 0) → kept < 2 ^ 64 → new ≡ set now at (bit_or (kept * 2 ^ 1 % 2 ^ 64) carry) → Passing code byte old new (at + 1) (kept / 2 ^ 63)
+passing_more code byte old now new takes from at carry kept p m size h ek fits en = record {
+  size = ap length en ∙ length-set now at (bit_or (kept * 2 ^ 1 % 2 ^ 64) carry) ∙ p.size;
+  past = λ number l. elim (cases_lt number (64 * at)) [
+    | inl before ↦ subst (λ w. IsIn w number ↔ Led code byte old number) (sym en) (earlier number before (p.past number before))
+    | inr here ↦
+        let same : number ≡ at * 64 + number % 64 = omega (arith, l, here) in
+        subst (λ n. IsIn new n ↔ Led code byte old n) (sym same) (inside (number % 64) (omega arith))
+  ];
+  rest = λ n l. ap (λ w. get_or w n 0) en ∙ get_or-set_other now at n (bit_or (kept * 2 ^ 1 % 2 ^ 64) carry) 0 (λ e. omega (arith, e, l)) ∙ p.rest n (omega (arith, l));
+  bit = omega (arith, fits);
+  over =
+      let k = kept_is 63 (omega arith) in
+      let e : at * 64 + 63 + 1 ≡ (at + 1) * 64 = omega arith in
+      let top : bit_at kept 63 ≡ kept / 2 ^ 63 = omega (arith, fits) in (
+        λ c. subst (Led code byte old) e (k.0 (top ∙ c)),
+        λ l. sym top ∙ k.1 (subst (Led code byte old) (sym e) l),
+      );
+}
+  where
+    kept_is : (bit : ℕ) → bit < 64 → (bit_at kept bit ≡ 1) ↔ Led code byte old (at * 64 + bit + 1)
+    kept_is bit small =
+        let e : kept ≡ bit_and (get_or old at 0) (get_or takes (from + at) 0) = ek ∙ ap (λ w. bit_and w (get_or takes (from + at) 0)) (p.rest at (omega arith)) in
+        subst (λ w. (bit_at w bit ≡ 1) ↔ Led code byte old (at * 64 + bit + 1)) (sym e) (kept_bit code old takes byte from at bit m (omega (arith, size, h)) small)
+
+    read : get_or new at 0 ≡ bit_or (kept * 2 ^ 1 % 2 ^ 64) carry
+    read = let s = p.size in ap (λ w. get_or w at 0) en ∙ get_or-set_same now at (bit_or (kept * 2 ^ 1 % 2 ^ 64) carry) 0 (omega (arith, h, s))
+
+    earlier : (number : ℕ) → number < 64 * at → IsIn now number ↔ Led code byte old number → IsIn (set now at (bit_or (kept * 2 ^ 1 % 2 ^ 64) carry)) number ↔ Led code byte old number
+    earlier number l i =
+        let e = set_elsewhere now at (bit_or (kept * 2 ^ 1 % 2 ^ 64) carry) number (λ q. omega (arith, q, l)) in
+        (λ k. i.0 (e.0 k), λ k. e.1 (i.1 k))
+
+    inside : (bit : ℕ) → bit < 64 → IsIn new (at * 64 + bit) ↔ Led code byte old (at * 64 + bit)
+    inside zero small =
+        let w = is_in_word new at 0 small in
+        let e = ap (λ x. bit_at x 0) read ∙ shifted_low kept carry p.bit in
+        let z : at * 64 + 0 ≡ at * 64 = omega arith in (
+          λ k. subst (Led code byte old) (sym z) (p.over.0 (sym e ∙ w.1 k)),
+          λ k. w.0 (e ∙ p.over.1 (subst (Led code byte old) z k)),
+        )
+    inside (suc bit) small =
+        let w = is_in_word new at (suc bit) small in
+        let e = ap (λ x. bit_at x (suc bit)) read ∙ shifted_high kept carry bit p.bit (omega (arith, small)) in
+        let k = kept_is bit (omega (arith, small)) in
+        let z : at * 64 + bit + 1 ≡ at * 64 + suc bit = omega arith in (
+          λ i. subst (Led code byte old) z (k.0 (sym e ∙ w.1 i)),
+          λ l. w.0 (e ∙ k.1 (subst (Led code byte old) (sym z) l)),
+        )
+
+pub passing_ends : (code : List Node) (byte : ℕ) (old now : List ℕ) (at carry : ℕ) → Passing code byte old now at carry → length old ≤ at → length old ≡ width code → (number : ℕ) → IsIn now number ↔ Led code byte old number
+passing_ends code byte old now at carry p h size number = (
+  λ k. let l = is_within now number k in let s = p.size in (p.past number (omega (arith, l, s, h))).0 k,
+  λ k.
+      let l = pass_least code k.0 byte number k.2 in
+      let e = k.2.3 in
+      (p.past number (omega (arith, l, e, size, h))).1 k,
+)
+
+-- no bit of words that are 0
+pub none_in : (words : List ℕ) (at : ℕ) → ((n : ℕ) → n < at → get_or words n 0 ≡ 0) → length words ≤ at → (number : ℕ) → IsIn words number → ⊥
+none_in words at zeros h number k =
+    let l = is_within words number k in
+    let same : number ≡ number / 64 * 64 + number % 64 = omega arith in
+    let b = (is_in_word words (number / 64) (number % 64) (omega arith)).1 (subst (IsIn words) same k) in
+    let z = ap (λ x. bit_at x (number % 64)) (zeros (number / 64) (omega (arith, l, h))) ∙ bit_at-zero (number % 64) in
+    omega (arith, b, z)
+
+pub zero_more : (words new : List ℕ) (at : ℕ) → ((n : ℕ) → n < at → get_or words n 0 ≡ 0) → at < length words → new ≡ set words at 0 → (n : ℕ) → n < at + 1 → get_or new n 0 ≡ 0
+zero_more words new at zeros h e n l = elim (cases_eq n at) [
+  | inl same ↦ ap (λ w. get_or w n 0) e ∙ ap (λ k. get_or (set words at 0) k 0) same ∙ get_or-set_same words at 0 0 h
+  | inr other ↦ ap (λ w. get_or w n 0) e ∙ get_or-set_other words at n 0 0 other ∙ zeros n (omega (arith, l, other))
+]

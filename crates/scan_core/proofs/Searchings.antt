@@ -1,0 +1,85 @@
+-- A search by sets of words, place by place.
+use Rattle.std.proofs.Common.{◌≡◌, ◌↔◌, inl, inr, ℕ, suc, ◌+◌, ◌*◌, ◌<◌, ◌≤◌, Bool, true, false, IsTrue, List, length, slice_index, refl, sym, ap, ◌∙◌, subst, arith}
+use Rattle.std.proofs.lemmas.Bool.{cases_eq, false≢true}
+use Rattle.scan_core.specs.declared.node.Node.{Node}
+use Rattle.scan_core.specs.Code.{Entered, weight}
+use Rattle.scan_core.specs.Counted.{AreSteps}
+use Rattle.scan_core.specs.Sets.{IsMarked, Passes, Came, positions_among}
+use Rattle.scan_core.specs.Table.{IsOutcome}
+use Rattle.scan_core.specs.Words.{IsIn, width, flags_of, Grows, SpreadsOut}
+use Rattle.scan_core.proofs.Along.{IsPlace, closes_exact, came_exact, none_counted, one_counted, steps_more, steps_wider}
+use Rattle.scan_core.proofs.Countings.{flags_are}
+use Rattle.scan_core.proofs.Enterings.{positions_most}
+
+-- the line was searched up to a place, and no match has ended
+pub record Searched (code : List Node) (line : List ℕ) (place : ℕ) (words : List ℕ) (steps : ℕ) : Type 0 where
+  pub size : length words ≡ width code
+  pub came : (number : ℕ) → IsIn words number ↔ Came code line place number
+  pub none : (before : ℕ) → before < place → Entered code line (length code) before → ⊥
+  pub counted : AreSteps code line place steps
+  pub bound : steps ≤ place * (weight code + 1)
+
+pub search_starts : (code : List Node) (line words : List ℕ) → length words ≡ width code → ((number : ℕ) → IsIn words number → ⊥) → Searched code line 0 words 0
+search_starts code line words size empty = record {
+  size = size;
+  came = λ number. (λ h. absurd (empty number h), λ c. absurd (omega (arith, c.1)));
+  none = λ before h. absurd (omega (arith, h));
+  counted = none_counted code line;
+  bound = omega arith;
+}
+
+-- what is entered at a place
+pub entered_here : (code : List Node) (line : List ℕ) (place steps before on : ℕ) (at_first at_last : Bool) (old middle new : List ℕ) → Searched code line place old steps → IsPlace line place at_first at_last → Grows (λ number. number ≡ 0) old middle before on → SpreadsOut code at_first at_last middle new
+    → (number : ℕ) → IsIn new number ↔ Entered code line number place
+entered_here code line place steps before on at_first at_last old middle new s p g o = closes_exact code line place at_first at_last (IsIn old) (IsIn new) p s.came (λ number. (
+  λ h. let f = (o.exact number).0 h in (f.0, (g.exact f.0).0 f.1, f.2),
+  λ f. (o.exact number).1 (f.0, (g.exact f.0).1 f.1, f.2),
+))
+
+-- the set of a place has no more positions than the code
+pub few_positions : (code : List Node) (words : List ℕ) (positions : ℕ) → positions ≡ positions_among code (flags_of words) → positions ≤ weight code + 1
+few_positions code words positions e = let m = positions_most code (flags_of words) in omega (arith, m, e)
+
+marked_here : (code : List Node) (line : List ℕ) (place : ℕ) (words : List ℕ) → ((number : ℕ) → IsIn words number ↔ Entered code line number place) → (number : ℕ) → IsMarked (flags_of words) number ↔ Entered code line number place
+marked_here code line place words here number = (λ h. (here number).0 ((flags_are words number).0 h), λ e. (flags_are words number).1 ((here number).1 e))
+
+-- one byte more
+pub search_more : (code : List Node) (line : List ℕ) (place byte steps positions : ℕ) (old now new : List ℕ) (found : Bool) → Searched code line place old steps → ((number : ℕ) → IsIn now number ↔ Entered code line number place) → place < length line → byte ≡ slice_index line place → positions ≡ positions_among code (flags_of now)
+    → found ≡ false → (IsTrue found ↔ IsIn now (length code)) → length new ≡ width code → ((number : ℕ) → IsIn new number ↔ ((before : ℕ) × IsIn now before × Passes code byte before number)) → Searched code line (place + 1) new (steps + positions)
+search_more code line place byte steps positions old now new found s here h e p absent test size passed = record {
+  size = size;
+  came = λ number.
+      let one : suc place ≡ place + 1 = omega arith in
+      let c = came_exact code line place byte (IsIn now) here h e number in
+      subst (λ n. IsIn new number ↔ Came code line n number) one (λ k. c.0 ((passed number).0 k), λ k. (passed number).1 (c.1 k));
+  none = λ before l k. elim (cases_eq before place) [
+    | inl same ↦ absurd (false≢true (sym absent ∙ test.1 ((here (length code)).1 (subst (λ q. Entered code line (length code) q) same k))))
+    | inr other ↦ s.none before (omega (arith, l, other)) k
+  ];
+  counted = one_counted code line place steps (steps + positions) (flags_of now) s.counted (marked_here code line place now here) (ap (λ q. steps + q) p);
+  bound = steps_more place steps positions (weight code + 1) s.bound (few_positions code now positions p);
+}
+
+-- the end is entered
+pub search_found : (code : List Node) (line : List ℕ) (place steps positions : ℕ) (old now : List ℕ) → Searched code line place old steps → ((number : ℕ) → IsIn now number ↔ Entered code line number place) → place < length line → positions ≡ positions_among code (flags_of now) → IsIn now (length code)
+    → IsOutcome code line (record { found = true; steps = steps + positions })
+search_found code line place steps positions old now s here h p is = record {
+  exact = (λ t. (place, omega (arith, h), (here (length code)).0 is), λ e. refl);
+  counted = λ f. absurd (false≢true (sym f));
+  bound = steps_wider (place + 1) (length line + 1) (steps + positions) (weight code + 1) (steps_more place steps positions (weight code + 1) s.bound (few_positions code now positions p)) (omega (arith, h));
+}
+
+-- the line's end
+pub search_ends : (code : List Node) (line : List ℕ) (place steps positions : ℕ) (old now : List ℕ) (found : Bool) → Searched code line place old steps → ((number : ℕ) → IsIn now number ↔ Entered code line number place) → place ≡ length line → positions ≡ positions_among code (flags_of now) → (IsTrue found ↔ IsIn now (length code))
+    → IsOutcome code line (record { found = found; steps = steps + positions })
+search_ends code line place steps positions old now found s here e p test = record {
+  exact = (
+    λ t. (place, omega (arith, e), (here (length code)).0 (test.0 t)),
+    λ k. elim (cases_eq k.0 place) [
+      | inl same ↦ test.1 ((here (length code)).1 (subst (λ q. Entered code line (length code) q) same k.2))
+      | inr other ↦ absurd (s.none k.0 (omega (arith, k.1, e, other)) k.2)
+    ],
+  );
+  counted = λ absent. subst (λ n. AreSteps code line (n + 1) (steps + positions)) e (one_counted code line place steps (steps + positions) (flags_of now) s.counted (marked_here code line place now here) (ap (λ q. steps + q) p));
+  bound = steps_wider (place + 1) (length line + 1) (steps + positions) (weight code + 1) (steps_more place steps positions (weight code + 1) s.bound (few_positions code now positions p)) (omega (arith, e));
+}

@@ -1,0 +1,206 @@
+-- Entering all that a set of words leads to, word by word.
+use Rattle.std.proofs.Common.{◌≡◌, ◌⊎◌, ◌↔◌, inl, inr, ℕ, zero, suc, ◌+◌, ◌*◌, ◌-◌, ◌/◌, ◌%◌, ◌^◌, ◌<◌, ◌≤◌, Bool, IsTrue, List, [], ◌∷◌, length, get_or, refl, sym, ap, ◌∙◌, subst, arith, w64}
+use Rattle.std.proofs.lemmas.Bool.{cases_eq, cases_lt}
+use Rattle.std.proofs.lemmas.Nat.{and_le_l}
+use Rattle.std.proofs.lemmas.Nat.Bits.{bit_at_and, bit_at-zero, bit_at_clear_same, bit_at_clear_other}
+use Rattle.std.specs.Prelude.{bit_and}
+use Rattle.std.specs.Int.{bit_at, bit_not}
+use Rattle.bre_core.specs.Match.{Parts}
+use Rattle.scan_core.specs.declared.masks.Kind.TheVariants.{Leads}
+use Rattle.scan_core.specs.declared.node.Node.{Node}
+use Rattle.scan_core.specs.declared.node.Node.TheVariants.{Take, First, Last, Choose, Back}
+use Rattle.scan_core.specs.Code.{is_lead}
+use Rattle.scan_core.specs.Sets.{LeadsOn, Flows, FlowsOn}
+use Rattle.scan_core.specs.Words.{IsIn, unset, Grows, IsMask, Visits, SpreadsOut}
+use Rattle.scan_core.proofs.Enterings.{at_least}
+
+pub is_in_word : (words : List ℕ) (at bit : ℕ) → bit < 64 → (bit_at (get_or words at 0) bit ≡ 1) ↔ IsIn words (at * 64 + bit)
+unfolding IsIn
+is_in_word words at bit h =
+    let word : (at * 64 + bit) / 64 ≡ at = omega (arith, h) in
+    let place : (at * 64 + bit) % 64 ≡ bit = omega (arith, h) in
+    let same : bit_at (get_or words ((at * 64 + bit) / 64) 0) ((at * 64 + bit) % 64) ≡ bit_at (get_or words at 0) bit = ap (λ k. bit_at (get_or words k 0) ((at * 64 + bit) % 64)) word ∙ ap (bit_at (get_or words at 0)) place in
+    (λ e. same ∙ e, λ e. sym same ∙ e)
+
+get_or-beyond : (words : List ℕ) (n : ℕ) → length words ≤ n → get_or words n 0 ≡ 0
+get_or-beyond [] n h = refl
+get_or-beyond (x ∷ words) zero h = absurd (omega (arith, h))
+get_or-beyond (x ∷ words) (suc n) h = get_or-beyond words n (omega (arith, h))
+
+pub is_within : (words : List ℕ) (number : ℕ) → IsIn words number → number < 64 * length words
+unfolding IsIn
+is_within words number h = elim (cases_lt number (64 * length words)) [
+  | inl l ↦ l
+  | inr far ↦ let none = ap (λ x. bit_at x (number % 64)) (get_or-beyond words (number / 64) (omega (arith, far))) ∙ bit_at-zero (number % 64) in absurd (omega (arith, none, h))
+]
+
+-- clearing a bit that is set makes a word smaller, and leaves the others
+pub cleared : (word k : ℕ) → k < 64 → bit_at word k ≡ 1 → let left = bit_and word (bit_not w64 (1 * 2 ^ k % 2 ^ 64)) in (left < word) × ((j : ℕ) → j < 64 → (j ≡ k → ⊥) → bit_at left j ≡ bit_at word j) × (bit_at left k ≡ 0)
+cleared word k within set =
+    let left : ℕ = bit_and word (bit_not w64 (1 * 2 ^ k % 2 ^ 64)) in
+    let gone : bit_at left k ≡ 0 = bit_at_clear_same w64 word k within in (
+      elim (cases_eq left word) [
+        | inl same ↦ absurd (let both : bit_at left k ≡ bit_at word k = ap (λ x. bit_at x k) same in omega (arith, both, gone, set))
+        | inr other ↦ let l = and_le_l word (bit_not w64 (1 * 2 ^ k % 2 ^ 64)) in omega (arith, l, other)
+      ],
+      λ j small other. bit_at_clear_other w64 word k within j small other,
+      gone,
+    )
+
+-- some of a word's nodes are still to be looked at
+pub record Visiting (code : List Node) (at_first at_last : Bool) (at pending left : ℕ) (old now : List ℕ) (on : ℕ) : Type 0 where
+  pub size : length now ≡ length old
+  pub kept : (number : ℕ) → IsIn old number → IsIn now number
+  pub from : (number : ℕ) → IsIn now number → IsIn old number ⊎ ((start : ℕ) × IsIn old start × Flows code at_first at_last start number)
+  pub low : on ≤ at + 1
+  pub under : (number : ℕ) → number < 64 * on → IsIn now number → IsIn old number
+  pub fuller : unset now ≤ unset old
+  pub less : on < at + 1 → unset now < unset old
+  pub within : (bit : ℕ) → bit < 64 → bit_at left bit ≡ 1 → bit_at pending bit ≡ 1
+  pub rest : (bit : ℕ) → bit < 64 → bit_at pending bit ≡ 1 → (bit_at left bit ≡ 1) ⊎ ((to : ℕ) → Flows code at_first at_last (at * 64 + bit) to → IsIn now to)
+
+pub visit_starts : (code : List Node) (at_first at_last : Bool) (at pending : ℕ) (old : List ℕ) → Visiting code at_first at_last at pending pending old old (at + 1)
+visit_starts code at_first at_last at pending old = record {
+  size = refl;
+  kept = λ number h. h;
+  from = λ number h. inl h;
+  low = omega arith;
+  under = λ number l h. h;
+  fuller = omega arith;
+  less = λ l. absurd (omega (arith, l));
+  within = λ bit small h. h;
+  rest = λ bit small h. inl h;
+}
+
+pub visit_more : (code : List Node) (at_first at_last : Bool) (at leads left bit : ℕ) (old now new : List ℕ) (on on' : ℕ) → Visiting code at_first at_last at (bit_and (get_or old at 0) leads) left old now on → bit < 64 → bit_at left bit ≡ 1
+    → Grows (Flows code at_first at_last (at * 64 + bit)) now new on on' → Visiting code at_first at_last at (bit_and (get_or old at 0) leads) (bit_and left (bit_not w64 (1 * 2 ^ bit % 2 ^ 64))) old new on'
+visit_more code at_first at_last at leads left bit old now new on on' v small here g = record {
+  size = g.size ∙ v.size;
+  kept = λ number h. (g.exact number).1 (inl (v.kept number h));
+  from = λ number h. from number ((g.exact number).0 h);
+  low = omega (arith, v.low, g.low);
+  under = λ number l h. let w = g.low in v.under number (omega (arith, l, w)) (g.under number l h);
+  fuller = omega (arith, v.fuller, g.fuller);
+  less = λ l. elim (cases_lt on' on) [
+    | inl lower ↦ let s = g.less lower in let r = v.fuller in omega (arith, s, r)
+    | inr same ↦ let s = v.less (omega (arith, l, same)) in let r = g.fuller in omega (arith, s, r)
+  ];
+  within = λ k s h. elim (cases_eq k bit) [
+    | inl same ↦ v.within k s (ap (bit_at left) same ∙ here)
+    | inr other ↦ v.within k s (sym (clear.1 k s other) ∙ h)
+  ];
+  rest = λ k s h. elim (cases_eq k bit) [
+    | inl same ↦ inr (λ to f. (g.exact to).1 (inr (subst (λ n. Flows code at_first at_last (at * 64 + n) to) same f)))
+    | inr other ↦ left_or k s other (v.rest k s h)
+  ];
+}
+  where
+    clear : (bit_and left (bit_not w64 (1 * 2 ^ bit % 2 ^ 64)) < left) × ((j : ℕ) → j < 64 → (j ≡ bit → ⊥) → bit_at (bit_and left (bit_not w64 (1 * 2 ^ bit % 2 ^ 64))) j ≡ bit_at left j) × (bit_at (bit_and left (bit_not w64 (1 * 2 ^ bit % 2 ^ 64))) bit ≡ 0)
+    clear = cleared left bit small here
+
+    was : IsIn old (at * 64 + bit)
+    was = (is_in_word old at bit small).0 (let p = v.within bit small here in let m = bit_at_and (get_or old at 0) leads bit in omega (arith, p, m))
+
+    from : (number : ℕ) → IsIn now number ⊎ Flows code at_first at_last (at * 64 + bit) number → IsIn old number ⊎ ((start : ℕ) × IsIn old start × Flows code at_first at_last start number)
+    from number (inl h) = v.from number h
+    from number (inr f) = inr (at * 64 + bit, was, f)
+
+    left_or : (k : ℕ) → k < 64 → (k ≡ bit → ⊥) → (bit_at left k ≡ 1) ⊎ ((to : ℕ) → Flows code at_first at_last (at * 64 + k) to → IsIn now to) → (bit_at (bit_and left (bit_not w64 (1 * 2 ^ bit % 2 ^ 64))) k ≡ 1) ⊎ ((to : ℕ) → Flows code at_first at_last (at * 64 + k) to → IsIn new to)
+    left_or k s other (inl h) = inl (clear.1 k s other ∙ h)
+    left_or k s other (inr h) = inr (λ to f. (g.exact to).1 (inl (h to f)))
+
+leads_on : (node : Node) (at_first at_last : Bool) (from to : ℕ) → LeadsOn node at_first at_last from to → IsTrue (is_lead node)
+leads_on (Take bytes) at_first at_last from to h = absurd h
+leads_on First at_first at_last from to h = refl
+leads_on Last at_first at_last from to h = refl
+leads_on (Choose skip) at_first at_last from to h = refl
+leads_on (Back by) at_first at_last from to h = refl
+
+-- a node that leads on without a byte has its bit
+lead_bit : (code : List Node) (leads : List ℕ) (at_first at_last : Bool) (start to : ℕ) → IsMask code Leads 0 leads → Flows code at_first at_last start to → bit_at (get_or leads (start / 64) 0) (start % 64) ≡ 1
+lead_bit code leads at_first at_last start to m f =
+    let l = at_least code start f.0 f.1 in
+    let z : 0 + start / 64 ≡ start / 64 = omega arith in
+    ap (λ k. bit_at (get_or leads k 0) (start % 64)) (sym z) ∙ (m start (omega (arith, l))).1 (f.0, f.1, leads_on f.0 at_first at_last start to f.2)
+
+pub visit_ends : (code : List Node) (at_first at_last : Bool) (at left : ℕ) (old now leads : List ℕ) (on : ℕ) → Visiting code at_first at_last at (bit_and (get_or old at 0) (get_or leads at 0)) left old now on → left ≡ 0 → IsMask code Leads 0 leads → Visits code at_first at_last at old now on
+visit_ends code at_first at_last at left old now leads on v e m = record {
+  size = v.size;
+  kept = v.kept;
+  from = λ number h. from number (v.from number h);
+  low = v.low;
+  under = λ number l k h. v.under number l h;
+  fuller = v.fuller;
+  less = v.less;
+  done = λ last start to here h f. all start to here (v.under start (omega (arith, last, here)) h) f;
+}
+  where
+    from : (number : ℕ) → IsIn old number ⊎ ((start : ℕ) × IsIn old start × Flows code at_first at_last start number) → (start : ℕ) × IsIn old start × FlowsOn code at_first at_last start number
+    from number (inl h) = (number, h, (0, refl))
+    from number (inr f) = (f.0, f.1, (1, (f.0, refl, f.2)))
+
+    all : (start to : ℕ) → start / 64 ≡ at → IsIn old start → Flows code at_first at_last start to → IsIn now to
+    all start to here h f =
+        let same : start ≡ at * 64 + start % 64 = omega (arith, here) in
+        let one = (is_in_word old at (start % 64) (omega arith)).1 (subst (IsIn old) same h) in
+        let two = ap (λ k. bit_at (get_or leads k 0) (start % 64)) (sym here) ∙ lead_bit code leads at_first at_last start to m f in
+        let both = bit_at_and (get_or old at 0) (get_or leads at 0) (start % 64) in
+        side (v.rest (start % 64) (omega arith) (omega (arith, both, one, two)))
+      where
+        side : (bit_at left (start % 64) ≡ 1) ⊎ ((to : ℕ) → Flows code at_first at_last (at * 64 + start % 64) to → IsIn now to) → IsIn now to
+        side (inl k) = let z = ap (λ x. bit_at x (start % 64)) e ∙ bit_at-zero (start % 64) in absurd (omega (arith, z, k))
+        side (inr k) = let same : start ≡ at * 64 + start % 64 = omega (arith, here) in k to (subst (λ n. Flows code at_first at_last n to) same f)
+
+-- what the first words lead to was entered
+pub record Spreading (code : List Node) (at_first at_last : Bool) (old now : List ℕ) (at : ℕ) : Type 0 where
+  pub size : length now ≡ length old
+  pub kept : (number : ℕ) → IsIn old number → IsIn now number
+  pub from : (number : ℕ) → IsIn now number → (start : ℕ) × IsIn old start × FlowsOn code at_first at_last start number
+  pub closed : (start to : ℕ) → start < 64 * at → IsIn now start → Flows code at_first at_last start to → IsIn now to
+
+pub spreading_starts : (code : List Node) (at_first at_last : Bool) (old : List ℕ) → Spreading code at_first at_last old old 0
+spreading_starts code at_first at_last old = record { size = refl; kept = λ n h. h; from = λ n h. (n, h, (0, refl)); closed = λ start to l. absurd (omega (arith, l)) }
+
+flows_join : (code : List Node) (at_first at_last : Bool) (count start middle number : ℕ) → FlowsOn code at_first at_last start middle → Parts (Flows code at_first at_last) count middle number → FlowsOn code at_first at_last start number
+flows_join code at_first at_last zero start middle number f p = subst (FlowsOn code at_first at_last start) p f
+flows_join code at_first at_last (suc count) start middle number f p = let r = flows_join code at_first at_last count start middle p.0 f p.1 in (suc r.0, (p.0, r.1, p.2))
+
+pub spreading_more : (code : List Node) (at_first at_last : Bool) (old now new : List ℕ) (at on : ℕ) → Spreading code at_first at_last old now at → Visits code at_first at_last at now new on → Spreading code at_first at_last old new on
+spreading_more code at_first at_last old now new at on s v = record {
+  size = v.size ∙ s.size;
+  kept = λ number h. v.kept number (s.kept number h);
+  from = λ number h. let one = v.from number h in let two = s.from one.0 one.1 in (two.0, two.1, flows_join code at_first at_last one.2.0 two.0 one.0 number two.2 one.2.1);
+  closed = λ start to l h f. elim (cases_lt start (64 * at)) [
+    | inl before ↦ v.kept to (s.closed start to before (v.under start l before h) f)
+    | inr here ↦ let w = v.low in v.done (omega (arith, w, l, here)) start to (omega (arith, w, l, here)) h f
+  ];
+}
+
+pub spreading_ends : (code : List Node) (at_first at_last : Bool) (old now : List ℕ) (at : ℕ) → Spreading code at_first at_last old now at → length now ≤ at → SpreadsOut code at_first at_last old now
+spreading_ends code at_first at_last old now at s h = record {
+  size = s.size;
+  exact = λ number. (s.from number, λ f. follow f.2.0 f.0 number f.1 f.2.1);
+}
+  where
+    follow : (count start number : ℕ) → IsIn old start → Parts (Flows code at_first at_last) count start number → IsIn now number
+    follow zero start number k p = subst (IsIn now) p (s.kept start k)
+    follow (suc count) start number k p =
+        let before = follow count start p.0 k p.1 in
+        let l = is_within now p.0 before in
+        s.closed p.0 number (omega (arith, l, h)) before p.2
+
+-- going back to an earlier word, the set has grown
+pub smaller : (more less size at on : ℕ) → on ≤ at + 1 → at < size → less ≤ more → (on < at + 1 → less < more) → less * (size + 1) + (size - on) < more * (size + 1) + (size - at)
+smaller more less size at on l h m s = elim (cases_lt on (at + 1)) [
+  | inl back ↦
+      let n = s back in
+      let e : more ≡ less + 1 + (more - (less + 1)) = omega (arith, n) in
+      let f = ap (λ k. k * (size + 1)) e in
+      let g : (less + 1 + (more - (less + 1))) * (size + 1) ≡ less * (size + 1) + (size + 1) + (more - (less + 1)) * (size + 1) = grind arith in
+      omega (arith, f, g)
+  | inr next ↦
+      let e : more ≡ less + (more - less) = omega (arith, m) in
+      let f = ap (λ k. k * (size + 1)) e in
+      let g : (less + (more - less)) * (size + 1) ≡ less * (size + 1) + (more - less) * (size + 1) = grind arith in
+      omega (arith, f, g, next, h, l)
+]

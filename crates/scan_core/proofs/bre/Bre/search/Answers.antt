@@ -1,0 +1,32 @@
+use Rattle.std.proofs.Common.{rules, ◌+◌, ◌/◌, ◌≤◌, length, sym, ap, ◌∙◌, subst, arith}
+use Rattle.bre_core.specs.Pattern.{positions_of}
+use Rattle.std.proofs.lemmas.List.{length-take}
+use Rattle.scan_core.specs.Sets.{IsCode}
+use Rattle.scan_core.proofs.Whole.{is_code, enough_room}
+use Rattle.scan_core.proofs.bre.Bre.search.Goals as goal
+
+pub slice_bounds-search-end : goal.slice_bounds-search-end
+slice_bounds-search-end c =
+    let e = enough_room c.self.inside.expression c.self.invariant.1 in
+    let l = ap length c.self.invariant.0 in
+    let p = ap positions_of c.self.view_is in
+    omega (arith, e, l, p, c.requires)
+
+pub slice_bounds-search-end-2 : goal.slice_bounds-search-end-2
+slice_bounds-search-end-2 c =
+    let e = enough_room c.self.inside.expression c.self.invariant.1 in
+    let l = ap length c.self.invariant.0 in
+    let p = ap positions_of c.self.view_is in
+    let h : c.len.result / 64 + 1 ≤ length c.args.words.now = omega (arith, e, l, p, c.requires) in
+    search (rules, length-take, h)
+
+pub search-requires-clause-code : goal.search-requires-clause-code
+search-requires-clause-code c = subst IsCode (sym (c.deref.ensures.value ∙ c.self.invariant.0)) (is_code c.self.inside.expression c.self.invariant.1)
+
+pub search-requires-clause-room : goal.search-requires-clause-room
+search-requires-clause-room c =
+    let e = enough_room c.self.inside.expression c.self.invariant.1 in
+    let l = ap length c.self.invariant.0 in
+    let p = ap positions_of c.self.view_is in
+    let h : c.len.result / 64 + 1 ≤ length c.args.words.now = omega (arith, e, l, p, c.requires) in
+    search (rules, length-take, h)

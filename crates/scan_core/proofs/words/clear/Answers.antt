@@ -1,0 +1,6 @@
+use Rattle.std.proofs.Common.{arith}
+use Rattle.scan_core.proofs.Passings.{none_in}
+use Rattle.scan_core.proofs.words.clear.Goals as goal
+
+pub returns-clause-none : goal.returns-clause-none
+returns-clause-none c = none_in c.loop-at.words c.loop-at.at c.loop-at.invariant (omega arith)

@@ -1,0 +1,10 @@
+use Rattle.std.proofs.Common.{rules, ◌≡◌, ◌/◌, ◌<◌, ◌^◌, min, refl, sym, ◌∙◌, slice_index_or}
+use Rattle.std.proofs.lemmas.Bool.{false≢true}
+use Rattle.scan_core.proofs.Bits.{grows_one}
+use Rattle.scan_core.proofs.words.enter.Goals as goal
+
+pub returns : goal.returns
+returns c =
+    let m : c.min.result ≡ min c.args.on (c.args.number / 64) = search rules in
+    let f : slice_index_or c.args.words.now (c.args.number / 64) 0 < 2 ^ 64 = search rules in
+    grows_one c.args.words.now _ c.args.number (slice_index_or c.args.words.now (c.args.number / 64) 0) c.args.on c.min.result c.requires (λ h. false≢true (sym c.if-has.false ∙ c.has.ensures.1 h)) refl f refl m

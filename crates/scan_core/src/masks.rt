@@ -1,0 +1,112 @@
+//! The numbers of a pattern's code by what their nodes do, as words of 64 numbers.
+
+ghost use Rattle.std.specs.Prelude.{◌≡◌, ◌↔◌, ◌<◌, ◌+◌, ◌^◌, ℕ, IsTrue, IfOk, IfErr, OnOk};
+ghost use Rattle.std.specs.Int.{bit_at};
+ghost use Rattle.bre_core.specs.declared.fault.BreFault.TheVariants.{Memory};
+ghost use Rattle.scan_core.specs.declared.masks.Kind.TheVariants.{Leads, Counts};
+ghost use Rattle.scan_core.specs.Words.{AddsMask, IsMasks, IsOf};
+
+use crate::node::Node;
+use crate::reach::passes;
+use bre_core::BreFault;
+use std::alloc::Global;
+
+/// What is asked of a number of a code.
+#[derive(Clone, Copy, Debug)]
+pub enum Kind {
+    /// Its node takes this byte.
+    Takes(u8),
+    /// Its node leads on without a byte.
+    Leads,
+    /// It is a position.
+    Counts,
+}
+
+/// A code's numbers of each kind, a bit for each number: that of number n is bit n % 64 of word n / 64.
+#[derive(Drop)]
+pub struct Masks {
+    /// For each byte, one after another, the numbers whose nodes take it.
+    pub takes: Vec<u64>,
+    /// Those whose nodes lead on without a byte.
+    pub leads: Vec<u64>,
+    /// Those that are positions.
+    pub counts: Vec<u64>,
+}
+
+/// Whether a number's node leads on without a byte.
+fn leads(nodes: &[Node], number: usize) -> bool
+    ensures { IsTrue result ↔ IsOf nodes.now Leads number }
+{
+    if number < nodes.len() {
+        nodes[number].leads()
+    } else {
+        false
+    }
+}
+
+/// Whether a number is a position.
+fn counts(nodes: &[Node], number: usize) -> bool
+    ensures { IsTrue result ↔ IsOf nodes.now Counts number }
+{
+    if number < nodes.len() {
+        nodes[number].weight() == 1
+    } else {
+        number == nodes.len()
+    }
+}
+
+/// Whether a number is of a kind.
+fn is_of(nodes: &[Node], kind: Kind, number: usize) -> bool
+    ensures { IsTrue result ↔ IsOf nodes.now kind number }
+{
+    match kind {
+        Kind::Takes(byte) => passes(nodes, number, byte),
+        Kind::Leads => leads(nodes, number),
+        Kind::Counts => counts(nodes, number),
+    }
+}
+
+/// The 64 numbers of a kind from a number on, as a word.
+fn word_of(nodes: &[Node], kind: Kind, from: usize) -> u64
+    requires { from + 64 < 2 ^ 64 }
+    ensures { (bit : ℕ) → bit < 64 → (bit_at result bit ≡ 1) ↔ IsOf nodes.now kind (from + bit) }
+{
+    let mut word: u64 = 0;
+    for bit in 0..64usize {
+        if is_of(nodes, kind, from + bit) {
+            word |= 1u64 << bit;
+        }
+    }
+    word
+}
+
+/// Adds the words of a kind to others.
+fn add(words: &mut Vec<u64>, nodes: &[Node], kind: Kind) -> Result<(), BreFault>
+    ensures ok { OnOk result (AddsMask nodes.now kind words.old.items words.new.items) }
+    ensures err { IfErr result (λ fault. fault ≡ Memory) }
+{
+    for at in 0..nodes.len() / 64 + 1 {
+        words.push(word_of(nodes, kind, at * 64))?;
+    }
+    Ok(())
+}
+
+/// The numbers of each kind.
+pub fn masks_of(alloc: Global, nodes: &[Node]) -> Result<Masks, BreFault>
+    ensures ok { IfOk result (IsMasks nodes.now) }
+    ensures err { IfErr result (λ fault. fault ≡ Memory) }
+{
+    let mut takes = Vec::new(alloc);
+    for byte in 0..256u16 {
+        add(&mut takes, nodes, Kind::Takes(byte as u8))?;
+    }
+    let mut leads = Vec::new(alloc);
+    add(&mut leads, nodes, Kind::Leads)?;
+    let mut counts = Vec::new(alloc);
+    add(&mut counts, nodes, Kind::Counts)?;
+    Ok(Masks {
+        takes,
+        leads,
+        counts,
+    })
+}

@@ -1,0 +1,152 @@
+//! Sets of a code's numbers as words: a step of the whole set takes a few operations for 64 numbers.
+
+ghost use Rattle.std.specs.Prelude.{◌≡◌, ◌↔◌, ◌<◌, ◌≤◌, ◌+◌, ◌*◌, ℕ, IsTrue, length};
+ghost use Rattle.scan_core.specs.declared.masks.Kind.TheVariants.{Takes, Leads, Counts};
+ghost use Rattle.scan_core.specs.Sets.{IsCode, Flows, Passes, positions_among};
+ghost use Rattle.scan_core.specs.Words.{Grows, IsIn, IsMask, SpreadsOut, Visits, flags_of, width};
+
+use crate::node::Node;
+
+/// Whether a number is in a set.
+#[inline(always)]
+pub fn has(words: &[u64], number: usize) -> bool
+    requires { number < 64 * length words.now }
+    ensures { IsTrue result ↔ IsIn words.now number }
+{
+    (words[number / 64] >> (number % 64)) & 1 == 1
+}
+
+/// Enters a number. Returns the word to go on with: that of the number where it is new and its word stands before.
+#[inline(always)]
+pub fn enter(words: &mut [u64], number: usize, on: usize) -> usize
+    requires { number < 64 * length words.old }
+    ensures { Grows (λ other. other ≡ number) words.old words.new on result }
+{
+    if has(words, number) {
+        return on;
+    }
+    words[number / 64] |= 1u64 << (number % 64);
+    on.min(number / 64)
+}
+
+/// Enters what a node leads to without a byte at one place: the line's first, its last, or neither.
+#[inline(always)]
+fn lead(
+    words: &mut [u64],
+    nodes: &[Node],
+    number: usize,
+    at_first: bool,
+    at_last: bool,
+    on: usize,
+) -> usize
+    requires code { IsCode nodes.now }
+    requires room { length nodes.now < 64 * length words.old }
+    ensures { Grows (Flows nodes.now at_first at_last number) words.old words.new on result }
+{
+    if number >= nodes.len() {
+        return on;
+    }
+    match &nodes[number] {
+        Node::Take(_) => on,
+        Node::First => {
+            if at_first {
+                enter(words, number + 1, on)
+            } else {
+                on
+            }
+        }
+        Node::Last => {
+            if at_last {
+                enter(words, number + 1, on)
+            } else {
+                on
+            }
+        }
+        Node::Choose(skip) => {
+            let on = enter(words, number + 1, on);
+            enter(words, number + *skip, on)
+        }
+        Node::Back(by) => enter(words, number - *by, on),
+    }
+}
+
+/// Enters what the nodes of a word lead to without a byte. Returns the word to go on with: the next, or the first that is to
+/// be looked at again.
+fn visit(
+    words: &mut [u64],
+    nodes: &[Node],
+    leads: &[u64],
+    at: usize,
+    at_first: bool,
+    at_last: bool,
+) -> usize
+    requires code { IsCode nodes.now }
+    requires size { length words.old ≡ width nodes.now }
+    requires within { at < width nodes.now }
+    requires leads { IsMask nodes.now Leads 0 leads.now }
+    requires leads_size { length leads.now ≡ width nodes.now }
+    ensures { Visits nodes.now at_first at_last at words.old words.new result }
+{
+    let mut on = at + 1;
+    let mut left = words[at] & leads[at];
+    'bits: while left != 0 {
+        let bit = left.trailing_zeros();
+        left &= !(1u64 << bit);
+        on = lead(words, nodes, at * 64 + bit as usize, at_first, at_last, on);
+    }
+    on
+}
+
+/// Enters all that the set leads to at one place, without a byte.
+pub fn spread(words: &mut [u64], nodes: &[Node], leads: &[u64], at_first: bool, at_last: bool)
+    requires code { IsCode nodes.now }
+    requires size { length words.old ≡ width nodes.now }
+    requires leads { IsMask nodes.now Leads 0 leads.now }
+    requires leads_size { length leads.now ≡ width nodes.now }
+    ensures { SpreadsOut nodes.now at_first at_last words.old words.new }
+{
+    let mut at = 0;
+    'words: while at < words.len() {
+        at = visit(words, nodes, leads, at, at_first, at_last);
+    }
+}
+
+/// Takes all out.
+pub fn clear(words: &mut [u64])
+    ensures size { length words.new ≡ length words.old }
+    ensures none { (number : ℕ) → IsIn words.new number → ⊥ }
+{
+    for at in 0..words.len() {
+        words[at] = 0;
+    }
+}
+
+/// Makes of a set what a byte leads to from it. The numbers whose nodes take the byte stand from a place on.
+pub fn pass(words: &mut [u64], nodes: &[Node], takes: &[u64], from: usize, byte: u8)
+    requires size { length words.old ≡ width nodes.now }
+    requires takes { IsMask nodes.now (Takes byte) from takes.now }
+    requires takes_size { from + width nodes.now ≤ length takes.now }
+    ensures size { length words.new ≡ length words.old }
+    ensures exact { (number : ℕ) → IsIn words.new number ↔ ((before : ℕ) × IsIn words.old before × Passes nodes.now byte before number) }
+{
+    let mut carry: u64 = 0;
+    for at in 0..words.len() {
+        let kept = words[at] & takes[from + at];
+        words[at] = (kept << 1) | carry;
+        carry = kept >> 63;
+    }
+}
+
+/// How many positions are in a set.
+pub fn positions(words: &[u64], nodes: &[Node], counts: &[u64]) -> usize
+    requires size { length words.now ≡ width nodes.now }
+    requires counts { IsMask nodes.now Counts 0 counts.now }
+    requires counts_size { length counts.now ≡ width nodes.now }
+    ensures { result ≡ positions_among nodes.now (flags_of words.now) }
+{
+    let mut positions = 0;
+    for at in 0..words.len() {
+        positions += (words[at] & counts[at]).count_ones() as usize;
+    }
+    positions
+}

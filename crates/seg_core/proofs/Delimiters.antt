@@ -1,0 +1,67 @@
+-- How many delimiters a text has.
+use Rattle.std.proofs.Common.{◌≡◌, ◌≢◌, ℕ, ◌+◌, ◌-◌, ◌<◌, ◌≤◌, Bool, true, false, cond, eqb, List, [], ◌∷◌, ◌++◌, length, take, drop, get_or, sym, ap, ◌∙◌, arith}
+use Rattle.std.proofs.lemmas.List.{take_more, take-append-drop, take-take, drop-take}
+use Rattle.std.proofs.lemmas.Bool.{eq-eqb, ne_eqb}
+use Rattle.seg_core.specs.Line.{delimiters}
+
+append_step : (is_delim : Bool) (m n k : ℕ) → k ≡ m + n → cond is_delim (k + 1) k ≡ cond is_delim (m + 1) m + n
+append_step true m n k e = omega arith
+append_step false m n k e = e
+
+pub delimiters-append : (delim : ℕ) (x y : List ℕ) → delimiters delim (x ++ y) ≡ delimiters delim x + delimiters delim y
+delimiters-append delim [] y = omega arith
+delimiters-append delim (byte ∷ x) y = append_step (eqb byte delim) (delimiters delim x) (delimiters delim y) (delimiters delim (x ++ y)) (delimiters-append delim x y)
+
+length_step : (is_delim : Bool) (n m : ℕ) → n ≤ m → cond is_delim (n + 1) n ≤ m + 1
+length_step true n m h = omega arith
+length_step false n m h = omega arith
+
+pub delimiters-le-length : (delim : ℕ) (x : List ℕ) → delimiters delim x ≤ length x
+delimiters-le-length delim [] = omega arith
+delimiters-le-length delim (byte ∷ x) = omega (arith, length_step (eqb byte delim) (delimiters delim x) (length x) (delimiters-le-length delim x))
+
+pub delimiters-take-drop : (delim k : ℕ) (x : List ℕ) → delimiters delim x ≡ delimiters delim (take k x) + delimiters delim (drop k x)
+delimiters-take-drop delim k x = ap (delimiters delim) (sym (take-append-drop k x)) ∙ delimiters-append delim (take k x) (drop k x)
+
+pub delimiters-take-le : (delim k : ℕ) (x : List ℕ) → delimiters delim (take k x) ≤ delimiters delim x
+delimiters-take-le delim k x = omega (arith, delimiters-take-drop delim k x)
+
+pub delimiters_more : (delim : ℕ) (x : List ℕ) (i : ℕ) → i < length x → delimiters delim (take (i + 1) x) ≡ delimiters delim (take i x) + delimiters delim (get_or x i 0 ∷ [])
+delimiters_more delim x i h = ap (delimiters delim) (take_more x i 0 h) ∙ delimiters-append delim (take i x) (get_or x i 0 ∷ [])
+
+pub delimiters-one_yes : (delim byte : ℕ) → eqb byte delim ≡ true → delimiters delim (byte ∷ []) ≡ 1
+delimiters-one_yes delim byte e = ap (λ (c : Bool). cond c (0 + 1) 0) e
+
+pub delimiters-one_no : (delim byte : ℕ) → eqb byte delim ≡ false → delimiters delim (byte ∷ []) ≡ 0
+delimiters-one_no delim byte e = ap (λ (c : Bool). cond c (0 + 1) 0) e
+
+pub delimiters-take-add : (delim i k : ℕ) (x : List ℕ) → delimiters delim (take (i + k) x) ≡ delimiters delim (take i x) + delimiters delim (take k (drop i x))
+delimiters-take-add delim i k x =
+    delimiters-take-drop delim i (take (i + k) x)
+    ∙ ap (λ n. n + delimiters delim (drop i (take (i + k) x))) (ap (delimiters delim) (take-take i (i + k) x (omega arith)))
+    ∙ ap (λ n. delimiters delim (take i x) + n) (ap (delimiters delim) (drop-take i k x))
+
+-- a count that goes on by a stretch
+pub count_stretch : (delim : ℕ) (x : List ℕ) (at width n more : ℕ) → n ≡ delimiters delim (take at x) → more ≡ delimiters delim (take (at + width - at) (drop at x)) → n + more ≡ delimiters delim (take (at + width) x)
+count_stretch delim x at width n more so_far is =
+    let all : at + width - at ≡ width = omega arith in
+    let here = is ∙ ap (λ k. delimiters delim (take k (drop at x))) all in
+    let both = delimiters-take-add delim at width x in
+    omega arith
+
+-- a count that goes on by one byte
+pub count_more : (delim : ℕ) (x : List ℕ) (i n one : ℕ) → n ≡ delimiters delim (take i x) → i < length x → one ≡ delimiters delim (get_or x i 0 ∷ []) → n + one ≡ delimiters delim (take (i + 1) x)
+count_more delim x i n one so_far h here = let more = delimiters_more delim x i h in omega arith
+
+-- a count that goes on byte by byte
+pub count_yes : (delim : ℕ) (x : List ℕ) (i n : ℕ) → n ≡ delimiters delim (take i x) → i < length x → get_or x i 0 ≡ delim → n + 1 ≡ delimiters delim (take (i + 1) x)
+count_yes delim x i n so_far h here =
+    let one = delimiters-one_yes delim (get_or x i 0) (eq-eqb (get_or x i 0) delim here) in
+    let more = delimiters_more delim x i h in
+    omega arith
+
+pub count_no : (delim : ℕ) (x : List ℕ) (i n : ℕ) → n ≡ delimiters delim (take i x) → i < length x → get_or x i 0 ≢ delim → n ≡ delimiters delim (take (i + 1) x)
+count_no delim x i n so_far h here =
+    let none = delimiters-one_no delim (get_or x i 0) (ne_eqb (get_or x i 0) delim here) in
+    let more = delimiters_more delim x i h in
+    omega arith
