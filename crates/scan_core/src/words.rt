@@ -31,7 +31,7 @@ pub fn enter(words: &mut [u64], number: usize, on: usize) -> usize
 
 /// Enters what a node leads to without a byte at one place: the line's first, its last, or neither.
 #[inline(always)]
-fn lead(
+pub fn lead(
     words: &mut [u64],
     nodes: &[Node],
     number: usize,
