@@ -12,8 +12,35 @@ use crate::words::{lead, spread};
 
 /// Enters what the nodes of a word lead to without a byte. Returns the word to go on with: the next, or the first that is to
 /// be looked at again.
-#[inline(always)]
 fn close(
+    words: &mut [u64],
+    nodes: &[Node],
+    closures: &Closures,
+    at: usize,
+    at_first: bool,
+    at_last: bool,
+) -> usize
+    requires code { IsCode nodes.now }
+    requires size { length words.old ≡ width nodes.now }
+    requires within { at < width nodes.now }
+    requires closures { AreClosures nodes.now closures.now }
+    ensures { Visits nodes.now at_first at_last at words.old words.new result }
+{
+    let word = words[at];
+    words[at] = word | closed(&closures.inside, nodes, at, word);
+    let mut on = at + 1;
+    let mut left = words[at] & closures.leaves[at];
+    'bits: while left != 0 {
+        let bit = left.trailing_zeros() as usize;
+        left &= !closures.peers[at * 64 + bit];
+        on = lead(words, nodes, at * 64 + bit, at_first, at_last, on);
+    }
+    on
+}
+
+/// The same, at once for a word of whose numbers none leads on.
+#[inline(always)]
+fn close_some(
     words: &mut [u64],
     nodes: &[Node],
     leads: &[u64],
@@ -30,22 +57,14 @@ fn close(
     requires closures { AreClosures nodes.now closures.now }
     ensures { Visits nodes.now at_first at_last at words.old words.new result }
 {
-    let word = words[at];
-    if word & leads[at] == 0 {
+    if words[at] & leads[at] == 0 {
         return at + 1;
     }
-    words[at] = word | closed(&closures.inside, nodes, at, word);
-    let mut on = at + 1;
-    let mut left = words[at] & closures.leaves[at];
-    'bits: while left != 0 {
-        let bit = left.trailing_zeros() as usize;
-        left &= !closures.peers[at * 64 + bit];
-        on = lead(words, nodes, at * 64 + bit, at_first, at_last, on);
-    }
-    on
+    close(words, nodes, closures, at, at_first, at_last)
 }
 
 /// Enters all that the set leads to at one place, without a byte.
+#[inline(always)]
 fn close_all(
     words: &mut [u64],
     nodes: &[Node],
@@ -63,11 +82,12 @@ fn close_all(
 {
     let mut at = 0;
     'words: while at < words.len() {
-        at = close(words, nodes, leads, closures, at, at_first, at_last);
+        at = close_some(words, nodes, leads, closures, at, at_first, at_last);
     }
 }
 
 /// Enters all that the set leads to at one place, without a byte: by the closures, where there are some.
+#[inline(always)]
 pub fn enter_all(
     words: &mut [u64],
     nodes: &[Node],

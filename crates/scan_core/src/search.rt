@@ -39,7 +39,13 @@ pub fn search(
             return Outcome { found: true, steps };
         }
         let byte = line[place];
-        pass(words, nodes, &masks.takes, byte as usize * words.len(), byte);
+        pass(
+            words,
+            nodes,
+            &masks.takes,
+            byte as usize * words.len(),
+            byte,
+        );
     }
     enter(words, 0, 0);
     enter_all(words, nodes, &masks.leads, closures, line.is_empty(), true);

@@ -3,11 +3,8 @@ use Rattle.std.proofs.lemmas.Nat.Bits.{bit_at-trailing_zeros}
 use Rattle.std.specs.Int.{trailing_zeros}
 use Rattle.scan_core.specs.Closures.{ArePeers}
 use Rattle.scan_core.proofs.Enterings.{no_default}
-use Rattle.scan_core.proofs.Closings.{close_word, close_more, close_ends, close_none, peers_smaller}
+use Rattle.scan_core.proofs.Closings.{close_word, close_more, close_ends, peers_smaller}
 use Rattle.scan_core.proofs.closing.close.Goals as goal
-
-pub returns-then-word-leads-eq0 : goal.returns-then-word-leads-eq0
-returns-then-word-leads-eq0 c = close_none c.args.nodes.now c.args.at_first c.args.at_last c.args.at c.args.words.now c.args.leads.now c.requires.leads c.if-word-leads-eq0.true
 
 pub bits-smaller : goal.bits-smaller
 bits-smaller c =
