@@ -75,7 +75,27 @@ fn broken_at(alloc: Global, bytes: &[u8], slot: usize, at: usize) -> Result<MemI
 #[test]
 fn cuts_into_files(rt: HostRuntime) -> Result<(), Fail> {
     let lines = b"a\nb\nc\nd\ne";
-    let rows: [(&[&str], &[u8], &[File<'static>]); 14] = [
+    let rows: [(&[&str], &[u8], &[File<'static>]); 18] = [
+        (
+            &["split", "-t", ",", "-l", "1"],
+            b"a,b,c",
+            &[("xaa", b"a,"), ("xab", b"b,"), ("xac", b"c")],
+        ),
+        (
+            &["split", "-t", "\\0", "-n", "r/2"],
+            b"a\0b\0c",
+            &[("xaa", b"a\0c"), ("xab", b"b\0")],
+        ),
+        (
+            &["split", "-t", ":", "-C", "4"],
+            b"b:aaaaa:c:",
+            &[("xaa", b"b:"), ("xab", b"aaaa"), ("xac", b"a:c:")],
+        ),
+        (
+            &["split", "--additional-suffix=.txt", "-l", "2"],
+            b"a\nb\nc",
+            &[("xaa.txt", b"a\nb\n"), ("xab.txt", b"c")],
+        ),
         (
             &["split", "-l", "2"],
             lines,

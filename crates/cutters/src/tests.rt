@@ -119,8 +119,10 @@ fn refuses(rt: &impl Abort, alloc: Global, words: &[&str], message: &[u8]) -> Re
 fn puts_out_the_first_lines(rt: HostRuntime) -> Result<(), Fail> {
     let eleven = b"1\n2\n3\n4\n5\n6\n7\n8\n9\n10\n11\n";
     let ten = b"1\n2\n3\n4\n5\n6\n7\n8\n9\n10\n";
-    let rows: [(&[&str], &[u8], &[u8]); 18] = [
+    let rows: [(&[&str], &[u8], &[u8]); 20] = [
         (&["head", "-n", "2"], b"a\nb\nc\n", b"a\nb\n"),
+        (&["head", "-zn", "1"], b"a\nb\0c\0", b"a\nb\0"),
+        (&["head", "--zero-terminated", "-n-1"], b"a\n\0b", b"a\n\0"),
         (&["head", "-n", "2"], b"a\nb", b"a\nb"),
         (&["head", "-n", "2"], b"", b""),
         (&["head", "-n", "1"], b"\xff\0\n\xfe", b"\xff\0\n"),
@@ -149,8 +151,10 @@ fn puts_out_the_first_lines(rt: HostRuntime) -> Result<(), Fail> {
 fn puts_out_the_last_lines(rt: HostRuntime) -> Result<(), Fail> {
     let eleven = b"1\n2\n3\n4\n5\n6\n7\n8\n9\n10\n11\n";
     let ten = b"2\n3\n4\n5\n6\n7\n8\n9\n10\n11\n";
-    let rows: [(&[&str], &[u8], &[u8]); 25] = [
+    let rows: [(&[&str], &[u8], &[u8]); 27] = [
         (&["tail", "-n", "2"], b"a\nb\nc", b"b\nc"),
+        (&["tail", "-z", "-n", "1"], b"a\0b\nc", b"b\nc"),
+        (&["tail", "-zn+2"], b"a\n\0b\0c", b"b\0c"),
         (&["tail", "-n", "2"], b"a\nb\nc\n", b"b\nc\n"),
         (&["tail", "-n", "-2"], b"a\nb\nc", b"b\nc"),
         (&["tail", "-n", "9"], b"a\nb\nc", b"a\nb\nc"),
@@ -349,14 +353,14 @@ fn tells_the_first_fault(rt: HostRuntime) -> Result<(), Fail> {
         (&["tail", "-n", "-"], b"tail: invalid number '-'\n"),
         (&["tail", "-n", "+-1"], b"tail: invalid number '+-1'\n"),
         (
-            &["head", "-c5", "-n", "x", "-z"],
+            &["head", "-c5", "-n", "x", "-j"],
             b"head: invalid number 'x'\n",
         ),
         (
-            &["head", "-c5", "-z", "-n", "x"],
-            b"head: unknown option '-z'\n",
+            &["head", "-c5", "-j", "-n", "x"],
+            b"head: unknown option '-j'\n",
         ),
-        (&["head", "x", "-z"], b"head: unknown option '-z'\n"),
+        (&["head", "x", "-j"], b"head: unknown option '-j'\n"),
         (
             &["head", "-n", "-99999999999999999999"],
             b"head: number too large '-99999999999999999999'\n",

@@ -19,4 +19,6 @@ pub mod Searchings
 pub mod Inners
 pub mod Tables
 pub mod Masking
+pub mod Insides
+pub mod Closings
 pub mod Shiftings

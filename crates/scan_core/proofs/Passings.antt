@@ -61,7 +61,7 @@ kept_bit code words takes byte from at bit m within small = (
         let i = m (at * 64 + bit) (omega (arith, within, small)) in
         (λ h. i.0 (e ∙ h), λ p. sym e ∙ i.1 p)
 
-set_elsewhere : (words : List ℕ) (at word number : ℕ) → (number / 64 ≡ at → ⊥) → IsIn (set words at word) number ↔ IsIn words number
+pub set_elsewhere : (words : List ℕ) (at word number : ℕ) → (number / 64 ≡ at → ⊥) → IsIn (set words at word) number ↔ IsIn words number
 unfolding IsIn
 set_elsewhere words at word number differs =
     let e = ap (λ x. bit_at x (number % 64)) (get_or-set_other words at (number / 64) word 0 differs) in

@@ -117,7 +117,7 @@ leads_on (Choose skip) at_first at_last from to h = refl
 leads_on (Back by) at_first at_last from to h = refl
 
 -- a node that leads on without a byte has its bit
-lead_bit : (code : List Node) (leads : List ℕ) (at_first at_last : Bool) (start to : ℕ) → IsMask code Leads 0 leads → Flows code at_first at_last start to → bit_at (get_or leads (start / 64) 0) (start % 64) ≡ 1
+pub lead_bit : (code : List Node) (leads : List ℕ) (at_first at_last : Bool) (start to : ℕ) → IsMask code Leads 0 leads → Flows code at_first at_last start to → bit_at (get_or leads (start / 64) 0) (start % 64) ≡ 1
 lead_bit code leads at_first at_last start to m f =
     let l = at_least code start f.0 f.1 in
     let z : 0 + start / 64 ≡ start / 64 = omega arith in
@@ -161,7 +161,7 @@ pub record Spreading (code : List Node) (at_first at_last : Bool) (old now : Lis
 pub spreading_starts : (code : List Node) (at_first at_last : Bool) (old : List ℕ) → Spreading code at_first at_last old old 0
 spreading_starts code at_first at_last old = record { size = refl; kept = λ n h. h; from = λ n h. (n, h, (0, refl)); closed = λ start to l. absurd (omega (arith, l)) }
 
-flows_join : (code : List Node) (at_first at_last : Bool) (count start middle number : ℕ) → FlowsOn code at_first at_last start middle → Parts (Flows code at_first at_last) count middle number → FlowsOn code at_first at_last start number
+pub flows_join : (code : List Node) (at_first at_last : Bool) (count start middle number : ℕ) → FlowsOn code at_first at_last start middle → Parts (Flows code at_first at_last) count middle number → FlowsOn code at_first at_last start number
 flows_join code at_first at_last zero start middle number f p = subst (FlowsOn code at_first at_last start) p f
 flows_join code at_first at_last (suc count) start middle number f p = let r = flows_join code at_first at_last count start middle p.0 f p.1 in (suc r.0, (p.0, r.1, p.2))
 

@@ -8,3 +8,4 @@ pub mod Table
 pub mod Built
 pub mod Shifts
 pub mod Words
+pub mod Closures

@@ -9,6 +9,7 @@ ghost use Rattle.scan_core.specs.Code.{code_of, IsOrdered};
 ghost use Rattle.scan_core.specs.Table.{IsOutcome};
 
 use crate::build::build;
+use crate::closures::{Closures, closures_of};
 use crate::compile::compile;
 use crate::masks::{Masks, masks_of};
 use crate::node::Node;
@@ -27,6 +28,7 @@ pub struct Bre {
     expression: Expression,
     code: Vec<Node>,
     masks: Masks,
+    closures: Option<Closures>,
     table: Option<Table>,
     shifts: Option<ShiftTable>,
 }
@@ -38,6 +40,7 @@ impl Model for Bre {
     ghost use Rattle.scan_core.specs.Code.{code_of, IsOrdered};
     ghost use Rattle.scan_core.specs.Table.{IsTable};
     ghost use Rattle.scan_core.specs.Shifts.{IsShiftTable};
+    ghost use Rattle.scan_core.specs.Closures.{AreClosures};
     ghost use Rattle.scan_core.specs.Words.{IsMasks};
 
     ghost Value = { Pattern };
@@ -47,7 +50,7 @@ impl Model for Bre {
     ghost view = { λ b. b.expression };
 
     ghost invariant = { λ b. (b.code.items ≡ code_of b.expression) × IsOrdered b.expression × (positions_of b.expression ≤ 65535)
-        × IsMasks b.code.items b.masks × IfSome b.table (IsTable b.code.items) × IfSome b.shifts (IsShiftTable b.code.items) };
+        × IsMasks b.code.items b.masks × IfSome b.table (IsTable b.code.items) × IfSome b.shifts (IsShiftTable b.code.items) × IfSome b.closures (AreClosures b.code.items) };
 }
 
 impl Bre {
@@ -72,12 +75,14 @@ impl Bre {
         let expression = Expression::read(alloc, text)?;
         let code = compile(alloc, &expression)?;
         let masks = masks_of(alloc, &code)?;
+        let closures = closures_of(alloc, &code, &masks.leads)?;
         let table = build(alloc, &code)?;
         let shifts = shifts_of(alloc, &code, &table)?;
         Ok(Bre {
             expression,
             code,
             masks,
+            closures,
             table,
             shifts,
         })
@@ -127,7 +132,7 @@ impl Bre {
     {
         let code = &self.code;
         let width = code.len() / 64 + 1;
-        search(&self.masks, code, line, &mut words[..width])
+        search(&self.masks, &self.closures, code, line, &mut words[..width])
     }
 }
 

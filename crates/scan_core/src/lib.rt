@@ -8,6 +8,8 @@
 
 mod bre;
 mod build;
+mod closing;
+mod closures;
 mod compile;
 mod emit;
 pub mod laws;

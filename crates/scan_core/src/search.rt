@@ -1,19 +1,29 @@
 //! Searching a line place by place, with the set of what is entered at each.
 
-ghost use Rattle.std.specs.Prelude.{◌≡◌, length};
+ghost use Rattle.std.specs.Prelude.{◌≡◌, IfSome, length};
+ghost use Rattle.scan_core.specs.Closures.{AreClosures};
 ghost use Rattle.scan_core.specs.Sets.{IsCode};
 ghost use Rattle.scan_core.specs.Table.{IsOutcome};
 ghost use Rattle.scan_core.specs.Words.{IsMasks, width};
 
+use crate::closing::enter_all;
+use crate::closures::Closures;
 use crate::masks::Masks;
 use crate::node::Node;
 use crate::walk::Outcome;
-use crate::words::{clear, enter, has, pass, positions, spread};
+use crate::words::{clear, enter, has, pass, positions};
 
 /// Whether the code's end is entered at some place of the line, with the positions that are entered at each place. The
-/// masks are those of these nodes, and `words` is room for a set.
-pub fn search(masks: &Masks, nodes: &[Node], line: &[u8], words: &mut [u64]) -> Outcome
+/// masks and closures are those of these nodes, and `words` is room for a set.
+pub fn search(
+    masks: &Masks,
+    closures: &Option<Closures>,
+    nodes: &[Node],
+    line: &[u8],
+    words: &mut [u64],
+) -> Outcome
     requires masks { IsMasks nodes.now masks.now }
+    requires closures { IfSome closures.now (AreClosures nodes.now) }
     requires code { IsCode nodes.now }
     requires room { length words.old ≡ width nodes.now }
     ensures size { length words.new ≡ length words.old }
@@ -23,16 +33,22 @@ pub fn search(masks: &Masks, nodes: &[Node], line: &[u8], words: &mut [u64]) -> 
     clear(words);
     for place in 0..line.len() {
         enter(words, 0, 0);
-        spread(words, nodes, &masks.leads, place == 0, false);
+        enter_all(words, nodes, &masks.leads, closures, place == 0, false);
         steps += positions(words, nodes, &masks.counts) as u128;
         if has(words, nodes.len()) {
             return Outcome { found: true, steps };
         }
         let byte = line[place];
-        pass(words, nodes, &masks.takes, byte as usize * words.len(), byte);
+        pass(
+            words,
+            nodes,
+            &masks.takes,
+            byte as usize * words.len(),
+            byte,
+        );
     }
     enter(words, 0, 0);
-    spread(words, nodes, &masks.leads, line.is_empty(), true);
+    enter_all(words, nodes, &masks.leads, closures, line.is_empty(), true);
     steps += positions(words, nodes, &masks.counts) as u128;
     Outcome {
         found: has(words, nodes.len()),

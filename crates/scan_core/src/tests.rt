@@ -1,6 +1,5 @@
 //! Rows of steps, patterns at the limits, and the matcher beside the plain one.
 
-
 use crate::{Bre, BreFault, Scan, matches_plain};
 use std::alloc::Global;
 use std::process::Abort;

@@ -31,7 +31,7 @@ pub fn enter(words: &mut [u64], number: usize, on: usize) -> usize
 
 /// Enters what a node leads to without a byte at one place: the line's first, its last, or neither.
 #[inline(always)]
-fn lead(
+pub fn lead(
     words: &mut [u64],
     nodes: &[Node],
     number: usize,
@@ -112,6 +112,7 @@ pub fn spread(words: &mut [u64], nodes: &[Node], leads: &[u64], at_first: bool, 
 }
 
 /// Takes all out.
+#[inline(always)]
 pub fn clear(words: &mut [u64])
     ensures size { length words.new ≡ length words.old }
     ensures none { (number : ℕ) → IsIn words.new number → ⊥ }
@@ -122,6 +123,7 @@ pub fn clear(words: &mut [u64])
 }
 
 /// Makes of a set what a byte leads to from it. The numbers whose nodes take the byte stand from a place on.
+#[inline(always)]
 pub fn pass(words: &mut [u64], nodes: &[Node], takes: &[u64], from: usize, byte: u8)
     requires size { length words.old ≡ width nodes.now }
     requires takes { IsMask nodes.now (Takes byte) from takes.now }
@@ -138,6 +140,7 @@ pub fn pass(words: &mut [u64], nodes: &[Node], takes: &[u64], from: usize, byte:
 }
 
 /// How many positions are in a set.
+#[inline(always)]
 pub fn positions(words: &[u64], nodes: &[Node], counts: &[u64]) -> usize
     requires size { length words.now ≡ width nodes.now }
     requires counts { IsMask nodes.now Counts 0 counts.now }

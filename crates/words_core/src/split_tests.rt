@@ -223,8 +223,42 @@ fn reads_operands_and_empty_files(rt: HostRuntime) {
 }
 
 #[test]
+fn reads_separators_and_endings(rt: HostRuntime) {
+    let rows: [(&[&str], u8, &str); 8] = [
+        (&[], b'\n', ""),
+        (&["-t", ","], b',', ""),
+        (&["-t\\0"], 0, ""),
+        (&["--separator", "\\0", "-t", ":"], b':', ""),
+        (&["-b", "1", "-t", "0"], b'0', ""),
+        (&["--additional-suffix=.txt"], b'\n', ".txt"),
+        (
+            &["--additional-suffix", "a", "--additional-suffix="],
+            b'\n',
+            "",
+        ),
+        (&["--additional-suffix", "-", "-t-"], b'-', "-"),
+    ];
+    for row in rows {
+        match read_split(rt.alloc(), row.0) {
+            Ok(found) => {
+                assert_eq!(&rt; found.delim, row.1, "at {:?}", row.0);
+                assert_eq!(&rt; found.ending, row.2, "at {:?}", row.0);
+            }
+            Err(fault) => assert!(&rt; false, "{fault:?} at {:?}", row.0),
+        }
+    }
+}
+
+#[test]
 fn refuses_values(rt: HostRuntime) {
-    let rows: [(&[&str], UsageKind, usize); 36] = [
+    let rows: [(&[&str], UsageKind, usize); 43] = [
+        (&["-t", ""], UsageKind::BadSeparator, 2),
+        (&["-t", "ab"], UsageKind::BadSeparator, 2),
+        (&["--separator=ab"], UsageKind::BadSeparator, 1),
+        (&["-t\\1"], UsageKind::BadSeparator, 1),
+        (&["-t", "é"], UsageKind::BadSeparator, 2),
+        (&["--additional-suffix=a/b"], UsageKind::BadSuffix, 1),
+        (&["--additional-suffix", "/"], UsageKind::BadSuffix, 2),
         (&["-l", "-5"], UsageKind::BadNumber, 2),
         (&["-l", "-0"], UsageKind::BadNumber, 2),
         (&["-l", "-99999999999999999999"], UsageKind::BadNumber, 2),

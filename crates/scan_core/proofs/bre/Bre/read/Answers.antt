@@ -1,7 +1,25 @@
-use Rattle.std.proofs.Common.{sym, ◌∙◌, subst}
+use Rattle.std.proofs.Common.{IfSome, sym, ◌∙◌, subst}
+use Rattle.scan_core.specs.Closures.{AreClosures}
 use Rattle.scan_core.specs.Sets.{IsCode}
+use Rattle.scan_core.specs.Shifts.{IsShiftTable}
+use Rattle.scan_core.specs.Table.{IsTable}
+use Rattle.scan_core.specs.Words.{IsMasks}
 use Rattle.scan_core.proofs.Whole.{is_code}
 use Rattle.scan_core.proofs.bre.Bre.read.Goals as goal
 
+pub closures_of-requires-clause-code : goal.closures_of-requires-clause-code
+closures_of-requires-clause-code c = subst IsCode (sym (c.deref-2.ensures.value ∙ c.in_ok-code.ensures.ok)) (is_code c.in_ok-expression.expression c.in_ok-code.ensures.order)
+
 pub build-requires : goal.build-requires
-build-requires c = subst IsCode (sym (c.deref-2.ensures.value ∙ c.in_ok-code.ensures.ok)) (is_code c.in_ok-expression.expression c.in_ok-code.ensures.order)
+build-requires c = subst IsCode (sym (c.deref-4.ensures.value ∙ c.in_ok-code.ensures.ok)) (is_code c.in_ok-expression.expression c.in_ok-code.ensures.order)
+
+pub invariant_of-result : goal.invariant_of-result
+invariant_of-result c = (
+  c.in_ok-code.ensures.ok,
+  c.in_ok-code.ensures.order,
+  c.in_ok-expression.ensures.size,
+  subst (λ code. IsMasks code c.in_ok-masks.masks) c.deref.ensures.value c.in_ok-masks.ensures.ok,
+  subst (λ code. IfSome c.in_ok-table.table (IsTable code)) c.deref-4.ensures.value c.in_ok-table.ensures.ok,
+  subst (λ code. IfSome c.in_ok-shifts.shifts (IsShiftTable code)) c.deref-5.ensures.value c.in_ok-shifts.ensures.ok,
+  subst (λ code. IfSome c.in_ok-closures.closures (AreClosures code)) c.deref-2.ensures.value c.in_ok-closures.ensures.ok,
+)

@@ -1,0 +1,191 @@
+-- Entering what the numbers of a word lead to, by closures and then by those that lead out of it.
+use Rattle.std.proofs.Common.{◌≡◌, ◌⊎◌, inl, inr, ℕ, zero, suc, ◌+◌, ◌*◌, ◌-◌, ◌/◌, ◌%◌, ◌^◌, ◌<◌, ◌≤◌, Bool, false, List, [], ◌∷◌, length, get_or, set, min, refl, sym, ap, ◌∙◌, subst, arith, w64}
+use Rattle.std.proofs.lemmas.Bool.{cases_eq, cases_lt, false≢true}
+use Rattle.std.proofs.lemmas.List.{get_or-set_same, length-set}
+use Rattle.std.proofs.lemmas.Nat.{and_le_l, le_or_l}
+use Rattle.std.proofs.lemmas.Nat.Bits.{bit_at_and, bit_at_not, bit_at-lt, bit_at-zero}
+use Rattle.std.specs.Prelude.{bit_and, bit_or}
+use Rattle.std.specs.Int.{bit_at, bit_not}
+use Rattle.bre_core.specs.Match.{Parts}
+use Rattle.scan_core.specs.declared.masks.Kind.TheVariants.{Leads}
+use Rattle.scan_core.specs.declared.node.Node.{Node}
+use Rattle.scan_core.specs.declared.node.Node.TheVariants.{Take, First, Last, Choose, Back}
+use Rattle.scan_core.specs.Closures.{ArePeers, Closes, IsLeaving, Stays}
+use Rattle.scan_core.specs.Sets.{LeadsOn, Flows, FlowsOn}
+use Rattle.scan_core.specs.Words.{IsIn, unset, Grows, IsMask, Visits}
+use Rattle.scan_core.proofs.Insides.{left_bit, right_bit, either_bit}
+use Rattle.scan_core.proofs.Passings.{set_elsewhere}
+use Rattle.scan_core.proofs.Visitings.{Visiting, is_in_word, lead_bit}
+
+leads_anywhere : (node : Node) (at_first at_last : Bool) (from to : ℕ) → LeadsOn node false false from to → LeadsOn node at_first at_last from to
+leads_anywhere (Take bytes) at_first at_last from to h = h
+leads_anywhere First at_first at_last from to h = absurd (false≢true h.0)
+leads_anywhere Last at_first at_last from to h = absurd (false≢true h.0)
+leads_anywhere (Choose skip) at_first at_last from to h = h
+leads_anywhere (Back by) at_first at_last from to h = h
+
+parts_anywhere : (code : List Node) (at_first at_last : Bool) (count from to : ℕ) → Parts (Flows code false false) count from to → Parts (Flows code at_first at_last) count from to
+parts_anywhere code at_first at_last zero from to p = p
+parts_anywhere code at_first at_last (suc count) from to p = (p.0, parts_anywhere code at_first at_last count from p.0 p.1, (p.2.0, p.2.1, leads_anywhere p.2.0 at_first at_last p.0 to p.2.2))
+
+unset_fuller : (words : List ℕ) (at word : ℕ) → get_or words at 0 ≤ word → unset (set words at word) ≤ unset words
+unset_fuller [] at word l = omega arith
+unset_fuller (x ∷ words) zero word l = omega (arith, l)
+unset_fuller (x ∷ words) (suc at) word l = let r = unset_fuller words at word l in omega (arith, r)
+
+-- a word was closed
+pub record Closed (code : List Node) (at : ℕ) (old now : List ℕ) : Type 0 where
+  pub size : length now ≡ length old
+  pub kept : (number : ℕ) → IsIn old number → IsIn now number
+  pub from : (number : ℕ) → IsIn now number → (start : ℕ) × IsIn old start × FlowsOn code false false start number
+  pub under : (number : ℕ) → number < 64 * at → IsIn now number → IsIn old number
+  pub fuller : unset now ≤ unset old
+  pub closed : (start to : ℕ) → start / 64 ≡ at → IsIn now start → Stays code start to → IsIn now to
+
+pub close_word : (code : List Node) (at word all : ℕ) (old now : List ℕ) → at < length old → word ≡ get_or old at 0 → Closes code at 0 64 word all → now ≡ set old at (bit_or word all) → Closed code at old now
+close_word code at word all old now h ew c en = record {
+  size = ap length en ∙ length-set old at (bit_or word all);
+  kept = λ number k. elim (cases_eq (number / 64) at) [
+    | inl same ↦ let e : number ≡ at * 64 + number % 64 = omega (arith, same) in subst (IsIn now) (sym e) ((is_in_word now at (number % 64) (omega arith)).0 (bit_now (number % 64) (left_bit word all (number % 64) (bit_old (number % 64) (omega arith) (subst (IsIn old) e k)))))
+    | inr other ↦ subst (λ w. IsIn w number) (sym en) ((set_elsewhere old at (bit_or word all) number other).1 k)
+  ];
+  from = λ number k. elim (cases_eq (number / 64) at) [
+    | inl same ↦
+        let e : number ≡ at * 64 + number % 64 = omega (arith, same) in
+        let b = c.from_chosen (number % 64) (omega arith) (in_all (number % 64) (omega arith) (subst (IsIn now) e k)) in
+        let z : at * 64 + (0 + b.0) ≡ at * 64 + b.0 = omega arith in
+        (at * 64 + b.0, (is_in_word old at b.0 b.1).0 (ap (λ w. bit_at w b.0) (sym ew) ∙ b.2), subst (λ n. FlowsOn code false false n number) z (subst (λ n. FlowsOn code false false (at * 64 + (0 + b.0)) n) (sym e) b.3))
+    | inr other ↦ (number, (set_elsewhere old at (bit_or word all) number other).0 (subst (λ w. IsIn w number) en k), (0, refl))
+  ];
+  under = λ number l k. (set_elsewhere old at (bit_or word all) number (λ q. omega (arith, q, l))).0 (subst (λ w. IsIn w number) en k);
+  fuller = subst (λ w. unset w ≤ unset old) (sym en) (unset_fuller old at (bit_or word all) (let l = le_or_l word all in omega (arith, l, ew)));
+  closed = λ start to here k s.
+      let e : start ≡ at * 64 + start % 64 = omega (arith, here) in
+      let f : to ≡ at * 64 + to % 64 = (let q = s.1 in omega (arith, here, q)) in
+      let flow = subst (λ n. Flows code false false n (at * 64 + to % 64)) e (subst (λ n. Flows code false false start n) f s.0) in
+      let b = c.closed (start % 64) (to % 64) (omega arith) (omega arith) (in_all (start % 64) (omega arith) (subst (IsIn now) e k)) flow in
+      subst (IsIn now) (sym f) ((is_in_word now at (to % 64) (omega arith)).0 (bit_now (to % 64) (right_bit word all (to % 64) b)));
+}
+  where
+    read : get_or now at 0 ≡ bit_or word all
+    read = ap (λ w. get_or w at 0) en ∙ get_or-set_same old at (bit_or word all) 0 h
+
+    bit_now : (bit : ℕ) → bit_at (bit_or word all) bit ≡ 1 → bit_at (get_or now at 0) bit ≡ 1
+    bit_now bit k = ap (λ w. bit_at w bit) read ∙ k
+
+    bit_old : (bit : ℕ) → bit < 64 → IsIn old (at * 64 + bit) → bit_at word bit ≡ 1
+    bit_old bit l k = ap (λ w. bit_at w bit) ew ∙ (is_in_word old at bit l).1 k
+
+    in_all : (bit : ℕ) → bit < 64 → IsIn now (at * 64 + bit) → bit_at all bit ≡ 1
+    in_all bit l k = side (either_bit word all bit (sym (ap (λ w. bit_at w bit) read) ∙ (is_in_word now at bit l).1 k))
+      where
+        side : (bit_at word bit ≡ 1) ⊎ (bit_at all bit ≡ 1) → bit_at all bit ≡ 1
+        side (inl w) = let e : 0 + bit ≡ bit = omega arith in subst (λ b. bit_at all b ≡ 1) e (c.kept bit l w)
+        side (inr a) = a
+
+masked : (left mask bit : ℕ) → mask < 2 ^ 64 → bit < 64 → bit_at (bit_and left (bit_not w64 mask)) bit ≡ min (bit_at left bit) (1 - bit_at mask bit)
+masked left mask bit m l = bit_at_and left (bit_not w64 mask) bit ∙ ap (min (bit_at left bit)) (bit_at_not w64 mask bit m l)
+
+pub peers_smaller : (code : List Node) (at left mask bit : ℕ) → mask < 2 ^ 64 → bit < 64 → bit_at left bit ≡ 1 → ArePeers code (at * 64 + bit) mask → bit_and left (bit_not w64 mask) < left
+peers_smaller code at left mask bit m l is p =
+    let e : (at * 64 + bit) % 64 ≡ bit = omega (arith, l) in
+    let own = ap (bit_at mask) (sym e) ∙ p.own in
+    let b = masked left mask bit m l in
+    elim (cases_eq (bit_and left (bit_not w64 mask)) left) [
+      | inl same ↦ let q = ap (λ w. bit_at w bit) same in absurd (omega (arith, q, b, own, is))
+      | inr other ↦ let s = and_le_l left (bit_not w64 mask) in omega (arith, s, other)
+    ]
+
+-- a node that leads out of the word, and its peers with it
+pub close_more : (code : List Node) (at_first at_last : Bool) (at leaves left mask bit : ℕ) (start old now new : List ℕ) (on on' : ℕ) → Closed code at start old → Visiting code at_first at_last at (bit_and (get_or old at 0) leaves) left old now on → bit < 64 → bit_at left bit ≡ 1 → mask < 2 ^ 64 → ArePeers code (at * 64 + bit) mask
+    → Grows (Flows code at_first at_last (at * 64 + bit)) now new on on' → Visiting code at_first at_last at (bit_and (get_or old at 0) leaves) (bit_and left (bit_not w64 mask)) old new on'
+close_more code at_first at_last at leaves left mask bit start old now new on on' closed v small here m p g = record {
+  size = g.size ∙ v.size;
+  kept = λ number h. (g.exact number).1 (inl (v.kept number h));
+  from = λ number h. from number ((g.exact number).0 h);
+  low = omega (arith, v.low, g.low);
+  under = λ number l h. let w = g.low in v.under number (omega (arith, l, w)) (g.under number l h);
+  fuller = omega (arith, v.fuller, g.fuller);
+  less = λ l. elim (cases_lt on' on) [
+    | inl lower ↦ let s = g.less lower in let r = v.fuller in omega (arith, s, r)
+    | inr same ↦ let s = v.less (omega (arith, l, same)) in let r = g.fuller in omega (arith, s, r)
+  ];
+  within = λ k s h. let b = masked left mask k m s in v.within k s (let l = bit_at-lt left k in omega (arith, h, b, l));
+  rest = λ k s h. elim (cases_eq (bit_at mask k) 1) [
+    | inl peer ↦ inr (λ to f. peer_led k s h to (others k s peer to f))
+    | inr other ↦ left_or k s (let b = masked left mask k m s in let l = bit_at-lt mask k in omega (arith, b, l, other)) (v.rest k s h)
+  ];
+}
+  where
+    in_old : (k : ℕ) → k < 64 → bit_at (bit_and (get_or old at 0) leaves) k ≡ 1 → IsIn old (at * 64 + k)
+    in_old k s h = (is_in_word old at k s).0 (let b = bit_at_and (get_or old at 0) leaves k in omega (arith, h, b))
+
+    from : (number : ℕ) → IsIn now number ⊎ Flows code at_first at_last (at * 64 + bit) number → IsIn old number ⊎ ((start : ℕ) × IsIn old start × Flows code at_first at_last start number)
+    from number (inl h) = v.from number h
+    from number (inr f) = inr (at * 64 + bit, in_old bit small (v.within bit small here), f)
+
+    others : (k : ℕ) → k < 64 → bit_at mask k ≡ 1 → (to : ℕ) → Flows code at_first at_last (at * 64 + k) to → Stays code (at * 64 + k) to ⊎ Flows code at_first at_last (at * 64 + bit) to
+    others k s peer to f =
+        let e : (at * 64 + bit) / 64 * 64 ≡ at * 64 = omega (arith, small) in
+        subst (λ n. Flows code at_first at_last (n + k) to → Stays code (n + k) to ⊎ Flows code at_first at_last (at * 64 + bit) to) e (p.others k at_first at_last to s peer) f
+
+    peer_led : (k : ℕ) → k < 64 → bit_at (bit_and (get_or old at 0) leaves) k ≡ 1 → (to : ℕ) → Stays code (at * 64 + k) to ⊎ Flows code at_first at_last (at * 64 + bit) to → IsIn new to
+    peer_led k s h to (inl stays) = (g.exact to).1 (inl (v.kept to (closed.closed (at * 64 + k) to (omega (arith, s)) (in_old k s h) stays)))
+    peer_led k s h to (inr f) = (g.exact to).1 (inr f)
+
+    left_or : (k : ℕ) → k < 64 → bit_at (bit_and left (bit_not w64 mask)) k ≡ bit_at left k → (bit_at left k ≡ 1) ⊎ ((to : ℕ) → Flows code at_first at_last (at * 64 + k) to → IsIn now to) → (bit_at (bit_and left (bit_not w64 mask)) k ≡ 1) ⊎ ((to : ℕ) → Flows code at_first at_last (at * 64 + k) to → IsIn new to)
+    left_or k s e (inl h) = inl (e ∙ h)
+    left_or k s e (inr h) = inr (λ to f. (g.exact to).1 (inl (h to f)))
+
+pub close_ends : (code : List Node) (at_first at_last : Bool) (at left leaves : ℕ) (start old now : List ℕ) (on : ℕ) → Closed code at start old → Visiting code at_first at_last at (bit_and (get_or old at 0) leaves) left old now on → left ≡ 0 → IsLeaving code (at * 64) leaves → Visits code at_first at_last at start now on
+close_ends code at_first at_last at left leaves start old now on c v e leaving = record {
+  size = v.size ∙ c.size;
+  kept = λ number h. v.kept number (c.kept number h);
+  from = λ number h. from number (v.from number h);
+  low = v.low;
+  under = λ number l below h. c.under number below (v.under number l h);
+  fuller = omega (arith, v.fuller, c.fuller);
+  less = λ l. let s = v.less l in let f = c.fuller in omega (arith, s, f);
+  done = λ last from to here h f. all from to here (v.under from (omega (arith, last, here)) h) f;
+}
+  where
+    closed_from : (number : ℕ) → IsIn old number → (from : ℕ) × IsIn start from × FlowsOn code at_first at_last from number
+    closed_from number h = let f = c.from number h in (f.0, f.1, (f.2.0, parts_anywhere code at_first at_last f.2.0 f.0 number f.2.1))
+
+    from : (number : ℕ) → IsIn old number ⊎ ((from : ℕ) × IsIn old from × Flows code at_first at_last from number) → (from : ℕ) × IsIn start from × FlowsOn code at_first at_last from number
+    from number (inl h) = closed_from number h
+    from number (inr f) = let one = closed_from f.0 f.1 in (one.0, one.1, (suc one.2.0, (f.0, one.2.1, f.2)))
+
+    all : (from to : ℕ) → from / 64 ≡ at → IsIn old from → Flows code at_first at_last from to → IsIn now to
+    all from to here h f =
+        let same : from ≡ at * 64 + from % 64 = omega (arith, here) in
+        let flow = subst (λ n. Flows code at_first at_last n to) same f in
+        let one = (is_in_word old at (from % 64) (omega arith)).1 (subst (IsIn old) same h) in
+        side one flow (leaving (from % 64) at_first at_last to (omega arith) flow)
+      where
+        rested : (bit_at left (from % 64) ≡ 1) ⊎ ((to : ℕ) → Flows code at_first at_last (at * 64 + from % 64) to → IsIn now to) → Flows code at_first at_last (at * 64 + from % 64) to → IsIn now to
+        rested (inl k) flow = let z = ap (λ w. bit_at w (from % 64)) e ∙ bit_at-zero (from % 64) in absurd (omega (arith, z, k))
+        rested (inr k) flow = k to flow
+
+        side : bit_at (get_or old at 0) (from % 64) ≡ 1 → Flows code at_first at_last (at * 64 + from % 64) to → (bit_at leaves (from % 64) ≡ 1) ⊎ Stays code (at * 64 + from % 64) to → IsIn now to
+        side one flow (inl b) = let m = bit_at_and (get_or old at 0) leaves (from % 64) in rested (v.rest (from % 64) (omega arith) (omega (arith, m, one, b))) flow
+        side one flow (inr stays) = v.kept to (c.closed (at * 64 + from % 64) to (omega arith) ((is_in_word old at (from % 64) (omega arith)).0 one) stays)
+
+-- none of the word's numbers leads on
+pub close_none : (code : List Node) (at_first at_last : Bool) (at : ℕ) (words leads : List ℕ) → IsMask code Leads 0 leads → bit_and (get_or words at 0) (get_or leads at 0) ≡ 0 → Visits code at_first at_last at words words (at + 1)
+close_none code at_first at_last at words leads m e = record {
+  size = refl;
+  kept = λ number h. h;
+  from = λ number h. (number, h, (0, refl));
+  low = omega arith;
+  under = λ number l below h. h;
+  fuller = omega arith;
+  less = λ l. absurd (omega (arith, l));
+  done = λ last start to here h f.
+      let same : start ≡ at * 64 + start % 64 = omega (arith, here) in
+      let one = (is_in_word words at (start % 64) (omega arith)).1 (subst (IsIn words) same h) in
+      let two = ap (λ k. bit_at (get_or leads k 0) (start % 64)) (sym here) ∙ lead_bit code leads at_first at_last start to m f in
+      let both = bit_at_and (get_or words at 0) (get_or leads at 0) (start % 64) in
+      let z = ap (λ w. bit_at w (start % 64)) e ∙ bit_at-zero (start % 64) in
+      absurd (omega (arith, one, two, both, z));
+}

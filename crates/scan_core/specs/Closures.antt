@@ -1,0 +1,43 @@
+-- What numbers lead to without a byte, ready to be looked up.
+use Rattle.std.specs.Prelude.{◌≡◌, ◌⊎◌, ℕ, ◌+◌, ◌*◌, ◌/◌, ◌%◌, ◌<◌, Bool, false, List, length, slice_index_or}
+use Rattle.std.specs.Int.{bit_at}
+use Rattle.scan_core.specs.declared.closures.Closures.{Closures}
+use Rattle.scan_core.specs.declared.node.Node.{Node}
+use Rattle.scan_core.specs.Sets.{Flows, FlowsOn}
+use Rattle.scan_core.specs.Words.{width}
+
+-- a step without a byte to a number of the same word, at any place
+abbrev pub Stays : List Node → ℕ → ℕ → Type 0
+Stays code from to = Flows code false false from to × (to / 64 ≡ from / 64)
+
+-- where more than that follows, the bit is set
+abbrev pub IsLeaving : List Node → ℕ → ℕ → Type 0
+IsLeaving code from word = (bit : ℕ) (at_first at_last : Bool) (to : ℕ) → bit < 64 → Flows code at_first at_last (from + bit) to → (bit_at word bit ≡ 1) ⊎ Stays code (from + bit) to
+
+-- a number itself, and others of its word of which no more follows
+pub record ArePeers (code : List Node) (number word : ℕ) : Type 0 where
+  pub own : bit_at word (number % 64) ≡ 1
+  pub others : (bit : ℕ) (at_first at_last : Bool) (to : ℕ) → bit < 64 → bit_at word bit ≡ 1 → Flows code at_first at_last (number / 64 * 64 + bit) to → Stays code (number / 64 * 64 + bit) to ⊎ Flows code at_first at_last number to
+
+-- the numbers of a word that `count` bits lead to, which stand from a bit of the word on
+pub record Closes (code : List Node) (at from count chosen all : ℕ) : Type 0 where
+  pub kept : (bit : ℕ) → bit < count → bit_at chosen bit ≡ 1 → bit_at all (from + bit) ≡ 1
+  pub from_chosen : (number : ℕ) → number < 64 → bit_at all number ≡ 1 → (bit : ℕ) × (bit < count) × (bit_at chosen bit ≡ 1) × FlowsOn code false false (at * 64 + (from + bit)) (at * 64 + number)
+  pub closed : (number to : ℕ) → number < 64 → to < 64 → bit_at all number ≡ 1 → Flows code false false (at * 64 + number) (at * 64 + to) → bit_at all to ≡ 1
+
+pub record AreInside (code : List Node) (inside : List ℕ) : Type 0 where
+  pub size : length inside ≡ width code * 256
+  pub each : (at four chosen : ℕ) → at < width code → four < 16 → chosen < 16 → Closes code at (four * 4) 4 chosen (slice_index_or inside (at * 256 + four * 16 + chosen) 0)
+
+pub record AreLeaves (code : List Node) (leaves : List ℕ) : Type 0 where
+  pub size : length leaves ≡ width code
+  pub each : (at : ℕ) → at < width code → IsLeaving code (at * 64) (slice_index_or leaves at 0)
+
+pub record AreAllPeers (code : List Node) (peers : List ℕ) : Type 0 where
+  pub size : length peers ≡ width code * 64
+  pub each : (number : ℕ) → number < width code * 64 → ArePeers code number (slice_index_or peers number 0)
+
+pub record AreClosures (code : List Node) (closures : Closures) : Type 0 where
+  pub inside : AreInside code closures.inside.items
+  pub leaves : AreLeaves code closures.leaves.items
+  pub peers : AreAllPeers code closures.peers.items

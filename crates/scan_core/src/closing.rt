@@ -1,0 +1,110 @@
+//! Entering all that follows without a byte, word by word: what is in the word by its closures, and then what is out of it.
+
+ghost use Rattle.std.specs.Prelude.{◌≡◌, ◌<◌, IfSome, length};
+ghost use Rattle.scan_core.specs.Closures.{AreClosures};
+ghost use Rattle.scan_core.specs.declared.masks.Kind.TheVariants.{Leads};
+ghost use Rattle.scan_core.specs.Sets.{IsCode};
+ghost use Rattle.scan_core.specs.Words.{IsMask, SpreadsOut, Visits, width};
+
+use crate::closures::{Closures, closed};
+use crate::node::Node;
+use crate::words::{lead, spread};
+
+/// Enters what the nodes of a word lead to without a byte. Returns the word to go on with: the next, or the first that is to
+/// be looked at again.
+fn close(
+    words: &mut [u64],
+    nodes: &[Node],
+    closures: &Closures,
+    at: usize,
+    at_first: bool,
+    at_last: bool,
+) -> usize
+    requires code { IsCode nodes.now }
+    requires size { length words.old ≡ width nodes.now }
+    requires within { at < width nodes.now }
+    requires closures { AreClosures nodes.now closures.now }
+    ensures { Visits nodes.now at_first at_last at words.old words.new result }
+{
+    let word = words[at];
+    words[at] = word | closed(&closures.inside, nodes, at, word);
+    let mut on = at + 1;
+    let mut left = words[at] & closures.leaves[at];
+    'bits: while left != 0 {
+        let bit = left.trailing_zeros() as usize;
+        left &= !closures.peers[at * 64 + bit];
+        on = lead(words, nodes, at * 64 + bit, at_first, at_last, on);
+    }
+    on
+}
+
+/// The same, at once for a word of whose numbers none leads on.
+#[inline(always)]
+fn close_some(
+    words: &mut [u64],
+    nodes: &[Node],
+    leads: &[u64],
+    closures: &Closures,
+    at: usize,
+    at_first: bool,
+    at_last: bool,
+) -> usize
+    requires code { IsCode nodes.now }
+    requires size { length words.old ≡ width nodes.now }
+    requires within { at < width nodes.now }
+    requires leads { IsMask nodes.now Leads 0 leads.now }
+    requires leads_size { length leads.now ≡ width nodes.now }
+    requires closures { AreClosures nodes.now closures.now }
+    ensures { Visits nodes.now at_first at_last at words.old words.new result }
+{
+    if words[at] & leads[at] == 0 {
+        return at + 1;
+    }
+    close(words, nodes, closures, at, at_first, at_last)
+}
+
+/// Enters all that the set leads to at one place, without a byte.
+#[inline(always)]
+fn close_all(
+    words: &mut [u64],
+    nodes: &[Node],
+    leads: &[u64],
+    closures: &Closures,
+    at_first: bool,
+    at_last: bool,
+)
+    requires code { IsCode nodes.now }
+    requires size { length words.old ≡ width nodes.now }
+    requires leads { IsMask nodes.now Leads 0 leads.now }
+    requires leads_size { length leads.now ≡ width nodes.now }
+    requires closures { AreClosures nodes.now closures.now }
+    ensures { SpreadsOut nodes.now at_first at_last words.old words.new }
+{
+    let mut at = 0;
+    'words: while at < words.len() {
+        at = close_some(words, nodes, leads, closures, at, at_first, at_last);
+    }
+}
+
+/// Enters all that the set leads to at one place, without a byte: by the closures, where there are some.
+#[inline(always)]
+pub fn enter_all(
+    words: &mut [u64],
+    nodes: &[Node],
+    leads: &[u64],
+    closures: &Option<Closures>,
+    at_first: bool,
+    at_last: bool,
+)
+    requires code { IsCode nodes.now }
+    requires size { length words.old ≡ width nodes.now }
+    requires leads { IsMask nodes.now Leads 0 leads.now }
+    requires leads_size { length leads.now ≡ width nodes.now }
+    requires closures { IfSome closures.now (AreClosures nodes.now) }
+    ensures { SpreadsOut nodes.now at_first at_last words.old words.new }
+{
+    match closures {
+        Some(closures) => close_all(words, nodes, leads, closures, at_first, at_last),
+        None => spread(words, nodes, leads, at_first, at_last),
+    }
+}

@@ -1,0 +1,224 @@
+//! What follows without a byte, ready to be looked up: within a word for four numbers at once.
+
+ghost use Rattle.std.specs.Prelude.{◌≡◌, ◌⊎◌, ◌<◌, ◌≤◌, ◌+◌, ◌*◌, ◌/◌, ◌%◌, ◌^◌, ℕ, Bool, IsTrue, IfOk, IfErr, IfSome, length};
+ghost use Rattle.std.specs.Int.{bit_at};
+ghost use Rattle.bre_core.specs.declared.fault.BreFault.TheVariants.{Memory};
+ghost use Rattle.scan_core.specs.declared.masks.Kind.TheVariants.{Leads};
+ghost use Rattle.scan_core.specs.Closures.{AreAllPeers, AreClosures, AreInside, AreLeaves, ArePeers, Closes, IsLeaving, Stays};
+ghost use Rattle.scan_core.specs.Sets.{IsCode, Flows};
+ghost use Rattle.scan_core.specs.Words.{IsMask, width};
+
+use crate::node::Node;
+use crate::words::{clear, enter, spread};
+use bre_core::BreFault;
+use std::alloc::Global;
+
+/// The most words of a code that has closures.
+const MOST_WORDS: usize = 32;
+
+/// What the numbers of a code lead to without a byte.
+#[derive(Drop)]
+pub struct Closures {
+    /// For each word, each four of its numbers, and each choice from these: what the chosen ones lead to in the word.
+    pub inside: Vec<u64>,
+    /// The numbers whose nodes lead to more than that.
+    pub leaves: Vec<u64>,
+    /// For each number those of its word that lead to no more than it does, but for what is inside.
+    pub peers: Vec<u64>,
+}
+
+/// Whether a node leads only to numbers of its word, at any place of a line.
+fn stays(nodes: &[Node], number: usize) -> bool
+    requires { IsCode nodes.now }
+    ensures { IsTrue result → (at_first at_last : Bool) (to : ℕ) → Flows nodes.now at_first at_last number to → Stays nodes.now number to }
+{
+    if number >= nodes.len() {
+        return true;
+    }
+    match &nodes[number] {
+        Node::Take(_) => true,
+        Node::First | Node::Last => false,
+        Node::Choose(skip) => {
+            if (number + 1) / 64 != number / 64 {
+                return false;
+            }
+            (number + *skip) / 64 == number / 64
+        }
+        Node::Back(by) => (number - *by) / 64 == number / 64,
+    }
+}
+
+/// Whether a node leads to no more than another does, but for numbers of its word.
+fn is_peer(nodes: &[Node], number: usize, other: usize) -> bool
+    requires { IsCode nodes.now }
+    ensures own { number ≡ other → IsTrue result }
+    ensures yes { IsTrue result → (at_first at_last : Bool) (to : ℕ) → Flows nodes.now at_first at_last other to
+        → Stays nodes.now other to ⊎ Flows nodes.now at_first at_last number to }
+{
+    if number == other {
+        return true;
+    }
+    if number >= nodes.len() {
+        return false;
+    }
+    if other >= nodes.len() {
+        return false;
+    }
+    let Node::Choose(skip) = &nodes[number] else {
+        return false;
+    };
+    let Node::Choose(more) = &nodes[other] else {
+        return false;
+    };
+    if (other + 1) / 64 != other / 64 {
+        return false;
+    }
+    number + *skip == other + *more
+}
+
+/// The numbers of a word whose nodes lead out of it.
+fn leaving(nodes: &[Node], from: usize) -> u64
+    requires code { IsCode nodes.now }
+    requires from { from ≤ length nodes.now }
+    ensures { IsLeaving nodes.now from result }
+{
+    let mut word: u64 = 0;
+    for bit in 0..64usize {
+        if !stays(nodes, from + bit) {
+            word |= 1u64 << bit;
+        }
+    }
+    word
+}
+
+/// The numbers of a number's word that lead to no more than it does.
+fn peers_of(nodes: &[Node], number: usize) -> u64
+    requires code { IsCode nodes.now }
+    requires number { number ≤ length nodes.now + 64 }
+    ensures { ArePeers nodes.now number result }
+{
+    let mut word: u64 = 0;
+    for bit in 0..64usize {
+        if is_peer(nodes, number, number / 64 * 64 + bit) {
+            word |= 1u64 << bit;
+        }
+    }
+    word
+}
+
+/// What the chosen ones of four numbers lead to in their word. `words` is room for a set.
+fn inside_of(
+    nodes: &[Node],
+    leads: &[u64],
+    words: &mut [u64],
+    at: usize,
+    four: usize,
+    chosen: usize,
+) -> u64
+    requires code { IsCode nodes.now }
+    requires size { length words.old ≡ width nodes.now }
+    requires leads { IsMask nodes.now Leads 0 leads.now }
+    requires leads_size { length leads.now ≡ width nodes.now }
+    requires at { at < width nodes.now }
+    requires four { four < 16 }
+    ensures size { length words.new ≡ width nodes.now }
+    ensures closes { Closes nodes.now at (four * 4) 4 chosen result }
+{
+    clear(words);
+    for bit in 0..4usize {
+        if (chosen >> bit) & 1 == 1 {
+            enter(words, at * 64 + (four * 4 + bit), 0);
+        }
+    }
+    spread(words, nodes, leads, false, false);
+    words[at]
+}
+
+/// What the numbers of a word lead to in it.
+#[inline(always)]
+pub fn closed(inside: &[u64], nodes: &[Node], at: usize, word: u64) -> u64
+    requires inside { AreInside nodes.now inside.now }
+    requires at { at < width nodes.now }
+    ensures { Closes nodes.now at 0 64 word result }
+{
+    let mut all = 0;
+    for four in 0..16usize {
+        all |= inside[at * 256 + four * 16 + ((word >> (four * 4)) % 16) as usize];
+    }
+    all
+}
+
+/// What the chosen ones of each four numbers lead to in their word. `words` is room for a set.
+fn insides_of(
+    alloc: Global,
+    nodes: &[Node],
+    leads: &[u64],
+    words: &mut [u64],
+) -> Result<Vec<u64>, BreFault>
+    requires code { IsCode nodes.now }
+    requires size { length words.old ≡ width nodes.now }
+    requires leads { IsMask nodes.now Leads 0 leads.now }
+    requires leads_size { length leads.now ≡ width nodes.now }
+    ensures ok { IfOk result (λ inside. AreInside nodes.now inside.items) }
+    ensures err { IfErr result (λ fault. fault ≡ Memory) }
+{
+    let mut inside = Vec::new(alloc);
+    for place in 0..words.len() * 256 {
+        let four = place / 16 % 16;
+        inside.push(inside_of(nodes, leads, words, place / 256, four, place % 16))?;
+    }
+    Ok(inside)
+}
+
+/// The numbers of each word whose nodes lead out of it.
+fn leaves_of(alloc: Global, nodes: &[Node]) -> Result<Vec<u64>, BreFault>
+    requires { IsCode nodes.now }
+    ensures ok { IfOk result (λ leaves. AreLeaves nodes.now leaves.items) }
+    ensures err { IfErr result (λ fault. fault ≡ Memory) }
+{
+    let mut leaves = Vec::new(alloc);
+    for at in 0..nodes.len() / 64 + 1 {
+        leaves.push(leaving(nodes, at * 64))?;
+    }
+    Ok(leaves)
+}
+
+/// The peers of each number.
+fn all_peers(alloc: Global, nodes: &[Node]) -> Result<Vec<u64>, BreFault>
+    requires code { IsCode nodes.now }
+    requires short { length nodes.now < 2 ^ 32 }
+    ensures ok { IfOk result (λ peers. AreAllPeers nodes.now peers.items) }
+    ensures err { IfErr result (λ fault. fault ≡ Memory) }
+{
+    let mut peers = Vec::new(alloc);
+    for number in 0..(nodes.len() / 64 + 1) * 64 {
+        peers.push(peers_of(nodes, number))?;
+    }
+    Ok(peers)
+}
+
+/// The closures of a code: none where it is long.
+pub fn closures_of(
+    alloc: Global,
+    nodes: &[Node],
+    leads: &[u64],
+) -> Result<Option<Closures>, BreFault>
+    requires code { IsCode nodes.now }
+    requires leads { IsMask nodes.now Leads 0 leads.now }
+    requires leads_size { length leads.now ≡ width nodes.now }
+    ensures ok { IfOk result (λ made. IfSome made (AreClosures nodes.now)) }
+    ensures err { IfErr result (λ fault. fault ≡ Memory) }
+{
+    if leads.len() > MOST_WORDS {
+        return Ok(None);
+    }
+    let mut words = vec![in alloc; 0u64; leads.len()]?;
+    let inside = insides_of(alloc, nodes, leads, &mut words)?;
+    let leaves = leaves_of(alloc, nodes)?;
+    let peers = all_peers(alloc, nodes)?;
+    Ok(Some(Closures {
+        inside,
+        leaves,
+        peers,
+    }))
+}
