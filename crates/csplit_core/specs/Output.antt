@@ -5,6 +5,7 @@ use Rattle.ports_core.specs.Name.{numbered_name}
 use Rattle.ports_core.specs.Part.{File, Part}
 use Rattle.ports_core.specs.declared.slot.Mode.TheVariants.{Fresh}
 use Rattle.ports_core.specs.declared.slot.State.TheVariants as state
+use Rattle.csplit_core.specs.Input.{newline}
 use Rattle.csplit_core.specs.Section.{Section, bytes_of}
 
 -- how files are made
@@ -44,7 +45,7 @@ files_of style place (section ∷ sections) = if makes_file style section then f
 
 -- the size of a file, in bytes, once all of it came in
 abbrev pub size_line : Style → Section → List ℕ
-size_line style section = if makes_file style section && (section.is_closed && not style.quiet) then decimal (length (bytes_of section.lines)) ++ 10 ∷ [] else []
+size_line style section = if makes_file style section && (section.is_closed && not style.quiet) then decimal (length (bytes_of section.lines)) ++ newline ∷ [] else []
 
 abbrev pub size_lines : Style → List Section → List ℕ
 size_lines style [] = []
