@@ -1,0 +1,188 @@
+-- What is settled is what all continuations agree on.
+use Rattle.std.proofs.Common.{◌≡◌, inl, inr, ℕ, zero, suc, ◌+◌, ◌-◌, ◌<◌, ◌≤◌, Bool, true, false, cond, List, [], ◌∷◌, ◌++◌, length, map, take, drop, refl, sym, ◌∙◌, ap, subst, arith, append_assoc, length-append}
+use Rattle.std.proofs.lemmas.Bool.{cases_lt}
+use Rattle.std.proofs.lemmas.List.{append-nil, map-append}
+use Rattle.csplit_core.specs.Operand.{Plus, Minus, Target, Number, Search, Operand, Line, most_held, is_kept}
+use Rattle.csplit_core.specs.Plan.{State, start, Step, Ending, used_up, missed, above, below, search_line, Misses, step_of, Runs}
+use Rattle.csplit_core.specs.Planned.{plan}
+use Rattle.csplit_core.specs.Section.{Section, section, section_of, lines_between, is_last_kept, whole_end, settled_end, sections_by, whole_sections}
+use Rattle.csplit_core.specs.Agreed.{kept_lines, whole_outputs, settled_outputs, IsFront, AreFronts, output_at, IsAgreed}
+use Rattle.csplit_core.proofs.TurnedLemmas.{search_within, search_at_start, matching_line, Turned, too_low, turns, turned}
+use Rattle.csplit_core.specs.PlanLaws.{goes_on, plan_runs, plan_once}
+use Rattle.csplit_core.specs.SectionLaws.{between_still, EndsAs, ends_as, are_within, closed_still, Grow, plan_grows, whole_covers}
+
+-- Outputs
+
+front_itself : (lines : List Line) → IsFront lines lines
+front_itself lines = ([], sym (append-nil lines))
+
+kept_by : (has : Bool) (lines : List Line) (low high : List (List Line)) → AreFronts low high → AreFronts (cond has (lines ∷ low) low) (cond has (lines ∷ high) high)
+kept_by true lines low high fronts = (front_itself lines, fronts)
+kept_by false lines low high fronts = fronts
+
+last_by : (has : Bool) (one other : List Line) (more : List (List Line)) → IsFront one other → AreFronts (cond has (one ∷ []) []) (cond has (other ∷ more) more)
+last_by true one other more front = (front, tt)
+last_by false one other more front = tt
+
+kept_grow : (front : List Section) (begun other : Section) (more : List Section) → begun.is_kept ≡ other.is_kept → IsFront begun.lines other.lines → AreFronts (kept_lines (front ++ begun ∷ [])) (kept_lines (front ++ other ∷ more))
+kept_grow [] begun other more same begins = subst (λ has. AreFronts (cond begun.is_kept (begun.lines ∷ []) []) (cond has (other.lines ∷ kept_lines more) (kept_lines more))) same (last_by begun.is_kept begun.lines other.lines (kept_lines more) begins)
+kept_grow (one ∷ front) begun other more same begins = kept_by one.is_kept one.lines _ _ (kept_grow front begun other more same begins)
+
+outputs_grow : (low high : List Section) → Grow low high → AreFronts (kept_lines low) (kept_lines high)
+outputs_grow low high grow =
+    subst (λ those. AreFronts (kept_lines those) (kept_lines high)) (sym grow.low_is)
+    (subst (λ those. AreFronts (kept_lines (grow.front ++ grow.begun ∷ [])) (kept_lines those)) (sym (grow.high_is ∙ ap (λ those. grow.front ++ those) grow.next.are))
+    (kept_grow grow.front grow.begun grow.next.other grow.next.more grow.next.kept (grow.next.rest, grow.next.lines)))
+
+common : (suppress : Bool) (operands : List Operand) (x y : List Line) → AreFronts (settled_outputs suppress operands x) (whole_outputs suppress operands (x ++ y))
+common suppress operands x y = outputs_grow _ _ (plan_grows suppress true whole_end whole_covers operands x y)
+
+kept-append : (a b : List Section) → kept_lines (a ++ b) ≡ kept_lines a ++ kept_lines b
+kept-append [] b = refl
+kept-append (one ∷ a) b = by one.is_kept (kept-append a b) where
+  by : (has : Bool) → kept_lines (a ++ b) ≡ kept_lines a ++ kept_lines b → cond has (one.lines ∷ kept_lines (a ++ b)) (kept_lines (a ++ b)) ≡ cond has (one.lines ∷ kept_lines a) (kept_lines a) ++ kept_lines b
+  by true is = ap (λ those. one.lines ∷ those) is
+  by false is = is
+
+kept_length : (has : Bool) (one other : List Line) (front : List (List Line)) → length (front ++ cond has (one ∷ []) []) ≡ length (front ++ cond has (other ∷ []) [])
+kept_length true one other front = length-append front (one ∷ []) ∙ sym (length-append front (other ∷ []))
+kept_length false one other front = refl
+
+whole_here : (suppress : Bool) (operands : List Operand) (x : List Line) → whole_outputs suppress operands (x ++ []) ≡ whole_outputs suppress operands x
+whole_here suppress operands x = ap (whole_outputs suppress operands) (append-nil x)
+
+fewest : (suppress : Bool) (operands : List Operand) (x : List Line) → length (whole_outputs suppress operands (x ++ [])) ≡ length (settled_outputs suppress operands x)
+fewest suppress operands x =
+    ap length (whole_here suppress operands x ∙ kept-append (map (section_of x) (plan suppress operands x).steps) _)
+    ∙ kept_length (is_last_kept (plan suppress operands x).ending) _ _ (kept_lines (map (section_of x) (plan suppress operands x).steps))
+    ∙ sym (ap length (kept-append (map (section_of x) (plan suppress operands x).steps) _))
+
+-- no front is longer than the whole
+front_short : (front whole : List Line) → IsFront front whole → length front ≤ length whole
+front_short front whole (rest, is) = let e : length whole ≡ length front + length rest = ap length is ∙ length-append front rest in omega (arith, e)
+
+-- at a place of the closed sections the outputs are the same, and at the next they are what the open section has
+at_front : (front rest other : List (List Line)) (place : ℕ) → place < length front → output_at (front ++ rest) place ≡ output_at (front ++ other) place
+at_front [] rest other place less = absurd (omega (arith, less))
+at_front (one ∷ front) rest other zero less = refl
+at_front (one ∷ front) rest other (suc place) less = at_front front rest other place (omega (arith, less))
+
+at_last : (front rest : List (List Line)) (one : List Line) → output_at (front ++ one ∷ rest) (length front) ≡ one
+at_last [] rest one = refl
+at_last (first ∷ front) rest one = at_last front rest one
+
+-- A continuation after which the open section has no more than what is settled
+pub record Decides (suppress : Bool) (operands : List Operand) (x : List Line) : Type 0 where
+  pub y : List Line
+  pub next : Section
+  pub more : List Section
+  pub are : whole_sections (x ++ y) (plan suppress operands (x ++ y)) ≡ map (section_of x) (plan suppress operands x).steps ++ next ∷ more
+  pub kept : is_last_kept (plan suppress operands x).ending ≡ next.is_kept
+  pub short : length next.lines ≤ length (lines_between (plan suppress operands x).last.current (settled_end (length x) (plan suppress operands x).ending) x)
+
+short_by : (has : Bool) (front : List (List Line)) (one other : List Line) (more : List (List Line)) (place : ℕ) → length other ≤ length one → place < length (front ++ cond has (one ∷ []) [])
+    → length (output_at (front ++ cond has (other ∷ more) more) place) ≤ length (output_at (front ++ cond has (one ∷ []) []) place)
+short_by true front one other more place short less = elim (cases_lt place (length front)) [
+  | inl before ↦ let e : length (output_at (front ++ other ∷ more) place) ≡ length (output_at (front ++ one ∷ []) place) = ap length (at_front front (other ∷ more) (one ∷ []) place before) in omega (arith, e)
+  | inr last ↦
+      let longer : length (front ++ one ∷ []) ≡ length front + 1 = length-append front (one ∷ []) in
+      let e : length front ≡ place = omega (arith, less, last, longer) in
+      subst (λ p. length (output_at (front ++ other ∷ more) p) ≤ length (output_at (front ++ one ∷ []) p)) e
+      (let l : length (output_at (front ++ other ∷ more) (length front)) ≡ length other = ap length (at_last front more other) in
+      let r : length (output_at (front ++ one ∷ []) (length front)) ≡ length one = ap length (at_last front [] one) in omega (arith, l, r, short))
+]
+short_by false front one other more place short less =
+    let none : length (front ++ []) ≡ length front = ap length (append-nil front) in
+    let e : length (output_at (front ++ more) place) ≡ length (output_at (front ++ []) place) = ap length (at_front front more [] place (omega (arith, less, none))) in omega (arith, e)
+
+longest : (suppress : Bool) (operands : List Operand) (x : List Line) → Decides suppress operands x → (place : ℕ) → place < length (settled_outputs suppress operands x) → (y : List Line) × (z : List Line)
+    × ((front : List Line) → IsFront front (output_at (whole_outputs suppress operands (x ++ y)) place) → IsFront front (output_at (whole_outputs suppress operands (x ++ z)) place) → length front ≤ length (output_at (settled_outputs suppress operands x) place))
+longest suppress operands x decides place less = (
+  decides.y,
+  decides.y,
+  λ front is are.
+      let low_is = kept-append (map (section_of x) (plan suppress operands x).steps) (section (is_last_kept (plan suppress operands x).ending) false (lines_between (plan suppress operands x).last.current (settled_end (length x) (plan suppress operands x).ending) x) ∷ []) in
+      let high_is = ap kept_lines decides.are ∙ kept-append (map (section_of x) (plan suppress operands x).steps) (decides.next ∷ decides.more) in
+      let short = short_by decides.next.is_kept (kept_lines (map (section_of x) (plan suppress operands x).steps)) (lines_between (plan suppress operands x).last.current (settled_end (length x) (plan suppress operands x).ending) x) decides.next.lines (kept_lines decides.more) place decides.short
+      (subst (λ n. place < n) (ap length (low_is ∙ ap (λ has. kept_lines (map (section_of x) (plan suppress operands x).steps) ++ cond has (lines_between (plan suppress operands x).last.current (settled_end (length x) (plan suppress operands x).ending) x ∷ []) []) decides.kept)) less) in
+      let l : length (output_at (whole_outputs suppress operands (x ++ decides.y)) place) ≡ length (output_at (kept_lines (map (section_of x) (plan suppress operands x).steps) ++ cond decides.next.is_kept (decides.next.lines ∷ kept_lines decides.more) (kept_lines decides.more)) place)
+      = ap (λ those. length (output_at those place)) high_is in
+      let r : length (output_at (settled_outputs suppress operands x) place) ≡ length (output_at (kept_lines (map (section_of x) (plan suppress operands x).steps) ++ cond decides.next.is_kept (lines_between (plan suppress operands x).last.current (settled_end (length x) (plan suppress operands x).ending) x ∷ []) []) place)
+      = ap (λ those. length (output_at those place)) (low_is ∙ ap (λ has. kept_lines (map (section_of x) (plan suppress operands x).steps) ++ cond has (lines_between (plan suppress operands x).last.current (settled_end (length x) (plan suppress operands x).ending) x ∷ []) []) decides.kept) in
+      let few : length front ≤ length (output_at (whole_outputs suppress operands (x ++ decides.y)) place) = front_short front _ is in omega (arith, few, l, r, short),
+)
+
+-- Such a continuation is there: none at all, or under an offset back one line that the operand finds
+
+decides_by : (suppress : Bool) (operands : List Operand) (x y : List Line) (more : List Step) (end : State) (how : Ending) → Runs suppress (x ++ y) (plan suppress operands x).last more end how
+    → (next : Section) (rest' : List Section) → sections_by true whole_end (x ++ y) (record { steps = more; last = end; ending = how }) ≡ next ∷ rest' → is_last_kept (plan suppress operands x).ending ≡ next.is_kept
+    → length next.lines ≤ length (lines_between (plan suppress operands x).last.current (settled_end (length x) (plan suppress operands x).ending) x) → Decides suppress operands x
+decides_by suppress operands x y more end how rest next rest' are kept short =
+    let here = plan_runs suppress operands x in
+    let within = are_within suppress x (start operands) _ _ _ here (omega arith) in record {
+      y = y;
+      next = next;
+      more = rest';
+      are = ap (whole_sections (x ++ y)) (plan_once suppress operands (x ++ y) _ _ _ (goes_on suppress x y (start operands) _ _ _ _ _ _ here rest))
+          ∙ ap (λ those. those ++ section (is_last_kept how) true (lines_between end.current (whole_end (length (x ++ y)) how) (x ++ y)) ∷ [])
+          (map-append (section_of (x ++ y)) (plan suppress operands x).steps more ∙ ap (λ those. those ++ map (section_of (x ++ y)) more) (closed_still x y (plan suppress operands x).steps within.0))
+          ∙ append_assoc (map (section_of x) (plan suppress operands x).steps) (map (section_of (x ++ y)) more) _
+          ∙ ap (λ those. map (section_of x) (plan suppress operands x).steps ++ those) are;
+      kept = kept;
+      short = short;
+    }
+
+decides_now : (suppress : Bool) (operands : List Operand) (x : List Line) → whole_end (length x) (plan suppress operands x).ending ≡ settled_end (length x) (plan suppress operands x).ending → Decides suppress operands x
+decides_now suppress operands x same = record {
+  y = [];
+  next = section (is_last_kept (plan suppress operands x).ending) true (lines_between (plan suppress operands x).last.current (whole_end (length x) (plan suppress operands x).ending) x);
+  more = [];
+  are = ap (λ those. whole_sections those (plan suppress operands those)) (append-nil x);
+  kept = refl;
+  short = let e : length (lines_between (plan suppress operands x).last.current (whole_end (length x) (plan suppress operands x).ending) x) ≡ length (lines_between (plan suppress operands x).last.current (settled_end (length x) (plan suppress operands x).ending) x)
+      = ap (λ past. length (lines_between (plan suppress operands x).last.current past x)) same in omega (arith, e);
+}
+
+none_taken : (first : ℕ) (lines : List Line) → length (lines_between first 0 lines) ≡ 0
+none_taken first lines = ap (λ n. length (take n (drop (first - 1) lines))) (let e : 0 - first ≡ 0 = omega arith in e)
+
+decides_back : (suppress : Bool) (operands : List Operand) (x : List Line) (operand : Operand) (k : ℕ) → 1 ≤ (plan suppress operands x).last.current → is_last_kept (plan suppress operands x).ending ≡ is_kept operand.target
+    → settled_end (length x) (plan suppress operands x).ending ≡ suc (length x) - k → Turned suppress x (plan suppress operands x).last operand (suc (length x) - k) → Decides suppress operands x
+decides_back suppress operands x operand k some kept past (too_low low rest) =
+    decides_by suppress operands x (matching_line ∷ []) _ _ _ rest _ [] refl kept
+    (let e : length (lines_between (plan suppress operands x).last.current 0 (x ++ matching_line ∷ [])) ≡ 0 = none_taken (plan suppress operands x).last.current (x ++ matching_line ∷ []) in omega (arith, e))
+decides_back suppress operands x operand k some kept past (turns from steps end how rest) =
+    decides_by suppress operands x (matching_line ∷ []) _ _ _ rest (section_of (x ++ matching_line ∷ []) (step_of (plan suppress operands x).last operand (suc (length x)) (suc (length x) - k))) _ refl kept
+    (let e : length (lines_between (plan suppress operands x).last.current (suc (length x) - k) (x ++ matching_line ∷ [])) ≡ length (lines_between (plan suppress operands x).last.current (settled_end (length x) (plan suppress operands x).ending) x)
+    = ap length (between_still (plan suppress operands x).last.current (suc (length x) - k) x (matching_line ∷ []) some (omega arith) ∙ ap (λ p. lines_between (plan suppress operands x).last.current p x) (sym past)) in omega (arith, e))
+
+decides_missed : (suppress : Bool) (operands : List Operand) (x : List Line) (operand : Operand) (repetition : ℕ) (left : List Operand) → (plan suppress operands x).ending ≡ missed operand repetition → (plan suppress operands x).last.operands ≡ operand ∷ left
+    → 1 ≤ (plan suppress operands x).last.current → search_line suppress (plan suppress operands x).last ≤ suc (length x)
+    → (target : Target) → operand.target ≡ target → Misses suppress x (plan suppress operands x).last operand target → Decides suppress operands x
+decides_missed suppress operands x operand repetition left ending is some within (Number n) target none = absurd none
+decides_missed suppress operands x operand repetition left ending is some within (Search pattern kept (Plus k)) target none =
+    decides_now suppress operands x (ap (whole_end (length x)) ending ∙ sym (ap (settled_end (length x)) ending ∙ ap (λ t. suc (length x) - most_held t) target ∙ (let e : suc (length x) - 0 ≡ suc (length x) = omega arith in e)))
+decides_missed suppress operands x operand repetition left ending is some within (Search pattern kept (Minus k)) target none =
+    decides_back suppress operands x operand k some (ap is_last_kept ending) (ap (settled_end (length x)) ending ∙ ap (λ t. suc (length x) - most_held t) target)
+    (turned suppress x (plan suppress operands x).last operand left pattern kept k some is target none within)
+
+decides_at : (suppress : Bool) (operands : List Operand) (x : List Line) (ending : Ending) → (plan suppress operands x).ending ≡ ending → EndsAs suppress x (plan suppress operands x).last ending
+    → 1 ≤ (plan suppress operands x).last.current → search_line suppress (plan suppress operands x).last ≤ suc (length x) → Decides suppress operands x
+decides_at suppress operands x used_up is ends some within = decides_now suppress operands x (ap (whole_end (length x)) is ∙ sym (ap (settled_end (length x)) is))
+decides_at suppress operands x (missed operand repetition) is (left, are, none) some within = decides_missed suppress operands x operand repetition left is are some within operand.target refl none
+decides_at suppress operands x (above operand repetition matched cut) is ends some within = decides_now suppress operands x (ap (whole_end (length x)) is ∙ sym (ap (settled_end (length x)) is))
+decides_at suppress operands x (below operand repetition) is ends some within = decides_now suppress operands x (ap (whole_end (length x)) is ∙ sym (ap (settled_end (length x)) is))
+
+decides : (suppress : Bool) (operands : List Operand) (x : List Line) → Decides suppress operands x
+decides suppress operands x =
+    let here = plan_runs suppress operands x in
+    decides_at suppress operands x (plan suppress operands x).ending refl (ends_as suppress x (start operands) _ _ _ here) (are_within suppress x (start operands) _ _ _ here (omega arith)).1
+    (search_within suppress x (start operands) _ _ _ here (omega arith) (search_at_start suppress operands (length x)))
+
+-- What is settled is what all continuations agree on
+pub settled_is_agreed : (suppress : Bool) (operands : List Operand) (x : List Line) → IsAgreed (whole_outputs suppress operands) x (settled_outputs suppress operands x)
+settled_is_agreed suppress operands x = record {
+  common = common suppress operands x;
+  fewest = ([], fewest suppress operands x);
+  longest = longest suppress operands x (decides suppress operands x);
+}

@@ -1,0 +1,16 @@
+pub mod TurnedLemmas
+pub mod PlaceLemmas
+pub mod AgreedLemmas
+pub mod WaitLemmas
+pub mod StayLemmas
+pub mod LastSectionLemmas
+pub mod Examples
+pub mod ByteExamples
+pub mod WordLemmas
+pub mod AimLemmas
+pub mod ReadingLemmas
+pub mod TurnLemmas
+pub mod MoveLemmas
+pub mod AdvanceLemmas
+pub mod OneReading
+pub mod WholeLemmas

@@ -1,0 +1,68 @@
+-- No line is lost.
+use Rattle.std.proofs.Common.{◌≡◌, ℕ, suc, ◌+◌, ◌-◌, ◌≤◌, Bool, true, false, List, [], ◌∷◌, ◌++◌, length, map, drop, refl, sym, ◌∙◌, ap, arith, append_assoc, cond}
+use Rattle.std.proofs.lemmas.Bool.{false≢true}
+use Rattle.std.proofs.lemmas.List.{append-nil, take-append-drop, take_all, drop-drop}
+use Rattle.std.proofs.Common.{length-drop}
+use Rattle.csplit_core.specs.Operand.{Operand, Line}
+use Rattle.csplit_core.specs.Plan.{State, start, Step, Ending, used_up, missed, above, below, state_after, Runs, is_used_up, misses, is_above, is_below, cuts}
+use Rattle.csplit_core.specs.Planned.{plan}
+use Rattle.csplit_core.specs.Section.{Section, section, section_of, lines_between, is_last_kept, whole_end, settled_end, whole_sections, settled_sections, is_final, waiting_lines, lines_in}
+use Rattle.csplit_core.specs.PlanLaws.{plan_runs}
+use Rattle.csplit_core.specs.SectionLaws.{are_within}
+
+lines_in-append : (a b : List Section) → lines_in (a ++ b) ≡ lines_in a ++ lines_in b
+lines_in-append [] b = refl
+lines_in-append (one ∷ a) b = ap (λ those. one.lines ++ those) (lines_in-append a b) ∙ sym (append_assoc one.lines (lines_in a) (lines_in b))
+
+-- the lines up to a cut, and those from it on
+between_rest : (first cut : ℕ) (lines : List Line) → 1 ≤ first → first ≤ cut → lines_between first cut lines ++ drop (cut - 1) lines ≡ drop (first - 1) lines
+between_rest first cut lines some least =
+    ap (λ those. lines_between first cut lines ++ those) (ap (λ n. drop n lines) (let e : cut - 1 ≡ first - 1 + (cut - first) = omega (arith, some, least) in e) ∙ sym (drop-drop (cut - first) (first - 1) lines))
+    ∙ take-append-drop (cut - first) (drop (first - 1) lines)
+
+steps_and_rest : (lines : List Line) (first : State) (steps : List Step) (last : State) (ending : Ending) → Runs false lines first steps last ending → 1 ≤ first.current
+    → lines_in (map (section_of lines) steps) ++ drop (last.current - 1) lines ≡ drop (first.current - 1) lines
+steps_and_rest lines first steps last ending (is_used_up state none) some = refl
+steps_and_rest lines first steps last ending (misses state operand operands is none) some = refl
+steps_and_rest lines first steps last ending (is_above state operand operands matched cut is at far) some = refl
+steps_and_rest lines first steps last ending (is_below state operand operands matched cut is at within low) some = refl
+steps_and_rest lines first steps last ending (cuts state operand operands matched cut steps' last' ending' is at from within rest) some =
+    append_assoc (lines_between state.current cut lines) (lines_in (map (section_of lines) steps')) (drop (last'.current - 1) lines)
+    ∙ ap (λ those. lines_between state.current cut lines ++ those) (steps_and_rest lines (state_after false operand operands state.repetition matched cut) steps' last' ending' rest (omega (arith, some, from)))
+    ∙ between_rest state.current cut lines some from
+
+-- the steps' sections, then these lines, where they are what is left
+all_with : (closed : Bool) (operands : List Operand) (x : List Line) (end rest : List Line) → end ++ rest ≡ drop ((plan false operands x).last.current - 1) x
+    → lines_in (map (section_of x) (plan false operands x).steps ++ section (is_last_kept (plan false operands x).ending) closed end ∷ []) ++ rest ≡ x
+all_with closed operands x end rest is =
+    ap (λ those. those ++ rest) (lines_in-append (map (section_of x) (plan false operands x).steps) (section (is_last_kept (plan false operands x).ending) closed end ∷ [])
+    ∙ ap (λ those. lines_in (map (section_of x) (plan false operands x).steps) ++ those) (append-nil end))
+    ∙ append_assoc (lines_in (map (section_of x) (plan false operands x).steps)) end rest
+    ∙ ap (λ those. lines_in (map (section_of x) (plan false operands x).steps) ++ those) is
+    ∙ steps_and_rest x (start operands) _ _ _ (plan_runs false operands x) (omega arith)
+
+pub none_lost : (operands : List Operand) (x : List Line) → is_final (plan false operands x).ending ≡ false
+    → lines_in (settled_sections x (plan false operands x)) ++ waiting_lines x (plan false operands x) ≡ x
+none_lost operands x live =
+    let plan' = plan false operands x in
+    ap (λ final. lines_in (settled_sections x plan') ++ cond final [] (drop (settled_end (length x) plan'.ending - plan'.last.current) (drop (plan'.last.current - 1) x))) live
+    ∙ all_with false operands x (lines_between plan'.last.current (settled_end (length x) plan'.ending) x) (drop (settled_end (length x) plan'.ending - plan'.last.current) (drop (plan'.last.current - 1) x))
+    (take-append-drop (settled_end (length x) plan'.ending - plan'.last.current) (drop (plan'.last.current - 1) x))
+
+ends_after_all : (total : ℕ) (ending : Ending) → is_final ending ≡ false → whole_end total ending ≡ suc total
+ends_after_all total used_up live = refl
+ends_after_all total (missed operand repetition) live = refl
+ends_after_all total (above operand repetition matched cut) live = refl
+ends_after_all total (below operand repetition) live = absurd (false≢true (sym live))
+
+rest_is_all : (x : List Line) (current : ℕ) → 1 ≤ current → lines_between current (suc (length x)) x ≡ drop (current - 1) x
+rest_is_all x current some = take_all (suc (length x) - current) (drop (current - 1) x) (let e : length (drop (current - 1) x) ≡ length x - (current - 1) = length-drop (current - 1) x in omega (arith, e, some))
+
+pub none_lost_at_end : (operands : List Operand) (x : List Line) → is_final (plan false operands x).ending ≡ false → lines_in (whole_sections x (plan false operands x)) ≡ x
+none_lost_at_end operands x live =
+    let plan' = plan false operands x in
+    let some = (are_within false x (start operands) _ _ _ (plan_runs false operands x) (omega arith)).1 in
+    sym (append-nil (lines_in (whole_sections x plan')))
+    ∙ all_with true operands x (lines_between plan'.last.current (whole_end (length x) plan'.ending) x) []
+    (append-nil (lines_between plan'.last.current (whole_end (length x) plan'.ending) x)
+    ∙ ap (λ end. lines_between plan'.last.current end x) (ends_after_all (length x) plan'.ending live) ∙ rest_is_all x plan'.last.current some)

@@ -1,0 +1,5 @@
+use Rattle.csplit_core.specs.PlanLaws.{plan_runs, plan_once}
+use Rattle.csplit_core.proofs.laws.one_plan.Goals as goal
+
+pub returns : goal.returns
+returns c = record { is = plan_runs; only = plan_once }

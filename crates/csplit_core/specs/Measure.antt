@@ -1,0 +1,25 @@
+-- What steps say of the numbers alone, by which a plan has no more steps than there are lines for.
+use Rattle.std.specs.Prelude.{◌≡◌, ℕ, ◌+◌, ◌*◌, ◌<◌, ◌≤◌, List, [], ◌∷◌}
+use Rattle.csplit_core.specs.Operand.{Target, Number, Search, Operand}
+use Rattle.csplit_core.specs.Plan.{State}
+
+-- a cut is the next multiple of a line number, or a line after the one before was matched
+abbrev pub Moves : ℕ → State → Target → (matched cut : ℕ) → Type 0
+Moves total state (Number n) matched cut = cut ≡ n * (state.repetition + 1)
+Moves total state (Search pattern kept offset) matched cut = (state.matched < matched) × (matched ≤ total)
+
+-- an operand was performed no more often than there are lines before it
+abbrev pub IsRepeatedBy : ℕ → State → Target → Type 0
+IsRepeatedBy total state (Number n) = state.repetition ≤ total
+IsRepeatedBy total state (Search pattern kept offset) = state.repetition ≤ state.matched
+
+abbrev pub IsRepeated : ℕ → State → List Operand → Type 0
+IsRepeated total state [] = state.repetition ≡ 0
+IsRepeated total state (operand ∷ operands) = IsRepeatedBy total state operand.target
+
+-- the numbers of a state lie within the lines that came in
+pub record Fits (total : ℕ) (state : State) : Type 0 where
+  pub some : 1 ≤ state.current
+  pub current : state.current ≤ total + 1
+  pub matched : state.matched ≤ total
+  pub repeated : IsRepeated total state state.operands

@@ -1,0 +1,65 @@
+-- The plan of a run, computed.
+use Rattle.std.specs.Prelude.{ℕ, ◌+◌, ◌-◌, ◌*◌, zero, suc, nat_lt, Bool, List, [], ◌∷◌, length, drop, Option, Some, None, if◌then◌else◌}
+use Rattle.csplit_core.specs.Operand.{Offset, Target, Number, Search, Operand, Line, moved}
+use Rattle.csplit_core.specs.Plan.{State, start, Step, Ending, used_up, missed, above, below, search_line, state_after, step_of}
+
+pub record Plan : Type 0 where
+  pub steps : List Step
+  -- where the run stands after them, and why it ends there
+  pub last : State
+  pub ending : Ending
+
+-- the first match among lines of which the first one has this number
+abbrev pub first_among : Operand → ℕ → List Line → Option ℕ
+first_among operand number [] = None
+first_among operand number (line ∷ lines) = if line.marks operand then Some number else first_among operand (suc number) lines
+
+-- the first match, from a line on
+abbrev pub first_match : Operand → List Line → ℕ → Option ℕ
+first_match operand lines from = first_among operand from (drop (from - 1) lines)
+
+-- what the next operand does: the run ends, or it makes a step and stands elsewhere
+pub data Turn : Type 0 where
+  ends : Ending → Turn
+  goes : Step → State → Turn
+
+-- the turn of an operand whose cut is known, where there are `total` lines
+abbrev pub turn_at : Bool → (total : ℕ) → State → Operand → List Operand → (matched cut : ℕ) → Turn
+turn_at suppress total state operand operands matched cut =
+    if nat_lt total cut then ends (above operand state.repetition matched cut)
+    else if nat_lt cut state.current then ends (below operand state.repetition)
+    else goes (step_of state operand matched cut) (state_after suppress operand operands state.repetition matched cut)
+
+abbrev pub turn_from : Bool → (total : ℕ) → State → Operand → List Operand → Offset → Option ℕ → Turn
+turn_from suppress total state operand operands offset None = ends (missed operand state.repetition)
+turn_from suppress total state operand operands offset (Some line) = turn_at suppress total state operand operands line (moved offset line)
+
+abbrev pub turn_to : Bool → List Line → State → Operand → List Operand → Target → Turn
+turn_to suppress lines state operand operands (Number n) = turn_at suppress (length lines) state operand operands state.matched (n * (state.repetition + 1))
+turn_to suppress lines state operand operands (Search pattern kept offset) =
+    turn_from suppress (length lines) state operand operands offset (first_match operand lines (search_line suppress state))
+
+abbrev pub turn_of : Bool → List Line → State → List Operand → Turn
+turn_of suppress lines state [] = ends used_up
+turn_of suppress lines state (operand ∷ operands) = turn_to suppress lines state operand operands operand.target
+
+abbrev pub turn : Bool → List Line → State → Turn
+turn suppress lines state = turn_of suppress lines state state.operands
+
+abbrev pub ended : State → Ending → Plan
+ended state ending = record { steps = []; last = state; ending = ending }
+
+abbrev pub with_step : Step → Plan → Plan
+with_step step plan = record { steps = step ∷ plan.steps; last = plan.last; ending = plan.ending }
+
+-- the plan from a state on, of at most this many steps
+abbrev pub plan_within : ℕ → Bool → List Line → State → Plan
+plan_within zero suppress lines state = ended state used_up
+plan_within (suc bound) suppress lines state = elim (turn suppress lines state) [
+  | ends ending ↦ ended state ending
+  | goes step next ↦ with_step step (plan_within bound suppress lines next)
+]
+
+-- The plan of these operands over these lines. An operand is performed at most once for each line and once more, so the bound is never met.
+abbrev pub plan : Bool → List Operand → List Line → Plan
+plan suppress operands lines = plan_within (length operands * (length lines + 1)) suppress lines (start operands)

@@ -1,0 +1,59 @@
+//! Laws of the definitions, with no code: each stands on the contract of a function whose body is empty.
+ghost use Rattle.std.specs.Prelude.{◌≡◌, ◌≤◌, ◌++◌, Bool, List, false, length, ℕ};
+ghost use Rattle.csplit_core.specs.Agreed.{IsAgreed, settled_outputs, whole_outputs};
+ghost use Rattle.csplit_core.specs.Csplit.{settled_by, whole_by};
+ghost use Rattle.csplit_core.specs.Operand.{Line};
+ghost use Rattle.csplit_core.specs.Output.{Style};
+ghost use Rattle.csplit_core.specs.Place.{IsUndecided, WaitsAt};
+ghost use Rattle.csplit_core.specs.Plan.{Ending, Runs, State, Step, start};
+ghost use Rattle.csplit_core.specs.Planned.{plan};
+ghost use Rattle.csplit_core.specs.Reading.{Asks, IsFault, IsOfWords};
+ghost use Rattle.csplit_core.specs.Section.{is_final, lines_in, most_waiting, settled_sections, waiting_lines, whole_sections};
+ghost use Rattle.csplit_core.specs.declared.operand_fault.OperandFault.{OperandFault};
+ghost use Rattle.csplit_core.specs.declared.operand.Operand.{Operand};
+ghost use Rattle.ports_core.specs.Part.{Begins};
+
+/// For any operands and lines there is one plan: the one that is computed is a plan, and no other is (POSIX.1-2017, XCU
+/// csplit).
+pub fn one_plan()
+    ensures is { (suppress : Bool) (operands : List Operand) (lines : List Line) → Runs suppress lines (start operands) (plan suppress operands lines).steps (plan suppress operands lines).last (plan suppress operands lines).ending }
+    ensures only { (suppress : Bool) (operands : List Operand) (lines : List Line) (steps : List Step) (last : State) (ending : Ending)
+        → Runs suppress lines (start operands) steps last ending
+        → plan suppress operands lines ≡ record { steps = steps; last = last; ending = ending } }
+{}
+
+/// What is settled only grows as more comes in, and what is written in the end begins with it.
+pub fn settled_grows()
+    ensures grows { (style : Style) (operands : List Operand) (x y : List ℕ) → Begins (settled_by style operands x) (settled_by style operands (x ++ y)) }
+    ensures ends { (style : Style) (operands : List Operand) (x : List ℕ) → Begins (settled_by style operands x) (whole_by style operands x) }
+{}
+
+/// Where the line at a cut isn't left out, no line is lost: the sections, skipped ones too, and what waits are together
+/// the lines that came in, in their order; and at the end the sections alone. The exception is a cut below the current
+/// line, after which lines belong to no section.
+pub fn no_line_is_lost()
+    ensures settled { (operands : List Operand) (x : List Line) → is_final (plan false operands x).ending ≡ false
+        → lines_in (settled_sections x (plan false operands x)) ++ waiting_lines x (plan false operands x) ≡ x }
+    ensures whole { (operands : List Operand) (x : List Line) → is_final (plan false operands x).ending ≡ false
+        → lines_in (whole_sections x (plan false operands x)) ≡ x }
+{}
+
+/// No more complete lines wait than an offset goes back.
+pub fn few_lines_wait()
+    ensures { (suppress : Bool) (operands : List Operand) (x : List Line) → length (waiting_lines x (plan suppress operands x)) ≤ most_waiting (plan suppress operands x).ending }
+{}
+
+/// What is settled is what all continuations agree on, and a line waits exactly where two continuations put it into
+/// different places. This is said over complete lines, each with a mark for each operand; the line at a cut may be left
+/// out or not.
+pub fn agreed_is_settled()
+    ensures outputs { (suppress : Bool) (operands : List Operand) (x : List Line) → IsAgreed (whole_outputs suppress operands) x (settled_outputs suppress operands x) }
+    ensures waits { (suppress : Bool) (operands : List Operand) (x : List Line) → IsUndecided suppress operands x (WaitsAt (length x) (plan suppress operands x)) }
+{}
+
+/// Words ask for one list of operands at most, and for none where a word is no operand. (That they ask for none where a
+/// pattern is too large is not said here.)
+pub fn one_reading()
+    ensures only { (words : List (List ℕ)) (one other : List Operand) → Asks words one → Asks words other → one ≡ other }
+    ensures either { (words : List (List ℕ)) (operands : List Operand) (fault : OperandFault) → Asks words operands → IsFault words fault → IsOfWords fault.kind → ⊥ }
+{}

@@ -1,0 +1,18 @@
+//! The tool that cuts an input where its lines match: `csplit`.
+#![tactic(auto)]
+
+pub mod laws;
+mod operand;
+mod operand_fault;
+#[cfg(test)]
+mod operand_tests;
+mod operands;
+mod progress;
+mod style;
+mod target;
+mod word;
+
+pub use operand::{Offset, Operand, Target, Times};
+pub use operand_fault::{OperandFault, OperandFaultKind};
+pub use operands::{Operands, read_operands};
+pub use style::Style;

@@ -1,0 +1,180 @@
+//! Where a run stands, and what its next operand does.
+ghost use Rattle.std.specs.Prelude.{◌≡◌, ◌<◌, ◌≤◌, ◌+◌, ◌-◌, ◌^◌, ◌∷◌, drop, min, Bool, List, option_map};
+ghost use Rattle.csplit_core.specs.Measure.{Fits};
+ghost use Rattle.csplit_core.specs.Operand.{Line, has_more, moved};
+ghost use Rattle.csplit_core.specs.Plan.{line_after, search_line, state_after};
+ghost use Rattle.csplit_core.specs.Progress.{AreSeen, FallsAt, IsSought, MovesOn, Turns, state_of};
+ghost use Rattle.csplit_core.specs.declared.operand.Operand.{Operand};
+
+use crate::{Offset, Operand, Target, Times};
+use scan_core::Bre;
+
+/// What the next operand does.
+#[derive(Clone, Copy, Debug, PartialEq, Eq)]
+pub enum Turn {
+    /// None is left.
+    UsedUp,
+    /// Its pattern matches no line.
+    Missed,
+    /// It cuts above the last line: the line that the last pattern matched, and the line of the cut, or the last number
+    /// that there is where that line is further.
+    Above(u64, u64),
+    /// It cuts below the current line.
+    Below,
+    /// It cuts: the line that the last pattern matched, and the line of the cut.
+    Cuts(u64, u64),
+}
+
+/// Where a run stands after some steps.
+#[derive(Clone, Copy, Debug)]
+pub struct Progress {
+    /// How many operands are done.
+    pub done: usize,
+    /// How often the next one was performed.
+    pub repetition: u64,
+    /// The current line.
+    pub current: u64,
+    /// The line that the last pattern matched, 0 where none was performed.
+    pub matched: u64,
+}
+
+impl Progress {
+    /// Where a run begins.
+    pub fn start() -> Progress
+        ensures { result ≡ record { done = 0; repetition = 0; current = 1; matched = 0 } }
+    {
+        Progress {
+            done: 0,
+            repetition: 0,
+            current: 1,
+            matched: 0,
+        }
+    }
+
+    /// The line at which a search begins.
+    fn search_line(&self, suppress: bool) -> u64
+        requires current { self.now.current < 2 ^ 64 - 1 }
+        requires matched { self.now.matched < 2 ^ 64 - 1 }
+        ensures { (operands : List Operand) → result ≡ search_line suppress (state_of operands self.now) }
+    {
+        if suppress {
+            self.current.saturating_sub(1).max(self.matched) + 1
+        } else if self.current == 1 && self.matched == 0 {
+            1
+        } else {
+            self.current.max(self.matched) + 1
+        }
+    }
+
+    /// The pattern with which the last of `total` lines has to be matched, if any: that of the next operand, where its
+    /// search begins at that line or before it.
+    pub fn sought<'o>(&self, suppress: bool, operands: &'o [Operand], total: u64) -> Option<&'o Bre>
+        requires current { self.now.current < 2 ^ 64 - 1 }
+        requires matched { self.now.matched < 2 ^ 64 - 1 }
+        ensures { IsSought suppress total (state_of operands.now self.now) (drop self.now.done operands.now) (option_map (λ bre. bre.now) result) }
+    {
+        let operand = operands.get(self.done)?;
+        match &operand.target {
+            Target::Number(_) => None,
+            Target::Search { pattern, .. } => {
+                if total < self.search_line(suppress) {
+                    return None;
+                }
+                Some(pattern)
+            }
+        }
+    }
+
+    /// What the next operand does where there are `total` lines. `found` says whether the last of them has its pattern;
+    /// the lines before that one don't have it, from the beginning of its search on.
+    pub fn turn(&self, suppress: bool, operands: &[Operand], total: u64, found: bool) -> Turn
+        requires current { self.now.current < 2 ^ 64 - 1 }
+        requires matched { self.now.matched < 2 ^ 64 - 1 }
+        requires repetition { self.now.repetition < 2 ^ 64 - 1 }
+        requires few { total < 2 ^ 64 - 1 }
+        ensures says { (lines : List Line) → AreSeen suppress lines total (state_of operands.now self.now) found → Turns suppress lines total (state_of operands.now self.now) result }
+        ensures moves { self.now.matched ≤ total → MovesOn operands.now total self.now result }
+    {
+        let Some(operand) = operands.get(self.done) else {
+            return Turn::UsedUp;
+        };
+        match &operand.target {
+            Target::Number(number) => {
+                let cut = number.saturating_mul(self.repetition + 1);
+                fall(total, self.current, self.matched, cut)
+            }
+            Target::Search { offset, .. } => {
+                if total < self.search_line(suppress) {
+                    return Turn::Missed;
+                }
+                if !found {
+                    return Turn::Missed;
+                }
+                fall(total, self.current, total, offset.from(total))
+            }
+        }
+    }
+
+    /// Goes on after a cut of this operand, the next one.
+    pub fn pass(&mut self, suppress: bool, operand: &Operand, matched: u64, cut: u64)
+        requires cut { cut < 2 ^ 64 - 1 }
+        requires repetition { self.old.repetition < 2 ^ 64 - 1 }
+        requires done { self.old.done < 2 ^ 64 - 1 }
+        ensures { (operands rest : List Operand) → drop self.old.done operands ≡ operand.now ∷ rest → state_of operands self.new ≡ state_after suppress operand.now rest self.old.repetition matched cut }
+    {
+        self.current = line_after(suppress, cut);
+        self.matched = matched;
+        if operand.times.has_more(self.repetition) {
+            self.repetition += 1;
+            return;
+        }
+        self.done += 1;
+        self.repetition = 0;
+    }
+}
+
+impl Offset {
+    /// The line at this offset from a line: the last number that there is where it is further, and 0 where there are too
+    /// few lines before it.
+    fn from(self, line: u64) -> u64
+        ensures { result ≡ min (moved self line) (2 ^ 64 - 1) }
+    {
+        match self {
+            Offset::Plus(lines) => line.saturating_add(lines),
+            Offset::Minus(lines) => line.saturating_sub(lines),
+        }
+    }
+}
+
+impl Times {
+    /// Whether an operand is performed again after this repetition.
+    fn has_more(self, repetition: u64) -> bool
+        ensures { result ≡ has_more self repetition }
+    {
+        match self {
+            Times::Count(times) => repetition < times,
+            Times::Endless => true,
+        }
+    }
+}
+
+/// Where a cut falls among `total` lines.
+fn fall(total: u64, current: u64, matched: u64, cut: u64) -> Turn
+    ensures { FallsAt total current matched cut result }
+{
+    if total < cut {
+        Turn::Above(matched, cut)
+    } else if cut < current {
+        Turn::Below
+    } else {
+        Turn::Cuts(matched, cut)
+    }
+}
+
+/// The current line after a cut.
+fn line_after(suppress: bool, cut: u64) -> u64
+    requires { cut < 2 ^ 64 - 1 }
+    ensures { result ≡ line_after suppress cut }
+{
+    if suppress { cut + 1 } else { cut }
+}

@@ -1,0 +1,29 @@
+//! How files are made of sections.
+
+use std::marker::Model;
+
+/// How `csplit` makes files (POSIX.1-2017, XCU csplit, OPTIONS; `elide` and `suppress` are GNU's).
+#[derive(Drop)]
+pub struct Style {
+    /// What a file's name begins with (`-f`).
+    pub prefix: String,
+    /// The least number of digits that follow it in a name, filled with zeros, 0 to 255 (`-n`).
+    pub digits: u32,
+    /// Files are kept after a fault (`-k`).
+    pub keep: bool,
+    /// No sizes are written (`-s`).
+    pub quiet: bool,
+    /// An empty section makes no file (`-z`).
+    pub elide: bool,
+    /// The line at a cut is left out (`--suppress-matched`).
+    pub suppress: bool,
+}
+
+impl Model for Style {
+    ghost use Rattle.std.specs.Prelude.{string_bytes};
+    ghost use Rattle.csplit_core.specs.Output.{Style as Asked};
+
+    ghost Value = { Asked };
+
+    ghost view = { λ s. record { prefix = string_bytes s.prefix; digits = s.digits; keep = s.keep; quiet = s.quiet; elide = s.elide; suppress = s.suppress } };
+}
