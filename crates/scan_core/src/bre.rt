@@ -62,8 +62,9 @@ impl Bre {
     /// has more than 65,535 positions, and with `Memory` where a growth is refused.
     ///
     /// A pattern keeps one entry for each of its tokens, of which it has no more than the text has bytes, at most two nodes
-    /// of 73 bytes for each of its positions, and where it has at most 512 nodes a table of up to 4,096 sets with 544 bytes
-    /// for each; where these are at most nine, also 4,096 bytes of words.
+    /// of 73 bytes for each of its positions, and of 41 bytes more where it has less than 2,048 nodes; and where it has at
+    /// most 512 nodes a table of up to 4,096 sets with 544 bytes for each; where these are at most nine, also 4,096 bytes of
+    /// words.
     pub fn read(alloc: Global, text: &[u8]) -> Result<Bre, BreFault>
         ensures reads { IfOk result (Reads text.now) }
         ensures groups { IfOk result (λ bre. depth_of bre ≤ 255) }

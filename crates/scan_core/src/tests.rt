@@ -132,7 +132,7 @@ fn a_group_that_stands_no_time(rt: HostRuntime) {
 }
 
 /// Patterns that read, of each form.
-const PATTERNS: [&[u8]; 45] = [
+const PATTERNS: [&[u8]; 48] = [
     b"a",
     b"a*ab",
     b"a*b",
@@ -178,6 +178,9 @@ const PATTERNS: [&[u8]; 45] = [
     b"a\\{2\\}*b",
     b"\\*",
     b"c*\\*$",
+    b"\\(a\\{0,40\\}b*\\)\\{2\\}c",
+    b"\\(a*b\\)\\{40\\}*c$",
+    b"\\(a*^*b\\{0,70\\}\\)*c",
 ];
 
 /// The line of a number: up to four bytes of four.
