@@ -42,7 +42,7 @@ pub record Closed (code : List Node) (at : ℕ) (old now : List ℕ) : Type 0 wh
   pub fuller : unset now ≤ unset old
   pub closed : (start to : ℕ) → start / 64 ≡ at → IsIn now start → Stays code start to → IsIn now to
 
-pub close_word : (code : List Node) (at word all : ℕ) (old now : List ℕ) → at < length old → word ≡ get_or old at 0 → Closes code at 0 64 word all → now ≡ set old at (bit_or word all) → Closed code at old now
+pub close_word : (code : List Node) (at word all : ℕ) (old now : List ℕ) → at < length old → word ≡ get_or old at 0 → Closes code at word all → now ≡ set old at (bit_or word all) → Closed code at old now
 close_word code at word all old now h ew c en = record {
   size = ap length en ∙ length-set old at (bit_or word all);
   kept = λ number k. elim (cases_eq (number / 64) at) [
@@ -53,8 +53,7 @@ close_word code at word all old now h ew c en = record {
     | inl same ↦
         let e : number ≡ at * 64 + number % 64 = omega (arith, same) in
         let b = c.from_chosen (number % 64) (omega arith) (in_all (number % 64) (omega arith) (subst (IsIn now) e k)) in
-        let z : at * 64 + (0 + b.0) ≡ at * 64 + b.0 = omega arith in
-        (at * 64 + b.0, (is_in_word old at b.0 b.1).0 (ap (λ w. bit_at w b.0) (sym ew) ∙ b.2), subst (λ n. FlowsOn code false false n number) z (subst (λ n. FlowsOn code false false (at * 64 + (0 + b.0)) n) (sym e) b.3))
+        (at * 64 + b.0, (is_in_word old at b.0 b.1).0 (ap (λ w. bit_at w b.0) (sym ew) ∙ b.2), subst (λ n. FlowsOn code false false (at * 64 + b.0) n) (sym e) b.3)
     | inr other ↦ (number, (set_elsewhere old at (bit_or word all) number other).0 (subst (λ w. IsIn w number) en k), (0, refl))
   ];
   under = λ number l k. (set_elsewhere old at (bit_or word all) number (λ q. omega (arith, q, l))).0 (subst (λ w. IsIn w number) en k);
@@ -80,7 +79,7 @@ close_word code at word all old now h ew c en = record {
     in_all bit l k = side (either_bit word all bit (sym (ap (λ w. bit_at w bit) read) ∙ (is_in_word now at bit l).1 k))
       where
         side : (bit_at word bit ≡ 1) ⊎ (bit_at all bit ≡ 1) → bit_at all bit ≡ 1
-        side (inl w) = let e : 0 + bit ≡ bit = omega arith in subst (λ b. bit_at all b ≡ 1) e (c.kept bit l w)
+        side (inl w) = c.kept bit l w
         side (inr a) = a
 
 masked : (left mask bit : ℕ) → mask < 2 ^ 64 → bit < 64 → bit_at (bit_and left (bit_not w64 mask)) bit ≡ min (bit_at left bit) (1 - bit_at mask bit)

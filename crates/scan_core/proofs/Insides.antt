@@ -1,19 +1,20 @@
 -- What numbers lead to without a byte, ready to be looked up.
-use Rattle.std.proofs.Common.{◌≡◌, ◌⊎◌, ◌↔◌, inl, inr, ℕ, suc, ◌+◌, ◌*◌, ◌-◌, ◌/◌, ◌%◌, ◌^◌, ◌<◌, ◌≤◌, Bool, false, List, [], ◌∷◌, ◌++◌, length, get_or, refl, sym, ap, ◌∙◌, subst, arith, length-append, w64}
-use Rattle.std.proofs.lemmas.Bool.{cases_eq, cases_lt}
-use Rattle.std.proofs.lemmas.Nat.{shr-shr}
-use Rattle.std.proofs.lemmas.Nat.Bits.{bit_at_or, bit_at-lt, bit_at-zero, bit_at_cat_low, bit_at_set_same, bit_at_set_other}
-use Rattle.std.specs.Prelude.{bit_or}
-use Rattle.std.specs.Int.{bit_at}
+use Rattle.std.proofs.Common.{◌≡◌, ◌⊎◌, ◌↔◌, inl, inr, ℕ, suc, ◌+◌, ◌*◌, ◌-◌, ◌/◌, ◌%◌, ◌^◌, ◌<◌, ◌≤◌, Bool, false, List, [], ◌∷◌, ◌++◌, length, get_or, min, refl, sym, ap, ◌∙◌, subst, arith, length-append, w64}
+use Rattle.std.proofs.lemmas.Bool.{cases_eq, cases_lt, false≢true}
+use Rattle.std.proofs.lemmas.Nat.{and_le_l, le_or_l, or_lt}
+use Rattle.std.proofs.lemmas.Nat.Bits.{and_high, bit_at_and, bit_at_or, bit_at_not, bit_at-lt, bit_at-zero, bit_at_mask_inside, bit_at_set_same, bit_at_set_other, same_from_bits_below}
+use Rattle.std.specs.Int.Bits.{or_zero_l, or_zero_r}
+use Rattle.std.specs.Prelude.{bit_and, bit_or}
+use Rattle.std.specs.Int.{bit_at, bit_not}
 use Rattle.scan_core.specs.declared.node.Node.{Node}
-use Rattle.scan_core.specs.declared.node.Node.TheVariants.{Choose, Back}
+use Rattle.scan_core.specs.declared.node.Node.TheVariants.{Take, First, Last, Choose, Back}
 use Rattle.scan_core.specs.Closures.{AreInside, Closes, Stays}
 use Rattle.scan_core.specs.Code.{At}
-use Rattle.scan_core.specs.Sets.{Flows, FlowsOn}
-use Rattle.scan_core.specs.Words.{IsIn, width, Grows, SpreadsOut}
+use Rattle.scan_core.specs.Sets.{LeadsOn, Flows, FlowsOn}
+use Rattle.scan_core.specs.Words.{width}
 use Rattle.scan_core.proofs.Enterings.{flows_of}
 use Rattle.scan_core.proofs.Tables.{get-front, get-last}
-use Rattle.scan_core.proofs.Visitings.{is_in_word}
+use Rattle.scan_core.proofs.Visitings.{cleared}
 
 pub choose_stays : (code : List Node) (n skip : ℕ) (at_first at_last : Bool) (to : ℕ) → At code n (Choose skip) → (n + 1) / 64 ≡ n / 64 → (n + skip) / 64 ≡ n / 64 → Flows code at_first at_last n to → Stays code n to
 choose_stays code n skip at_first at_last to here next other f = side (flows_of code n (Choose skip) at_first at_last to here f)
@@ -74,54 +75,171 @@ peer_more code number bit word p h is = record {
 pub peer_skip : (code : List Node) (number bit word : ℕ) → Peering code number bit word → (number ≡ number / 64 * 64 + bit → ⊥) → bit < 64 → Peering code number (bit + 1) word
 peer_skip code number bit word p differs h = record { own = λ l. elim (cases_eq (number % 64) bit) [ inl same ↦ absurd (differs (omega (arith, same))) | inr other ↦ p.own (omega (arith, l, other)) ]; others = p.others }
 
--- the first of four numbers that are chosen were entered
-pub record Choosing (code : List Node) (at from chosen bit : ℕ) (words : List ℕ) : Type 0 where
-  pub size : length words ≡ width code
-  pub exact : (number : ℕ) → IsIn words number ↔ ((k : ℕ) × (k < bit) × (bit_at chosen k ≡ 1) × (number ≡ at * 64 + (from + k)))
+pub either_bit : (a b bit : ℕ) → bit_at (bit_or a b) bit ≡ 1 → (bit_at a bit ≡ 1) ⊎ (bit_at b bit ≡ 1)
+either_bit a b bit h = elim (cases_eq (bit_at a bit) 1) [
+  | inl one ↦ inl one
+  | inr other ↦ let e = bit_at_or a b bit in let l = bit_at-lt a bit in inr (omega (arith, e, h, other, l))
+]
 
-pub choose_starts : (code : List Node) (at from chosen : ℕ) (words : List ℕ) → length words ≡ width code → ((number : ℕ) → IsIn words number → ⊥) → Choosing code at from chosen 0 words
-choose_starts code at from chosen words size none = record { size = size; exact = λ number. (λ h. absurd (none number h), λ k. absurd (let l = k.1 in omega (arith, l))) }
+pub left_bit : (a b bit : ℕ) → bit_at a bit ≡ 1 → bit_at (bit_or a b) bit ≡ 1
+left_bit a b bit h = let e = bit_at_or a b bit in let l = bit_at-lt b bit in omega (arith, e, h, l)
 
-pub choose_more : (code : List Node) (at from chosen bit before on : ℕ) (old new : List ℕ) → Choosing code at from chosen bit old → bit_at chosen bit ≡ 1 → Grows (λ number. number ≡ at * 64 + (from + bit)) old new before on → Choosing code at from chosen (bit + 1) new
-choose_more code at from chosen bit before on old new c is g = record {
-  size = g.size ∙ c.size;
-  exact = λ number. (λ h. there number ((g.exact number).0 h), λ k. (g.exact number).1 (back number k));
+pub right_bit : (a b bit : ℕ) → bit_at b bit ≡ 1 → bit_at (bit_or a b) bit ≡ 1
+right_bit a b bit h = let e = bit_at_or a b bit in let l = bit_at-lt a bit in omega (arith, e, h, l)
+
+-- a bit that stands for a number of a word
+pub bit_is : (at number bit : ℕ) → number / 64 ≡ at → bit < 64 → (bit_at (1 * 2 ^ (number % 64) % 2 ^ 64) bit ≡ 1) ↔ (number ≡ at * 64 + bit)
+bit_is at number bit here h =
+    let zero_or : (n : ℕ) → bit_or 0 n ≡ n = λ n. or_zero_l n in
+    let same = bit_at_set_same w64 0 (number % 64) (omega arith) in
+    let word : bit_or 0 (1 * 2 ^ (number % 64) % 2 ^ 64) ≡ 1 * 2 ^ (number % 64) % 2 ^ 64 = zero_or (1 * 2 ^ (number % 64) % 2 ^ 64) in (
+      λ k. elim (cases_eq bit (number % 64)) [
+        | inl e ↦ omega (arith, e, here)
+        | inr other ↦
+            let o = bit_at_set_other w64 0 (number % 64) (omega arith) bit other in
+            let z = bit_at-zero bit in
+            let w = ap (λ x. bit_at x bit) word in
+            absurd (omega (arith, o, z, w, k))
+      ],
+      λ e. let q : bit ≡ number % 64 = omega (arith, e, here, h) in ap (bit_at (1 * 2 ^ (number % 64) % 2 ^ 64)) q ∙ ap (λ x. bit_at x (number % 64)) (sym word) ∙ same,
+    )
+
+pub no_bit_is : (at number bit : ℕ) → (number / 64 ≡ at → ⊥) → bit < 64 → (bit_at 0 bit ≡ 1) ↔ (number ≡ at * 64 + bit)
+no_bit_is at number bit other h = (λ k. let z = bit_at-zero bit in absurd (omega (arith, z, k)), λ e. absurd (other (omega (arith, e, h))))
+
+-- what a node of a word leads to in it
+pub none_led : (code : List Node) (n : ℕ) (node : Node) (to bit : ℕ) → At code n node → ((m : ℕ) → LeadsOn node false false n m → ⊥) → (bit_at 0 bit ≡ 1) ↔ Flows code false false n to
+none_led code n node to bit here never = (λ k. let z = bit_at-zero bit in absurd (omega (arith, z, k)), λ f. absurd (never to (flows_of code n node false false to here f)))
+
+pub quiet_led : (code : List Node) (n : ℕ) (read : Node) (to bit : ℕ) → At code n read → ((bytes : List Bool) × (read ≡ Take bytes)) ⊎ ((read ≡ First) ⊎ (read ≡ Last)) → (bit_at 0 bit ≡ 1) ↔ Flows code false false n to
+quiet_led code n read to bit here (inl (bytes, e)) = none_led code n (Take bytes) to bit (subst (At code n) e here) (λ m h. h)
+quiet_led code n read to bit here (inr (inl e)) = none_led code n First to bit (subst (At code n) e here) (λ m h. false≢true h.0)
+quiet_led code n read to bit here (inr (inr e)) = none_led code n Last to bit (subst (At code n) e here) (λ m h. false≢true h.0)
+
+pub choose_led : (code : List Node) (n skip to one other bit : ℕ) → At code n (Choose skip) → ((bit_at one bit ≡ 1) ↔ (n + 1 ≡ to)) → ((bit_at other bit ≡ 1) ↔ (n + skip ≡ to)) → (bit_at (bit_or one other) bit ≡ 1) ↔ Flows code false false n to
+choose_led code n skip to one other bit here a b = (
+  λ k. there (either_bit one other bit k),
+  λ f. back (flows_of code n (Choose skip) false false to here f),
+)
+  where
+    there : (bit_at one bit ≡ 1) ⊎ (bit_at other bit ≡ 1) → Flows code false false n to
+    there (inl k) = (Choose skip, here, inl (sym (a.0 k)))
+    there (inr k) = (Choose skip, here, inr (sym (b.0 k)))
+
+    back : (to ≡ n + 1) ⊎ (to ≡ n + skip) → bit_at (bit_or one other) bit ≡ 1
+    back (inl e) = left_bit one other bit (a.1 (sym e))
+    back (inr e) = right_bit one other bit (b.1 (sym e))
+
+pub back_led : (code : List Node) (n by to all bit : ℕ) → At code n (Back by) → by ≤ n → ((bit_at all bit ≡ 1) ↔ (n - by ≡ to)) → (bit_at all bit ≡ 1) ↔ Flows code false false n to
+back_led code n by to all bit here l a = (
+  λ k. let e = a.0 k in (Back by, here, omega (arith, e, l)),
+  λ f. let e : n ≡ to + by = flows_of code n (Back by) false false to here f in a.1 (omega (arith, e)),
+)
+
+-- some of the numbers are still to be looked at
+pub record Insiding (code : List Node) (at word all left : ℕ) : Type 0 where
+  pub kept : (bit : ℕ) → bit < 64 → bit_at word bit ≡ 1 → bit_at all bit ≡ 1
+  pub from_word : (number : ℕ) → number < 64 → bit_at all number ≡ 1 → (bit : ℕ) × (bit < 64) × (bit_at word bit ≡ 1) × FlowsOn code false false (at * 64 + bit) (at * 64 + number)
+  pub within : (bit : ℕ) → bit < 64 → bit_at left bit ≡ 1 → bit_at all bit ≡ 1
+  pub rest : (bit : ℕ) → bit < 64 → bit_at all bit ≡ 1 → (bit_at left bit ≡ 1) ⊎ ((to : ℕ) → to < 64 → Flows code false false (at * 64 + bit) (at * 64 + to) → bit_at all to ≡ 1)
+
+pub inside_starts : (code : List Node) (at word : ℕ) → Insiding code at word word word
+inside_starts code at word = record { kept = λ bit h k. k; from_word = λ number h k. (number, h, k, (0, refl)); within = λ bit h k. k; rest = λ bit h k. inl k }
+
+-- what isn't in a word yet
+fresh_bit : (found all bit : ℕ) → all < 2 ^ 64 → bit < 64 → bit_at (bit_and found (bit_not w64 all)) bit ≡ min (bit_at found bit) (1 - bit_at all bit)
+fresh_bit found all bit m l = bit_at_and found (bit_not w64 all) bit ∙ ap (min (bit_at found bit)) (bit_at_not w64 all bit m l)
+
+pub inside_more : (code : List Node) (at word all left bit found : ℕ) → Insiding code at word all left → all < 2 ^ 64 → bit < 64 → bit_at left bit ≡ 1 → ((to : ℕ) → to < 64 → (bit_at found to ≡ 1) ↔ Flows code false false (at * 64 + bit) (at * 64 + to))
+    → Insiding code at word (bit_or all (bit_and found (bit_not w64 all))) (bit_or (bit_and left (bit_not w64 (1 * 2 ^ bit % 2 ^ 64))) (bit_and found (bit_not w64 all)))
+inside_more code at word all left bit found i m small here is = record {
+  kept = λ b h k. left_bit all more b (i.kept b h k);
+  from_word = λ n h k. from n h (either_bit all more n k);
+  within = λ b h k. elim (either_bit less more b k) [ inl old ↦ left_bit all more b (i.within b h (in_left b h old)) | inr new ↦ right_bit all more b new ];
+  rest = λ b h k. elim (either_bit all more b k) [ inl old ↦ rest b h old (i.rest b h old) | inr new ↦ inl (right_bit less more b new) ];
 }
   where
-    there : (number : ℕ) → IsIn old number ⊎ (number ≡ at * 64 + (from + bit)) → (k : ℕ) × (k < bit + 1) × (bit_at chosen k ≡ 1) × (number ≡ at * 64 + (from + k))
-    there number (inl h) = let k = (c.exact number).0 h in let l = k.1 in (k.0, omega (arith, l), k.2, k.3)
-    there number (inr e) = (bit, omega arith, is, e)
+    more : ℕ
+    more = bit_and found (bit_not w64 all)
 
-    back : (number : ℕ) → ((k : ℕ) × (k < bit + 1) × (bit_at chosen k ≡ 1) × (number ≡ at * 64 + (from + k))) → IsIn old number ⊎ (number ≡ at * 64 + (from + bit))
-    back number k = elim (cases_eq k.0 bit) [
-      | inl same ↦ inr (k.3 ∙ ap (λ b. at * 64 + (from + b)) same)
-      | inr other ↦ inl ((c.exact number).1 (k.0, (let l = k.1 in omega (arith, l, other)), k.2, k.3))
+    less : ℕ
+    less = bit_and left (bit_not w64 (1 * 2 ^ bit % 2 ^ 64))
+
+    clear : (bit_and left (bit_not w64 (1 * 2 ^ bit % 2 ^ 64)) < left) × ((j : ℕ) → j < 64 → (j ≡ bit → ⊥) → bit_at (bit_and left (bit_not w64 (1 * 2 ^ bit % 2 ^ 64))) j ≡ bit_at left j) × (bit_at (bit_and left (bit_not w64 (1 * 2 ^ bit % 2 ^ 64))) bit ≡ 0)
+    clear = cleared left bit small here
+
+    in_left : (b : ℕ) → b < 64 → bit_at (bit_and left (bit_not w64 (1 * 2 ^ bit % 2 ^ 64))) b ≡ 1 → bit_at left b ≡ 1
+    in_left b h k = let e = bit_at_and left (bit_not w64 (1 * 2 ^ bit % 2 ^ 64)) b in let l = bit_at-lt left b in omega (arith, e, k, l)
+
+    from : (n : ℕ) → n < 64 → (bit_at all n ≡ 1) ⊎ (bit_at (bit_and found (bit_not w64 all)) n ≡ 1) → (b : ℕ) × (b < 64) × (bit_at word b ≡ 1) × FlowsOn code false false (at * 64 + b) (at * 64 + n)
+    from n h (inl old) = i.from_word n h old
+    from n h (inr new) =
+        let f = (is n h).0 (let e = fresh_bit found all n m h in let l = bit_at-lt found n in omega (arith, e, new, l)) in
+        let was = i.from_word bit small (i.within bit small here) in
+        (was.0, was.1, was.2, (suc was.3.0, (at * 64 + bit, was.3.1, f)))
+
+    found_in : (to : ℕ) → to < 64 → bit_at found to ≡ 1 → bit_at (bit_or all (bit_and found (bit_not w64 all))) to ≡ 1
+    found_in to h k = elim (cases_eq (bit_at all to) 1) [
+      | inl old ↦ left_bit all (bit_and found (bit_not w64 all)) to old
+      | inr other ↦ right_bit all (bit_and found (bit_not w64 all)) to (let e = fresh_bit found all to m h in let l = bit_at-lt all to in omega (arith, e, k, l, other))
     ]
 
-pub choose_skip : (code : List Node) (at from chosen bit : ℕ) (words : List ℕ) → Choosing code at from chosen bit words → (bit_at chosen bit ≡ 1 → ⊥) → Choosing code at from chosen (bit + 1) words
-choose_skip code at from chosen bit words c never = record {
-  size = c.size;
-  exact = λ number. (
-    λ h. let k = (c.exact number).0 h in let l = k.1 in (k.0, omega (arith, l), k.2, k.3),
-    λ k. elim (cases_eq k.0 bit) [
-      | inl same ↦ absurd (never (subst (λ b. bit_at chosen b ≡ 1) same k.2))
-      | inr other ↦ (c.exact number).1 (k.0, (let l = k.1 in omega (arith, l, other)), k.2, k.3)
-    ],
-  );
-}
+    rest : (b : ℕ) → b < 64 → bit_at all b ≡ 1 → (bit_at left b ≡ 1) ⊎ ((to : ℕ) → to < 64 → Flows code false false (at * 64 + b) (at * 64 + to) → bit_at all to ≡ 1)
+        → (bit_at (bit_or (bit_and left (bit_not w64 (1 * 2 ^ bit % 2 ^ 64))) (bit_and found (bit_not w64 all))) b ≡ 1) ⊎ ((to : ℕ) → to < 64 → Flows code false false (at * 64 + b) (at * 64 + to) → bit_at (bit_or all (bit_and found (bit_not w64 all))) to ≡ 1)
+    rest b h old (inr led) = inr (λ to l f. left_bit all (bit_and found (bit_not w64 all)) to (led to l f))
+    rest b h old (inl waits) = elim (cases_eq b bit) [
+      | inl same ↦ inr (λ to l f. found_in to l ((is to l).1 (subst (λ n. Flows code false false (at * 64 + n) (at * 64 + to)) same f)))
+      | inr other ↦ inl (left_bit (bit_and left (bit_not w64 (1 * 2 ^ bit % 2 ^ 64))) (bit_and found (bit_not w64 all)) b (clear.1 b h other ∙ waits))
+    ]
 
--- what they lead to in their word
-pub chosen_closes : (code : List Node) (at from chosen : ℕ) (middle new : List ℕ) → from + 4 ≤ 64 → Choosing code at from chosen 4 middle → SpreadsOut code false false middle new → Closes code at from 4 chosen (get_or new at 0)
-chosen_closes code at from chosen middle new h c s = record {
-  kept = λ bit l is. (is_in_word new at (from + bit) (omega (arith, l, h))).1 ((s.exact (at * 64 + (from + bit))).1 (at * 64 + (from + bit), (c.exact (at * 64 + (from + bit))).1 (bit, l, is, refl), (0, refl)));
-  from_chosen = λ number l is.
-      let f = (s.exact (at * 64 + number)).0 ((is_in_word new at number l).0 is) in
-      let k = (c.exact f.0).0 f.1 in
-      (k.0, k.1, k.2, subst (λ n. FlowsOn code false false n (at * 64 + number)) k.3 f.2);
-  closed = λ number to l m is f.
-      let g = (s.exact (at * 64 + number)).0 ((is_in_word new at number l).0 is) in
-      (is_in_word new at to m).1 ((s.exact (at * 64 + to)).1 (g.0, g.1, (suc g.2.0, (at * 64 + number, g.2.1, f))));
+-- the word grows, or fewer are left
+pub inside_smaller : (all left found bit : ℕ) → all < 2 ^ 64 → found < 2 ^ 64 → left < 2 ^ 64 → bit < 64 → bit_at left bit ≡ 1
+    → (2 ^ 64 - bit_or all (bit_and found (bit_not w64 all))) * 2 ^ 64 + bit_or (bit_and left (bit_not w64 (1 * 2 ^ bit % 2 ^ 64))) (bit_and found (bit_not w64 all)) < (2 ^ 64 - all) * 2 ^ 64 + left
+inside_smaller all left found bit m f l small here = elim (cases_eq (bit_or all more) all) [
+  | inl same ↦
+      let none : more ≡ 0 = same_from_bits_below 64 more 0 more_fits (omega arith) (λ b h. absent same b h) in
+      let e : bit_or less more ≡ less = ap (bit_or less) none ∙ or_zero_r less in
+      let c = (cleared left bit small here).0 in
+      let p = ap (λ x. (2 ^ 64 - x) * 2 ^ 64) same in
+      omega (arith, e, c, p)
+  | inr grown ↦
+      let g = le_or_l all more in
+      let a = or_lt 64 all more m more_fits in
+      let b = or_lt 64 less more less_fits more_fits in
+      omega (arith, g, a, b, grown, m)
+]
+  where
+    more : ℕ
+    more = bit_and found (bit_not w64 all)
+
+    less : ℕ
+    less = bit_and left (bit_not w64 (1 * 2 ^ bit % 2 ^ 64))
+
+    more_fits : bit_and found (bit_not w64 all) < 2 ^ 64
+    more_fits = let q = and_le_l found (bit_not w64 all) in omega (arith, q, f)
+
+    less_fits : bit_and left (bit_not w64 (1 * 2 ^ bit % 2 ^ 64)) < 2 ^ 64
+    less_fits = let q = and_le_l left (bit_not w64 (1 * 2 ^ bit % 2 ^ 64)) in omega (arith, q, l)
+
+    absent : bit_or all (bit_and found (bit_not w64 all)) ≡ all → (b : ℕ) → b < 64 → bit_at (bit_and found (bit_not w64 all)) b ≡ bit_at 0 b
+    absent same b h =
+        let e = fresh_bit found all b m h in
+        let o = bit_at_or all (bit_and found (bit_not w64 all)) b in
+        let q = ap (λ x. bit_at x b) same in
+        let z = bit_at-zero b in
+        let k = bit_at-lt all b in
+        omega (arith, e, o, q, z, k)
+
+pub inside_ends : (code : List Node) (at word all left : ℕ) → Insiding code at word all left → left ≡ 0 → Closes code at word all
+inside_ends code at word all left i e = record {
+  kept = i.kept;
+  from_chosen = i.from_word;
+  closed = λ number to h l k f. side number (i.rest number h k) to l f;
 }
+  where
+    side : (number : ℕ) → (bit_at left number ≡ 1) ⊎ ((to : ℕ) → to < 64 → Flows code false false (at * 64 + number) (at * 64 + to) → bit_at all to ≡ 1) → (to : ℕ) → to < 64 → Flows code false false (at * 64 + number) (at * 64 + to) → bit_at all to ≡ 1
+    side number (inl k) to l f = let z = ap (λ x. bit_at x number) e ∙ bit_at-zero number in absurd (omega (arith, z, k))
+    side number (inr k) to l f = k to l f
 
 -- the first fours of a word are joined
 pub record Joining (code : List Node) (at word four all : ℕ) : Type 0 where
@@ -136,35 +254,22 @@ join_starts code at word = record {
   closed = λ number to l m is. let z = bit_at-zero number in absurd (omega (arith, z, is));
 }
 
-four_bits : (word four bit : ℕ) → bit < 4 → bit_at (word / 2 ^ (four * 4) % 16) bit ≡ bit_at word (four * 4 + bit)
+-- the bits of four numbers of a word
+four_bits : (word four bit : ℕ) → word < 2 ^ 64 → bit_at (word / 2 ^ (four * 4) % 16 * 2 ^ (four * 4) % 2 ^ 64) bit ≡ min (bit_at word bit) (bit_at (2 ^ (4 + four * 4) - 2 ^ (four * 4)) bit)
 four_bits word four bit h =
-    let x : ℕ = word / 2 ^ (four * 4) in
-    let whole : x / 16 * 2 ^ 4 + x % 16 ≡ x = omega arith in
-    let low = bit_at_cat_low (x / 16) 4 (x % 16) bit h in
-    let same = ap (λ y. bit_at y bit) whole in
-    let shifted = ap (λ y. y % 2) (shr-shr word (four * 4) bit) in
-    sym low ∙ same ∙ shifted
+    let e : bit_and word (2 ^ (4 + four * 4) - 2 ^ (four * 4)) ≡ word / 2 ^ (four * 4) % 16 * 2 ^ (four * 4) = and_high word 4 (four * 4) in
+    let l = and_le_l word (2 ^ (4 + four * 4) - 2 ^ (four * 4)) in
+    let q : word / 2 ^ (four * 4) % 16 * 2 ^ (four * 4) % 2 ^ 64 ≡ bit_and word (2 ^ (4 + four * 4) - 2 ^ (four * 4)) = omega (arith, e, l, h) in
+    ap (λ x. bit_at x bit) q ∙ bit_at_and word (2 ^ (4 + four * 4) - 2 ^ (four * 4)) bit
 
-pub either_bit : (a b bit : ℕ) → bit_at (bit_or a b) bit ≡ 1 → (bit_at a bit ≡ 1) ⊎ (bit_at b bit ≡ 1)
-either_bit a b bit h = elim (cases_eq (bit_at a bit) 1) [
-  | inl one ↦ inl one
-  | inr other ↦ let e = bit_at_or a b bit in let l = bit_at-lt a bit in inr (omega (arith, e, h, other, l))
-]
-
-pub left_bit : (a b bit : ℕ) → bit_at a bit ≡ 1 → bit_at (bit_or a b) bit ≡ 1
-left_bit a b bit h = let e = bit_at_or a b bit in let l = bit_at-lt b bit in omega (arith, e, h, l)
-
-pub right_bit : (a b bit : ℕ) → bit_at b bit ≡ 1 → bit_at (bit_or a b) bit ≡ 1
-right_bit a b bit h = let e = bit_at_or a b bit in let l = bit_at-lt a bit in omega (arith, e, h, l)
-
-pub join_more : (code : List Node) (inside : List ℕ) (at word four all entry : ℕ) → Joining code at word four all → AreInside code inside → at < width code → four < 16 → entry ≡ get_or inside (at * 256 + four * 16 + word / 2 ^ (four * 4) % 16) 0 → Joining code at word (four + 1) (bit_or all entry)
-join_more code inside at word four all entry j i within h e = record {
+pub join_more : (code : List Node) (inside : List ℕ) (at word four all entry : ℕ) → Joining code at word four all → AreInside code inside → at < width code → four < 16 → word < 2 ^ 64 → entry ≡ get_or inside (at * 256 + four * 16 + word / 2 ^ (four * 4) % 16) 0 → Joining code at word (four + 1) (bit_or all entry)
+join_more code inside at word four all entry j i within h fits e = record {
   kept = λ bit l is. elim (cases_lt bit (four * 4)) [
     | inl before ↦ left_bit all entry bit (j.kept bit before is)
     | inr here ↦
-        let same : four * 4 + (bit - four * 4) ≡ bit = omega (arith, here) in
-        let k = four_bits word four (bit - four * 4) (omega (arith, l, here)) ∙ ap (bit_at word) same ∙ is in
-        right_bit all entry bit (subst (λ b. bit_at entry b ≡ 1) same (c.kept (bit - four * 4) (omega (arith, l, here)) k))
+        let m = four_bits word four bit fits in
+        let o = bit_at_mask_inside (four * 4) (4 + four * 4) bit here (omega (arith, l)) in
+        right_bit all entry bit (c.kept bit (omega (arith, l, h)) (omega (arith, m, o, is)))
   ];
   from_word = λ number l is. from number l (either_bit all entry number is);
   closed = λ number to l m is f. elim (either_bit all entry number is) [
@@ -173,22 +278,19 @@ join_more code inside at word four all entry j i within h e = record {
   ];
 }
   where
-    c : Closes code at (four * 4) 4 (word / 2 ^ (four * 4) % 16) entry
-    c = subst (Closes code at (four * 4) 4 (word / 2 ^ (four * 4) % 16)) (sym e) (i.each at four (word / 2 ^ (four * 4) % 16) within h (omega arith))
+    c : Closes code at (word / 2 ^ (four * 4) % 16 * 2 ^ (four * 4) % 2 ^ 64) entry
+    c = subst (Closes code at (word / 2 ^ (four * 4) % 16 * 2 ^ (four * 4) % 2 ^ 64)) (sym e) (i.each at four (word / 2 ^ (four * 4) % 16) within h (omega arith))
 
     from : (number : ℕ) → number < 64 → (bit_at all number ≡ 1) ⊎ (bit_at entry number ≡ 1) → (bit : ℕ) × (bit < 64) × (bit_at word bit ≡ 1) × FlowsOn code false false (at * 64 + bit) (at * 64 + number)
     from number l (inl old) = j.from_word number l old
     from number l (inr new) =
         let k = c.from_chosen number l new in
-        let m = k.1 in
-        (four * 4 + k.0, omega (arith, m, h), sym (four_bits word four k.0 k.1) ∙ k.2, k.3)
+        let m = four_bits word four k.0 fits in
+        let b = bit_at-lt word k.0 in
+        (k.0, k.1, (let is = k.2 in omega (arith, m, is, b)), k.3)
 
-pub join_ends : (code : List Node) (at word all : ℕ) → Joining code at word 16 all → Closes code at 0 64 word all
-join_ends code at word all j = record {
-  kept = λ bit l is. let e : bit ≡ 0 + bit = omega arith in subst (λ b. bit_at all b ≡ 1) e (j.kept bit (omega (arith, l)) is);
-  from_chosen = λ number l is. let k = j.from_word number l is in let e : at * 64 + k.0 ≡ at * 64 + (0 + k.0) = omega arith in (k.0, k.1, k.2, subst (λ n. FlowsOn code false false n (at * 64 + number)) e k.3);
-  closed = j.closed;
-}
+pub join_ends : (code : List Node) (at word all : ℕ) → Joining code at word 16 all → Closes code at word all
+join_ends code at word all j = record { kept = λ bit l is. j.kept bit (omega (arith, l)) is; from_chosen = j.from_word; closed = j.closed }
 
 -- what is so of each entry of a list and of one more
 pub pushed : (So : ℕ → ℕ → Type 0) (list new : List ℕ) (count entry : ℕ) → length list ≡ count → ((k : ℕ) → k < count → So k (get_or list k 0)) → So count entry → new ≡ list ++ entry ∷ [] → (k : ℕ) → k < count + 1 → So k (get_or new k 0)
@@ -200,15 +302,16 @@ pushed So list new count entry size before here e k h = elim (cases_eq k count) 
 pub one_longer : (list new : List ℕ) (count entry : ℕ) → length list ≡ count → new ≡ list ++ entry ∷ [] → length new ≡ count + 1
 one_longer list new count entry size e = let l = ap length e in let a = length-append list (entry ∷ []) in omega (arith, l, a, size)
 
-pub insides_are : (code : List Node) (inside : List ℕ) → length inside ≡ width code * 256 → ((place : ℕ) → place < width code * 256 → Closes code (place / 256) (place / 16 % 16 * 4) 4 (place % 16) (get_or inside place 0)) → AreInside code inside
+pub insides_are : (code : List Node) (inside : List ℕ) → length inside ≡ width code * 256 → ((place : ℕ) → place < width code * 256 → Closes code (place / 256) (place % 16 * 2 ^ (place / 16 % 16 * 4) % 2 ^ 64) (get_or inside place 0)) → AreInside code inside
 insides_are code inside size each = record {
   size = size;
   each = λ at four chosen h f c.
-      let word : (at * 256 + four * 16 + chosen) / 256 ≡ at = omega (arith, f, c) in
-      let place : (at * 256 + four * 16 + chosen) / 16 % 16 ≡ four = omega (arith, f, c) in
-      let low : (at * 256 + four * 16 + chosen) % 16 ≡ chosen = omega (arith, f, c) in
-      let e = each (at * 256 + four * 16 + chosen) (omega (arith, h, f, c)) in
-      subst (λ n. Closes code n (four * 4) 4 chosen (get_or inside (at * 256 + four * 16 + chosen) 0)) word
-      (subst (λ n. Closes code ((at * 256 + four * 16 + chosen) / 256) (n * 4) 4 chosen (get_or inside (at * 256 + four * 16 + chosen) 0)) place
-      (subst (λ n. Closes code ((at * 256 + four * 16 + chosen) / 256) ((at * 256 + four * 16 + chosen) / 16 % 16 * 4) 4 n (get_or inside (at * 256 + four * 16 + chosen) 0)) low e));
+      let place : ℕ = at * 256 + four * 16 + chosen in
+      let word : place / 256 ≡ at = omega (arith, f, c) in
+      let four_is : place / 16 % 16 ≡ four = omega (arith, f, c) in
+      let low : place % 16 ≡ chosen = omega (arith, f, c) in
+      let e = each place (omega (arith, h, f, c)) in
+      subst (λ n. Closes code n (chosen * 2 ^ (four * 4) % 2 ^ 64) (get_or inside place 0)) word
+      (subst (λ n. Closes code (place / 256) (chosen * 2 ^ (n * 4) % 2 ^ 64) (get_or inside place 0)) four_is
+      (subst (λ n. Closes code (place / 256) (n * 2 ^ (place / 16 % 16 * 4) % 2 ^ 64) (get_or inside place 0)) low e));
 }

@@ -2,7 +2,7 @@
 use Rattle.std.proofs.Common.{◌≡◌, ◌⊎◌, ◌↔◌, inl, inr, ℕ, zero, suc, ◌+◌, ◌*◌, ◌-◌, ◌/◌, ◌%◌, ◌^◌, ◌<◌, ◌≤◌, Bool, IsTrue, List, [], ◌∷◌, length, get_or, refl, sym, ap, ◌∙◌, subst, arith, w64}
 use Rattle.std.proofs.lemmas.Bool.{cases_eq, cases_lt}
 use Rattle.std.proofs.lemmas.Nat.{and_le_l}
-use Rattle.std.proofs.lemmas.Nat.Bits.{bit_at_and, bit_at-zero, bit_at_clear_same, bit_at_clear_other}
+use Rattle.std.proofs.lemmas.Nat.Bits.{bit_at-zero, bit_at_clear_same, bit_at_clear_other}
 use Rattle.std.specs.Prelude.{bit_and}
 use Rattle.std.specs.Int.{bit_at, bit_not}
 use Rattle.bre_core.specs.Match.{Parts}
@@ -11,7 +11,7 @@ use Rattle.scan_core.specs.declared.node.Node.{Node}
 use Rattle.scan_core.specs.declared.node.Node.TheVariants.{Take, First, Last, Choose, Back}
 use Rattle.scan_core.specs.Code.{is_lead}
 use Rattle.scan_core.specs.Sets.{LeadsOn, Flows, FlowsOn}
-use Rattle.scan_core.specs.Words.{IsIn, unset, Grows, IsMask, Visits, SpreadsOut}
+use Rattle.scan_core.specs.Words.{IsIn, unset, IsMask, Visits, SpreadsOut}
 use Rattle.scan_core.proofs.Enterings.{at_least}
 
 pub is_in_word : (words : List ℕ) (at bit : ℕ) → bit < 64 → (bit_at (get_or words at 0) bit ≡ 1) ↔ IsIn words (at * 64 + bit)
@@ -72,43 +72,6 @@ visit_starts code at_first at_last at pending old = record {
   rest = λ bit small h. inl h;
 }
 
-pub visit_more : (code : List Node) (at_first at_last : Bool) (at leads left bit : ℕ) (old now new : List ℕ) (on on' : ℕ) → Visiting code at_first at_last at (bit_and (get_or old at 0) leads) left old now on → bit < 64 → bit_at left bit ≡ 1
-    → Grows (Flows code at_first at_last (at * 64 + bit)) now new on on' → Visiting code at_first at_last at (bit_and (get_or old at 0) leads) (bit_and left (bit_not w64 (1 * 2 ^ bit % 2 ^ 64))) old new on'
-visit_more code at_first at_last at leads left bit old now new on on' v small here g = record {
-  size = g.size ∙ v.size;
-  kept = λ number h. (g.exact number).1 (inl (v.kept number h));
-  from = λ number h. from number ((g.exact number).0 h);
-  low = omega (arith, v.low, g.low);
-  under = λ number l h. let w = g.low in v.under number (omega (arith, l, w)) (g.under number l h);
-  fuller = omega (arith, v.fuller, g.fuller);
-  less = λ l. elim (cases_lt on' on) [
-    | inl lower ↦ let s = g.less lower in let r = v.fuller in omega (arith, s, r)
-    | inr same ↦ let s = v.less (omega (arith, l, same)) in let r = g.fuller in omega (arith, s, r)
-  ];
-  within = λ k s h. elim (cases_eq k bit) [
-    | inl same ↦ v.within k s (ap (bit_at left) same ∙ here)
-    | inr other ↦ v.within k s (sym (clear.1 k s other) ∙ h)
-  ];
-  rest = λ k s h. elim (cases_eq k bit) [
-    | inl same ↦ inr (λ to f. (g.exact to).1 (inr (subst (λ n. Flows code at_first at_last (at * 64 + n) to) same f)))
-    | inr other ↦ left_or k s other (v.rest k s h)
-  ];
-}
-  where
-    clear : (bit_and left (bit_not w64 (1 * 2 ^ bit % 2 ^ 64)) < left) × ((j : ℕ) → j < 64 → (j ≡ bit → ⊥) → bit_at (bit_and left (bit_not w64 (1 * 2 ^ bit % 2 ^ 64))) j ≡ bit_at left j) × (bit_at (bit_and left (bit_not w64 (1 * 2 ^ bit % 2 ^ 64))) bit ≡ 0)
-    clear = cleared left bit small here
-
-    was : IsIn old (at * 64 + bit)
-    was = (is_in_word old at bit small).0 (let p = v.within bit small here in let m = bit_at_and (get_or old at 0) leads bit in omega (arith, p, m))
-
-    from : (number : ℕ) → IsIn now number ⊎ Flows code at_first at_last (at * 64 + bit) number → IsIn old number ⊎ ((start : ℕ) × IsIn old start × Flows code at_first at_last start number)
-    from number (inl h) = v.from number h
-    from number (inr f) = inr (at * 64 + bit, was, f)
-
-    left_or : (k : ℕ) → k < 64 → (k ≡ bit → ⊥) → (bit_at left k ≡ 1) ⊎ ((to : ℕ) → Flows code at_first at_last (at * 64 + k) to → IsIn now to) → (bit_at (bit_and left (bit_not w64 (1 * 2 ^ bit % 2 ^ 64))) k ≡ 1) ⊎ ((to : ℕ) → Flows code at_first at_last (at * 64 + k) to → IsIn new to)
-    left_or k s other (inl h) = inl (clear.1 k s other ∙ h)
-    left_or k s other (inr h) = inr (λ to f. (g.exact to).1 (inl (h to f)))
-
 leads_on : (node : Node) (at_first at_last : Bool) (from to : ℕ) → LeadsOn node at_first at_last from to → IsTrue (is_lead node)
 leads_on (Take bytes) at_first at_last from to h = absurd h
 leads_on First at_first at_last from to h = refl
@@ -122,34 +85,6 @@ lead_bit code leads at_first at_last start to m f =
     let l = at_least code start f.0 f.1 in
     let z : 0 + start / 64 ≡ start / 64 = omega arith in
     ap (λ k. bit_at (get_or leads k 0) (start % 64)) (sym z) ∙ (m start (omega (arith, l))).1 (f.0, f.1, leads_on f.0 at_first at_last start to f.2)
-
-pub visit_ends : (code : List Node) (at_first at_last : Bool) (at left : ℕ) (old now leads : List ℕ) (on : ℕ) → Visiting code at_first at_last at (bit_and (get_or old at 0) (get_or leads at 0)) left old now on → left ≡ 0 → IsMask code Leads 0 leads → Visits code at_first at_last at old now on
-visit_ends code at_first at_last at left old now leads on v e m = record {
-  size = v.size;
-  kept = v.kept;
-  from = λ number h. from number (v.from number h);
-  low = v.low;
-  under = λ number l k h. v.under number l h;
-  fuller = v.fuller;
-  less = v.less;
-  done = λ last start to here h f. all start to here (v.under start (omega (arith, last, here)) h) f;
-}
-  where
-    from : (number : ℕ) → IsIn old number ⊎ ((start : ℕ) × IsIn old start × Flows code at_first at_last start number) → (start : ℕ) × IsIn old start × FlowsOn code at_first at_last start number
-    from number (inl h) = (number, h, (0, refl))
-    from number (inr f) = (f.0, f.1, (1, (f.0, refl, f.2)))
-
-    all : (start to : ℕ) → start / 64 ≡ at → IsIn old start → Flows code at_first at_last start to → IsIn now to
-    all start to here h f =
-        let same : start ≡ at * 64 + start % 64 = omega (arith, here) in
-        let one = (is_in_word old at (start % 64) (omega arith)).1 (subst (IsIn old) same h) in
-        let two = ap (λ k. bit_at (get_or leads k 0) (start % 64)) (sym here) ∙ lead_bit code leads at_first at_last start to m f in
-        let both = bit_at_and (get_or old at 0) (get_or leads at 0) (start % 64) in
-        side (v.rest (start % 64) (omega arith) (omega (arith, both, one, two)))
-      where
-        side : (bit_at left (start % 64) ≡ 1) ⊎ ((to : ℕ) → Flows code at_first at_last (at * 64 + start % 64) to → IsIn now to) → IsIn now to
-        side (inl k) = let z = ap (λ x. bit_at x (start % 64)) e ∙ bit_at-zero (start % 64) in absurd (omega (arith, z, k))
-        side (inr k) = let same : start ≡ at * 64 + start % 64 = omega (arith, here) in k to (subst (λ n. Flows code at_first at_last n to) same f)
 
 -- what the first words lead to was entered
 pub record Spreading (code : List Node) (at_first at_last : Bool) (old now : List ℕ) (at : ℕ) : Type 0 where

@@ -1,5 +1,5 @@
 -- What numbers lead to without a byte, ready to be looked up.
-use Rattle.std.specs.Prelude.{◌≡◌, ◌⊎◌, ℕ, ◌+◌, ◌*◌, ◌/◌, ◌%◌, ◌<◌, Bool, false, List, length, slice_index_or}
+use Rattle.std.specs.Prelude.{◌≡◌, ◌⊎◌, ℕ, ◌+◌, ◌*◌, ◌/◌, ◌%◌, ◌^◌, ◌<◌, Bool, false, List, length, slice_index_or}
 use Rattle.std.specs.Int.{bit_at}
 use Rattle.scan_core.specs.declared.closures.Closures.{Closures}
 use Rattle.scan_core.specs.declared.node.Node.{Node}
@@ -19,15 +19,15 @@ pub record ArePeers (code : List Node) (number word : ℕ) : Type 0 where
   pub own : bit_at word (number % 64) ≡ 1
   pub others : (bit : ℕ) (at_first at_last : Bool) (to : ℕ) → bit < 64 → bit_at word bit ≡ 1 → Flows code at_first at_last (number / 64 * 64 + bit) to → Stays code (number / 64 * 64 + bit) to ⊎ Flows code at_first at_last number to
 
--- the numbers of a word that `count` bits lead to, which stand from a bit of the word on
-pub record Closes (code : List Node) (at from count chosen all : ℕ) : Type 0 where
-  pub kept : (bit : ℕ) → bit < count → bit_at chosen bit ≡ 1 → bit_at all (from + bit) ≡ 1
-  pub from_chosen : (number : ℕ) → number < 64 → bit_at all number ≡ 1 → (bit : ℕ) × (bit < count) × (bit_at chosen bit ≡ 1) × FlowsOn code false false (at * 64 + (from + bit)) (at * 64 + number)
+-- the numbers of a word that some of its numbers lead to
+pub record Closes (code : List Node) (at chosen all : ℕ) : Type 0 where
+  pub kept : (bit : ℕ) → bit < 64 → bit_at chosen bit ≡ 1 → bit_at all bit ≡ 1
+  pub from_chosen : (number : ℕ) → number < 64 → bit_at all number ≡ 1 → (bit : ℕ) × (bit < 64) × (bit_at chosen bit ≡ 1) × FlowsOn code false false (at * 64 + bit) (at * 64 + number)
   pub closed : (number to : ℕ) → number < 64 → to < 64 → bit_at all number ≡ 1 → Flows code false false (at * 64 + number) (at * 64 + to) → bit_at all to ≡ 1
 
 pub record AreInside (code : List Node) (inside : List ℕ) : Type 0 where
   pub size : length inside ≡ width code * 256
-  pub each : (at four chosen : ℕ) → at < width code → four < 16 → chosen < 16 → Closes code at (four * 4) 4 chosen (slice_index_or inside (at * 256 + four * 16 + chosen) 0)
+  pub each : (at four chosen : ℕ) → at < width code → four < 16 → chosen < 16 → Closes code at (chosen * 2 ^ (four * 4) % 2 ^ 64) (slice_index_or inside (at * 256 + four * 16 + chosen) 0)
 
 pub record AreLeaves (code : List Node) (leaves : List ℕ) : Type 0 where
   pub size : length leaves ≡ width code

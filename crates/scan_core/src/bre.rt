@@ -28,7 +28,7 @@ pub struct Bre {
     expression: Expression,
     code: Vec<Node>,
     masks: Masks,
-    closures: Option<Closures>,
+    closures: Closures,
     table: Option<Table>,
     shifts: Option<ShiftTable>,
 }
@@ -50,7 +50,7 @@ impl Model for Bre {
     ghost view = { λ b. b.expression };
 
     ghost invariant = { λ b. (b.code.items ≡ code_of b.expression) × IsOrdered b.expression × (positions_of b.expression ≤ 65535)
-        × IsMasks b.code.items b.masks × IfSome b.table (IsTable b.code.items) × IfSome b.shifts (IsShiftTable b.code.items) × IfSome b.closures (AreClosures b.code.items) };
+        × IsMasks b.code.items b.masks × IfSome b.table (IsTable b.code.items) × IfSome b.shifts (IsShiftTable b.code.items) × AreClosures b.code.items b.closures };
 }
 
 impl Bre {
@@ -62,9 +62,8 @@ impl Bre {
     /// has more than 65,535 positions, and with `Memory` where a growth is refused.
     ///
     /// A pattern keeps one entry for each of its tokens, of which it has no more than the text has bytes, at most two nodes
-    /// of 73 bytes for each of its positions, and of 41 bytes more where it has less than 2,048 nodes; and where it has at
-    /// most 512 nodes a table of up to 4,096 sets with 544 bytes for each; where these are at most nine, also 4,096 bytes of
-    /// words.
+    /// of 114 bytes for each of its positions, and where it has at most 512 nodes a table of up to 4,096 sets with 544 bytes
+    /// for each; where these are at most nine, also 4,096 bytes of words.
     pub fn read(alloc: Global, text: &[u8]) -> Result<Bre, BreFault>
         ensures reads { IfOk result (Reads text.now) }
         ensures groups { IfOk result (λ bre. depth_of bre ≤ 255) }
@@ -76,7 +75,7 @@ impl Bre {
         let expression = Expression::read(alloc, text)?;
         let code = compile(alloc, &expression)?;
         let masks = masks_of(alloc, &code)?;
-        let closures = closures_of(alloc, &code, &masks.leads)?;
+        let closures = closures_of(alloc, &code)?;
         let table = build(alloc, &code)?;
         let shifts = shifts_of(alloc, &code, &table)?;
         Ok(Bre {

@@ -1,6 +1,6 @@
 //! Entering all that follows without a byte, word by word: what is in the word by its closures, and then what is out of it.
 
-ghost use Rattle.std.specs.Prelude.{◌≡◌, ◌<◌, IfSome, length};
+ghost use Rattle.std.specs.Prelude.{◌≡◌, ◌<◌, length};
 ghost use Rattle.scan_core.specs.Closures.{AreClosures};
 ghost use Rattle.scan_core.specs.declared.masks.Kind.TheVariants.{Leads};
 ghost use Rattle.scan_core.specs.Sets.{IsCode};
@@ -8,7 +8,7 @@ ghost use Rattle.scan_core.specs.Words.{IsMask, SpreadsOut, Visits, width};
 
 use crate::closures::{Closures, closed};
 use crate::node::Node;
-use crate::words::{lead, spread};
+use crate::words::lead;
 
 /// Enters what the nodes of a word lead to without a byte. Returns the word to go on with: the next, or the first that is to
 /// be looked at again.
@@ -65,7 +65,7 @@ fn close_some(
 
 /// Enters all that the set leads to at one place, without a byte.
 #[inline(always)]
-fn close_all(
+pub fn spread(
     words: &mut [u64],
     nodes: &[Node],
     leads: &[u64],
@@ -83,28 +83,5 @@ fn close_all(
     let mut at = 0;
     'words: while at < words.len() {
         at = close_some(words, nodes, leads, closures, at, at_first, at_last);
-    }
-}
-
-/// Enters all that the set leads to at one place, without a byte: by the closures, where there are some.
-#[inline(always)]
-pub fn enter_all(
-    words: &mut [u64],
-    nodes: &[Node],
-    leads: &[u64],
-    closures: &Option<Closures>,
-    at_first: bool,
-    at_last: bool,
-)
-    requires code { IsCode nodes.now }
-    requires size { length words.old ≡ width nodes.now }
-    requires leads { IsMask nodes.now Leads 0 leads.now }
-    requires leads_size { length leads.now ≡ width nodes.now }
-    requires closures { IfSome closures.now (AreClosures nodes.now) }
-    ensures { SpreadsOut nodes.now at_first at_last words.old words.new }
-{
-    match closures {
-        Some(closures) => close_all(words, nodes, leads, closures, at_first, at_last),
-        None => spread(words, nodes, leads, at_first, at_last),
     }
 }

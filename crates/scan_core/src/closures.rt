@@ -1,20 +1,15 @@
 //! What follows without a byte, ready to be looked up: within a word for four numbers at once.
 
-ghost use Rattle.std.specs.Prelude.{◌≡◌, ◌⊎◌, ◌<◌, ◌≤◌, ◌+◌, ◌*◌, ◌/◌, ◌%◌, ◌^◌, ℕ, Bool, IsTrue, IfOk, IfErr, IfSome, length};
+ghost use Rattle.std.specs.Prelude.{◌≡◌, ◌⊎◌, ◌↔◌, ◌<◌, ◌≤◌, ◌+◌, ◌*◌, ◌/◌, ◌%◌, ◌^◌, ℕ, Bool, false, IsTrue, IfOk, IfErr, length};
 ghost use Rattle.std.specs.Int.{bit_at};
 ghost use Rattle.bre_core.specs.declared.fault.BreFault.TheVariants.{Memory};
-ghost use Rattle.scan_core.specs.declared.masks.Kind.TheVariants.{Leads};
 ghost use Rattle.scan_core.specs.Closures.{AreAllPeers, AreClosures, AreInside, AreLeaves, ArePeers, Closes, IsLeaving, Stays};
 ghost use Rattle.scan_core.specs.Sets.{IsCode, Flows};
-ghost use Rattle.scan_core.specs.Words.{IsMask, width};
+ghost use Rattle.scan_core.specs.Words.{width};
 
 use crate::node::Node;
-use crate::words::{clear, enter, spread};
 use bre_core::BreFault;
 use std::alloc::Global;
-
-/// The most words of a code that has closures.
-const MOST_WORDS: usize = 32;
 
 /// What the numbers of a code lead to without a byte.
 #[derive(Drop)]
@@ -106,32 +101,51 @@ fn peers_of(nodes: &[Node], number: usize) -> u64
     word
 }
 
-/// What the chosen ones of four numbers lead to in their word. `words` is room for a set.
-fn inside_of(
-    nodes: &[Node],
-    leads: &[u64],
-    words: &mut [u64],
-    at: usize,
-    four: usize,
-    chosen: usize,
-) -> u64
-    requires code { IsCode nodes.now }
-    requires size { length words.old ≡ width nodes.now }
-    requires leads { IsMask nodes.now Leads 0 leads.now }
-    requires leads_size { length leads.now ≡ width nodes.now }
-    requires at { at < width nodes.now }
-    requires four { four < 16 }
-    ensures size { length words.new ≡ width nodes.now }
-    ensures closes { Closes nodes.now at (four * 4) 4 chosen result }
+/// A number's bit, if it stands in this word.
+fn bit_in(at: usize, number: usize) -> u64
+    ensures { (bit : ℕ) → bit < 64 → (bit_at result bit ≡ 1) ↔ (number ≡ at * 64 + bit) }
 {
-    clear(words);
-    for bit in 0..4usize {
-        if (chosen >> bit) & 1 == 1 {
-            enter(words, at * 64 + (four * 4 + bit), 0);
-        }
+    if number / 64 == at {
+        1u64 << (number % 64)
+    } else {
+        0
     }
-    spread(words, nodes, leads, false, false);
-    words[at]
+}
+
+/// What a number of a word leads to in it, without a byte.
+fn targets(nodes: &[Node], at: usize, bit: usize) -> u64
+    requires code { IsCode nodes.now }
+    requires bit { bit < 64 }
+    requires at { at < width nodes.now }
+    ensures { (to : ℕ) → to < 64 → (bit_at result to ≡ 1) ↔ Flows nodes.now false false (at * 64 + bit) (at * 64 + to) }
+{
+    let number = at * 64 + bit;
+    if number >= nodes.len() {
+        return 0;
+    }
+    match &nodes[number] {
+        Node::Take(_) | Node::First | Node::Last => 0,
+        Node::Choose(skip) => bit_in(at, number + 1) | bit_in(at, number + *skip),
+        Node::Back(by) => bit_in(at, number - *by),
+    }
+}
+
+/// What some numbers of a word lead to in it, without a byte.
+fn inside_of(nodes: &[Node], at: usize, word: u64) -> u64
+    requires code { IsCode nodes.now }
+    requires at { at < width nodes.now }
+    ensures { Closes nodes.now at word result }
+{
+    let mut all = word;
+    let mut left = word;
+    'bits: while left != 0 {
+        let bit = left.trailing_zeros();
+        left &= !(1u64 << bit);
+        let more = targets(nodes, at, bit as usize) & !all;
+        all |= more;
+        left |= more;
+    }
+    all
 }
 
 /// What the numbers of a word lead to in it.
@@ -139,7 +153,7 @@ fn inside_of(
 pub fn closed(inside: &[u64], nodes: &[Node], at: usize, word: u64) -> u64
     requires inside { AreInside nodes.now inside.now }
     requires at { at < width nodes.now }
-    ensures { Closes nodes.now at 0 64 word result }
+    ensures { Closes nodes.now at word result }
 {
     let mut all = 0;
     for four in 0..16usize {
@@ -148,24 +162,16 @@ pub fn closed(inside: &[u64], nodes: &[Node], at: usize, word: u64) -> u64
     all
 }
 
-/// What the chosen ones of each four numbers lead to in their word. `words` is room for a set.
-fn insides_of(
-    alloc: Global,
-    nodes: &[Node],
-    leads: &[u64],
-    words: &mut [u64],
-) -> Result<Vec<u64>, BreFault>
-    requires code { IsCode nodes.now }
-    requires size { length words.old ≡ width nodes.now }
-    requires leads { IsMask nodes.now Leads 0 leads.now }
-    requires leads_size { length leads.now ≡ width nodes.now }
+/// What each choice from each four numbers leads to in their word.
+fn insides_of(alloc: Global, nodes: &[Node]) -> Result<Vec<u64>, BreFault>
+    requires { IsCode nodes.now }
     ensures ok { IfOk result (λ inside. AreInside nodes.now inside.items) }
     ensures err { IfErr result (λ fault. fault ≡ Memory) }
 {
     let mut inside = Vec::new(alloc);
-    for place in 0..words.len() * 256 {
-        let four = place / 16 % 16;
-        inside.push(inside_of(nodes, leads, words, place / 256, four, place % 16))?;
+    for place in 0..(nodes.len() / 64 + 1) * 256 {
+        let chosen = (place % 16) as u64;
+        inside.push(inside_of(nodes, place / 256, chosen << (place / 16 % 16 * 4)))?;
     }
     Ok(inside)
 }
@@ -197,28 +203,19 @@ fn all_peers(alloc: Global, nodes: &[Node]) -> Result<Vec<u64>, BreFault>
     Ok(peers)
 }
 
-/// The closures of a code: none where it is long.
-pub fn closures_of(
-    alloc: Global,
-    nodes: &[Node],
-    leads: &[u64],
-) -> Result<Option<Closures>, BreFault>
+/// The closures of a code.
+pub fn closures_of(alloc: Global, nodes: &[Node]) -> Result<Closures, BreFault>
     requires code { IsCode nodes.now }
-    requires leads { IsMask nodes.now Leads 0 leads.now }
-    requires leads_size { length leads.now ≡ width nodes.now }
-    ensures ok { IfOk result (λ made. IfSome made (AreClosures nodes.now)) }
+    requires short { length nodes.now < 2 ^ 32 }
+    ensures ok { IfOk result (AreClosures nodes.now) }
     ensures err { IfErr result (λ fault. fault ≡ Memory) }
 {
-    if leads.len() > MOST_WORDS {
-        return Ok(None);
-    }
-    let mut words = vec![in alloc; 0u64; leads.len()]?;
-    let inside = insides_of(alloc, nodes, leads, &mut words)?;
+    let inside = insides_of(alloc, nodes)?;
     let leaves = leaves_of(alloc, nodes)?;
     let peers = all_peers(alloc, nodes)?;
-    Ok(Some(Closures {
+    Ok(Closures {
         inside,
         leaves,
         peers,
-    }))
+    })
 }

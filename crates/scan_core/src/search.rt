@@ -1,12 +1,12 @@
 //! Searching a line place by place, with the set of what is entered at each.
 
-ghost use Rattle.std.specs.Prelude.{◌≡◌, IfSome, length};
+ghost use Rattle.std.specs.Prelude.{◌≡◌, length};
 ghost use Rattle.scan_core.specs.Closures.{AreClosures};
 ghost use Rattle.scan_core.specs.Sets.{IsCode};
 ghost use Rattle.scan_core.specs.Table.{IsOutcome};
 ghost use Rattle.scan_core.specs.Words.{IsMasks, width};
 
-use crate::closing::enter_all;
+use crate::closing::spread;
 use crate::closures::Closures;
 use crate::masks::Masks;
 use crate::node::Node;
@@ -17,13 +17,13 @@ use crate::words::{clear, enter, has, pass, positions};
 /// masks and closures are those of these nodes, and `words` is room for a set.
 pub fn search(
     masks: &Masks,
-    closures: &Option<Closures>,
+    closures: &Closures,
     nodes: &[Node],
     line: &[u8],
     words: &mut [u64],
 ) -> Outcome
     requires masks { IsMasks nodes.now masks.now }
-    requires closures { IfSome closures.now (AreClosures nodes.now) }
+    requires closures { AreClosures nodes.now closures.now }
     requires code { IsCode nodes.now }
     requires room { length words.old ≡ width nodes.now }
     ensures size { length words.new ≡ length words.old }
@@ -33,7 +33,7 @@ pub fn search(
     clear(words);
     for place in 0..line.len() {
         enter(words, 0, 0);
-        enter_all(words, nodes, &masks.leads, closures, place == 0, false);
+        spread(words, nodes, &masks.leads, closures, place == 0, false);
         steps += positions(words, nodes, &masks.counts) as u128;
         if has(words, nodes.len()) {
             return Outcome { found: true, steps };
@@ -48,7 +48,7 @@ pub fn search(
         );
     }
     enter(words, 0, 0);
-    enter_all(words, nodes, &masks.leads, closures, line.is_empty(), true);
+    spread(words, nodes, &masks.leads, closures, line.is_empty(), true);
     steps += positions(words, nodes, &masks.counts) as u128;
     Outcome {
         found: has(words, nodes.len()),

@@ -1,9 +1,9 @@
 //! Sets of a code's numbers as words: a step of the whole set takes a few operations for 64 numbers.
 
 ghost use Rattle.std.specs.Prelude.{◌≡◌, ◌↔◌, ◌<◌, ◌≤◌, ◌+◌, ◌*◌, ℕ, IsTrue, length};
-ghost use Rattle.scan_core.specs.declared.masks.Kind.TheVariants.{Takes, Leads, Counts};
+ghost use Rattle.scan_core.specs.declared.masks.Kind.TheVariants.{Takes, Counts};
 ghost use Rattle.scan_core.specs.Sets.{IsCode, Flows, Passes, positions_among};
-ghost use Rattle.scan_core.specs.Words.{Grows, IsIn, IsMask, SpreadsOut, Visits, flags_of, width};
+ghost use Rattle.scan_core.specs.Words.{Grows, IsIn, IsMask, flags_of, width};
 
 use crate::node::Node;
 
@@ -67,47 +67,6 @@ pub fn lead(
             enter(words, number + *skip, on)
         }
         Node::Back(by) => enter(words, number - *by, on),
-    }
-}
-
-/// Enters what the nodes of a word lead to without a byte. Returns the word to go on with: the next, or the first that is to
-/// be looked at again.
-fn visit(
-    words: &mut [u64],
-    nodes: &[Node],
-    leads: &[u64],
-    at: usize,
-    at_first: bool,
-    at_last: bool,
-) -> usize
-    requires code { IsCode nodes.now }
-    requires size { length words.old ≡ width nodes.now }
-    requires within { at < width nodes.now }
-    requires leads { IsMask nodes.now Leads 0 leads.now }
-    requires leads_size { length leads.now ≡ width nodes.now }
-    ensures { Visits nodes.now at_first at_last at words.old words.new result }
-{
-    let mut on = at + 1;
-    let mut left = words[at] & leads[at];
-    'bits: while left != 0 {
-        let bit = left.trailing_zeros();
-        left &= !(1u64 << bit);
-        on = lead(words, nodes, at * 64 + bit as usize, at_first, at_last, on);
-    }
-    on
-}
-
-/// Enters all that the set leads to at one place, without a byte.
-pub fn spread(words: &mut [u64], nodes: &[Node], leads: &[u64], at_first: bool, at_last: bool)
-    requires code { IsCode nodes.now }
-    requires size { length words.old ≡ width nodes.now }
-    requires leads { IsMask nodes.now Leads 0 leads.now }
-    requires leads_size { length leads.now ≡ width nodes.now }
-    ensures { SpreadsOut nodes.now at_first at_last words.old words.new }
-{
-    let mut at = 0;
-    'words: while at < words.len() {
-        at = visit(words, nodes, leads, at, at_first, at_last);
     }
 }
 

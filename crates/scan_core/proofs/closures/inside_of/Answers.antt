@@ -1,18 +1,21 @@
-use Rattle.std.proofs.Common.{◌+◌, ◌*◌, ◌∙◌, sym, subst, arith}
-use Rattle.std.proofs.lemmas.Nat.Bits.{shr_and_one}
-use Rattle.scan_core.proofs.Insides.{Choosing, choose_more, choose_skip, chosen_closes}
+use Rattle.std.proofs.Common.{rules, ◌<◌, ◌^◌, arith, w64}
+use Rattle.std.proofs.lemmas.Nat.Bits.{bit_at-trailing_zeros}
+use Rattle.scan_core.proofs.Insides.{inside_more, inside_smaller, inside_ends}
 use Rattle.scan_core.proofs.closures.inside_of.Goals as goal
-use Rattle.scan_core.proofs.closures.inside_of.Goals.{then-chosen-bit-eq1, else-chosen-bit-eq1}
 
-pub loop-bit-preserved : goal.loop-bit-preserved
-loop-bit-preserved c = elim c.if-chosen-bit-eq1.branch [
-  | then-chosen-bit-eq1 w ↦
-      subst (Choosing c.args.nodes.now c.args.at (c.args.four * 4) c.args.chosen (c.loop-bit.bit + 1)) (sym w.words-is)
-      (choose_more c.args.nodes.now c.args.at (c.args.four * 4) c.args.chosen c.loop-bit.bit _ _ _ _ c.loop-bit.invariant (sym (shr_and_one c.args.chosen c.loop-bit.bit) ∙ w.if-chosen-bit-eq1.true) w.enter.ensures)
-  | else-chosen-bit-eq1 w ↦
-      subst (Choosing c.args.nodes.now c.args.at (c.args.four * 4) c.args.chosen (c.loop-bit.bit + 1)) (sym w.words-is)
-      (choose_skip c.args.nodes.now c.args.at (c.args.four * 4) c.args.chosen c.loop-bit.bit c.loop-bit.words c.loop-bit.invariant (λ is. w.if-chosen-bit-eq1.false (shr_and_one c.args.chosen c.loop-bit.bit ∙ is)))
-]
+pub bits-smaller : goal.bits-smaller
+bits-smaller c =
+    let lowest = bit_at-trailing_zeros w64 c.bits.left (omega arith) (search rules) in
+    let all : c.bits.all < 2 ^ 64 = search rules in
+    let left : c.bits.left < 2 ^ 64 = search rules in
+    let found : c.targets.result < 2 ^ 64 = search rules in
+    inside_smaller c.bits.all c.bits.left c.targets.result _ all found left lowest.0 lowest.1
 
-pub returns-clause-closes : goal.returns-clause-closes
-returns-clause-closes c = chosen_closes c.args.nodes.now c.args.at (c.args.four * 4) c.args.chosen c.loop-bit.words c.spread.new.words (omega arith) (subst (λ n. Choosing c.args.nodes.now c.args.at (c.args.four * 4) c.args.chosen n c.loop-bit.words) (omega arith) c.loop-bit.invariant) c.spread.ensures
+pub bits-preserved : goal.bits-preserved
+bits-preserved c =
+    let lowest = bit_at-trailing_zeros w64 c.bits.left (omega arith) (search rules) in
+    let all : c.bits.all < 2 ^ 64 = search rules in
+    inside_more c.args.nodes.now c.args.at c.args.word c.bits.all c.bits.left _ c.targets.result c.bits.invariant all lowest.0 lowest.1 c.targets.ensures
+
+pub returns : goal.returns
+returns c = inside_ends c.args.nodes.now c.args.at c.args.word c.bits.all c.bits.left c.bits.invariant (omega arith)

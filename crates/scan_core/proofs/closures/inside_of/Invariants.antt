@@ -1,6 +1,9 @@
-use Rattle.std.proofs.Common.{◌*◌}
-use Rattle.scan_core.proofs.Insides.{Choosing}
+use Rattle.std.proofs.Common.{◌+◌, ◌*◌, ◌-◌, ◌^◌}
+use Rattle.scan_core.proofs.Insides.{Insiding}
 use Rattle.scan_core.proofs.closures.inside_of.Given as goal
 
-abbrev pub invariant-loop-bit : goal.invariant-loop-bit
-invariant-loop-bit l = Choosing l.nodes l.at (l.four * 4) l.chosen l.bit l.words
+abbrev pub invariant-bits : goal.invariant-bits
+invariant-bits l = Insiding l.nodes l.at l.word l.all l.left
+
+abbrev pub decreases-bits : goal.decreases-bits
+decreases-bits l = (2 ^ 64 - l.all) * 2 ^ 64 + l.left

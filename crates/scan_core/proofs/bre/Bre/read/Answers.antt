@@ -1,17 +1,23 @@
-use Rattle.std.proofs.Common.{IfSome, sym, ◌∙◌, subst}
+use Rattle.std.proofs.Common.{IfSome, length, sym, ap, ◌∙◌, subst, arith}
 use Rattle.scan_core.specs.Closures.{AreClosures}
 use Rattle.scan_core.specs.Sets.{IsCode}
 use Rattle.scan_core.specs.Shifts.{IsShiftTable}
 use Rattle.scan_core.specs.Table.{IsTable}
 use Rattle.scan_core.specs.Words.{IsMasks}
-use Rattle.scan_core.proofs.Whole.{is_code}
+use Rattle.scan_core.proofs.Whole.{is_code, enough_room}
 use Rattle.scan_core.proofs.bre.Bre.read.Goals as goal
 
 pub closures_of-requires-clause-code : goal.closures_of-requires-clause-code
 closures_of-requires-clause-code c = subst IsCode (sym (c.deref-2.ensures.value ∙ c.in_ok-code.ensures.ok)) (is_code c.in_ok-expression.expression c.in_ok-code.ensures.order)
 
+pub closures_of-requires-clause-short : goal.closures_of-requires-clause-short
+closures_of-requires-clause-short c =
+    let l = ap length (c.deref-2.ensures.value ∙ c.in_ok-code.ensures.ok) in
+    let r = enough_room c.in_ok-expression.expression c.in_ok-code.ensures.order in
+    omega (arith, l, r, c.in_ok-expression.ensures.size)
+
 pub build-requires : goal.build-requires
-build-requires c = subst IsCode (sym (c.deref-4.ensures.value ∙ c.in_ok-code.ensures.ok)) (is_code c.in_ok-expression.expression c.in_ok-code.ensures.order)
+build-requires c = subst IsCode (sym (c.deref-3.ensures.value ∙ c.in_ok-code.ensures.ok)) (is_code c.in_ok-expression.expression c.in_ok-code.ensures.order)
 
 pub invariant_of-result : goal.invariant_of-result
 invariant_of-result c = (
@@ -19,7 +25,7 @@ invariant_of-result c = (
   c.in_ok-code.ensures.order,
   c.in_ok-expression.ensures.size,
   subst (λ code. IsMasks code c.in_ok-masks.masks) c.deref.ensures.value c.in_ok-masks.ensures.ok,
-  subst (λ code. IfSome c.in_ok-table.table (IsTable code)) c.deref-4.ensures.value c.in_ok-table.ensures.ok,
-  subst (λ code. IfSome c.in_ok-shifts.shifts (IsShiftTable code)) c.deref-5.ensures.value c.in_ok-shifts.ensures.ok,
-  subst (λ code. IfSome c.in_ok-closures.closures (AreClosures code)) c.deref-2.ensures.value c.in_ok-closures.ensures.ok,
+  subst (λ code. IfSome c.in_ok-table.table (IsTable code)) c.deref-3.ensures.value c.in_ok-table.ensures.ok,
+  subst (λ code. IfSome c.in_ok-shifts.shifts (IsShiftTable code)) c.deref-4.ensures.value c.in_ok-shifts.ensures.ok,
+  subst (λ code. AreClosures code c.in_ok-closures.closures) c.deref-2.ensures.value c.in_ok-closures.ensures.ok,
 )

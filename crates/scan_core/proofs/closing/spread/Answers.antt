@@ -1,7 +1,7 @@
 use Rattle.std.proofs.Common.{◌≡◌, ◌+◌, ◌*◌, ◌-◌, length, ap, arith}
 use Rattle.scan_core.specs.Words.{unset}
 use Rattle.scan_core.proofs.Visitings.{spreading_more, spreading_ends, smaller}
-use Rattle.scan_core.proofs.closing.close_all.Goals as goal
+use Rattle.scan_core.proofs.closing.spread.Goals as goal
 
 pub words-smaller : goal.words-smaller
 words-smaller c =
