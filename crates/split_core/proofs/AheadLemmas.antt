@@ -34,11 +34,11 @@ unmarked : (delim : ℕ) (x : List ℕ) → delimiter_mask delim x ≡ 0 → Has
 unmarked delim [] none = tt
 unmarked delim (byte ∷ x) none = let first = unmarked_step delim (eqb byte delim) byte (delimiter_mask delim x) refl none in (first.0, unmarked delim x first.1)
 
--- how many bytes stand before the first newline
+-- how many bytes stand before the first delimiter
 abbrev pub before_first : ℕ → List ℕ → ℕ
 before_first delim x = prefix_len (λ byte. not (eqb byte delim)) x
 
--- the lowest bit is that of the first newline
+-- the lowest bit is that of the first delimiter
 pub record IsFirstAt (delim : ℕ) (x : List ℕ) (at : ℕ) : Type 0 where
   pub within : at < length x
   pub none : HasNone delim (take at x)
@@ -114,11 +114,11 @@ sees_further delim x ahead passed width mask sees none is wide marked = record {
   marked = marked ∙ ap (delimiter_mask delim) (narrowed 64 0 (drop passed x) ∙ ap (λ n. take n (drop passed x)) (sym (wide ∙ ap (min 64) (sym (length-drop passed x)))));
 }
 
--- where all of the text is known and no bit is set, it has no newline
+-- where all of the text is known and no bit is set, it has no delimiter
 pub none_seen : (delim : ℕ) (x : List ℕ) (ahead : Ahead) → Sees delim x ahead → ahead.mask ≡ 0 → ahead.passed + ahead.width ≡ length x → delimiters delim x ≡ 0
 none_seen delim x ahead sees none all = no_delimiters delim x (subst (HasNone delim) (take_all (ahead.passed + ahead.width) x (omega arith)) (all_passed delim x ahead sees none))
 
--- the first newline
+-- the first delimiter
 
 get_or-behind : (k at : ℕ) (x : List ℕ) → get_or (drop k x) at 0 ≡ get_or x (k + at) 0
 get_or-behind zero at x = let same : at ≡ 0 + at = omega arith in ap (λ n. get_or x n 0) same
@@ -134,7 +134,7 @@ get_or-front (suc n) (suc at) (byte ∷ x) inside = get_or-front n at x (omega a
 length-window : (k n : ℕ) (x : List ℕ) → k + n ≤ length x → length (take n (drop k x)) ≡ n
 length-window k n x inside = length-take-le n (drop k x) (let rest = length-drop k x in omega arith)
 
--- the first newline of the window is the first of the text
+-- the first delimiter of the window is the first of the text
 first_of_text : (delim : ℕ) (x : List ℕ) (k n at : ℕ) → k + n ≤ length x → HasNone delim (take k x) → IsFirstAt delim (take n (drop k x)) at → IsFirstAt delim x (k + at)
 first_of_text delim x k n at inside none first = record {
   within = let before : at < length (take n (drop k x)) = first.within in let wide = length-window k n x inside in omega arith;
@@ -143,7 +143,7 @@ first_of_text delim x k n at inside none first = record {
   here = sym (get_or-front n at (drop k x) first.within ∙ get_or-behind k at x) ∙ first.here;
 }
 
--- where the lowest bit is that of the first newline, the line ends there, and the rest of the mask is that of what follows
+-- where the lowest bit is that of the first delimiter, the line ends there, and the rest of the mask is that of what follows
 pub first_seen : (delim : ℕ) (x : List ℕ) (ahead : Ahead) (at : ℕ) → Sees delim x ahead → at ≡ before_first delim (take ahead.width (drop ahead.passed x)) → 0 < ahead.mask → IsFirstAt delim x (ahead.passed + at) × (at < ahead.width)
 first_seen delim x ahead at sees is some = (
   first_of_text delim x ahead.passed ahead.width at sees.within sees.none first,

@@ -24,7 +24,7 @@ pub record Dealing (delim n start : ℕ) (piece : List ℕ) (gathered : List (Li
   pub few : reached ≤ n
   pub over : next ≤ reached
 
-none_first : (is_newline : Bool) (count : ℕ) → cond is_newline (count + 1) count ≡ 0 → (is_newline ≡ false) × (count ≡ 0)
+none_first : (ends : Bool) (count : ℕ) → cond ends (count + 1) count ≡ 0 → (ends ≡ false) × (count ≡ 0)
 none_first true count none = absurd (omega (arith, none))
 none_first false count none = (refl, none)
 

@@ -1,11 +1,11 @@
 -- One file is opened, written or closed.
-use Rattle.std.proofs.Common.{◌≡◌, ◌≢◌, ℕ, ◌+◌, ◌-◌, ◌<◌, ◌≤◌, zero, suc, max, Bool, true, false, not, ◌&&◌, List, [], ◌∷◌, ◌++◌, length, map, take, drop, get_or, ◌⊎◌, inl, inr, IsTrue, refl, sym, ◌∙◌, ap, subst, arith, length-append, Ok, Err, Result, OnOk, IfErr}
+use Rattle.std.proofs.Common.{◌≡◌, ◌≢◌, ℕ, ◌+◌, ◌-◌, ◌<◌, ◌≤◌, zero, suc, max, Bool, true, not, ◌&&◌, List, [], ◌∷◌, ◌++◌, length, map, take, drop, get_or, ◌⊎◌, inl, inr, IsTrue, refl, sym, ◌∙◌, ap, subst, arith, length-append, Ok, Err, Result, OnOk, IfErr}
 use Rattle.std.proofs.lemmas.Bool.{cases_lt}
 use Rattle.std.proofs.lemmas.List.{map-append, length-map, length-take-le, get_or-append_right, get_or_append_left, get_or_past}
 use Rattle.ports_core.specs.Name.{Naming, next_name, with_one_drawn}
 use Rattle.ports_core.specs.Slot.{Slot, is_open, no_slot, slot_at, changed_at, opened, unopened, adds, breaks, closes, is_writable, is_closable, with_written, with_broken, told_of, broke, numberless, Rose}
 use Rattle.ports_core.specs.Write.{BrokeAfter}
-use Rattle.ports_core.specs.Part.{OutputsAt, Begins, Marks, IsNext, IsAt}
+use Rattle.ports_core.specs.Part.{OutputsAt, Begins, Marks, IsAt}
 use Rattle.ports_core.specs.declared.slot.Mode.TheVariants.{Fresh}
 use Rattle.ports_core.specs.declared.slot.State.TheVariants.{Open}
 use Rattle.ports_core.specs.declared.fault.Fault.{Fault}
@@ -13,12 +13,12 @@ use Rattle.ports_core.specs.declared.fault.Fault.TheVariants as fault
 use Rattle.ports_core.proofs.PartLemmas.{broken_at, sound_at}
 use Rattle.ports_core.proofs.SlotLemmas.{length-changed_at}
 use Rattle.ports_core.proofs.WriteLemmas.{writable-written}
-use Rattle.ports_core.proofs.FileLemmas.{file_more, file_changes, write_makes, close_makes, slots_counted, gets, ended}
+use Rattle.ports_core.proofs.FileLemmas.{file_more, file_changes, write_makes, close_makes, gets, ended}
 use Rattle.split_core.specs.Split.{share, name_of, from_start, file_at, only_files}
 use Rattle.split_core.specs.FilesState.{FilesState}
 use Rattle.split_core.specs.Round.{AreReady, OwnsFiles, output_at}
 use Rattle.split_core.specs.RoundLaws.{all_begin_themselves}
-use Rattle.split_core.specs.Sharing.{AllBegin, added, filled, filed, closed_first, open_part, closing_part, StayBroken, StandAt, KeepsFiles, Became, IsDue, HaltedAt, StopsAt, StopsShort, HaveClosed, ClosesShort, with_opened, FailsToFollow, CannotOpen, CannotClose, could_not, unnamed, IsOfFiles}
+use Rattle.split_core.specs.Sharing.{AllBegin, added, filled, filed, closed_first, open_part, closing_part, StayBroken, StandAt, KeepsFiles, Became, IsDue, StopsAt, StopsShort, HaveClosed, ClosesShort, with_opened, FailsToFollow, CannotOpen, CannotClose, could_not, unnamed, IsOfFiles}
 use Rattle.split_core.proofs.MoveLemmas.{writable_within}
 use Rattle.split_core.proofs.FilesLemmas.{filled_begin, filled_next, filled_same, length-filled, filed_more, open_length, length-filed, filed_gets, filed_ends, changed_begin, cut_begin, parts_begin, closed_shares, stay_broken, stay_later, stay_changed, stay_opened, became_then, halts_then, stops_in_order, caused_later, added_next, added_begin, added_fewer, filled_again, filled_further, length-added, added_before, added_past, take_changed, drop_changed, take_filled, take_further, drop_filled, drop_past_filled, take_filed, drop_filed}
 

@@ -4,7 +4,7 @@ use Rattle.std.proofs.lemmas.Bool.{cases_lt}
 use Rattle.std.proofs.lemmas.List.{length-map, get_or_append_left, get_or_past}
 use Rattle.ports_core.specs.Name.{Naming}
 use Rattle.ports_core.specs.Slot.{Slot, no_slot, slot_at, changed_at}
-use Rattle.ports_core.specs.Part.{File, OutputsAt, FilesBegin, Begins, IsNext, IsAt, Marks, StoppedBetween}
+use Rattle.ports_core.specs.Part.{File, OutputsAt, FilesBegin, Begins, IsNext, IsAt}
 use Rattle.ports_core.specs.declared.slot.State.{State}
 use Rattle.ports_core.specs.declared.slot.State.TheVariants.{Open, Closed}
 use Rattle.ports_core.specs.declared.fault.Fault.{Fault}

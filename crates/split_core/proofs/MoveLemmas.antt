@@ -1,21 +1,19 @@
 -- How the files of `split` change, as they are opened, written and closed.
-use Rattle.std.proofs.Common.{◌≡◌, ℕ, ◌+◌, ◌-◌, ◌<◌, ◌≤◌, zero, suc, List, [], ◌∷◌, ◌++◌, length, map, take, drop, Bool, true, false, cond, not, ◌&&◌, IsTrue, Option, Some, None, Result, Ok, Err, ◌⊎◌, inl, inr, refl, sym, ◌∙◌, ap, subst, arith, append_assoc, length-append}
-use Rattle.std.proofs.lemmas.List.{append-nil, length-map}
+use Rattle.std.proofs.Common.{◌≡◌, ℕ, ◌+◌, ◌<◌, ◌≤◌, zero, suc, List, [], ◌∷◌, ◌++◌, length, take, Bool, true, false, cond, IsTrue, Option, Some, None, inl, inr, refl, sym, ◌∙◌, ap, subst, arith, length-append}
 use Rattle.std.proofs.lemmas.Bool.{false≢true}
-use Rattle.ports_core.specs.Name.{Naming, next_name, has_next, with_one_drawn}
+use Rattle.ports_core.specs.Name.{Naming, next_name}
 use Rattle.ports_core.specs.Slot.{Slot, Rose, slot_at, changed_at, opened, unopened, adds, closes, breaks, with_written, with_broken, told_of, is_writable, is_closable}
 use Rattle.ports_core.specs.declared.slot.Mode.TheVariants.{Fresh}
 use Rattle.ports_core.specs.declared.slot.State.TheVariants as state
-use Rattle.ports_core.specs.Write.{BrokeAfter}
 use Rattle.ports_core.specs.Part.{File, Part, OutputsAt, Begins, IsNext, Marks, IsAt, AllClosed, InTurn, StoppedInTurn}
 use Rattle.ports_core.specs.declared.fault.Fault.{Fault}
 use Rattle.ports_core.specs.declared.fault.Fault.TheVariants.{Memory, Write, Read, Open, Suffixes, NoMatch, Range, Usage, Failed, TooLong}
-use Rattle.ports_core.proofs.PartLemmas.{begins_itself, begins_more, take_begins_behind, part_trans, turn_between, turn_last, turn_next, outputs_count, sound_at, broken_at, part_begins_itself}
+use Rattle.ports_core.proofs.PartLemmas.{begins_itself, begins_more, take_begins_behind, turn_between, turn_last, turn_next, outputs_count, sound_at, broken_at, part_begins_itself}
 use Rattle.ports_core.proofs.FileLemmas.{file_more, last_changes, gets, ended, write_makes, close_makes}
 use Rattle.ports_core.proofs.WriteLemmas.{writable-written}
 use Rattle.ports_core.proofs.SlotLemmas.{length-changed_at}
-use Rattle.split_core.specs.Split.{Share, share, is_named, are_named, file_at, named, name_of}
-use Rattle.split_core.specs.ShareLaws.{AllShut, SharesBegin, shares_themselves, shares_more, shares_behind, last_grows, part_begins, no_more}
+use Rattle.split_core.specs.Split.{Share, share, is_named, file_at, named, name_of}
+use Rattle.split_core.specs.ShareLaws.{AllShut, SharesBegin, shares_more, last_grows, part_begins, no_more}
 use Rattle.split_core.specs.PartsState.{IsAtEnd, OwnsFile}
 use Rattle.split_core.specs.Moves.{part_of, Moves, Halts, KeepsBroken, KeepsFile, Breaks, OpensNone, WritesShort, broke}
 

@@ -1,5 +1,5 @@
 -- What the stage that cuts off one part after another owes.
-use Rattle.std.proofs.Common.{◌≡◌, ◌≤◌, ℕ, List, ◌++◌, length, map, Bool, true, false, not, cond, Some, None, Result, Ok, Err, OnOk, IfErr, ◌⊎◌, inl, inr, refl, sym, ◌∙◌, ap, subst, arith}
+use Rattle.std.proofs.Common.{◌≡◌, ◌≤◌, ℕ, List, ◌++◌, length, map, Bool, true, false, not, cond, Some, None, Result, Ok, Err, OnOk, IfErr, refl, sym, ◌∙◌, ap, subst, arith}
 use Rattle.std.proofs.lemmas.Bool.{false≢true}
 use Rattle.std.proofs.lemmas.List.{length-map}
 use Rattle.ports_core.specs.Name.{Naming}
@@ -7,7 +7,6 @@ use Rattle.ports_core.specs.Slot.{Slot}
 use Rattle.ports_core.specs.Part.{OutputsAt, StoppedBetween, StoppedInTurn}
 use Rattle.ports_core.specs.Engine.{TakesIn, PutsOut, CutsOff, EndsShort, EndsWith, EndsThere, StandsAt, Ended, IsMet, KeepsOwn, is_verdict}
 use Rattle.ports_core.specs.Engine as engine
-use Rattle.ports_core.specs.Work.{Work, IsSettled}
 use Rattle.ports_core.specs.declared.fault.Fault.{Fault}
 use Rattle.ports_core.specs.declared.fault.Fault.TheVariants.{Memory, Write, Read, Open, Suffixes, NoMatch, Range, Usage, Failed, TooLong}
 use Rattle.ports_core.specs.declared.slot.State.TheVariants.{Closed}
@@ -16,9 +15,9 @@ use Rattle.split_core.specs.declared.cut.Limit.{Limit}
 use Rattle.split_core.specs.Parts.{parts}
 use Rattle.split_core.specs.Split.{Share, share, are_named, from_start}
 use Rattle.split_core.specs.ShareLaws.{settled_count}
-use Rattle.split_core.specs.PartsState.{PartsState, Stands, IsReady, IsAtEnd}
+use Rattle.split_core.specs.PartsState.{PartsState, Stands, IsReady}
 use Rattle.split_core.specs.PartState.{work, parts_work, Owns}
-use Rattle.split_core.specs.Moves.{part_of, KeepsFile, Passes, Took, Stopped, Breaks, Finishes}
+use Rattle.split_core.specs.Moves.{part_of, Passes, Stopped, Breaks, Finishes}
 use Rattle.split_core.proofs.MoveLemmas.{part_drawn, owns_last}
 use Rattle.split_core.proofs.TakenLemmas.{are_named_drawn}
 

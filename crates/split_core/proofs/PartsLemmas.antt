@@ -1,6 +1,6 @@
 -- What each call on parts leaves: their files, and the part that was begun.
-use Rattle.std.proofs.Common.{◌≡◌, ℕ, ◌+◌, ◌-◌, ◌<◌, ◌≤◌, zero, suc, List, [], ◌∷◌, ◌++◌, length, map, take, drop, Bool, true, false, IsTrue, Option, Some, None, Result, Ok, Err, OnOk, IfErr, ◌⊎◌, inl, inr, refl, sym, ◌∙◌, ap, subst, arith, append_assoc, length-append}
-use Rattle.std.proofs.lemmas.List.{append-nil, length-map}
+use Rattle.std.proofs.Common.{◌≡◌, ℕ, ◌+◌, ◌≤◌, suc, List, [], ◌∷◌, ◌++◌, length, Bool, true, false, IsTrue, Some, None, Result, Ok, Err, OnOk, IfErr, inl, refl, sym, ◌∙◌, ap, subst, arith, append_assoc}
+use Rattle.std.proofs.lemmas.List.{append-nil}
 use Rattle.std.proofs.lemmas.Bool.{false≢true}
 use Rattle.ports_core.specs.Name.{Naming, next_name, has_next, with_one_drawn}
 use Rattle.ports_core.specs.Slot.{Slot, changed_at, opened, closes, with_written, with_broken, told_of, is_writable, is_closable}
@@ -8,11 +8,10 @@ use Rattle.ports_core.specs.declared.slot.Mode.TheVariants.{Fresh}
 use Rattle.ports_core.specs.declared.slot.State.TheVariants as state
 use Rattle.ports_core.specs.declared.fault.Fault.{Fault}
 use Rattle.ports_core.specs.declared.fault.Fault.TheVariants as fault
-use Rattle.split_core.specs.Parts.{most, unless_empty}
 use Rattle.split_core.specs.Split.{Share, share, is_some, is_named, are_named}
-use Rattle.split_core.specs.ShareLaws.{SharesBegin, shares_themselves, shares_trans, shares_more, shares_behind, last_grows}
+use Rattle.split_core.specs.ShareLaws.{SharesBegin, shares_themselves, shares_more, last_grows}
 use Rattle.split_core.specs.PartsState.{PartsState, IsReady, IsAtEnd, is_given}
-use Rattle.split_core.specs.Moves.{Moves, Halts, KeepsBroken, KeepsFile, Breaks, OpensNone, WritesShort, Begun, begun_share, HasFile, there, made, HasNone, FindsFile, IsLast, Extended, Interrupted, EndsFile, none_there, closed, failed}
+use Rattle.split_core.specs.Moves.{Moves, Halts, KeepsBroken, KeepsFile, OpensNone, WritesShort, Begun, begun_share, HasFile, there, made, HasNone, IsLast, Extended, Interrupted, EndsFile, closed, failed}
 use Rattle.split_core.proofs.HeldLemmas.{written_both}
 use Rattle.split_core.proofs.MoveLemmas as move
 

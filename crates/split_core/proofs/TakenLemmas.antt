@@ -1,5 +1,5 @@
 -- What a step of a piece leaves.
-use Rattle.std.proofs.Common.{◌≡◌, ℕ, ◌+◌, ◌-◌, ◌<◌, ◌≤◌, zero, suc, List, [], ◌∷◌, ◌++◌, length, map, take, drop, Bool, true, false, cond, IsTrue, Option, Some, None, Result, Ok, Err, OnOk, IfOk, IfErr, inl, inr, refl, sym, ◌∙◌, ap, subst, arith, append_assoc, length-append}
+use Rattle.std.proofs.Common.{◌≡◌, ℕ, ◌+◌, ◌-◌, ◌<◌, ◌≤◌, zero, suc, List, [], ◌∷◌, ◌++◌, length, map, take, drop, Bool, true, false, Some, None, Result, Ok, Err, OnOk, IfOk, IfErr, inl, refl, sym, ◌∙◌, ap, subst, arith, append_assoc, length-append}
 use Rattle.std.proofs.lemmas.List.{append-nil, map-append, length-map, take-append-drop, length-take-le}
 use Rattle.std.proofs.lemmas.Bool.{false≢true}
 use Rattle.ports_core.specs.Name.{Naming, has_next}
@@ -13,12 +13,12 @@ use Rattle.split_core.specs.declared.cut.Limit.{Limit}
 use Rattle.split_core.specs.declared.step.Step.{Step}
 use Rattle.split_core.specs.declared.step.Step.TheVariants.{Goes, Ends, Begins, Waits}
 use Rattle.split_core.specs.Parts.{CutUp, most, cut_up, parts, unless_empty, settled_rest, waiting_rest}
-use Rattle.split_core.specs.CutLaws.{cut_so, cut_on, cut_none, cut_two, settled_then_waiting, settled_some}
+use Rattle.split_core.specs.CutLaws.{cut_so, cut_on, cut_none, cut_two, settled_then_waiting}
 use Rattle.split_core.specs.Split.{Share, share, is_some, is_named, are_named, named, settled_parts}
-use Rattle.split_core.specs.ShareLaws.{AllShut, shut_map, SharesBegin, shares_themselves, shares_trans, last_grows, settled_on, parts_on, parts_some, begun_grows, are_named_more, settled_grow, named_short}
+use Rattle.split_core.specs.ShareLaws.{AllShut, shut_map, SharesBegin, shares_trans, last_grows, settled_on, parts_on, parts_some, begun_grows, are_named_more, settled_grow, named_short}
 use Rattle.split_core.specs.Step.{IsSettled, IsTurned, IsHeld, Leads}
-use Rattle.split_core.specs.PartsState.{PartsState, HasLine, Lacks, Stands, IsReady, IsAtEnd, is_given}
-use Rattle.split_core.specs.Moves.{part_of, Moves, Halts, KeepsBroken, KeepsFile, Begun, begun_share, IsLast, Extended, Interrupted, Turned, TurnsNot, Took, Stopped, RunsShort, Steps}
+use Rattle.split_core.specs.PartsState.{PartsState, Lacks, Stands, IsReady, IsAtEnd, is_given}
+use Rattle.split_core.specs.Moves.{Moves, Halts, KeepsFile, Begun, begun_share, IsLast, Extended, Interrupted, Turned, TurnsNot, Took, Stopped, Steps}
 use Rattle.split_core.proofs.MoveLemmas as move
 use Rattle.split_core.proofs.PartsLemmas.{count_one, some_share}
 

@@ -1,9 +1,9 @@
 -- The end of a part, and the beginning of the next.
-use Rattle.std.proofs.Common.{◌≡◌, ℕ, ◌+◌, ◌-◌, ◌<◌, ◌≤◌, zero, suc, List, [], ◌∷◌, ◌++◌, length, Bool, true, false, eqb, IsTrue, Option, Some, None, Result, Ok, Err, inl, inr, refl, sym, ◌∙◌, ap, subst, arith, append_assoc, length-append}
+use Rattle.std.proofs.Common.{◌≡◌, ℕ, ◌+◌, ◌-◌, ◌<◌, ◌≤◌, suc, List, [], ◌∷◌, ◌++◌, length, Bool, true, false, eqb, Some, None, Ok, Err, inl, refl, sym, ◌∙◌, ap, subst, arith, append_assoc, length-append}
 use Rattle.std.proofs.lemmas.List.{append-nil}
 use Rattle.std.proofs.lemmas.Bool.{false≢true, eqb-true, eq-eqb}
 use Rattle.ports_core.specs.Name.{Naming}
-use Rattle.ports_core.specs.Slot.{Slot, changed_at, closes, with_broken, is_writable, is_closable}
+use Rattle.ports_core.specs.Slot.{Slot, closes, is_closable}
 use Rattle.ports_core.specs.declared.slot.State.TheVariants as state
 use Rattle.ports_core.specs.declared.fault.Fault.{Fault}
 use Rattle.ports_core.specs.declared.fault.Fault.TheVariants as fault
@@ -11,7 +11,7 @@ use Rattle.ports_core.proofs.SlotLemmas.{length-changed_at}
 use Rattle.ports_core.proofs.PartLemmas.{begins_itself}
 use Rattle.split_core.specs.Parts.{most}
 use Rattle.split_core.specs.Split.{Share, share, is_some, is_named, are_named}
-use Rattle.split_core.specs.ShareLaws.{shut_more, SharesBegin, last_grows}
+use Rattle.split_core.specs.ShareLaws.{shut_more, last_grows}
 use Rattle.seg_core.specs.Window.{ByteWindowState}
 use Rattle.split_core.specs.declared.cut.Limit.{Limit}
 use Rattle.split_core.specs.PartsState.{PartsState, Fits, IsReady, IsAtEnd, is_given}

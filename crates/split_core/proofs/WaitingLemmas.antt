@@ -1,14 +1,11 @@
 -- What waits: the bytes that no file has.
-use Rattle.std.proofs.Common.{◌≡◌, ℕ, ◌+◌, ◌<◌, zero, suc, Bool, true, false, cond, List, [], ◌∷◌, ◌++◌, length, map, drop, refl, sym, ◌∙◌, ap, subst, arith, append_assoc}
-use Rattle.std.specs.List.{filter}
-use Rattle.std.proofs.Math.Seq.{drop-append_seam, drop-length}
+use Rattle.std.proofs.Common.{◌≡◌, ℕ, ◌+◌, suc, true, cond, List, [], ◌∷◌, ◌++◌, length, map, drop, refl, sym, ◌∙◌, ap, subst, arith}
+use Rattle.std.proofs.Math.Seq.{drop-append_seam}
 use Rattle.seg_core.specs.Line.{joined}
 use Rattle.ports_core.specs.Name.{Naming}
 use Rattle.ports_core.specs.Part.{File}
-use Rattle.ports_core.specs.declared.slot.State.{State}
-use Rattle.ports_core.specs.declared.slot.State.TheVariants.{Open}
-use Rattle.split_core.specs.Parts.{cut_up, waiting_rest, round_robin}
-use Rattle.split_core.specs.Split.{Share, share, is_some, is_named, are_named, named, file_at, from_start, dealt_files, settled_parts, waiting}
+use Rattle.split_core.specs.Parts.{cut_up, waiting_rest}
+use Rattle.split_core.specs.Split.{Share, is_named, are_named, named, file_at, from_start, settled_parts, waiting}
 use Rattle.split_core.specs.PartsState.{PartsState, Stands}
 use Rattle.split_core.specs.PartState as part
 use Rattle.split_core.proofs.MoveLemmas.{named_before}

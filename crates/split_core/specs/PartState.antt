@@ -1,5 +1,5 @@
 -- What contracts see of the stage that cuts off one part after another, and what it makes of its input.
-use Rattle.std.specs.Prelude.{ℕ, Bool, true, false, not, List, length, map, Some, None, if◌then◌else◌}
+use Rattle.std.specs.Prelude.{ℕ, false, not, List, length, map, Some, None, if◌then◌else◌}
 use Rattle.ports_core.specs.Slot.{Slot}
 use Rattle.ports_core.specs.Name.{Naming}
 use Rattle.ports_core.specs.Work.{Work}

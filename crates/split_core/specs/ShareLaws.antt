@@ -1,21 +1,20 @@
 -- Laws of what files get: what is written once more came in, and in the end.
-use Rattle.std.proofs.Common.{◌≡◌, ℕ, ◌+◌, ◌-◌, ◌<◌, ◌≤◌, zero, suc, List, [], ◌∷◌, ◌++◌, length, map, take, drop, Bool, true, false, cond, not, ◌||◌, nat_lt, ◌⊎◌, inl, inr, refl, sym, ◌∙◌, ap, subst, arith, append_assoc, length-append}
+use Rattle.std.proofs.Common.{◌≡◌, ℕ, ◌+◌, ◌-◌, ◌<◌, ◌≤◌, zero, suc, List, [], ◌∷◌, ◌++◌, length, map, take, drop, Bool, true, false, cond, ◌||◌, nat_lt, ◌⊎◌, inl, inr, refl, sym, ◌∙◌, ap, subst, arith, append_assoc, length-append}
 use Rattle.std.proofs.lemmas.Bool.{false≢true}
 use Rattle.std.proofs.lemmas.Bool.Decides.{nat_tests}
-use Rattle.std.proofs.lemmas.List.{append-nil, map-append, length-map, take_all}
+use Rattle.std.proofs.lemmas.List.{map-append, length-map}
 use Rattle.seg_core.specs.Line.{joined, lines_of, delimiters, first_lines}
 use Rattle.seg_core.proofs.Delimiters.{delimiters-append}
 use Rattle.seg_core.proofs.FirstLines.{first_lines-append, first_lines-full, first_lines-short, first_lines_then_rest, lines_of-first_lines}
 use Rattle.ports_core.specs.Name.{Naming}
 use Rattle.ports_core.specs.Part.{File, IsBeginning, FilesBegin, Begins}
-use Rattle.ports_core.specs.declared.slot.State.{State}
 use Rattle.ports_core.specs.declared.slot.State.TheVariants.{Open, Closed}
 use Rattle.ports_core.proofs.PartLemmas.{begins_itself, begins_more, begins_trans, kept_trans}
 use Rattle.split_core.specs.declared.cut.Limit.{Limit}
 use Rattle.split_core.specs.declared.cut.Limit.TheVariants.{Lines, Bytes, LineBytes}
 use Rattle.split_core.specs.Parts.{whole_lines, most, measure, is_full, first_part, behind_first, cut_up, unless_empty, parts, settled_rest}
 use Rattle.split_core.specs.Split.{Share, share, is_named, file_at, named, are_named, only_files, settled_parts}
-use Rattle.split_core.specs.CutLaws.{short_some, full_some, whole_of_lines, whole_of_none, whole_then_open, settled_then_waiting, settled_some, cut_all, cut_on, cut_none, cut_once, cuts_up, goes, rest_short, cut_so}
+use Rattle.split_core.specs.CutLaws.{short_some, full_some, whole_of_lines, whole_of_none, settled_then_waiting, settled_some, cut_all, cut_on, cut_none, cut_once, cuts_up, goes, rest_short, cut_so}
 
 -- each share begins the one at its place, and there may be more of these; one whose file is open may be closed by then
 abbrev pub SharesBegin : List Share → List Share → Type 0

@@ -50,7 +50,7 @@ pub fn parts_go_on(limit: Limit)
 
 /// Lines that are dealt in turn to n files: line k of the file at a place is the line of the text at that place plus
 /// k times n, and no byte is lost. What a file has of a text that goes on is what it has of the text, and then its
-/// lines of what follows, in the turn that comes after the text's last newline. Where files that get no line are left
+/// lines of what follows, in the turn that comes after the text's last delimiter. Where files that get no line are left
 /// out, the first ones are left: as many as there are lines (GNU coreutils manual, split, `-n r/N` and `-e`).
 pub fn lines_are_dealt()
     ensures at { (delim n file k : ℕ) (x : List ℕ) → file < n → get_or (lines_of delim (get_or (round_robin delim n x) file [])) k [] ≡ get_or (lines_of delim x) (file + k * n) [] }

@@ -94,7 +94,7 @@ pub fn settle_ends<'a>(alloc: Global, spelled: &Spelled<'a>) -> Result<EndsSetti
     })
 }
 
-/// What all options ask for: the last of those for counts, and the last of those for headers.
+/// What all options ask for: the last of those for counts, the last of those for headers, and whether lines end with byte 0.
 fn choose_ends(options: &[Chosen<'_>]) -> EndsOptions
     ensures { result ≡ fold ends_after ten_lines (map option_seen options.now) }
 {
