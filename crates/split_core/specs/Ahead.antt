@@ -4,11 +4,6 @@ use Rattle.std.specs.Simd.Lanes.{mask_l}
 use Rattle.seg_core.specs.Line.{HasNone}
 use Rattle.split_core.specs.declared.complete_lines.Ahead.{Ahead}
 
--- the lines of a text that are left, and the byte that they end with
-pub record LinesLeft : Type 0 where
-  pub delim : ℕ
-  pub text : List ℕ
-
 -- a bit for each byte, set where it is the delimiter; the first is the lowest
 abbrev pub delimiter_mask : ℕ → List ℕ → ℕ
 delimiter_mask delim bytes = mask_l (map (λ byte. eqb byte delim) bytes)

@@ -31,7 +31,8 @@ struct Ahead {
 }
 
 impl<'a> Model for CompleteLines<'a> {
-    ghost use Rattle.split_core.specs.Ahead.{LinesLeft, Sees};
+    ghost use Rattle.seg_core.specs.Line.{LinesLeft};
+    ghost use Rattle.split_core.specs.Ahead.{Sees};
 
     ghost Value = { LinesLeft };
 

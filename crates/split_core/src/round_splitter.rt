@@ -38,8 +38,8 @@ impl Model for RoundSplitter {
 }
 
 impl RoundSplitter {
-    /// Deals lines, which end with `delim`, to `count` files. All of them are opened now; with `elide` each is opened at its first byte, so
-    /// that those that would get none aren't made.
+    /// Deals lines, which end with `delim`, to `count` files. All of them are opened now; with `elide` each is opened
+    /// at its first byte, so that those that would get none aren't made.
     ///
     /// # Errors
     ///

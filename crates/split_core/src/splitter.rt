@@ -32,8 +32,8 @@ impl Model for Splitter {
 
 impl Splitter {
     /// An engine that cuts in this way, into files with these names, of which none was drawn. Lines end with `delim`,
-    /// which changes nothing where bytes are counted. The number of the cut is at least 1. Where lines are dealt, there must be a name for each file, and all files are opened now, or
-    /// with `elide` each at its first byte.
+    /// which changes nothing where bytes are counted. The number of the cut is at least 1. Where lines are dealt,
+    /// there must be a name for each file, and all files are opened now, or with `elide` each at its first byte.
     ///
     /// # Errors
     ///

@@ -38,8 +38,8 @@ const WIDEST: u64 = 255;
 ///
 /// # Errors
 ///
-/// What is wrong with the value: it isn't of its kind's form, or else its number is too large, or else it is 0. A byte or an ending
-/// that isn't of its form has a fault of its own.
+/// What is wrong with the value: it isn't of its kind's form, or else its number is too large, or else it is 0. A byte
+/// or an ending that isn't of its form has a fault of its own.
 pub fn read_value(kind: Kind, text: &str) -> Result<Value<'_>, UsageKind>
     ensures { seen_in result ≡ value_in kind text.now }
 {
