@@ -16,35 +16,32 @@ use Rattle.csplit_core.specs.declared.operand_fault.OperandFaultKind.TheVariants
 abbrev pub after_front : List Spelled → Words → Words
 after_front front words = record { operands = front ++ words.operands; fault = words.fault }
 
+-- an operand with another word after it, of which it is known whether it says how often the operand is performed again
+step_to : (index least : ℕ) (word next : List ℕ) (rest : List (List ℕ)) (aim : Aim) (found : Option Times) → aim_of least (spelling word) ≡ aims aim → times_by (spelling next) ≡ found
+    → words_from index least (word ∷ next ∷ rest) ≡ elim found [
+      | Some times ↦ with_operand index aim times (words_from (index + 2) (least_after least aim) rest)
+      | None ↦ with_operand index aim (Count 0) (words_from (index + 1) (least_after least aim) (next ∷ rest))
+    ]
+step_to index least word next rest aim found is says =
+    ap (λ a. elim a [
+      | fails what ↦ failed what index
+      | aims aim ↦ elim (times_by (spelling next)) [
+        | Some times ↦ with_operand index aim times (words_from (index + 2) (least_after least aim) rest)
+        | None ↦ with_operand index aim (Count 0) (words_from (index + 1) (least_after least aim) (next ∷ rest))
+      ]
+    ]) is
+    ∙ ap (λ t. elim t [
+      | Some times ↦ with_operand index aim times (words_from (index + 2) (least_after least aim) rest)
+      | None ↦ with_operand index aim (Count 0) (words_from (index + 1) (least_after least aim) (next ∷ rest))
+    ]) says
+
 -- a step over an operand and the words that say how often it is performed again
 pub step_over : (index least : ℕ) (word : List ℕ) (words : List (List ℕ)) (aim : Aim) (times : Times) (said : ℕ) → aim_of least (spelling word) ≡ aims aim → SayTimes words times said
     → words_from index least (word ∷ words) ≡ with_operand index aim times (words_from (index + (1 + said)) (least_after least aim) (drop said words))
 step_over index least word words aim times said is no_word =
     ap (λ a. elim a [ fails what ↦ failed what index | aims aim ↦ with_operand index aim (Count 0) no_more ]) is
-step_over index least word words aim times said is (again next rest times' says) =
-    ap (λ a. elim a [
-      | fails what ↦ failed what index
-      | aims aim ↦ elim (times_by (spelling next)) [
-        | Some times ↦ with_operand index aim times (words_from (index + 2) (least_after least aim) rest)
-        | None ↦ with_operand index aim (Count 0) (words_from (index + 1) (least_after least aim) (next ∷ rest))
-      ]
-    ]) is
-    ∙ ap (λ t. elim t [
-      | Some times ↦ with_operand index aim times (words_from (index + 2) (least_after least aim) rest)
-      | None ↦ with_operand index aim (Count 0) (words_from (index + 1) (least_after least aim) (next ∷ rest))
-    ]) says
-step_over index least word words aim times said is (other next rest says) =
-    ap (λ a. elim a [
-      | fails what ↦ failed what index
-      | aims aim ↦ elim (times_by (spelling next)) [
-        | Some times ↦ with_operand index aim times (words_from (index + 2) (least_after least aim) rest)
-        | None ↦ with_operand index aim (Count 0) (words_from (index + 1) (least_after least aim) (next ∷ rest))
-      ]
-    ]) is
-    ∙ ap (λ t. elim t [
-      | Some times ↦ with_operand index aim times (words_from (index + 2) (least_after least aim) rest)
-      | None ↦ with_operand index aim (Count 0) (words_from (index + 1) (least_after least aim) (next ∷ rest))
-    ]) says
+step_over index least word words aim times said is (again next rest times' says) = step_to index least word next rest aim (Some times') is says
+step_over index least word words aim times said is (other next rest says) = step_to index least word next rest aim None is says
 
 -- a word that is wrong ends the list
 pub stop_at : (index least : ℕ) (word : List ℕ) (words : List (List ℕ)) (what : OperandFaultKind) → aim_of least (spelling word) ≡ fails what → words_from index least (word ∷ words) ≡ failed what index
