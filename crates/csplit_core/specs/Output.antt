@@ -1,6 +1,6 @@
 -- What `csplit` writes of sections: a file for each that is kept, and its size on standard output (POSIX.1-2017, XCU csplit; `elide` is
 -- GNU's).
-use Rattle.std.specs.Prelude.{ℕ, ◌+◌, Bool, true, false, not, ◌&&◌, List, [], ◌∷◌, ◌++◌, length, decimal, if◌then◌else◌}
+use Rattle.std.specs.Prelude.{ℕ, ◌+◌, Bool, true, false, not, ◌&&◌, List, [], ◌∷◌, ◌++◌, length, map, decimal, if◌then◌else◌}
 use Rattle.ports_core.specs.Name.{numbered_name}
 use Rattle.ports_core.specs.Part.{File, Part}
 use Rattle.ports_core.specs.declared.slot.Mode.TheVariants.{Fresh}
@@ -22,34 +22,48 @@ pub record Style : Type 0 where
   -- the line at a cut is left out
   pub suppress : Bool
 
+-- what a section holds, as bytes
+pub record Contents : Type 0 where
+  -- it is kept, and not skipped
+  pub is_kept : Bool
+  -- all of its bytes came in
+  pub is_closed : Bool
+  pub bytes : List ℕ
+
+abbrev pub contents_of : Section → Contents
+contents_of section = record { is_kept = section.is_kept; is_closed = section.is_closed; bytes = bytes_of section.lines }
+
 abbrev pub is_empty : List ℕ → Bool
 is_empty [] = true
 is_empty (byte ∷ bytes) = false
 
-abbrev pub makes_file : Style → Section → Bool
-makes_file style section = section.is_kept && not (style.elide && is_empty (bytes_of section.lines))
+abbrev pub makes_file : Style → Contents → Bool
+makes_file style contents = contents.is_kept && not (style.elide && is_empty contents.bytes)
 
-abbrev pub file_at : Style → ℕ → Section → File
-file_at style place section = record {
+abbrev pub file_at : Style → ℕ → Contents → File
+file_at style place contents = record {
   name = numbered_name style.prefix style.digits place;
   mode = Fresh;
-  bytes = bytes_of section.lines;
-  state = if section.is_closed then state.Closed else state.Open;
+  bytes = contents.bytes;
+  state = if contents.is_closed then state.Closed else state.Open;
   is_broken = false;
 }
 
 -- the files of the sections that make one, numbered from a place on
-abbrev pub files_of : Style → ℕ → List Section → List File
+abbrev pub files_of : Style → ℕ → List Contents → List File
 files_of style place [] = []
-files_of style place (section ∷ sections) = if makes_file style section then file_at style place section ∷ files_of style (place + 1) sections else files_of style place sections
+files_of style place (contents ∷ rest) = if makes_file style contents then file_at style place contents ∷ files_of style (place + 1) rest else files_of style place rest
 
 -- the size of a file, in bytes, once all of it came in
-abbrev pub size_line : Style → Section → List ℕ
-size_line style section = if makes_file style section && (section.is_closed && not style.quiet) then decimal (length (bytes_of section.lines)) ++ newline ∷ [] else []
+abbrev pub size_line : Style → Contents → List ℕ
+size_line style contents = if makes_file style contents && (contents.is_closed && not style.quiet) then decimal (length contents.bytes) ++ newline ∷ [] else []
 
-abbrev pub size_lines : Style → List Section → List ℕ
+abbrev pub size_lines : Style → List Contents → List ℕ
 size_lines style [] = []
-size_lines style (section ∷ sections) = size_line style section ++ size_lines style sections
+size_lines style (contents ∷ rest) = size_line style contents ++ size_lines style rest
+
+abbrev pub part_by : Style → List Contents → Part
+part_by style all = record { out = size_lines style all; files = files_of style 0 all }
 
 abbrev pub part_of : Style → List Section → Part
-part_of style sections = record { out = size_lines style sections; files = files_of style 0 sections }
+part_of style sections = part_by style (map contents_of sections)

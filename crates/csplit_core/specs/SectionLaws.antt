@@ -8,7 +8,7 @@ use Rattle.csplit_core.specs.Operand.{Plus, Minus, Target, Number, Search, Opera
 use Rattle.csplit_core.specs.Plan.{State, start, Step, Ending, used_up, missed, above, below, search_line, CutsAt, Misses, line_after, state_after, Runs, is_used_up, misses, is_above, is_below, cuts}
 use Rattle.csplit_core.specs.Planned.{plan_within, plan}
 use Rattle.csplit_core.specs.Section.{Section, section, section_of, lines_between, bytes_of, is_last_kept, whole_end, settled_end, sections_by, settled_sections}
-use Rattle.csplit_core.specs.Output.{Style, is_empty, makes_file, file_at, files_of, size_line, size_lines, part_of}
+use Rattle.csplit_core.specs.Output.{Style, Contents, contents_of, is_empty, makes_file, file_at, files_of, size_line, size_lines, part_by, part_of}
 use Rattle.csplit_core.specs.Csplit.{settled_of, whole_of}
 use Rattle.csplit_core.specs.MatchLaws.{one_first, search_some, first_beyond}
 use Rattle.csplit_core.specs.PlanLaws.{line_some, cuts_still, goes_on, runs, plan_runs, plan_once, needed}
@@ -238,7 +238,7 @@ bytes-append : (a b : List Line) → bytes_of (a ++ b) ≡ bytes_of a ++ bytes_o
 bytes-append [] b = refl
 bytes-append (line ∷ a) b = ap (λ those. line.text ++ those) (bytes-append a b) ∙ sym (append_assoc line.text (bytes_of a) (bytes_of b))
 
-size_lines-append : (style : Style) (a b : List Section) → size_lines style (a ++ b) ≡ size_lines style a ++ size_lines style b
+pub size_lines-append : (style : Style) (a b : List Contents) → size_lines style (a ++ b) ≡ size_lines style a ++ size_lines style b
 size_lines-append style [] b = refl
 size_lines-append style (one ∷ a) b = ap (λ those. size_line style one ++ those) (size_lines-append style a b) ∙ sym (append_assoc (size_line style one) (size_lines style a) (size_lines style b))
 
@@ -246,13 +246,13 @@ no_size : (makes closed quiet : Bool) (line : List ℕ) → closed ≡ false →
 no_size false closed quiet line is = refl
 no_size true closed quiet line is = ap (λ c. cond (c && quiet) line []) is
 
-out_grows : (style : Style) (low high : List Section) → Grow low high → IsBeginning (size_lines style low) (size_lines style high)
-out_grows style low high grow = (
-  size_lines style grow.after,
-  ap (size_lines style) grow.high_is ∙ size_lines-append style grow.front grow.after
-      ∙ ap (λ those. those ++ size_lines style grow.after) (sym (ap (size_lines style) grow.low_is ∙ size_lines-append style grow.front (grow.begun ∷ [])
-      ∙ ap (λ those. size_lines style grow.front ++ (those ++ [])) (no_size (makes_file style grow.begun) grow.begun.is_closed (not style.quiet) _ grow.is_open) ∙ append-nil (size_lines style grow.front))),
-)
+-- an open section has no size line yet
+pub open_sizes : (style : Style) (front : List Contents) (begun : Contents) → begun.is_closed ≡ false → size_lines style (front ++ begun ∷ []) ≡ size_lines style front
+open_sizes style front begun is_open =
+    size_lines-append style front (begun ∷ []) ∙ ap (λ those. size_lines style front ++ (those ++ [])) (no_size (makes_file style begun) begun.is_closed (not style.quiet) _ is_open) ∙ append-nil (size_lines style front)
+
+out_grows : (style : Style) (front : List Contents) (begun : Contents) (after : List Contents) → begun.is_closed ≡ false → IsBeginning (size_lines style (front ++ begun ∷ [])) (size_lines style (front ++ after))
+out_grows style front begun after is_open = (size_lines style after, size_lines-append style front after ∙ ap (λ those. those ++ size_lines style after) (sym (open_sizes style front begun is_open)))
 
 -- a file that was made begins the one that is made
 made_more : (elide kept : Bool) (bytes more : List ℕ) → (kept && not (elide && is_empty bytes)) ≡ true → (kept && not (elide && is_empty (bytes ++ more))) ≡ true
@@ -261,36 +261,42 @@ made_more false true bytes more is = refl
 made_more true true [] more is = absurd (false≢true is)
 made_more true true (byte ∷ bytes) more is = refl
 
-last_by : (style : Style) (place : ℕ) (begun other : Section) (more : List Section) (makes then_makes : Bool) → (makes ≡ true → then_makes ≡ true) → begun.is_closed ≡ false → IsBeginning (bytes_of begun.lines) (bytes_of other.lines)
+last_by : (style : Style) (place : ℕ) (begun other : Contents) (more : List Contents) (makes then_makes : Bool) → (makes ≡ true → then_makes ≡ true) → begun.is_closed ≡ false → IsBeginning begun.bytes other.bytes
     → FilesBegin (cond makes (file_at style place begun ∷ []) []) (cond then_makes (file_at style place other ∷ files_of style (place + 1) more) (files_of style place more))
 last_by style place begun other more false then_makes makes is_open begins = tt
-last_by style place begun other more true true makes is_open begins = (refl, refl, refl, inl (ap (λ c. (file_at style place (section begun.is_kept c begun.lines)).state) is_open), begins, tt)
+last_by style place begun other more true true makes is_open begins = (refl, refl, refl, inl (ap (λ c. (file_at style place (record begun { is_closed = c })).state) is_open), begins, tt)
 last_by style place begun other more true false makes is_open begins = absurd (false≢true (makes refl))
 
-files_by : (style : Style) (place : ℕ) (one : Section) (low low' high high' : List File) (makes : Bool) → FilesBegin low high → FilesBegin low' high'
+files_by : (style : Style) (place : ℕ) (one : Contents) (low low' high high' : List File) (makes : Bool) → FilesBegin low high → FilesBegin low' high'
     → FilesBegin (cond makes (file_at style place one ∷ low) low') (cond makes (file_at style place one ∷ high) high')
-files_by style place one low low' high high' true rest other = (refl, refl, refl, inr refl, begins_itself (bytes_of one.lines), rest)
+files_by style place one low low' high high' true rest other = (refl, refl, refl, inr refl, begins_itself one.bytes, rest)
 files_by style place one low low' high high' false rest other = other
 
-files_grow : (style : Style) (place : ℕ) (front : List Section) (begun other : Section) (more : List Section) → begun.is_closed ≡ false → begun.is_kept ≡ other.is_kept → (rest : List Line) → other.lines ≡ begun.lines ++ rest
+files_grow : (style : Style) (place : ℕ) (front : List Contents) (begun other : Contents) (more : List Contents) → begun.is_closed ≡ false → begun.is_kept ≡ other.is_kept → (rest : List ℕ) → other.bytes ≡ begun.bytes ++ rest
     → FilesBegin (files_of style place (front ++ begun ∷ [])) (files_of style place (front ++ other ∷ more))
-files_grow style place [] begun other more is_open kept rest lines =
-    let bytes : bytes_of other.lines ≡ bytes_of begun.lines ++ bytes_of rest = ap bytes_of lines ∙ bytes-append begun.lines rest in
+files_grow style place [] begun other more is_open kept rest bytes =
     last_by style place begun other more (makes_file style begun) (makes_file style other)
-    (λ made. ap (λ those. other.is_kept && not (style.elide && is_empty those)) bytes ∙ ap (λ k. k && not (style.elide && is_empty (bytes_of begun.lines ++ bytes_of rest))) (sym kept)
-    ∙ made_more style.elide begun.is_kept (bytes_of begun.lines) (bytes_of rest) made)
-    is_open (bytes_of rest, bytes)
-files_grow style place (one ∷ front) begun other more is_open kept rest lines =
+    (λ made. ap (λ those. other.is_kept && not (style.elide && is_empty those)) bytes ∙ ap (λ k. k && not (style.elide && is_empty (begun.bytes ++ rest))) (sym kept)
+    ∙ made_more style.elide begun.is_kept begun.bytes rest made)
+    is_open (rest, bytes)
+files_grow style place (one ∷ front) begun other more is_open kept rest bytes =
     files_by style place one (files_of style (place + 1) (front ++ begun ∷ [])) (files_of style place (front ++ begun ∷ [])) (files_of style (place + 1) (front ++ other ∷ more)) (files_of style place (front ++ other ∷ more)) (makes_file style one)
-    (files_grow style (place + 1) front begun other more is_open kept rest lines) (files_grow style place front begun other more is_open kept rest lines)
+    (files_grow style (place + 1) front begun other more is_open kept rest bytes) (files_grow style place front begun other more is_open kept rest bytes)
+
+-- what is written of sections whose last one goes on, and may end
+pub part_grows : (style : Style) (front : List Contents) (begun other : Contents) (more : List Contents) → begun.is_closed ≡ false → begun.is_kept ≡ other.is_kept → (rest : List ℕ) → other.bytes ≡ begun.bytes ++ rest
+    → Begins (part_by style (front ++ begun ∷ [])) (part_by style (front ++ other ∷ more))
+part_grows style front begun other more is_open kept rest bytes = record {
+  out = out_grows style front begun (other ∷ more) is_open;
+  files = files_grow style 0 front begun other more is_open kept rest bytes;
+}
 
 pub parts_grow : (style : Style) (low high : List Section) → Grow low high → Begins (part_of style low) (part_of style high)
-parts_grow style low high grow = record {
-  out = out_grows style low high grow;
-  files = subst (λ those. FilesBegin (files_of style 0 those) (files_of style 0 high)) (sym grow.low_is)
-      (subst (λ those. FilesBegin (files_of style 0 (grow.front ++ grow.begun ∷ [])) (files_of style 0 those)) (sym (grow.high_is ∙ ap (λ those. grow.front ++ those) grow.next.are))
-      (files_grow style 0 grow.front grow.begun grow.next.other grow.next.more grow.is_open grow.next.kept grow.next.rest grow.next.lines));
-}
+parts_grow style low high grow =
+    let lines : bytes_of grow.next.other.lines ≡ bytes_of grow.begun.lines ++ bytes_of grow.next.rest = ap bytes_of grow.next.lines ∙ bytes-append grow.begun.lines grow.next.rest in
+    subst (λ those. Begins (part_by style those) (part_of style high)) (sym (ap (map contents_of) grow.low_is ∙ map-append contents_of grow.front (grow.begun ∷ [])))
+    (subst (λ those. Begins (part_by style (map contents_of grow.front ++ contents_of grow.begun ∷ [])) (part_by style those)) (sym (ap (map contents_of) (grow.high_is ∙ ap (λ those. grow.front ++ those) grow.next.are) ∙ map-append contents_of grow.front (grow.next.other ∷ grow.next.more)))
+    (part_grows style (map contents_of grow.front) (contents_of grow.begun) (contents_of grow.next.other) (map contents_of grow.next.more) grow.is_open grow.next.kept (bytes_of grow.next.rest) lines))
 
 pub settled_covers : Covers settled_end
 settled_covers total ending = omega arith
