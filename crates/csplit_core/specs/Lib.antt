@@ -19,3 +19,5 @@ pub mod Seen
 pub mod Reading
 pub mod Repeating
 pub mod Aiming
+pub mod Draft
+pub mod Writer

@@ -8,6 +8,7 @@ mod operand_fault;
 mod operand_tests;
 mod operands;
 mod progress;
+mod section_writer;
 mod style;
 mod target;
 mod word;

@@ -1,0 +1,209 @@
+//! Writing sections: a file for each that is kept, and its size on standard output.
+ghost use Rattle.std.specs.Prelude.{◌≡◌, ◌+◌, ◌<◌, ◌≤◌, ◌^◌, ℕ, length, IsTrue, OnOk};
+ghost use Rattle.ports_core.specs.Slot.{is_writable};
+ghost use Rattle.ports_core.specs.Swept.{SweptFrom};
+ghost use Rattle.csplit_core.specs.Draft.{with_bytes, with_section};
+ghost use Rattle.csplit_core.specs.Writer.{Begins, Ends, Goes, IsReady, OwnsFiles, size_of};
+
+use crate::Style;
+use itoa::Buffer;
+use ports_core::{Fault, Mode, Outs, numbered, sweep_files, write_whole};
+use std::alloc::Global;
+use std::marker::Model;
+
+/// The section that is open.
+#[derive(Clone, Copy, Debug, PartialEq, Eq)]
+pub enum Current {
+    /// It is skipped.
+    Skipped,
+    /// It is kept, and has no file before its first byte.
+    Unmade,
+    /// It has a file.
+    File {
+        /// The file's output.
+        slot: usize,
+        /// How many bytes it has.
+        size: u64,
+    },
+}
+
+/// The files of the sections so far, and the section that is open.
+#[derive(Drop)]
+pub struct SectionWriter {
+    alloc: Global,
+    style: Style,
+    /// The output of the first file, once one was made; the others follow it.
+    first: usize,
+    /// How many files were made.
+    made: usize,
+    current: Current,
+}
+
+impl Model for SectionWriter {
+    ghost use Rattle.std.specs.Prelude.{◌+◌, ◌≤◌, ◌^◌};
+    ghost use Rattle.csplit_core.specs.Writer.{WriterState};
+
+    ghost Value = { WriterState };
+
+    ghost view = { λ w. record { style = w.style; first = w.first; made = w.made; current = w.current } };
+
+    ghost invariant = { λ w. w.first + w.made ≤ 2 ^ 64 };
+}
+
+impl SectionWriter {
+    /// A writer that has begun its first section, which is kept or skipped.
+    ///
+    /// # Errors
+    ///
+    /// `Memory` where there is no room for a name, `Open` where the section's file can't be opened.
+    pub(crate) fn open<O: Outs>(
+        alloc: Global,
+        style: Style,
+        is_kept: bool,
+        outs: &mut O,
+    ) -> Result<SectionWriter, Fault>
+        requires streams { 2 ≤ length (O.slots outs.old) }
+        requires output { IsTrue (is_writable (O.slots outs.old) 0) }
+        ensures { Begins O.told style is_kept (O.slots outs.old) (O.slots outs.new) result }
+    {
+        let mut writer = SectionWriter {
+            alloc,
+            style,
+            first: 0,
+            made: 0,
+            current: Current::Skipped,
+        };
+        writer.begin(is_kept, outs)?;
+        Ok(writer)
+    }
+
+    /// How files are made.
+    pub(crate) fn style(&self) -> &Style
+        ensures { result.now ≡ self.now.style }
+    {
+        &self.style
+    }
+
+    /// Writes more bytes of the open section.
+    ///
+    /// # Errors
+    ///
+    /// `Write` where the section's file broke; `Memory` and `Open` where it gets its file now, and there is no room for
+    /// its name, or it can't be opened.
+    pub(crate) fn put<O: Outs>(&mut self, bytes: &[u8], outs: &mut O) -> Result<(), Fault>
+        requires ready { IsReady self.old (O.slots outs.old) }
+        requires fits { size_of self.old.current + length bytes.now < 2 ^ 64 }
+        ensures goes { Goes O.told self.old (with_bytes bytes.now) (O.slots outs.old) (O.slots outs.new) self.new result }
+        ensures size { OnOk result (size_of self.new.current ≤ size_of self.old.current + length bytes.now) }
+    {
+        match self.current {
+            Current::Skipped => Ok(()),
+            Current::Unmade => {
+                if bytes.is_empty() {
+                    return Ok(());
+                }
+                let slot = self.make_file(outs)?;
+                self.append(slot, 0, bytes, outs)
+            }
+            Current::File { slot, size } => self.append(slot, size, bytes, outs),
+        }
+    }
+
+    /// Ends the open section, and begins another, which is kept or skipped.
+    ///
+    /// # Errors
+    ///
+    /// `Write` where the file or standard output broke, `Memory` and `Open` as `open`.
+    pub(crate) fn next<O: Outs>(&mut self, is_kept: bool, outs: &mut O) -> Result<(), Fault>
+        requires { IsReady self.old (O.slots outs.old) }
+        ensures goes { Goes O.told self.old (with_section is_kept) (O.slots outs.old) (O.slots outs.new) self.new result }
+        ensures size { OnOk result (size_of self.new.current ≡ 0) }
+    {
+        self.end(outs)?;
+        self.begin(is_kept, outs)
+    }
+
+    /// Ends the open section: closes its file, and writes its size.
+    ///
+    /// # Errors
+    ///
+    /// `Write` where the file or standard output broke.
+    pub(crate) fn end<O: Outs>(&mut self, outs: &mut O) -> Result<(), Fault>
+        requires { IsReady self.old (O.slots outs.old) }
+        ensures { Ends O.told self.old (O.slots outs.old) (O.slots outs.new) self.new result }
+    {
+        let Current::File { slot, size } = self.current else {
+            return Ok(());
+        };
+        self.current = Current::Skipped;
+        outs.close(slot)?;
+        if self.style.quiet {
+            return Ok(());
+        }
+        write_size(size, outs)
+    }
+
+    /// Removes all files, in order. One that can't be removed is broken and closed, and the next is tried.
+    pub(crate) fn clear<O: Outs>(&self, outs: &mut O)
+        requires { (first : ℕ) × OwnsFiles self.now first (O.slots outs.old) }
+        ensures { (first : ℕ) → OwnsFiles self.now first (O.slots outs.old) → SweptFrom first (O.slots outs.old) (O.slots outs.new) }
+    {
+        if self.made > 0 {
+            sweep_files(self.first, self.made, outs);
+        }
+    }
+
+    /// Begins a section.
+    fn begin<O: Outs>(&mut self, is_kept: bool, outs: &mut O) -> Result<(), Fault> {
+        if !is_kept {
+            self.current = Current::Skipped;
+            return Ok(());
+        }
+        if self.style.elide {
+            self.current = Current::Unmade;
+            return Ok(());
+        }
+        let slot = self.make_file(outs)?;
+        self.current = Current::File { slot, size: 0 };
+        Ok(())
+    }
+
+    /// Makes the next file, and returns its output.
+    fn make_file<O: Outs>(&mut self, outs: &mut O) -> Result<usize, Fault> {
+        let name = numbered(self.alloc, &self.style.prefix, self.style.digits, self.made as u64)?;
+        let slot = outs.open(name.as_str(), Mode::Fresh)?;
+        if self.made == 0 {
+            self.first = slot;
+        }
+        self.made = slot - self.first + 1;
+        Ok(slot)
+    }
+
+    /// Writes these bytes to the file of the open section, which has `size` bytes.
+    fn append<O: Outs>(
+        &mut self,
+        slot: usize,
+        size: u64,
+        bytes: &[u8],
+        outs: &mut O,
+    ) -> Result<(), Fault> {
+        write_whole(outs, slot, bytes)?;
+        self.current = Current::File {
+            slot,
+            size: size + bytes.len() as u64,
+        };
+        Ok(())
+    }
+}
+
+/// How many bytes the longest size line has.
+const LONGEST_LINE: usize = 21;
+
+/// Writes the size of a file to standard output, and a newline, as one line.
+fn write_size<O: Outs>(size: u64, outs: &mut O) -> Result<(), Fault> {
+    let mut buffer = Buffer::new();
+    let digits = buffer.format(size).as_bytes();
+    let mut line = [b'\n'; LONGEST_LINE];
+    line[..digits.len()].copy_from_slice(digits);
+    Ok(write_whole(outs, 0, &line[..digits.len() + 1])?)
+}
