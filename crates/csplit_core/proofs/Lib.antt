@@ -14,3 +14,4 @@ pub mod MoveLemmas
 pub mod AdvanceLemmas
 pub mod OneReading
 pub mod WholeLemmas
+pub mod MatchLemmas

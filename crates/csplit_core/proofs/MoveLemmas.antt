@@ -2,7 +2,7 @@
 use Rattle.std.proofs.Common.{◌≡◌, ℕ, zero, suc, ◌+◌, ◌-◌, ◌*◌, ◌^◌, ◌<◌, ◌≤◌, Bool, true, false, List, [], ◌∷◌, length, drop, get_or, refl, sym, ◌∙◌, subst, arith}
 use Rattle.std.specs.Prelude.{min}
 use Rattle.bre_core.specs.Pattern.{Pattern}
-use Rattle.csplit_core.specs.Operand.{Offset, Target, Number, Search, Operand, has_more}
+use Rattle.csplit_core.specs.Operand.{Offset, Target, Number, Search, Operand, has_more, moved}
 use Rattle.csplit_core.specs.Plan.{State, search_line, line_after, operands_after, repetition_after, state_after}
 use Rattle.csplit_core.specs.Progress.{state_of, FallsAt, MovesOn}
 use Rattle.csplit_core.specs.Measure.{Moves, IsRepeatedBy, IsRepeated, Fits}
@@ -19,19 +19,40 @@ pub moves_number : (operands rest : List Operand) (operand : Operand) (total : �
     → most ≡ min (number * (progress.repetition + 1)) (2 ^ 64 - 1) → total < 2 ^ 64 - 1 → (turn : Turn) → FallsAt total progress.current progress.matched most turn → progress.matched ≤ total → MovesOn operands total progress turn
 moves_number operands rest operand total progress number most within are target is few UsedUp at matched = tt
 moves_number operands rest operand total progress number most within are target is few Missed at matched = tt
-moves_number operands rest operand total progress number most within are target is few (Above line cap) at matched = tt
+moves_number operands rest operand total progress number most within are target is few (Above line cap) at matched = record {
+  operand = operand;
+  rest = rest;
+  within = within;
+  left = are;
+  cut = number * (progress.repetition + 1);
+  moves = subst (λ t. Moves total (state_of operands progress) t line (number * (progress.repetition + 1))) (sym target) refl;
+  line_is = at.1 ∙ is;
+  matched_within = omega (arith, at.0, matched);
+  above = omega (arith, at.1, at.2);
+}
 moves_number operands rest operand total progress number most within are target is few Below at matched = tt
 moves_number operands rest operand total progress number most within are target is few (Cuts line cut) at matched =
     let same : most ≡ number * (progress.repetition + 1) = capped (number * (progress.repetition + 1)) (2 ^ 64 - 1) most total is at.3 few in
     (operand, rest, within, are, subst (λ t. Moves total (state_of operands progress) t line cut) (sym target) (at.1 ∙ same), omega (arith, at.0, matched), omega (arith, at.1, at.2), omega (arith, at.1, at.3))
 
 pub moves_search : (suppress : Bool) (operands rest : List Operand) (operand : Operand) (total : ℕ) (progress : Progress) (pattern : Pattern) (kept : Bool) (offset : Offset) (most : ℕ) → progress.done < length operands → drop progress.done operands ≡ operand ∷ rest
-    → operand.target ≡ Search pattern kept offset → search_line suppress (state_of operands progress) ≤ total → (turn : Turn) → FallsAt total progress.current total most turn → MovesOn operands total progress turn
-moves_search suppress operands rest operand total progress pattern kept offset most within are target near UsedUp at = tt
-moves_search suppress operands rest operand total progress pattern kept offset most within are target near Missed at = tt
-moves_search suppress operands rest operand total progress pattern kept offset most within are target near (Above line cap) at = tt
-moves_search suppress operands rest operand total progress pattern kept offset most within are target near Below at = tt
-moves_search suppress operands rest operand total progress pattern kept offset most within are target near (Cuts line cut) at =
+    → operand.target ≡ Search pattern kept offset → search_line suppress (state_of operands progress) ≤ total → most ≡ min (moved offset total) (2 ^ 64 - 1) → (turn : Turn) → FallsAt total progress.current total most turn → MovesOn operands total progress turn
+moves_search suppress operands rest operand total progress pattern kept offset most within are target near is UsedUp at = tt
+moves_search suppress operands rest operand total progress pattern kept offset most within are target near is Missed at = tt
+moves_search suppress operands rest operand total progress pattern kept offset most within are target near is (Above line cap) at =
+    let less : progress.matched < search_line suppress (state_of operands progress) = search_past suppress (state_of operands progress) in record {
+      operand = operand;
+      rest = rest;
+      within = within;
+      left = are;
+      cut = moved offset total;
+      moves = subst (λ t. Moves total (state_of operands progress) t line (moved offset total)) (sym target) (omega (arith, less, near, at.0), omega (arith, at.0));
+      line_is = at.1 ∙ is;
+      matched_within = omega (arith, at.0);
+      above = omega (arith, at.1, at.2);
+    }
+moves_search suppress operands rest operand total progress pattern kept offset most within are target near is Below at = tt
+moves_search suppress operands rest operand total progress pattern kept offset most within are target near is (Cuts line cut) at =
     let less : progress.matched < search_line suppress (state_of operands progress) = search_past suppress (state_of operands progress) in
     (operand, rest, within, are, subst (λ t. Moves total (state_of operands progress) t line cut) (sym target) (omega (arith, less, near, at.0), omega (arith, at.0)), omega (arith, at.0), omega (arith, at.1, at.2), omega (arith, at.1, at.3))
 

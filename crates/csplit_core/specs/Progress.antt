@@ -49,11 +49,23 @@ FallsAt total current matched cut (Above last line) = (last ≡ matched) × (lin
 FallsAt total current matched cut Below = (cut ≤ total) × (cut < current)
 FallsAt total current matched cut (Cuts last line) = (last ≡ matched) × (line ≡ cut) × (current ≤ cut) × (cut ≤ total)
 
+-- the cut that is above the last line will move on once that line is there
+pub record WillMove (operands : List Operand) (total : ℕ) (progress : Progress) (matched line : ℕ) : Type 0 where
+  pub operand : Operand
+  pub rest : List Operand
+  pub within : progress.done < length operands
+  pub left : drop progress.done operands ≡ operand ∷ rest
+  pub cut : ℕ
+  pub moves : Moves total (state_of operands progress) operand.target matched cut
+  pub line_is : line ≡ min cut (2 ^ 64 - 1)
+  pub matched_within : matched ≤ total
+  pub above : total < line
+
 -- a cut moves on: so a run makes no more steps than `needed` says
 abbrev pub MovesOn : List Operand → (total : ℕ) → Progress → Turn → Type 0
 MovesOn operands total progress UsedUp = Unit {0}
 MovesOn operands total progress Missed = Unit {0}
-MovesOn operands total progress (Above matched line) = Unit {0}
+MovesOn operands total progress (Above matched line) = WillMove operands total progress matched line
 MovesOn operands total progress Below = Unit {0}
 MovesOn operands total progress (Cuts matched line) = (operand : Operand) × (rest : List Operand) × (progress.done < length operands) × (drop progress.done operands ≡ operand ∷ rest)
     × Moves total (state_of operands progress) operand.target matched line × (matched ≤ total) × (progress.current ≤ line) × (line ≤ total)

@@ -2,6 +2,7 @@
 #![tactic(auto)]
 
 pub mod laws;
+mod matcher;
 mod operand;
 mod operand_fault;
 #[cfg(test)]

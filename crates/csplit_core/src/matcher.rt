@@ -1,0 +1,67 @@
+//! Matching lines with the pattern that is searched for.
+ghost use Rattle.std.specs.Prelude.{◌≡◌, IfOk, IfErr};
+ghost use Rattle.bre_core.specs.Search.{contains};
+ghost use Rattle.csplit_core.specs.Input.{without_newline};
+
+use memchr::memchr;
+use ports_core::Fault;
+use scan_core::{Bre, Scan};
+use seg_core::line::NEWLINE;
+use std::alloc::Global;
+use std::marker::Model;
+
+/// A pattern, and what matching with it needs.
+#[derive(Drop)]
+pub struct Matcher<'o> {
+    pattern: &'o Bre,
+    scan: Scan,
+}
+
+impl<'o> Model for Matcher<'o> {
+    ghost use Rattle.std.specs.Prelude.{◌≡◌};
+    ghost use Rattle.bre_core.specs.Code.{pattern_code};
+    ghost use Rattle.bre_core.specs.Pattern.{Pattern, positions_of};
+
+    ghost Value = { Pattern };
+
+    ghost coded = { pattern_code };
+
+    ghost view = { λ m. m.pattern.now };
+
+    ghost invariant = { λ m. m.scan.positions ≡ positions_of m.pattern.now };
+}
+
+impl<'o> Matcher<'o> {
+    /// What matching with this pattern needs.
+    ///
+    /// # Errors
+    ///
+    /// `Memory` where there is no room for it.
+    pub(crate) fn new(alloc: Global, pattern: &'o Bre) -> Result<Matcher<'o>, Fault>
+        ensures ok { IfOk result (λ matcher. matcher ≡ pattern.now) }
+        ensures err { IfErr result (λ fault. fault ≡ Fault.Memory) }
+    {
+        match Scan::new(alloc, pattern) {
+            Ok(scan) => Ok(Matcher { pattern, scan }),
+            Err(_) => Err(Fault::Memory),
+        }
+    }
+
+    /// Whether a line contains the pattern. The text is the line without its newline.
+    pub(crate) fn matches(&mut self, text: &[u8]) -> bool
+        ensures exact { result ≡ contains self.old text.now }
+        ensures same { self.new ≡ self.old }
+    {
+        self.scan.matches(self.pattern, text)
+    }
+}
+
+/// A line without its newline.
+pub(crate) fn text_of(line: &[u8]) -> &[u8]
+    ensures { result.now ≡ without_newline line.now }
+{
+    match memchr(NEWLINE, line) {
+        Some(end) => &line[..end],
+        None => line,
+    }
+}
