@@ -3,32 +3,11 @@ use Rattle.std.proofs.Common.{◌≡◌, ℕ, suc, ◌+◌, ◌-◌, ◌≤◌, 
 use Rattle.std.proofs.Math.Seq.{get_or-append_seam}
 use Rattle.csplit_core.specs.Operand.{Target, Number, Search, Operand, Line, unmarked, is_match}
 use Rattle.csplit_core.specs.Plan.{State, Step, Ending, search_line, MatchesNone, Misses, state_after, step_of, Runs, is_used_up, misses, is_above, is_below, cuts}
-use Rattle.csplit_core.specs.Progress.{AreSeen, MissesNow, Turns, AimsAt}
+use Rattle.csplit_core.specs.Progress.{AreSeen, MissesNow, Turns, Advances}
 use Rattle.csplit_core.specs.declared.progress.Turn.{Turn}
 use Rattle.csplit_core.specs.declared.progress.Turn.TheVariants as turn_is
 use Rattle.csplit_core.specs.MatchLaws.{search_some, match_still}
 use Rattle.csplit_core.specs.SectionLaws.{front_of}
-
--- The plan ends here, as the turn says.
-pub record EndsHere (suppress : Bool) (lines : List Line) (state : State) (turn : Turn) : Type 0 where
-  pub ending : Ending
-  pub runs : Runs suppress lines state [] state ending
-  pub aims : AimsAt turn ending
-
--- The plan has this step, and goes on from the state after it.
-pub record GoesPast (suppress : Bool) (lines : List Line) (state : State) (matched cut : ℕ) : Type 0 where
-  pub operand : Operand
-  pub operands : List Operand
-  pub are : state.operands ≡ operand ∷ operands
-  pub runs : (steps : List Step) (last : State) (ending : Ending) → Runs suppress lines (state_after suppress operand operands state.repetition matched cut) steps last ending
-      → Runs suppress lines state (step_of state operand matched cut ∷ steps) last ending
-
-abbrev pub Advances : Bool → List Line → State → Turn → Type 0
-Advances suppress lines state turn_is.UsedUp = EndsHere suppress lines state turn_is.UsedUp
-Advances suppress lines state turn_is.Missed = EndsHere suppress lines state turn_is.Missed
-Advances suppress lines state (turn_is.Above matched line) = EndsHere suppress lines state (turn_is.Above matched line)
-Advances suppress lines state turn_is.Below = EndsHere suppress lines state turn_is.Below
-Advances suppress lines state (turn_is.Cuts matched line) = GoesPast suppress lines state matched line
 
 pub advances : (suppress : Bool) (lines : List Line) (total : ℕ) (state : State) (turn : Turn) → length lines ≡ total → Turns suppress lines total state turn → Advances suppress lines state turn
 advances suppress lines total state turn_is.UsedUp count none = record { ending = _; runs = is_used_up state none; aims = tt }

@@ -2,7 +2,7 @@
 use Rattle.std.specs.Prelude.{◌≡◌, ℕ, ◌-◌, ◌<◌, ◌≤◌, ◌^◌, min, Bool, false, List, [], ◌∷◌, length, drop, Option, Some, None}
 use Rattle.bre_core.specs.Pattern.{Pattern}
 use Rattle.csplit_core.specs.Operand.{Target, Number, Search, Operand, Line, is_match}
-use Rattle.csplit_core.specs.Plan.{State, Ending, used_up, missed, above, below, CutsAt, Misses, search_line}
+use Rattle.csplit_core.specs.Plan.{State, Step, Ending, used_up, missed, above, below, CutsAt, Misses, search_line, state_after, step_of, Runs}
 use Rattle.csplit_core.specs.Measure.{Moves}
 use Rattle.csplit_core.specs.declared.progress.Progress.{Progress}
 use Rattle.csplit_core.specs.declared.progress.Turn.{Turn}
@@ -87,3 +87,24 @@ AimsAt Missed (missed operand repetition) = Unit {0}
 AimsAt (Above last line) (above operand repetition matched cut) = (last ≡ matched) × (line ≡ min cut (2 ^ 64 - 1))
 AimsAt Below (below operand repetition) = Unit {0}
 AimsAt turn ending = ⊥
+
+-- The plan ends here, as the turn says.
+pub record EndsHere (suppress : Bool) (lines : List Line) (state : State) (turn : Turn) : Type 0 where
+  pub ending : Ending
+  pub runs : Runs suppress lines state [] state ending
+  pub aims : AimsAt turn ending
+
+-- The plan has this step, and goes on from the state after it.
+pub record GoesPast (suppress : Bool) (lines : List Line) (state : State) (matched cut : ℕ) : Type 0 where
+  pub operand : Operand
+  pub operands : List Operand
+  pub are : state.operands ≡ operand ∷ operands
+  pub runs : (steps : List Step) (last : State) (ending : Ending) → Runs suppress lines (state_after suppress operand operands state.repetition matched cut) steps last ending
+      → Runs suppress lines state (step_of state operand matched cut ∷ steps) last ending
+
+abbrev pub Advances : Bool → List Line → State → Turn → Type 0
+Advances suppress lines state UsedUp = EndsHere suppress lines state UsedUp
+Advances suppress lines state Missed = EndsHere suppress lines state Missed
+Advances suppress lines state (Above matched line) = EndsHere suppress lines state (Above matched line)
+Advances suppress lines state Below = EndsHere suppress lines state Below
+Advances suppress lines state (Cuts matched line) = GoesPast suppress lines state matched line

@@ -2,7 +2,11 @@
 #![tactic(auto)]
 
 pub mod laws;
+mod holding;
+mod line_cutter;
+mod lines;
 mod matcher;
+mod next_operand;
 mod operand;
 mod operand_fault;
 #[cfg(test)]

@@ -52,7 +52,7 @@ impl Progress {
     }
 
     /// The line at which a search begins.
-    fn search_line(&self, suppress: bool) -> u64
+    pub fn search_line(&self, suppress: bool) -> u64
         requires current { self.now.current < 2 ^ 64 - 1 }
         requires matched { self.now.matched < 2 ^ 64 - 1 }
         ensures { (operands : List Operand) → result ≡ search_line suppress (state_of operands self.now) }

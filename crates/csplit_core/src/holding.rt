@@ -1,0 +1,78 @@
+//! Lines that wait, and what leaves them.
+ghost use Rattle.std.specs.Prelude.{◌≡◌, ◌+◌, ◌<◌, ◌≤◌, ◌^◌, ◌++◌, [], length, IfOk, IfErr, OnOk};
+ghost use Rattle.seg_core.specs.Line.{but_last_lines, last_lines};
+ghost use Rattle.csplit_core.specs.Draft.{with_bytes};
+ghost use Rattle.csplit_core.specs.Writer.{Goes, IsReady, size_of};
+
+use crate::section_writer::SectionWriter;
+use ports_core::{Fault, Outs};
+use seg_core::line_window::LineWindow;
+use std::alloc::Global;
+
+/// Takes in a text after the lines that wait: the last lines of both wait, and what stands before them goes to the open
+/// section, first from what waited and then straight from the text.
+///
+/// # Errors
+///
+/// Those of `SectionWriter::put`, and `Memory` where there is no room for what waits.
+pub(crate) fn hold_last<O: Outs>(
+    window: &mut LineWindow,
+    text: &[u8],
+    writer: &mut SectionWriter,
+    outs: &mut O,
+) -> Result<(), Fault>
+    requires fits { size_of writer.old.current + length window.old.held + length text.now < 2 ^ 64 }
+    requires ready { IsReady writer.old (O.slots outs.old) }
+    ensures goes { Goes O.told writer.old (with_bytes (but_last_lines window.old.delim window.old.most (window.old.held ++ text.now))) (O.slots outs.old) (O.slots outs.new) writer.new result }
+    ensures window { OnOk result (window.new ≡ record { most = window.old.most; delim = window.old.delim; held = last_lines window.old.delim window.old.most (window.old.held ++ text.now) }) }
+    ensures size { OnOk result (size_of writer.new.current + length window.new.held ≤ size_of writer.old.current + length window.old.held + length text.now) }
+{
+    let over = window.over(text);
+    let front = over.min(window.len());
+    write_front(window, front, writer, outs)?;
+    let (settled, rest) = text.split_at((over - front) as usize);
+    writer.put(settled, outs)?;
+    keep(window, rest)
+}
+
+/// Writes the first `n` bytes that wait, and drops them.
+pub(crate) fn write_front<O: Outs>(
+    window: &mut LineWindow,
+    n: u64,
+    writer: &mut SectionWriter,
+    outs: &mut O,
+) -> Result<(), Fault> {
+    let mut left = n;
+    while 0 < left {
+        let front = window.front();
+        let bytes = left.min(front.len() as u64);
+        writer.put(&front[..bytes as usize], outs)?;
+        window.drop_front(bytes);
+        left -= bytes;
+    }
+    Ok(())
+}
+
+/// Puts lines after those that wait.
+fn keep(window: &mut LineWindow, text: &[u8]) -> Result<(), Fault> {
+    match window.put(text) {
+        Ok(()) => Ok(()),
+        Err(_) => Err(Fault::Memory),
+    }
+}
+
+/// The lines that wait, and a text after them. None wait any more.
+///
+/// # Errors
+///
+/// `Memory` where there is no room for them.
+pub(crate) fn drain(alloc: Global, window: &mut LineWindow, text: &[u8]) -> Result<Vec<u8>, Fault>
+    ensures ok { IfOk result (λ all. all.items ≡ window.old.held ++ text.now) }
+    ensures window { OnOk result (window.new ≡ record { most = window.old.most; delim = window.old.delim; held = [] }) }
+    ensures err { IfErr result (λ fault. fault ≡ Fault.Memory) }
+{
+    let mut waiting = vec![in alloc; 0u8; window.len() as usize]?;
+    window.take_front(&mut waiting);
+    waiting.extend_from_slice(text)?;
+    Ok(waiting)
+}

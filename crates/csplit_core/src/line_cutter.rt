@@ -1,0 +1,398 @@
+//! Cutting lines into sections as they come in: what is settled of them goes to the sections, and the others wait.
+ghost use Rattle.std.specs.Prelude.{◌≡◌, ◌≢◌, ◌+◌, ◌<◌, ◌≤◌, ◌^◌, ◌++◌, List, ℕ, [], length, drop, Some, IfOk, IfErr, IfSome, IfNone, OnOk, true, false};
+ghost use Rattle.seg_core.specs.Line.{line_count};
+ghost use Rattle.ports_core.specs.Slot.{is_writable};
+ghost use Rattle.csplit_core.specs.Cutter.{AimHolds, CutAt, CutNot, CutsAll, Holds, IsFit, IsFound, IsLine, IsSound, IsWhole, PassesOn, PassesOver, Stretches, Takes, Tries, TriesNext, WillCut, load, most_by, pattern_by, state_in};
+ghost use Rattle.csplit_core.specs.Input.{newline};
+ghost use Rattle.csplit_core.specs.Measure.{Fits};
+ghost use Rattle.csplit_core.specs.PlanLaws.{needed};
+ghost use Rattle.csplit_core.specs.Writer.{IsReady, size_of};
+ghost use Rattle.csplit_core.specs.declared.progress.Turn.TheVariants as turn_is;
+
+use crate::holding::{drain, hold_last};
+use crate::lines::split_lines;
+use crate::matcher::{Matcher, text_of};
+use crate::next_operand::{find_matcher, find_window, is_kept};
+use crate::progress::{Progress, Turn};
+use crate::section_writer::SectionWriter;
+use crate::Operand;
+use memchr::memchr;
+use ports_core::{Fault, Outs};
+use seg_core::line::{NEWLINE, count_delimiters, next_line, reach};
+use seg_core::line_reach::Reach;
+use seg_core::line_window::LineWindow;
+use std::alloc::Global;
+use std::marker::Model;
+
+/// A cut: the line that the last pattern matched, and the line of the cut.
+#[derive(Clone, Copy, Debug, PartialEq, Eq)]
+pub struct Cut {
+    /// The line that the last pattern matched, 0 where none was performed.
+    pub matched: u64,
+    /// The line of the cut.
+    pub line: u64,
+}
+
+/// The sections of the lines that came in, and where the run stands.
+#[derive(Drop)]
+pub struct LineCutter<'o> {
+    alloc: Global,
+    operands: &'o [Operand],
+    writer: SectionWriter,
+    progress: Progress,
+    /// What the next operand did when it was last tried; never a cut.
+    aim: Turn,
+    /// How many lines came in.
+    lines: u64,
+    /// The lines that wait.
+    window: LineWindow,
+    /// The pattern of the next operand, if it has one.
+    matcher: Option<Matcher<'o>>,
+}
+
+impl<'o> Model for LineCutter<'o> {
+    ghost use Rattle.bre_core.specs.Code.{pattern_code};
+    ghost use Rattle.std.specs.Coded.{codes};
+    ghost use Rattle.csplit_core.specs.Cutter.{CutterState};
+
+    ghost Value = { CutterState };
+
+    ghost coded = { Prim.hlevel (codes, pattern_code) };
+
+    ghost view = { λ c. record { operands = c.operands.now; writer = c.writer; progress = c.progress; aim = c.aim; lines = c.lines; window = c.window; sought = c.matcher } };
+}
+
+impl<'o> LineCutter<'o> {
+    /// Takes in a text of complete lines.
+    ///
+    /// # Errors
+    ///
+    /// `Write` where an output broke; `Open` where a section's file can't be opened; `Memory` where there is no room for
+    /// lines that wait, for a name, or for what the next pattern needs.
+    pub(crate) fn take<O: Outs>(&mut self, text: &[u8], outs: &mut O) -> Result<(), Fault>
+        requires whole { IsWhole text.now }
+        requires fits { load self.old + length text.now < 2 ^ 63 }
+        requires sound { IsSound self.old }
+        requires ready { IsReady self.old.writer (O.slots outs.old) }
+        ensures { Takes O.told self.old text.now (O.slots outs.old) (O.slots outs.new) self.new result }
+    {
+        if self.is_past() {
+            return Ok(());
+        }
+        let mut left = text;
+        'stretches: while !left.is_empty() {
+            let n = self.stretch(left, outs)?;
+            left = &left[n..];
+        }
+        Ok(())
+    }
+
+    /// Whether no line goes anywhere any more, since the last cut is below the current line.
+    pub(crate) fn is_past(&self) -> bool
+        ensures past { result ≡ true → self.now.aim ≡ turn_is.Below }
+        ensures live { result ≡ false → self.now.aim ≢ turn_is.Below }
+    {
+        self.aim == Turn::Below
+    }
+
+    /// Takes in a beginning of a text of complete lines, which isn't empty: a stretch that the next operand doesn't cut,
+    /// and the line after it. Returns how many bytes these are.
+    fn stretch<O: Outs>(&mut self, text: &[u8], outs: &mut O) -> Result<usize, Fault>
+        requires some { 0 < length text.now }
+        requires whole { IsWhole text.now }
+        requires fits { load self.old + length text.now < 2 ^ 63 }
+        requires sound { IsSound self.old }
+        requires ready { IsReady self.old.writer (O.slots outs.old) }
+        ensures { Stretches O.told self.old text.now (O.slots outs.old) (O.slots outs.new) self.new result }
+    {
+        let n = self.pass_over(text);
+        self.hold(&text[..n], outs)?;
+        if n == text.len() {
+            return Ok(n);
+        }
+        let (line, _) = next_line(&text[n..], NEWLINE);
+        self.take_line(line, outs)?;
+        Ok(n + line.len())
+    }
+
+    /// Takes in one line, which may lack its newline.
+    pub(crate) fn take_line<O: Outs>(&mut self, line: &[u8], outs: &mut O) -> Result<(), Fault>
+        requires line { IsLine line.now }
+        requires fits { load self.old + length line.now < 2 ^ 63 }
+        requires sound { IsSound self.old }
+        requires ready { IsReady self.old.writer (O.slots outs.old) }
+        ensures { Takes O.told self.old line.now (O.slots outs.old) (O.slots outs.new) self.new result }
+    {
+        if self.is_past() {
+            return Ok(());
+        }
+        match self.try_line(line) {
+            None => self.hold(line, outs),
+            Some(cut) => self.cut_line(cut, line, outs),
+        }
+    }
+
+    /// Counts the lines at the beginning of a text of complete lines after which the next operand stands as it does now,
+    /// and returns how many bytes they are.
+    fn pass_over(&mut self, text: &[u8]) -> usize
+        requires whole { IsWhole text.now }
+        requires fits { self.old.lines + length text.now < 2 ^ 63 }
+        requires sound { IsSound self.old }
+        ensures { PassesOver self.old text.now self.new result }
+    {
+        match self.aim {
+            Turn::Above(_, line) => self.pass_below(line, text),
+            Turn::Missed => self.pass_unmatched(text),
+            Turn::UsedUp => self.pass_all(text),
+            Turn::Below => 0,
+            Turn::Cuts(_, _) => 0,
+        }
+    }
+
+    /// Counts the lines of a text.
+    fn pass_all(&mut self, text: &[u8]) -> usize
+        requires whole { IsWhole text.now }
+        requires fits { self.old.lines + length text.now < 2 ^ 63 }
+        requires sound { IsSound self.old }
+        requires aim { self.old.aim ≡ turn_is.UsedUp }
+        ensures { PassesOver self.old text.now self.new result }
+    {
+        self.lines += count_delimiters(text, NEWLINE) as u64;
+        text.len()
+    }
+
+    /// Counts the lines of a text before the line of this number.
+    fn pass_below(&mut self, line: u64, text: &[u8]) -> usize
+        requires whole { IsWhole text.now }
+        requires fits { self.old.lines + length text.now < 2 ^ 63 }
+        requires sound { IsSound self.old }
+        requires aim { (matched : ℕ) × (self.old.aim ≡ turn_is.Above matched line) }
+        ensures { PassesOver self.old text.now self.new result }
+    {
+        match reach(text, line - 1 - self.lines, NEWLINE) {
+            Reach::Ends(end) => {
+                self.lines = line - 1;
+                end
+            }
+            Reach::Short(count) => {
+                self.lines += count as u64;
+                text.len()
+            }
+        }
+    }
+
+    /// Counts the lines of a text before the first one with the pattern that is searched for.
+    fn pass_unmatched(&mut self, text: &[u8]) -> usize
+        requires whole { IsWhole text.now }
+        requires fits { self.old.lines + length text.now < 2 ^ 63 }
+        requires sound { IsSound self.old }
+        requires aim { self.old.aim ≡ turn_is.Missed }
+        ensures { PassesOver self.old text.now self.new result }
+    {
+        let mut left = text;
+        while let Some(end) = memchr(NEWLINE, left) {
+            if self.is_match(&left[..end], self.lines + 1) {
+                return text.len() - left.len();
+            }
+            self.lines += 1;
+            left = &left[end + 1..];
+        }
+        text.len() - left.len()
+    }
+
+    /// Counts one more line, and tries the next operand with it. Returns its cut, if it makes one.
+    fn try_line(&mut self, line: &[u8]) -> Option<Cut>
+        requires line { IsLine line.now }
+        requires few { self.old.lines < 2 ^ 63 }
+        requires sound { IsSound self.old }
+        requires live { self.old.aim ≢ turn_is.Below }
+        ensures same { self.new ≡ record self.old { lines = self.old.lines + 1; aim = self.new.aim } }
+        ensures fit { IsFit self.new }
+        ensures aim { IfNone result (AimHolds self.new.operands self.new.lines self.new.progress self.new.aim) }
+        ensures cuts { IfSome result (WillCut self.new) }
+        ensures tries { TriesNext self.old line.now self.new result }
+    {
+        self.lines += 1;
+        match self.aim {
+            Turn::Above(matched, line) => {
+                if self.lines < line {
+                    return None;
+                }
+                Some(Cut { matched, line })
+            }
+            Turn::Missed => self.try_last(line),
+            Turn::UsedUp => None,
+            Turn::Below => None,
+            Turn::Cuts(_, _) => None,
+        }
+    }
+
+    /// Tries the next operand, where this is the last line that came in, and none before it is to be looked at. Returns
+    /// its cut, if it makes one.
+    fn try_last(&mut self, line: &[u8]) -> Option<Cut>
+        requires few { self.old.lines ≤ 2 ^ 63 }
+        requires fit { IsFit self.old }
+        ensures same { self.new ≡ record self.old { aim = self.new.aim } }
+        ensures aim { IfNone result (AimHolds self.new.operands self.new.lines self.new.progress self.new.aim) }
+        ensures cuts { IfSome result (WillCut self.old) }
+        ensures tries { Tries self.old line.now self.new result }
+    {
+        let found = self.is_match(text_of(line), self.lines);
+        let turn = self.find_turn(found);
+        if let Turn::Cuts(matched, line) = turn {
+            return Some(Cut { matched, line });
+        }
+        self.aim = turn;
+        None
+    }
+
+    /// What the next operand does.
+    fn find_turn(&self, found: bool) -> Turn {
+        self.progress.turn(
+            self.writer.style().suppress,
+            self.operands,
+            self.lines,
+            found,
+        )
+    }
+
+    /// Whether a line has the pattern that is searched for, if the search reaches the line of this number. The text is
+    /// the line without its newline.
+    fn is_match(&mut self, text: &[u8], line: u64) -> bool
+        requires current { self.old.progress.current < 2 ^ 64 - 1 }
+        requires matched { self.old.progress.matched < 2 ^ 64 - 1 }
+        ensures same { self.new ≡ self.old }
+        ensures found { IsFound self.old text.now line result }
+    {
+        if line < self.progress.search_line(self.writer.style().suppress) {
+            return false;
+        }
+        match &mut self.matcher {
+            Some(matcher) => matcher.matches(text),
+            None => false,
+        }
+    }
+
+    /// Cuts the lines that wait and the last line, and then keeps of them what waits.
+    fn cut_line<O: Outs>(&mut self, cut: Cut, line: &[u8], outs: &mut O) -> Result<(), Fault>
+        requires few { self.old.lines ≤ 2 ^ 63 }
+        requires fits { size_of self.old.writer.current + length self.old.window.held + length line.now < 2 ^ 63 }
+        requires fit { IsFit self.old }
+        requires cuts { WillCut self.old cut }
+        requires ready { IsReady self.old.writer (O.slots outs.old) }
+        ensures { (place : ℕ) → place + line_count newline self.old.window.held ≡ self.old.lines → CutsAll O.told self.old cut place (self.old.window.held ++ line.now) line.now (O.slots outs.old) (O.slots outs.new) self.new result }
+    {
+        if self.window.is_empty() {
+            return self.cut_all(cut, self.lines, line, line, outs);
+        }
+        let waiting = drain(self.alloc, &mut self.window, line)?;
+        let lines = count_delimiters(&waiting[..waiting.len() - line.len()], NEWLINE);
+        let place = self.lines.saturating_sub(lines as u64);
+        self.cut_all(cut, place, &waiting, line, outs)
+    }
+
+    /// Cuts the last lines that came in, which begin with the line of number `place`, as often as operands cut them. No
+    /// line waits.
+    fn cut_all<O: Outs>(
+        &mut self,
+        cut: Cut,
+        place: u64,
+        waiting: &[u8],
+        line: &[u8],
+        outs: &mut O,
+    ) -> Result<(), Fault>
+        requires few { self.old.lines ≤ 2 ^ 63 }
+        requires fits { size_of self.old.writer.current + length waiting.now < 2 ^ 63 }
+        requires fit { IsFit self.old }
+        requires none { self.old.window.held ≡ [] }
+        requires cuts { WillCut self.old cut }
+        requires ready { IsReady self.old.writer (O.slots outs.old) }
+        ensures { CutsAll O.told self.old cut place waiting.now line.now (O.slots outs.old) (O.slots outs.new) self.new result }
+    {
+        let mut left = self.cut_at(cut, place, waiting, outs)?;
+        while let Some(cut) = self.try_last(line) {
+            left = self.cut_at(cut, self.progress.current, left, outs)?;
+        }
+        self.hold(left, outs)
+    }
+
+    /// Ends the open section before the line of the cut, and begins the next. Returns the lines that follow the cut. No
+    /// line waits.
+    fn cut_at<'l, O: Outs>(
+        &mut self,
+        cut: Cut,
+        place: u64,
+        waiting: &'l [u8],
+        outs: &mut O,
+    ) -> Result<&'l [u8], Fault>
+        requires few { self.old.lines ≤ 2 ^ 63 }
+        requires fits { size_of self.old.writer.current + length waiting.now < 2 ^ 63 }
+        requires fit { IsFit self.old }
+        requires none { self.old.window.held ≡ [] }
+        requires cuts { WillCut self.old cut }
+        requires ready { IsReady self.old.writer (O.slots outs.old) }
+        ensures ok { IfOk result (λ rest. CutAt O.told self.old cut place waiting.now (O.slots outs.old) (O.slots outs.new) self.new rest.now) }
+        ensures err { IfErr result (CutNot O.told self.old cut place waiting.now (O.slots outs.old) (O.slots outs.new) self.new) }
+    {
+        let (before, rest) = split_lines(waiting, cut.line.saturating_sub(place));
+        self.writer.put(before, outs)?;
+        self.pass(cut)?;
+        let is_kept = is_kept(self.operands.get(self.progress.done));
+        self.writer.next(is_kept, outs)?;
+        if self.writer.style().suppress {
+            return Ok(next_line(rest, NEWLINE).1);
+        }
+        Ok(rest)
+    }
+
+    /// Goes on after a cut of the next operand, where no line waits.
+    fn pass(&mut self, cut: Cut) -> Result<(), Fault>
+        requires few { self.old.lines ≤ 2 ^ 63 }
+        requires fit { IsFit self.old }
+        requires none { self.old.window.held ≡ [] }
+        requires cuts { WillCut self.old cut }
+        ensures same { OnOk result (self.new ≡ record self.old { progress = self.new.progress; window = self.new.window; sought = self.new.sought }) }
+        ensures held { OnOk result (self.new.window.held ≡ []) }
+        ensures fit { OnOk result (IsFit self.new) }
+        ensures fewer { OnOk result (needed self.new.lines (state_in self.new) < needed self.old.lines (state_in self.old)) }
+        ensures state { OnOk result (PassesOn self.old cut self.new) }
+        ensures err { IfErr result (λ fault. (fault ≡ Fault.Memory) × (self.new.writer ≡ self.old.writer) × (self.new.operands ≡ self.old.operands)) }
+    {
+        let done = self.progress.done;
+        self.progress.pass(
+            self.writer.style().suppress,
+            &self.operands[done],
+            cut.matched,
+            cut.line,
+        );
+        if self.progress.done == done {
+            return Ok(());
+        }
+        self.equip()
+    }
+
+    /// Gets what the next operand needs.
+    fn equip(&mut self) -> Result<(), Fault>
+        ensures same { OnOk result (self.new ≡ record self.old { window = record { most = most_by (state_in self.old).operands; delim = newline; held = [] }; sought = pattern_by (state_in self.old).operands }) }
+        ensures err { IfErr result (λ fault. (fault ≡ Fault.Memory) × (self.new.writer ≡ self.old.writer) × (self.new.operands ≡ self.old.operands)) }
+    {
+        let next = self.operands.get(self.progress.done);
+        self.matcher = find_matcher(self.alloc, next)?;
+        self.window = find_window(self.alloc, next)?;
+        Ok(())
+    }
+
+    /// Writes what is settled of the lines that wait and of those after them, and keeps the others.
+    fn hold<O: Outs>(&mut self, text: &[u8], outs: &mut O) -> Result<(), Fault>
+        requires fits { size_of self.old.writer.current + length self.old.window.held + length text.now < 2 ^ 63 }
+        requires fit { IsFit self.old }
+        requires ready { IsReady self.old.writer (O.slots outs.old) }
+        ensures { Holds O.told self.old (self.old.window.held ++ text.now) (O.slots outs.old) (O.slots outs.new) self.new result }
+    {
+        if self.is_past() {
+            self.window.drop_front(self.window.len());
+            return Ok(());
+        }
+        hold_last(&mut self.window, text, &mut self.writer, outs)
+    }
+}

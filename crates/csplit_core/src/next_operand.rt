@@ -1,0 +1,76 @@
+//! What the next operand needs.
+ghost use Rattle.std.specs.Prelude.{◌≡◌, [], IfOk, IfErr, option_map};
+ghost use Rattle.csplit_core.specs.Cutter.{kept_next, most_next, pattern_next};
+ghost use Rattle.csplit_core.specs.Input.{newline};
+
+use crate::matcher::Matcher;
+use crate::{Offset, Operand, Target};
+use ports_core::Fault;
+use seg_core::line::NEWLINE;
+use seg_core::line_window::LineWindow;
+use std::alloc::Global;
+
+/// Whether the section that it ends is kept; the rest after all operands is.
+pub(crate) fn is_kept(next: Option<&Operand>) -> bool
+    ensures { result ≡ kept_next (option_map (λ operand. operand.now) next) }
+{
+    let Some(operand) = next else {
+        return true;
+    };
+    match &operand.target {
+        Target::Number(_) => true,
+        Target::Search { is_kept, .. } => *is_kept,
+    }
+}
+
+/// What matching with its pattern needs, if it has one.
+///
+/// # Errors
+///
+/// `Memory` where there is no room for it.
+pub(crate) fn find_matcher<'o>(
+    alloc: Global,
+    next: Option<&'o Operand>,
+) -> Result<Option<Matcher<'o>>, Fault>
+    ensures ok { IfOk result (λ matcher. matcher ≡ pattern_next (option_map (λ operand. operand.now) next)) }
+    ensures err { IfErr result (λ fault. fault ≡ Fault.Memory) }
+{
+    let Some(operand) = next else {
+        return Ok(None);
+    };
+    match &operand.target {
+        Target::Number(_) => Ok(None),
+        Target::Search { pattern, .. } => Ok(Some(Matcher::new(alloc, pattern)?)),
+    }
+}
+
+/// Room for the lines that may wait for its cut, as many as its offset goes back.
+///
+/// # Errors
+///
+/// `Memory` where there is no room for it.
+pub(crate) fn find_window(alloc: Global, next: Option<&Operand>) -> Result<LineWindow, Fault>
+    ensures ok { IfOk result (λ window. window ≡ record { most = most_next (option_map (λ operand. operand.now) next); delim = newline; held = [] }) }
+    ensures err { IfErr result (λ fault. fault ≡ Fault.Memory) }
+{
+    match LineWindow::new(alloc, most_held(next), NEWLINE) {
+        Ok(window) => Ok(window),
+        Err(_) => Err(Fault::Memory),
+    }
+}
+
+/// How many lines may wait for its cut.
+fn most_held(next: Option<&Operand>) -> u64
+    ensures { result ≡ most_next (option_map (λ operand. operand.now) next) }
+{
+    let Some(operand) = next else {
+        return 0;
+    };
+    match &operand.target {
+        Target::Number(_) => 0,
+        Target::Search { offset, .. } => match offset {
+            Offset::Plus(_) => 0,
+            Offset::Minus(lines) => *lines,
+        },
+    }
+}
