@@ -15,3 +15,5 @@ pub mod AdvanceLemmas
 pub mod OneReading
 pub mod WholeLemmas
 pub mod MatchLemmas
+pub mod CutterLemmas
+pub mod LineLemmas

@@ -2,7 +2,7 @@
 use Rattle.std.specs.Prelude.{◌≡◌, ◌⊎◌, ℕ, ◌+◌, ◌-◌, ◌<◌, ◌≤◌, max, Bool, true, false, List, [], ◌∷◌, ◌++◌, length, map, take, drop, Option, Some, None, Result, Ok, Err}
 use Rattle.bre_core.specs.Pattern.{Pattern}
 use Rattle.bre_core.specs.Search.{contains}
-use Rattle.seg_core.specs.Line.{lines_of, line_count, after_lines, first_lines, but_last_lines, ends_with}
+use Rattle.seg_core.specs.Line.{lines_of, line_count, after_lines, first_lines, ends_with}
 use Rattle.seg_core.specs.Window.{Window}
 use Rattle.ports_core.specs.Part.{Part}
 use Rattle.ports_core.specs.Slot.{Slot}
@@ -133,9 +133,9 @@ pub record IsAt (cutter : CutterState) (x left : List ℕ) : Type 0 where
   -- how many lines of the open section are written, and their bytes
   pub taken : ℕ
   pub written : List ℕ
-  pub few : taken ≤ line_count newline (text_from cutter.progress.current x)
+  pub few : cutter.progress.current + taken ≤ line_count newline x + 1
   pub written_is : written ≡ first_lines newline taken (text_from cutter.progress.current x)
-  pub text : text_from cutter.progress.current x ≡ written ++ left
+  pub left_is : left ≡ text_from (cutter.progress.current + taken) x
   pub writes : Writes cutter.writer (draft_by (all_lines x) steps (kept_by (state_in cutter).operands) written)
 
 abbrev pub part_at : (cutter : CutterState) (x left : List ℕ) → IsAt cutter x left → Part
@@ -150,7 +150,8 @@ pub record IsLive (cutter : CutterState) (x : List ℕ) : Type 0 where
   pub at : IsAt cutter x cutter.window.held
   pub ends : EndsNow cutter x
   pub live : is_final ends.ending ≡ false
-  pub settled : at.written ≡ but_last_lines newline (most_waiting ends.ending) (text_from cutter.progress.current x)
+  -- all but the last lines that may wait are written
+  pub settled : at.taken ≡ cutter.lines + 1 - cutter.progress.current - most_waiting ends.ending
 
 -- it was given the lines x, and what follows them goes nowhere
 pub record IsPast (cutter : CutterState) (x : List ℕ) : Type 0 where
@@ -194,7 +195,7 @@ Takes told cutter text old new next (Err fault) = TookNot told cutter text old n
 -- The plan over x ends where the cutter stands, and what is written of the open section is settled.
 pub record Arrives (cutter : CutterState) (x left : List ℕ) (at : IsAt cutter x left) : Type 0 where
   pub ends : EndsNow cutter x
-  pub low : is_final ends.ending ≡ true → at.written ≡ []
+  pub low : is_final ends.ending ≡ true → at.taken ≡ 0
   pub enough : (at.taken ≡ 0) ⊎ (cutter.window.most ≤ line_count newline left)
 
 -- What `hold` does: the lines up to x came in, and these were left.

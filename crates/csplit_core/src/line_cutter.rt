@@ -1,11 +1,13 @@
 //! Cutting lines into sections as they come in: what is settled of them goes to the sections, and the others wait.
-ghost use Rattle.std.specs.Prelude.{◌≡◌, ◌≢◌, ◌+◌, ◌<◌, ◌≤◌, ◌^◌, ◌++◌, List, ℕ, [], length, drop, Some, IfOk, IfErr, IfSome, IfNone, OnOk, true, false};
+ghost use Rattle.std.specs.Prelude.{◌≡◌, ◌≢◌, ◌+◌, ◌-◌, ◌<◌, ◌≤◌, ◌^◌, ◌++◌, List, ℕ, [], length, drop, Some, IfOk, IfErr, IfSome, IfNone, OnOk, true, false};
 ghost use Rattle.seg_core.specs.Line.{line_count};
 ghost use Rattle.ports_core.specs.Slot.{is_writable};
-ghost use Rattle.csplit_core.specs.Cutter.{AimHolds, CutAt, CutNot, CutsAll, Holds, IsFit, IsFound, IsLine, IsSound, IsWhole, PassesOn, PassesOver, Stretches, Takes, Tries, TriesNext, WillCut, load, most_by, pattern_by, state_in};
+ghost use Rattle.csplit_core.specs.Cutter.{AimHolds, CutAt, CutNot, CutsAll, Holds, IsFit, IsFound, IsLine, IsSound, IsWhole, PassesOn, PassesOver, Stretches, Takes, Tries, TriesNext, WillCut, load, most_by, pattern_by, state_in, suppress_in};
 ghost use Rattle.csplit_core.specs.Input.{newline};
 ghost use Rattle.csplit_core.specs.Measure.{Fits};
+ghost use Rattle.csplit_core.specs.Operand.{Line};
 ghost use Rattle.csplit_core.specs.PlanLaws.{needed};
+ghost use Rattle.csplit_core.specs.Progress.{AreSeen, MovesOn, Turns};
 ghost use Rattle.csplit_core.specs.Writer.{IsReady, size_of};
 ghost use Rattle.csplit_core.specs.declared.progress.Turn.TheVariants as turn_is;
 
@@ -246,8 +248,13 @@ impl<'o> LineCutter<'o> {
         None
     }
 
-    /// What the next operand does.
-    fn find_turn(&self, found: bool) -> Turn {
+    /// What the next operand does, where `found` says whether the last line has its pattern.
+    fn find_turn(&self, found: bool) -> Turn
+        requires few { self.now.lines ≤ 2 ^ 63 }
+        requires fit { IsFit self.now }
+        ensures says { (lines : List Line) → AreSeen (suppress_in self.now) lines self.now.lines (state_in self.now) found → Turns (suppress_in self.now) lines self.now.lines (state_in self.now) result }
+        ensures moves { MovesOn self.now.operands self.now.lines self.now.progress result }
+    {
         self.progress.turn(
             self.writer.style().suppress,
             self.operands,
@@ -359,12 +366,10 @@ impl<'o> LineCutter<'o> {
         ensures err { IfErr result (λ fault. (fault ≡ Fault.Memory) × (self.new.writer ≡ self.old.writer) × (self.new.operands ≡ self.old.operands)) }
     {
         let done = self.progress.done;
-        self.progress.pass(
-            self.writer.style().suppress,
-            &self.operands[done],
-            cut.matched,
-            cut.line,
-        );
+        let suppress = self.writer.style().suppress;
+        let operands = self.operands;
+        self.progress
+            .pass(suppress, &operands[done], cut.matched, cut.line);
         if self.progress.done == done {
             return Ok(());
         }

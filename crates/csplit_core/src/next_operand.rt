@@ -12,7 +12,7 @@ use std::alloc::Global;
 
 /// Whether the section that it ends is kept; the rest after all operands is.
 pub(crate) fn is_kept(next: Option<&Operand>) -> bool
-    ensures { result ≡ kept_next (option_map (λ operand. operand.now) next) }
+    ensures { result ≡ kept_next (option_map (λ operand. operand.now) next.entry) }
 {
     let Some(operand) = next else {
         return true;
@@ -32,7 +32,7 @@ pub(crate) fn find_matcher<'o>(
     alloc: Global,
     next: Option<&'o Operand>,
 ) -> Result<Option<Matcher<'o>>, Fault>
-    ensures ok { IfOk result (λ matcher. matcher ≡ pattern_next (option_map (λ operand. operand.now) next)) }
+    ensures ok { IfOk result (λ matcher. matcher ≡ pattern_next (option_map (λ operand. operand.now) next.entry)) }
     ensures err { IfErr result (λ fault. fault ≡ Fault.Memory) }
 {
     let Some(operand) = next else {
@@ -50,7 +50,7 @@ pub(crate) fn find_matcher<'o>(
 ///
 /// `Memory` where there is no room for it.
 pub(crate) fn find_window(alloc: Global, next: Option<&Operand>) -> Result<LineWindow, Fault>
-    ensures ok { IfOk result (λ window. window ≡ record { most = most_next (option_map (λ operand. operand.now) next); delim = newline; held = [] }) }
+    ensures ok { IfOk result (λ window. window ≡ record { most = most_next (option_map (λ operand. operand.now) next.entry); delim = newline; held = [] }) }
     ensures err { IfErr result (λ fault. fault ≡ Fault.Memory) }
 {
     match LineWindow::new(alloc, most_held(next), NEWLINE) {
@@ -61,7 +61,7 @@ pub(crate) fn find_window(alloc: Global, next: Option<&Operand>) -> Result<LineW
 
 /// How many lines may wait for its cut.
 fn most_held(next: Option<&Operand>) -> u64
-    ensures { result ≡ most_next (option_map (λ operand. operand.now) next) }
+    ensures { result ≡ most_next (option_map (λ operand. operand.now) next.entry) }
 {
     let Some(operand) = next else {
         return 0;
