@@ -14,3 +14,6 @@ pub mod MoveLemmas
 pub mod AdvanceLemmas
 pub mod OneReading
 pub mod WholeLemmas
+pub mod WriterLemmas
+pub mod SizeLine
+pub mod MakeLemmas

@@ -21,3 +21,4 @@ pub mod Repeating
 pub mod Aiming
 pub mod Draft
 pub mod Writer
+pub mod WriterSteps
