@@ -17,3 +17,6 @@ pub mod WholeLemmas
 pub mod MatchLemmas
 pub mod CutterLemmas
 pub mod LineLemmas
+pub mod WriterLemmas
+pub mod SizeLine
+pub mod MakeLemmas

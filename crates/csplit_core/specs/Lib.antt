@@ -22,3 +22,4 @@ pub mod Aiming
 pub mod Draft
 pub mod Writer
 pub mod Cutter
+pub mod WriterSteps

@@ -1,14 +1,14 @@
 -- What contracts see of the writer of sections, and what its calls do.
-use Rattle.std.specs.Prelude.{◌≡◌, ℕ, ◌+◌, ◌<◌, ◌≤◌, suc, Bool, true, false, List, [], length, IsTrue, Result, Ok, Err}
+use Rattle.std.specs.Prelude.{◌≡◌, ℕ, ◌+◌, ◌<◌, ◌≤◌, suc, Bool, true, false, List, [], ◌∷◌, ◌++◌, length, IsTrue, Result, Ok, Err}
 use Rattle.ports_core.specs.Part.{Part, OutputsAt, StoppedInTurn}
 use Rattle.ports_core.specs.Slot.{Slot, Rose, slot_at, is_writable}
 use Rattle.ports_core.specs.Swept.{AreMade}
 use Rattle.ports_core.specs.declared.fault.Fault.{Fault}
 use Rattle.ports_core.specs.declared.fault.Fault.TheVariants.{Memory, Write, Read, Open, Suffixes, NoMatch, Range, Usage, Failed, TooLong}
 use Rattle.csplit_core.specs.Draft.{Draft, draft_part, ended_part, last_contents, AreClosed}
-use Rattle.csplit_core.specs.Output.{Style, makes_file, files_of}
+use Rattle.csplit_core.specs.Output.{Style, Contents, makes_file, files_of}
 use Rattle.csplit_core.specs.declared.section_writer.Current.{Current}
-use Rattle.csplit_core.specs.declared.section_writer.Current.TheVariants.{Skipped, Unmade, File}
+use Rattle.csplit_core.specs.declared.section_writer.Current.TheVariants.{Skipped, Unmade, File, Unopened}
 
 pub record WriterState : Type 0 where
   pub style : Style
@@ -24,12 +24,14 @@ abbrev pub size_of : Current → ℕ
 size_of Skipped = 0
 size_of Unmade = 0
 size_of (File slot size) = size
+size_of Unopened = 0
 
 -- this is the open section: it is kept or not, and has these bytes so far
 abbrev pub IsCurrent : Style → Bool → List ℕ → Current → Type 0
 IsCurrent style kept bytes Skipped = kept ≡ false
 IsCurrent style kept bytes Unmade = (kept ≡ true) × (style.elide ≡ true) × (bytes ≡ [])
 IsCurrent style kept bytes (File slot size) = (makes_file style (record { is_kept = kept; is_closed = false; bytes = bytes }) ≡ true) × (size ≡ length bytes)
+IsCurrent style kept bytes Unopened = ⊥
 
 -- the writer can have been given these sections
 pub record Writes (writer : WriterState) (draft : Draft) : Type 0 where
@@ -37,25 +39,31 @@ pub record Writes (writer : WriterState) (draft : Draft) : Type 0 where
   pub made : writer.made ≡ length (draft_part writer.style draft).files
   pub current : IsCurrent writer.style draft.is_kept draft.bytes writer.current
 
--- the files of the slots from a place on are those that it made
+abbrev pub could_open : Current → Bool
+could_open Skipped = true
+could_open Unmade = true
+could_open (File slot size) = true
+could_open Unopened = false
+
+-- the files of the slots from a place on are those that it made, and they are the last outputs as long as each file could be opened
 pub record OwnsFiles (writer : WriterState) (first : ℕ) (slots : List Slot) : Type 0 where
   pub streams : 2 ≤ first
   pub place : 0 < writer.made → writer.first ≡ first
   pub files : AreMade first writer.made slots
+  pub last : could_open writer.current ≡ true → first + writer.made ≡ length slots
 
 -- the file of the open section is the last output, and can be written
 abbrev pub IsOpenAt : Current → List Slot → Type 0
 IsOpenAt Skipped slots = Unit {0}
 IsOpenAt Unmade slots = Unit {0}
 IsOpenAt (File slot size) slots = (2 ≤ slot) × (suc slot ≡ length slots) × IsTrue (is_writable slots slot)
+IsOpenAt Unopened slots = ⊥
 
--- the outputs that it goes on with can be written: standard output, and the file of the open section. All its files are there, and
--- are the last outputs.
+-- the outputs that it goes on with can be written: standard output, and the file of the open section; and its files are there
 pub record IsReady (writer : WriterState) (slots : List Slot) : Type 0 where
   pub output : IsTrue (is_writable slots 0)
   pub first : ℕ
   pub owns : OwnsFiles writer first slots
-  pub last : first + writer.made ≡ length slots
   pub current : IsOpenAt writer.current slots
 
 -- outputs that had one part have another
@@ -107,13 +115,19 @@ abbrev pub Goes : Bool → WriterState → (Draft → Draft) → List Slot → L
 Goes told writer change old new next (Ok done) = Went told writer change old new next
 Goes told writer change old new next (Err fault) = Stopped told writer change old new next fault
 
+-- these sections ended, and no other began
+pub record Pauses (writer : WriterState) (ended : List Contents) : Type 0 where
+  pub closed : AreClosed ended
+  pub made : writer.made ≡ length (files_of writer.style 0 ended)
+
 -- The open section ended, and no other begins.
 pub record Ended (told : Bool) (writer : WriterState) (old new : List Slot) (next : WriterState) : Type 0 where
   pub style : next.style ≡ writer.style
   pub moves : (draft : Draft) → Writes writer draft → Moves told (draft_part writer.style draft) (ended_part writer.style draft) old new
   pub keeps : KeepsBroken old new
   pub owns : KeepsFiles writer next old new
-  pub output : IsTrue (is_writable new 0)
+  pub ready : IsReady next new
+  pub pauses : (draft : Draft) → Writes writer draft → Pauses next (draft.ended ++ last_contents true draft ∷ [])
 
 pub record EndedNot (told : Bool) (writer : WriterState) (old new : List Slot) (next : WriterState) (fault : Fault) : Type 0 where
   pub style : next.style ≡ writer.style

@@ -1,9 +1,12 @@
 //! Writing sections: a file for each that is kept, and its size on standard output.
-ghost use Rattle.std.specs.Prelude.{◌≡◌, ◌+◌, ◌<◌, ◌≤◌, ◌^◌, ℕ, length, IsTrue, OnOk};
-ghost use Rattle.ports_core.specs.Slot.{is_writable};
+ghost use Rattle.std.specs.Prelude.{◌≡◌, ◌+◌, ◌<◌, ◌≤◌, ◌^◌, ◌++◌, ◌∷◌, [], ℕ, length, decimal, IsTrue, IfErr, OnOk};
+ghost use Rattle.ports_core.specs.Slot.{is_writable, told_of, with_written};
 ghost use Rattle.ports_core.specs.Swept.{SweptFrom};
 ghost use Rattle.csplit_core.specs.Draft.{with_bytes, with_section};
+ghost use Rattle.csplit_core.specs.Input.{newline};
 ghost use Rattle.csplit_core.specs.Writer.{Begins, Ends, Goes, IsReady, OwnsFiles, size_of};
+ghost use Rattle.csplit_core.specs.WriterSteps.{Appends, Makes, Starts, WritesShort};
+ghost use Rattle.csplit_core.specs.declared.section_writer.Current.TheVariants.{File};
 
 use crate::Style;
 use itoa::Buffer;
@@ -25,6 +28,8 @@ pub enum Current {
         /// How many bytes it has.
         size: u64,
     },
+    /// It is kept, and its file could not be opened.
+    Unopened,
 }
 
 /// The files of the sections so far, and the section that is open.
@@ -106,6 +111,7 @@ impl SectionWriter {
                 self.append(slot, 0, bytes, outs)
             }
             Current::File { slot, size } => self.append(slot, size, bytes, outs),
+            Current::Unopened => Err(Fault::Failed),
         }
     }
 
@@ -132,15 +138,12 @@ impl SectionWriter {
         requires { IsReady self.old (O.slots outs.old) }
         ensures { Ends O.told self.old (O.slots outs.old) (O.slots outs.new) self.new result }
     {
-        let Current::File { slot, size } = self.current else {
-            return Ok(());
-        };
-        self.current = Current::Skipped;
-        outs.close(slot)?;
-        if self.style.quiet {
-            return Ok(());
+        match self.current {
+            Current::Skipped => Ok(()),
+            Current::Unmade => Ok(()),
+            Current::File { slot, size } => self.end_file(slot, size, outs),
+            Current::Unopened => Err(Fault::Failed),
         }
-        write_size(size, outs)
     }
 
     /// Removes all files, in order. One that can't be removed is broken and closed, and the next is tried.
@@ -153,8 +156,11 @@ impl SectionWriter {
         }
     }
 
-    /// Begins a section.
-    fn begin<O: Outs>(&mut self, is_kept: bool, outs: &mut O) -> Result<(), Fault> {
+    /// Begins a section, where none is open.
+    fn begin<O: Outs>(&mut self, is_kept: bool, outs: &mut O) -> Result<(), Fault>
+        requires { IsReady self.old (O.slots outs.old) }
+        ensures { Starts O.told self.old.style self.old is_kept (O.slots outs.old) (O.slots outs.new) self.new result }
+    {
         if !is_kept {
             self.current = Current::Skipped;
             return Ok(());
@@ -163,19 +169,23 @@ impl SectionWriter {
             self.current = Current::Unmade;
             return Ok(());
         }
-        let slot = self.make_file(outs)?;
-        self.current = Current::File { slot, size: 0 };
+        self.make_file(outs)?;
         Ok(())
     }
 
-    /// Makes the next file, and returns its output.
-    fn make_file<O: Outs>(&mut self, outs: &mut O) -> Result<usize, Fault> {
+    /// Makes the next file, which is that of the open section, and returns its output.
+    fn make_file<O: Outs>(&mut self, outs: &mut O) -> Result<usize, Fault>
+        requires { IsReady self.old (O.slots outs.old) }
+        ensures { Makes self.old (O.slots outs.old) (O.slots outs.new) self.new result }
+    {
+        self.current = Current::Unopened;
         let name = numbered(self.alloc, &self.style.prefix, self.style.digits, self.made as u64)?;
         let slot = outs.open(name.as_str(), Mode::Fresh)?;
         if self.made == 0 {
             self.first = slot;
         }
-        self.made = slot - self.first + 1;
+        self.made += 1;
+        self.current = Current::File { slot, size: 0 };
         Ok(slot)
     }
 
@@ -186,7 +196,11 @@ impl SectionWriter {
         size: u64,
         bytes: &[u8],
         outs: &mut O,
-    ) -> Result<(), Fault> {
+    ) -> Result<(), Fault>
+        requires writable { IsTrue (is_writable (O.slots outs.old) slot) }
+        requires fits { size + length bytes.now < 2 ^ 64 }
+        ensures { Appends O.told self.old slot size bytes.now (O.slots outs.old) (O.slots outs.new) self.new result }
+    {
         write_whole(outs, slot, bytes)?;
         self.current = Current::File {
             slot,
@@ -194,13 +208,31 @@ impl SectionWriter {
         };
         Ok(())
     }
+
+    /// Closes the file of the open section, and writes its size.
+    fn end_file<O: Outs>(&mut self, slot: usize, size: u64, outs: &mut O) -> Result<(), Fault>
+        requires ready { IsReady self.old (O.slots outs.old) }
+        requires file { self.old.current ≡ File slot size }
+        ensures { Ends O.told self.old (O.slots outs.old) (O.slots outs.new) self.new result }
+    {
+        self.current = Current::Skipped;
+        outs.close(slot)?;
+        if self.style.quiet {
+            return Ok(());
+        }
+        write_size(size, outs)
+    }
 }
 
 /// How many bytes the longest size line has.
 const LONGEST_LINE: usize = 21;
 
 /// Writes the size of a file to standard output, and a newline, as one line.
-fn write_size<O: Outs>(size: u64, outs: &mut O) -> Result<(), Fault> {
+fn write_size<O: Outs>(size: u64, outs: &mut O) -> Result<(), Fault>
+    requires { IsTrue (is_writable (O.slots outs.old) 0) }
+    ensures ok { OnOk result (O.slots outs.new ≡ with_written 0 (told_of O.told (decimal size ++ newline ∷ [])) (O.slots outs.old)) }
+    ensures err { IfErr result (WritesShort O.told 0 (decimal size ++ newline ∷ []) (O.slots outs.old) (O.slots outs.new)) }
+{
     let mut buffer = Buffer::new();
     let digits = buffer.format(size).as_bytes();
     let mut line = [b'\n'; LONGEST_LINE];

@@ -1,0 +1,61 @@
+-- Lemmas on the writer of sections.
+use Rattle.std.proofs.Common.{◌≡◌, ℕ, Bool, true, false, List, [], ◌∷◌, ◌++◌, refl, sym, ◌∙◌, ap, subst, append_assoc}
+use Rattle.std.proofs.lemmas.List.{append-nil}
+use Rattle.ports_core.specs.Slot.{Slot, Rose}
+use Rattle.ports_core.specs.Part.{Part, Begins}
+use Rattle.ports_core.specs.declared.fault.Fault.{Fault}
+use Rattle.ports_core.specs.declared.fault.Fault.TheVariants.{Memory, Write, Read, Open, Suffixes, NoMatch, Range, Usage, Failed, TooLong}
+use Rattle.ports_core.proofs.PartLemmas.{part_begins_itself, turn_between}
+use Rattle.csplit_core.specs.Output.{Style, Contents, part_by}
+use Rattle.csplit_core.specs.Draft.{Draft, draft_part, ended_part, last_contents, with_bytes, with_section}
+use Rattle.csplit_core.specs.SectionLaws.{part_grows}
+use Rattle.csplit_core.specs.Writer.{WriterState, Moves, Halts, KeepsBroken, KeepsFiles, Breaks}
+
+-- From one state of the outputs to another
+
+pub moves_again : (told : Bool) (low middle high : Part) (old mid new : List Slot) → Moves told low middle old mid → Moves told middle high mid new → Moves told low high old new
+moves_again told low middle high old mid new first second before at = second before (first before at)
+
+pub halts_after : (told : Bool) (low middle high : Part) (old mid new : List Slot) (fault : Fault) → Begins low middle → Moves told low middle old mid → Halts told middle high mid new fault → Halts told low high old new fault
+halts_after told low middle high old mid new fault begins moves halts before at =
+    turn_between told before low middle high high fault new begins (halts before (moves before at)) (part_begins_itself high)
+
+pub halts_wider : (told : Bool) (low middle high : Part) (old new : List Slot) (fault : Fault) → Halts told low middle old new fault → Begins middle high → Halts told low high old new fault
+halts_wider told low middle high old new fault halts begins before at =
+    turn_between told before low low middle high fault new (part_begins_itself low) (halts before at) begins
+
+-- What is written of a draft only grows: the open section isn't closed.
+
+pub bytes_begin : (style : Style) (bytes : List ℕ) (draft : Draft) → Begins (draft_part style draft) (draft_part style (with_bytes bytes draft))
+bytes_begin style bytes draft = part_grows style draft.ended (last_contents false draft) (last_contents false (with_bytes bytes draft)) [] refl refl bytes refl
+
+pub end_begins : (style : Style) (draft : Draft) → Begins (draft_part style draft) (ended_part style draft)
+end_begins style draft = part_grows style draft.ended (last_contents false draft) (last_contents true draft) [] refl refl [] (sym (append-nil draft.bytes))
+
+pub section_begins : (style : Style) (kept : Bool) (draft : Draft) → Begins (draft_part style draft) (draft_part style (with_section kept draft))
+section_begins style kept draft =
+    subst (λ those. Begins (draft_part style draft) (part_by style those)) (sym (append_assoc draft.ended (last_contents true draft ∷ []) (last_contents false (with_section kept draft) ∷ [])))
+    (part_grows style draft.ended (last_contents false draft) (last_contents true draft) (last_contents false (with_section kept draft) ∷ []) refl refl [] (sym (append-nil draft.bytes)))
+
+-- Outputs that were broken stay broken, and files stay the writer's own.
+
+pub keeps_again : (old mid new : List Slot) → KeepsBroken old mid → KeepsBroken mid new → KeepsBroken old new
+keeps_again old mid new first second place sound = first place (second place sound)
+
+rose_later : (slot : ℕ) (old mid new : List Slot) → KeepsBroken old mid → Rose slot mid new → Rose slot old new
+rose_later slot old mid new keeps rose = (keeps slot rose.0, rose.1)
+
+pub breaks_later : (style : Style) (old mid new : List Slot) (fault : Fault) → KeepsBroken old mid → Breaks style mid new fault → Breaks style old new fault
+breaks_later style old mid new Memory keeps breaks = tt
+breaks_later style old mid new (Write slot) keeps breaks = (breaks.0, rose_later slot old mid new keeps breaks.1)
+breaks_later style old mid new (Open slot) keeps breaks = rose_later slot old mid new keeps breaks
+breaks_later style old mid new Suffixes keeps breaks = absurd breaks
+breaks_later style old mid new (Read slot) keeps breaks = absurd breaks
+breaks_later style old mid new (NoMatch operand repetition) keeps breaks = absurd breaks
+breaks_later style old mid new (Range operand repetition) keeps breaks = absurd breaks
+breaks_later style old mid new (Usage kind word) keeps breaks = absurd breaks
+breaks_later style old mid new Failed keeps breaks = absurd breaks
+breaks_later style old mid new TooLong keeps breaks = absurd breaks
+
+pub owns_again : (one two three : WriterState) (old mid new : List Slot) → KeepsFiles one two old mid → KeepsFiles two three mid new → KeepsFiles one three old new
+owns_again one two three old mid new before after first owns = after first (before first owns)
