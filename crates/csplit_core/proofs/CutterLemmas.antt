@@ -1,8 +1,28 @@
 -- Lemmas on the cutter of lines.
-use Rattle.std.proofs.Common.{◌≡◌, ℕ, suc, ◌+◌, ◌-◌, ◌<◌, ◌≤◌, ◌^◌, sym, subst, arith}
+use Rattle.std.proofs.Common.{◌≡◌, ◌⊎◌, inl, inr, ℕ, suc, ◌+◌, ◌-◌, ◌<◌, ◌≤◌, ◌^◌, Bool, true, false, List, [], ◌∷◌, ◌++◌, length, map, refl, sym, ◌∙◌, ap, subst, arith}
+use Rattle.std.proofs.lemmas.List.{append-nil}
+use Rattle.seg_core.specs.Line.{line_count, first_lines, after_lines, but_last_lines, last_lines}
+use Rattle.ports_core.specs.Part.{Part}
+use Rattle.ports_core.specs.Slot.{Slot}
+use Rattle.csplit_core.specs.Csplit.{settled_of}
+use Rattle.csplit_core.specs.Draft.{Draft, draft_part, with_bytes}
+use Rattle.csplit_core.specs.Input.{newline, all_lines}
 use Rattle.csplit_core.specs.Measure.{Fits}
-use Rattle.csplit_core.specs.Cutter.{CutterState, state_in, IsFit}
+use Rattle.csplit_core.specs.Operand.{Operand, Line}
+use Rattle.csplit_core.specs.Output.{Style}
+use Rattle.csplit_core.specs.Plan.{State, start, Step, Ending, Runs}
+use Rattle.csplit_core.specs.Planned.{plan}
+use Rattle.csplit_core.specs.PlanLaws.{goes_on, plan_once}
+use Rattle.csplit_core.specs.Progress.{EndsHere, AimsAt}
+use Rattle.csplit_core.specs.Section.{is_final, most_waiting}
+use Rattle.csplit_core.specs.SectionLaws.{ends_as}
+use Rattle.csplit_core.specs.declared.progress.Turn.{Turn}
+use Rattle.csplit_core.specs.declared.progress.Turn.TheVariants.{Below}
+use Rattle.csplit_core.specs.Writer.{WriterState, Writes}
+use Rattle.csplit_core.specs.Cutter.{CutterState, suppress_in, state_in, kept_by, text_from, draft_by, settled_draft, settled_part, IsFit, IsWhole, IsAt, part_at, EndsNow, IsLive, IsPast, Arrives}
 use Rattle.csplit_core.proofs.MoveLemmas.{few_repetitions}
+use Rattle.csplit_core.proofs.LineLemmas.{all_lines-append, count-append, count_from, first_still, rest_more, from_further, first_further}
+use Rattle.csplit_core.proofs.SettledLemmas.{settled_draft_is, settled_part_is, settled_count, final_count, ended_still, most_is, aims_live, aims_past}
 
 -- the numbers are small
 pub small_current : (cutter : CutterState) → IsFit cutter → cutter.lines ≤ 2 ^ 63 → cutter.progress.current < 2 ^ 64 - 1
@@ -13,3 +33,65 @@ small_matched cutter fit few = let within : cutter.progress.matched ≤ cutter.l
 
 pub small_repetition : (cutter : CutterState) → IsFit cutter → cutter.lines ≤ 2 ^ 63 → cutter.progress.repetition < 2 ^ 64 - 1
 small_repetition cutter fit few = let within : cutter.progress.repetition ≤ cutter.lines = few_repetitions cutter.lines (state_in cutter) fit.fits in omega (arith, within, few)
+
+-- the plan up to where the cutter stands
+pub runs_to : (cutter : CutterState) (x left : List ℕ) (at : IsAt cutter x left) (ends : EndsNow cutter x) → Runs (suppress_in cutter) (all_lines x) (start cutter.operands) at.steps (state_in cutter) ends.ending
+runs_to cutter x left at ends = subst (λ steps. Runs (suppress_in cutter) (all_lines x) (start cutter.operands) steps (state_in cutter) ends.ending) (append-nil at.steps) (at.leads [] (state_in cutter) ends.ending ends.runs)
+
+-- more lines came in, and nothing was done with them yet
+pub at_more : (cutter : CutterState) (lines : ℕ) (aim : Turn) (x t left : List ℕ) → IsWhole x → 1 ≤ cutter.progress.current → (at : IsAt cutter x left) → EndsNow cutter x → lines ≡ line_count newline (x ++ t)
+    → IsAt (record cutter { lines = lines; aim = aim }) (x ++ t) (left ++ t)
+at_more cutter lines aim x t left whole some at ends count =
+    let e = all_lines-append x t whole in record {
+      steps = at.steps;
+      leads = λ more last ending run. subst (λ those. Runs (suppress_in cutter) those (start cutter.operands) (at.steps ++ more) last ending) (sym e)
+          (goes_on (suppress_in cutter) (all_lines x) (all_lines t) (start cutter.operands) at.steps (state_in cutter) ends.ending more last ending (runs_to cutter x left at ends)
+          (subst (λ those. Runs (suppress_in cutter) those (state_in cutter) more last ending) e run));
+      counted = count;
+      taken = at.taken;
+      written = at.written;
+      few = (let f : cutter.progress.current + at.taken ≤ line_count newline x + 1 = at.few in let all = count-append x t whole in omega (arith, f, all));
+      written_is = at.written_is ∙ sym (first_still at.taken cutter.progress.current x t whole some at.few);
+      left_is = ap (λ those. those ++ t) at.left_is ∙ rest_more (cutter.progress.current + at.taken) x t whole (omega (arith, some)) at.few;
+      writes = subst (Writes cutter.writer) (ended_still cutter.writer.style cutter.operands x t at.steps (state_in cutter) ends.ending (kept_by (state_in cutter).operands) at.written whole (runs_to cutter x left at ends)) at.writes;
+    }
+
+pub part_more : (cutter : CutterState) (lines : ℕ) (aim : Turn) (x t left : List ℕ) (whole : IsWhole x) (some : 1 ≤ cutter.progress.current) (at : IsAt cutter x left) (ends : EndsNow cutter x) (count : lines ≡ line_count newline (x ++ t))
+    → part_at cutter x left at ≡ part_at (record cutter { lines = lines; aim = aim }) (x ++ t) (left ++ t) (at_more cutter lines aim x t left whole some at ends count)
+part_more cutter lines aim x t left whole some at ends count =
+    ap (draft_part cutter.writer.style) (ended_still cutter.writer.style cutter.operands x t at.steps (state_in cutter) ends.ending (kept_by (state_in cutter).operands) at.written whole (runs_to cutter x left at ends))
+
+-- what is written of the open section, where all but the last lines that may wait are taken, is what is settled
+pub live_part : (cutter : CutterState) (x : List ℕ) (live : IsLive cutter x) → part_at cutter x cutter.window.held live.at ≡ settled_part cutter x
+live_part cutter x live =
+    let runs = runs_to cutter x cutter.window.held live.at live.ends in
+    let count : line_count newline x + 1 - cutter.progress.current - most_waiting live.ends.ending ≡ cutter.lines + 1 - cutter.progress.current - most_waiting live.ends.ending =
+    ap (λ n. n + 1 - cutter.progress.current - most_waiting live.ends.ending) (sym live.at.counted) in
+    ap (draft_part cutter.writer.style) (settled_draft_is (suppress_in cutter) cutter.operands x live.at.steps (state_in cutter) live.ends.ending live.at.taken live.at.written runs
+    (live.settled ∙ sym count ∙ settled_count (line_count newline x) cutter.progress.current live.ends.ending live.live) live.at.written_is)
+    ∙ settled_part_is cutter.writer.style cutter.operands (all_lines x)
+
+-- some lines of those that were left are written, and the others wait
+pub at_held : (cutter : CutterState) (writer : WriterState) (x left bytes held : List ℕ) (n : ℕ) → 1 ≤ cutter.progress.current → (at : IsAt cutter x left) → writer.style ≡ cutter.writer.style → n ≤ line_count newline left
+    → bytes ≡ first_lines newline n left → held ≡ after_lines newline n left → ((draft : Draft) → Writes cutter.writer draft → Writes writer (with_bytes bytes draft))
+    → IsAt (record cutter { writer = writer; window = record cutter.window { held = held } }) x held
+at_held cutter writer x left bytes held n some at same within bytes_is held_is writes =
+    let count : line_count newline left ≡ line_count newline x - (cutter.progress.current + at.taken - 1) = ap (line_count newline) at.left_is ∙ count_from (cutter.progress.current + at.taken) x in record {
+      steps = at.steps;
+      leads = subst (λ (style : Style). Rattle.csplit_core.specs.Cutter.Leads style.suppress (all_lines x) cutter.operands at.steps (state_in cutter)) (sym same) at.leads;
+      counted = at.counted;
+      taken = at.taken + n;
+      written = at.written ++ bytes;
+      few = (let f : cutter.progress.current + at.taken ≤ line_count newline x + 1 = at.few in omega (arith, f, count, within, some));
+      written_is = ap (λ those. those ++ bytes) at.written_is
+          ∙ ap (λ those. first_lines newline at.taken (text_from cutter.progress.current x) ++ those) (bytes_is ∙ ap (first_lines newline n) at.left_is)
+          ∙ sym (first_further cutter.progress.current at.taken n x some);
+      left_is = held_is ∙ ap (after_lines newline n) at.left_is ∙ from_further (cutter.progress.current + at.taken) n x (omega (arith, some))
+          ∙ ap (λ k. text_from k x) (let e : cutter.progress.current + at.taken + n ≡ cutter.progress.current + (at.taken + n) = omega arith in e);
+      writes = writes (draft_by (all_lines x) at.steps (kept_by (state_in cutter).operands) at.written) at.writes;
+    }
+
+-- how many lines are taken once as many wait as may
+pub taken_all : (taken lines current left most : ℕ) → 1 ≤ current → current + taken ≤ lines + 1 → left ≡ lines - (current + taken - 1) → (taken ≡ 0) ⊎ (most ≤ left) → taken + (left - most) ≡ lines + 1 - current - most
+taken_all taken lines current left most some few is (inl none) = omega (arith, some, few, is, none)
+taken_all taken lines current left most some few is (inr enough) = omega (arith, some, few, is, enough)

@@ -20,3 +20,4 @@ pub mod LineLemmas
 pub mod WriterLemmas
 pub mod SizeLine
 pub mod MakeLemmas
+pub mod SettledLemmas
