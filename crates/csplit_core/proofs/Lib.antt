@@ -17,3 +17,10 @@ pub mod WholeLemmas
 pub mod WriterLemmas
 pub mod SizeLine
 pub mod MakeLemmas
+pub mod OutputSteps
+pub mod SlotSteps
+pub mod DraftLemmas
+pub mod OwnLemmas
+pub mod PutLemmas
+pub mod BeginLemmas
+pub mod EndLemmas
