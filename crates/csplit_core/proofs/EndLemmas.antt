@@ -1,16 +1,18 @@
 -- A section ends, and the next begins.
-use Rattle.std.proofs.Common.{◌≡◌, ℕ, ◌+◌, ◌<◌, ◌≤◌, suc, Bool, true, false, List, [], ◌∷◌, ◌++◌, length, decimal, Result, Ok, Err, OnOk, IsTrue, refl, sym, ◌∙◌, ap, subst, arith, append_assoc}
+use Rattle.std.proofs.Common.{◌≡◌, ℕ, ◌+◌, ◌<◌, ◌≤◌, suc, Bool, true, false, List, [], ◌∷◌, ◌++◌, length, decimal, Result, Ok, Err, OnOk, IfErr, IsTrue, refl, sym, ◌∙◌, ap, subst, arith, append_assoc}
 use Rattle.std.proofs.lemmas.List.{append-nil}
 use Rattle.ports_core.specs.Part.{Part, File, Begins, AllClosed}
 use Rattle.ports_core.specs.Slot.{Slot, changed_at, closes, is_writable, told_of, with_written, with_broken}
+use Rattle.ports_core.specs.Swept.{AreMade, SweptFrom}
+use Rattle.ports_core.specs.Swept as swept
 use Rattle.ports_core.specs.declared.fault.Fault.{Fault}
 use Rattle.ports_core.specs.declared.fault.Fault.TheVariants as fault
 use Rattle.ports_core.specs.declared.slot.State.TheVariants as state
 use Rattle.csplit_core.specs.Input.{newline}
 use Rattle.csplit_core.specs.Output.{Style, Contents, makes_file, files_of, size_line, size_lines, part_by}
 use Rattle.csplit_core.specs.Draft.{Draft, draft_part, ended_part, last_contents, with_section, AreClosed}
-use Rattle.csplit_core.specs.Writer.{WriterState, Writes, Pauses, IsReady, KeepsFiles, Moves, Halts, Went, Stopped, Goes, Ended, EndedNot, size_of}
-use Rattle.csplit_core.specs.WriterSteps.{WritesShort, Started, StartedNot}
+use Rattle.csplit_core.specs.Writer.{WriterState, Writes, Pauses, IsReady, KeepsFiles, Moves, Halts, Went, Stopped, Goes, Ended, EndedNot, Ends, size_of}
+use Rattle.csplit_core.specs.WriterSteps.{WritesShort, Started, StartedNot, Starts}
 use Rattle.csplit_core.specs.declared.section_writer.Current.{Current}
 use Rattle.csplit_core.specs.declared.section_writer.Current.TheVariants.{Skipped, Unmade, File as Filed, Unopened}
 use Rattle.csplit_core.proofs.WriterLemmas.{moves_again, moves_as, moves_same, halts_after, halts_as, halts_wider, end_begins, keeps_again, breaks_later, owns_again}
@@ -43,7 +45,7 @@ end_unmade told writer slots is ready = end_none told writer slots (λ draft wri
 
 -- A section with one
 
-abbrev ended_writer : WriterState → WriterState
+abbrev pub ended_writer : WriterState → WriterState
 ended_writer writer = record writer { current = Skipped }
 
 file_pauses : (writer : WriterState) (draft : Draft) (slot size : ℕ) → writer.current ≡ Filed slot size → Writes writer draft → Pauses (ended_writer writer) (draft.ended ++ last_contents true draft ∷ [])
@@ -141,6 +143,12 @@ line_not told writer slot size old mid new f is ready told_so closed cut = recor
   owns = owned_same writer (ended_writer writer) old new refl refl (ready_could writer old ready) (made_again old mid new (made_close slot old mid (at_file writer slot size old is ready).2 closed) (short_made told 0 _ mid new f cut));
 }
 
+-- the size was written, or standard output broke
+pub end_sized : (told : Bool) (writer : WriterState) (slot size : ℕ) (old mid new : List Slot) (result : Result (Unit {0}) Fault) → writer.current ≡ Filed slot size → IsReady writer old → writer.style.quiet ≡ false → mid ≡ changed_at slot closes old
+    → OnOk result (new ≡ with_written 0 (told_of told (decimal size ++ newline ∷ [])) mid) → IfErr result (WritesShort told 0 (decimal size ++ newline ∷ []) mid new) → Ends told writer old new (ended_writer writer) result
+end_sized told writer slot size old mid new (Ok done) is ready told_so closed wrote cut = end_told told writer slot size old mid new is ready told_so closed wrote
+end_sized told writer slot size old mid new (Err f) is ready told_so closed wrote cut = line_not told writer slot size old mid new f is ready told_so closed cut
+
 -- standard output can be written once the file is closed
 pub closed_output : (writer : WriterState) (slot size : ℕ) (old new : List Slot) → writer.current ≡ Filed slot size → IsReady writer old → new ≡ changed_at slot closes old → IsTrue (is_writable new 0)
 closed_output writer slot size old new is ready closed = (closed_ready writer slot size old new is ready closed).output
@@ -179,3 +187,16 @@ next_not_begun told writer mid next kept old between new f ended start = by (sub
     breaks = breaks_later writer.style old between new f ended.keeps started.breaks;
     owns = owns_again writer mid next old between new ended.owns started.owns;
   }
+
+pub next_begun : (told : Bool) (writer mid next : WriterState) (kept : Bool) (old between new : List Slot) (result : Result (Unit {0}) Fault) → Ended told writer old between mid → Starts told mid.style mid kept between new next result
+    → Goes told writer (with_section kept) old new next result
+next_begun told writer mid next kept old between new (Ok done) ended start = next_ok told writer mid next kept old between new ended start
+next_begun told writer mid next kept old between new (Err f) ended start = next_not_begun told writer mid next kept old between new f ended start
+
+pub begun_size : (told : Bool) (style : Style) (writer next : WriterState) (kept : Bool) (old new : List Slot) (result : Result (Unit {0}) Fault) → Starts told style writer kept old new next result → OnOk result (size_of next.current ≡ 0)
+begun_size told style writer next kept old new (Ok done) started = started.size
+begun_size told style writer next kept old new (Err f) started = tt
+
+-- where no file was made, none is removed
+pub none_to_clear : (first made : ℕ) (slots : List Slot) → made ≡ 0 → AreMade first made slots → SweptFrom first slots slots
+none_to_clear first made slots none are = record { size = refl; before = λ place within. refl; cleared = λ place past. swept.none (are.none_after place (omega (arith, past, none))) }

@@ -1,6 +1,6 @@
 -- More bytes of the open section
-use Rattle.std.proofs.Common.{◌≡◌, ◌≢◌, ℕ, ◌+◌, ◌<◌, ◌≤◌, zero, suc, Bool, true, false, not, ◌&&◌, List, [], ◌∷◌, ◌++◌, length, Result, Ok, Err, OnOk, IsTrue, refl, sym, ◌∙◌, ap, subst, arith, length-append}
-use Rattle.std.proofs.lemmas.Bool.{false≢true}
+use Rattle.std.proofs.Common.{◌≡◌, ◌≢◌, eqb, ℕ, ◌+◌, ◌<◌, ◌≤◌, zero, suc, Bool, true, false, not, ◌&&◌, List, [], ◌∷◌, ◌++◌, length, Result, Ok, Err, OnOk, IsTrue, refl, sym, ◌∙◌, ap, subst, arith, length-append}
+use Rattle.std.proofs.lemmas.Bool.{false≢true, eq-eqb}
 use Rattle.std.proofs.lemmas.List.{append-nil}
 use Rattle.ports_core.specs.Name.{numbered_name}
 use Rattle.ports_core.specs.Part.{Part}
@@ -63,19 +63,6 @@ put_skipped told writer bytes slots is ready = record {
   ready = ready;
 }
 
--- no bytes change nothing
-pub put_none : (told : Bool) (writer : WriterState) (bytes : List ℕ) (slots : List Slot) → bytes ≡ [] → IsReady writer slots → Went told writer (with_bytes bytes) slots slots writer
-put_none told writer bytes slots none ready = record {
-  style = refl;
-  writes = λ draft writes. subst (λ those. Writes writer (record { ended = draft.ended; is_kept = draft.is_kept; bytes = those })) (same draft) writes;
-  moves = λ draft writes. moves_same told _ _ slots (ap (λ those. draft_part writer.style (record { ended = draft.ended; is_kept = draft.is_kept; bytes = those })) (same draft));
-  keeps = keeps_same slots;
-  owns = λ first own. own;
-  ready = ready;
-} where
-  same : (draft : Draft) → draft.bytes ≡ draft.bytes ++ bytes
-  same draft = sym (append-nil draft.bytes) ∙ ap (λ those. draft.bytes ++ those) (sym none)
-
 -- The file of the open section gets more bytes
 
 still_makes : (style : Style) (draft : Draft) (bytes : List ℕ) → makes_file style (last_contents false draft) ≡ true → makes_file style (last_contents false (with_bytes bytes draft)) ≡ true
@@ -124,3 +111,7 @@ pub append_size : (told : Bool) (writer next : WriterState) (slot size : ℕ) (b
 append_size told writer next slot size bytes old new (Ok done) within (same, wrote) =
     let now : size_of next.current ≡ size + length bytes = ap (λ (those : WriterState). size_of those.current) same in omega (arith, within)
 append_size told writer next slot size bytes old new (Err f) within appends = tt
+
+pub some_bytes : (bytes : List ℕ) → false ≡ eqb (length bytes) 0 → is_empty bytes ≡ false
+some_bytes [] is = absurd (false≢true (is ∙ eq-eqb 0 0 refl))
+some_bytes (byte ∷ bytes) is = refl
