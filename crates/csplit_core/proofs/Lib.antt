@@ -21,3 +21,10 @@ pub mod WriterLemmas
 pub mod SizeLine
 pub mod MakeLemmas
 pub mod SettledLemmas
+pub mod OutputSteps
+pub mod SlotSteps
+pub mod DraftLemmas
+pub mod OwnLemmas
+pub mod PutLemmas
+pub mod BeginLemmas
+pub mod EndLemmas

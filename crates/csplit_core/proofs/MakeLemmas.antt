@@ -5,14 +5,14 @@ use Rattle.ports_core.specs.declared.fault.Fault.{Fault}
 use Rattle.ports_core.specs.declared.fault.Fault.TheVariants.{Memory}
 use Rattle.csplit_core.specs.Output.{Style}
 use Rattle.csplit_core.specs.Writer.{WriterState}
-use Rattle.csplit_core.specs.WriterSteps.{MakesNone, unnamed, unopened}
-use Rattle.csplit_core.specs.declared.section_writer.Current.TheVariants.{Unopened}
+use Rattle.csplit_core.specs.WriterSteps.{MakesNone, unnamed, failed}
+use Rattle.csplit_core.specs.declared.section_writer.Current.{Current}
 
 pub not_named : (slots : List Slot) (name : List ℕ) (fault : Fault) → fault ≡ Memory → MakesNone slots name slots fault
 not_named slots name fault is = subst (MakesNone slots name slots) (sym is) (unnamed refl)
 
 pub not_opened : (old : List Slot) (given name : List ℕ) (new : List Slot) (fault : Fault) → given ≡ name → FailsToOpen old given new fault → MakesNone old name new fault
-not_opened old given name new fault is fails = unopened fault (subst (λ those. FailsToOpen old those new fault) is fails)
+not_opened old given name new fault is fails = failed fault (subst (λ those. FailsToOpen old those new fault) is fails)
 
-abbrev pub without_file : Style → ℕ → ℕ → WriterState
-without_file style first made = record { style = style; first = first; made = made; current = Unopened }
+abbrev pub state_of : Style → ℕ → ℕ → Current → WriterState
+state_of style first made current = record { style = style; first = first; made = made; current = current }

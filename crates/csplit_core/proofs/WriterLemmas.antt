@@ -2,7 +2,7 @@
 use Rattle.std.proofs.Common.{◌≡◌, ℕ, Bool, true, false, List, [], ◌∷◌, ◌++◌, refl, sym, ◌∙◌, ap, subst, append_assoc}
 use Rattle.std.proofs.lemmas.List.{append-nil}
 use Rattle.ports_core.specs.Slot.{Slot, Rose}
-use Rattle.ports_core.specs.Part.{Part, Begins}
+use Rattle.ports_core.specs.Part.{Part, OutputsAt, StoppedInTurn, Begins}
 use Rattle.ports_core.specs.declared.fault.Fault.{Fault}
 use Rattle.ports_core.specs.declared.fault.Fault.TheVariants.{Memory, Write, Read, Open, Suffixes, NoMatch, Range, Usage, Failed, TooLong}
 use Rattle.ports_core.proofs.PartLemmas.{part_begins_itself, turn_between}
@@ -59,3 +59,15 @@ breaks_later style old mid new TooLong keeps breaks = absurd breaks
 
 pub owns_again : (one two three : WriterState) (old mid new : List Slot) → KeepsFiles one two old mid → KeepsFiles two three mid new → KeepsFiles one three old new
 owns_again one two three old mid new before after first owns = after first (before first owns)
+
+-- The same of parts that are written otherwise
+
+pub moves_as : (told : Bool) (low low' high high' : Part) (old new : List Slot) → low ≡ low' → high ≡ high' → Moves told low' high' old new → Moves told low high old new
+moves_as told low low' high high' old new is_low is_high moves before at = subst (λ part. OutputsAt told before part new) (sym is_high) (moves before (subst (λ part. OutputsAt told before part old) is_low at))
+
+pub moves_same : (told : Bool) (low high : Part) (slots : List Slot) → low ≡ high → Moves told low high slots slots
+moves_same told low high slots is before at = subst (λ part. OutputsAt told before part slots) is at
+
+pub halts_as : (told : Bool) (low low' high high' : Part) (old new : List Slot) (fault : Fault) → low ≡ low' → high ≡ high' → Halts told low' high' old new fault → Halts told low high old new fault
+halts_as told low low' high high' old new fault is_low is_high halts before at =
+    subst (λ part. StoppedInTurn told before part high fault new) (sym is_low) (subst (λ part. StoppedInTurn told before low' part fault new) (sym is_high) (halts before (subst (λ part. OutputsAt told before part old) is_low at)))

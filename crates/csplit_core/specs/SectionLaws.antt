@@ -255,7 +255,7 @@ out_grows : (style : Style) (front : List Contents) (begun : Contents) (after : 
 out_grows style front begun after is_open = (size_lines style after, size_lines-append style front after ∙ ap (λ those. those ++ size_lines style after) (sym (open_sizes style front begun is_open)))
 
 -- a file that was made begins the one that is made
-made_more : (elide kept : Bool) (bytes more : List ℕ) → (kept && not (elide && is_empty bytes)) ≡ true → (kept && not (elide && is_empty (bytes ++ more))) ≡ true
+pub made_more : (elide kept : Bool) (bytes more : List ℕ) → (kept && not (elide && is_empty bytes)) ≡ true → (kept && not (elide && is_empty (bytes ++ more))) ≡ true
 made_more elide false bytes more is = is
 made_more false true bytes more is = refl
 made_more true true [] more is = absurd (false≢true is)

@@ -34,7 +34,7 @@ pub record Made (writer : WriterState) (old new : List Slot) (next : WriterState
 -- why a file with this name wasn't made: there was no memory for the name, or it couldn't be opened
 pub data MakesNone (old : List Slot) (name : List ℕ) (new : List Slot) : Fault → Type 0 where
   unnamed : new ≡ old → MakesNone old name new Memory
-  unopened : (fault : Fault) → FailsToOpen old name new fault → MakesNone old name new fault
+  failed : (fault : Fault) → FailsToOpen old name new fault → MakesNone old name new fault
 
 abbrev pub Makes : WriterState → List Slot → List Slot → WriterState → Result ℕ Fault → Type 0
 Makes writer old new next (Ok slot) = Made writer old new next slot

@@ -4,20 +4,20 @@ use Rattle.ports_core.proofs.HandedOn.{result_is}
 use Rattle.csplit_core.specs.Writer.{WriterState}
 use Rattle.csplit_core.specs.WriterSteps.{Makes, next_name}
 use Rattle.csplit_core.specs.declared.section_writer.Current.TheVariants.{Unopened}
-use Rattle.csplit_core.proofs.MakeLemmas.{not_named, not_opened, without_file}
+use Rattle.csplit_core.proofs.MakeLemmas.{not_named, not_opened, state_of}
 use Rattle.csplit_core.proofs.section_writer.SectionWriter.make_file.Goals as goal
 
 pub returns-in_err-name : goal.returns-in_err-name
 returns-in_err-name g c = result_is (Makes _ _ _ _) _ _ c.from_residual.ensures.1 (
-  ap (λ i. without_file i.style i.first i.made) c.self-inside.view_is ∙ ap (λ (w : WriterState). record w { current = Unopened }) c.self.view_is,
+  ap (λ i. state_of i.style i.first i.made Unopened) c.self-inside.view_is ∙ ap (λ (w : WriterState). record w { current = Unopened }) c.self.view_is,
   not_named _ _ _ c.in_err-name.ensures.err,
 )
 
 pub returns-in_err-slot : goal.returns-in_err-slot
 returns-in_err-slot g c = result_is (Makes _ _ _ _) _ _ c.from_residual-in_err-slot.ensures.1 (
-  ap (λ i. without_file i.style i.first i.made) c.self-inside.view_is ∙ ap (λ (w : WriterState). record w { current = Unopened }) c.self.view_is,
+  ap (λ i. state_of i.style i.first i.made Unopened) c.self-inside.view_is ∙ ap (λ (w : WriterState). record w { current = Unopened }) c.self.view_is,
   not_opened _ _ _ _ _
       (c.as_str.ensures.value ∙ c.in_ok-name.ensures.ok ∙ ap (λ (p : List ℕ). numbered_name p c.self-inside.inside.0.1.0.digits c.self-inside.inside.0.1.1.1.0) c.deref.ensures
-      ∙ ap (λ i. next_name (without_file i.style i.first i.made)) c.self-inside.view_is ∙ ap next_name c.self.view_is)
+      ∙ ap (λ i. next_name (state_of i.style i.first i.made Unopened)) c.self-inside.view_is ∙ ap next_name c.self.view_is)
       c.in_err-slot.ensures.err,
 )

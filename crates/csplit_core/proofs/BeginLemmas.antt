@@ -1,0 +1,246 @@
+-- A file is made for the open section, and a section begins.
+use Rattle.std.proofs.Common.{◌≡◌, ℕ, ◌+◌, ◌<◌, ◌≤◌, suc, Bool, true, false, not, ◌&&◌, List, [], ◌∷◌, ◌++◌, length, Result, Ok, Err, IsTrue, refl, sym, ◌∙◌, ap, subst, arith, length-append}
+use Rattle.ports_core.specs.Name.{numbered_name}
+use Rattle.ports_core.specs.Part.{Part, IsNext}
+use Rattle.ports_core.specs.Slot.{Slot, opened, is_writable}
+use Rattle.ports_core.specs.Swept.{AreMade}
+use Rattle.ports_core.specs.declared.fault.Fault.{Fault}
+use Rattle.ports_core.specs.declared.slot.Mode.TheVariants.{Fresh}
+use Rattle.ports_core.specs.declared.slot.State.TheVariants as state
+use Rattle.csplit_core.specs.Output.{Style, Contents, is_empty, makes_file, file_at, files_of, size_lines, part_by}
+use Rattle.csplit_core.specs.Draft.{Draft, draft_part, last_contents, with_bytes, AreClosed}
+use Rattle.csplit_core.specs.Writer.{WriterState, Writes, Pauses, OwnsFiles, IsReady, IsOpenAt, Moves, Halts, Went, Stopped, Goes, Begun, BegunNot, size_of}
+use Rattle.csplit_core.specs.WriterSteps.{WritesShort, MakesNone, Made, Makes, Appends, Started, StartedNot, next_name, begun_after}
+use Rattle.csplit_core.specs.declared.section_writer.Current.{Current}
+use Rattle.csplit_core.specs.declared.section_writer.Current.TheVariants.{Skipped, Unmade, File, Unopened}
+use Rattle.csplit_core.proofs.WriterLemmas.{moves_again, moves_as, moves_same, halts_after, halts_as, keeps_again, breaks_later, owns_again}
+use Rattle.csplit_core.proofs.OutputSteps.{file_of, with_last, file_begins, open_moves, write_moves, open_halts, write_halts}
+use Rattle.csplit_core.proofs.SlotSteps.{keeps_same, keeps_write, keeps_open, made_write, writable_before, writable_opened, none_past}
+use Rattle.csplit_core.proofs.DraftLemmas.{name_after, part_none, part_made, open_part, count_made, count_none, closed_files, more_begins}
+use Rattle.csplit_core.proofs.OwnLemmas.{ready_could, two_slots, at_file, owned_same, owned_opened, owned_unopened, make_breaks, write_breaks, short_made}
+use Rattle.csplit_core.proofs.PutLemmas.{now_unmade, skips_file, elides_file, ready_written}
+
+-- The next file
+
+made_moves : (told : Bool) (writer next : WriterState) (ended : List Contents) (slot : ℕ) (old new : List Slot) → writer.made ≡ length (files_of writer.style 0 ended) → Made writer old new next slot
+    → Moves told (part_by writer.style ended) (with_last (size_lines writer.style ended) (files_of writer.style 0 ended) (file_of (name_after writer.style ended) [] state.Open)) old new
+made_moves told writer next ended slot old new count made =
+    open_moves told (size_lines writer.style ended) (files_of writer.style 0 ended) (name_after writer.style ended) old new
+    (made.added ∙ ap (λ n. old ++ opened (numbered_name writer.style.prefix writer.style.digits n) Fresh ∷ []) count)
+
+next_file : (style : Style) (ended : List Contents) (one : Contents) → makes_file style one ≡ true → IsNext (part_by style ended) (part_by style (ended ++ one ∷ [])) (name_after style ended)
+next_file style ended one makes = record {
+  front = files_of style 0 ended;
+  file = file_at style (length (files_of style 0 ended)) one;
+  rest = [];
+  files = ap (λ (part : Part). part.files) (part_made style ended one makes);
+  place = refl;
+  name_is = refl;
+}
+
+made_halts : (told : Bool) (writer : WriterState) (ended : List Contents) (one : Contents) (old new : List Slot) (f : Fault) → makes_file writer.style one ≡ true → AreClosed ended → writer.made ≡ length (files_of writer.style 0 ended)
+    → MakesNone old (next_name writer) new f → Halts told (part_by writer.style ended) (part_by writer.style (ended ++ one ∷ [])) old new f
+made_halts told writer ended one old new f makes closed count none =
+    open_halts told (size_lines writer.style ended) (files_of writer.style 0 ended) (name_after writer.style ended) (part_by writer.style (ended ++ one ∷ [])) old new f
+    (closed_files writer.style 0 ended closed) (more_begins writer.style ended one) (next_file writer.style ended one makes)
+    (subst (λ n. MakesNone old (numbered_name writer.style.prefix writer.style.digits n) new f) count none)
+
+current_made : (writer next : WriterState) (slot : ℕ) (old new : List Slot) → Made writer old new next slot → next.current ≡ File slot 0
+current_made writer next slot old new made = ap (λ (those : WriterState). those.current) made.same
+
+pub made_ready : (writer next : WriterState) (slot : ℕ) (old new : List Slot) → IsReady writer old → Made writer old new next slot → IsReady next new
+made_ready writer next slot old new ready made = record {
+  output = writable_before 0 (opened (next_name writer) Fresh) old new (let two : 2 ≤ length old = two_slots writer old ready in omega arith) made.added ready.output;
+  first = ready.first;
+  owns = owned_opened writer next slot old new (ready_could writer old ready) made ready.first ready.owns;
+  current = subst (λ current. IsOpenAt current new) (sym (current_made writer next slot old new made)) (
+    (let two : 2 ≤ length old = two_slots writer old ready in let here : slot ≡ length old = made.place in omega arith),
+    (let size : length new ≡ length old + 1 = ap length made.added ∙ length-append old (opened (next_name writer) Fresh ∷ []) in let here : slot ≡ length old = made.place in omega arith),
+    writable_opened slot (next_name writer) Fresh old new made.place made.added,
+  );
+}
+
+-- the file can be written
+pub made_writable : (writer next : WriterState) (slot : ℕ) (old new : List Slot) → IsReady writer old → Made writer old new next slot → IsTrue (is_writable new slot)
+made_writable writer next slot old new ready made = writable_opened slot (next_name writer) Fresh old new made.place made.added
+
+-- The first bytes of a section whose file isn't made before them
+
+first_makes : (style : Style) (draft : Draft) (bytes : List ℕ) → draft.is_kept ≡ true → style.elide ≡ true → draft.bytes ≡ [] → is_empty bytes ≡ false → makes_file style (last_contents false (with_bytes bytes draft)) ≡ true
+first_makes style draft bytes kept elide none some =
+    ap (λ those. draft.is_kept && not (style.elide && is_empty (those ++ bytes))) none
+    ∙ ap (λ e. draft.is_kept && not (style.elide && e)) some
+    ∙ ap (λ e. draft.is_kept && not (e && false)) elide
+    ∙ ap (λ k. k && true) kept
+
+-- what is known of a draft whose section has no file yet
+record Unwritten (writer : WriterState) (bytes : List ℕ) (draft : Draft) : Type 0 where
+  makes : makes_file writer.style (last_contents false (with_bytes bytes draft)) ≡ true
+  none : makes_file writer.style (last_contents false draft) ≡ false
+  count : writer.made ≡ length (files_of writer.style 0 draft.ended)
+  high : draft_part writer.style (with_bytes bytes draft) ≡ with_last (size_lines writer.style draft.ended) (files_of writer.style 0 draft.ended) (file_of (name_after writer.style draft.ended) bytes state.Open)
+  size : 0 + length bytes ≡ length (draft.bytes ++ bytes)
+
+unwritten : (writer : WriterState) (bytes : List ℕ) (draft : Draft) → writer.current ≡ Unmade → is_empty bytes ≡ false → Writes writer draft → Unwritten writer bytes draft
+unwritten writer bytes draft is some writes = record {
+  makes = makes;
+  none = none;
+  count = writes.made ∙ count_none writer.style draft.ended (last_contents false draft) none;
+  high = open_part writer.style (with_bytes bytes draft) makes ∙ ap (λ those. with_last (size_lines writer.style draft.ended) (files_of writer.style 0 draft.ended) (file_of (name_after writer.style draft.ended) (those ++ bytes) state.Open)) now.2;
+  size = zero_more (length bytes) ∙ sym (ap (λ those. length (those ++ bytes)) now.2);
+} where
+  now : (draft.is_kept ≡ true) × (writer.style.elide ≡ true) × (draft.bytes ≡ [])
+  now = now_unmade writer draft is writes
+
+  makes : makes_file writer.style (last_contents false (with_bytes bytes draft)) ≡ true
+  makes = let now = now_unmade writer draft is writes in first_makes writer.style draft bytes now.0 now.1 now.2 some
+
+  none : makes_file writer.style (last_contents false draft) ≡ false
+  none = let now = now_unmade writer draft is writes in elides_file writer.style (last_contents false draft) now.1 now.2
+
+  zero_more : (n : ℕ) → 0 + n ≡ n
+  zero_more n = omega arith
+
+pub put_first : (told : Bool) (writer made next : WriterState) (slot : ℕ) (bytes : List ℕ) (old mid new : List Slot) (result : Result (Unit {0}) Fault) → writer.current ≡ Unmade → is_empty bytes ≡ false → IsReady writer old → Made writer old mid made slot
+    → Appends told made slot 0 bytes mid new next result → Goes told writer (with_bytes bytes) old new next result
+put_first told writer made next slot bytes old mid new (Ok done) is some ready makes (same, wrote) = record {
+  style = ap (λ (those : WriterState). those.style) same ∙ ap (λ (those : WriterState). those.style) makes.same;
+  writes = λ draft writes. subst (λ those. Writes those (with_bytes bytes draft)) (sym (same ∙ ap (λ (those : WriterState). record those { current = File slot (0 + length bytes) }) makes.same)) (record {
+    closed = writes.closed;
+    made = ap (λ n. n + 1) (unwritten writer bytes draft is some writes).count ∙ sym (count_made writer.style draft.ended (last_contents false (with_bytes bytes draft)) (unwritten writer bytes draft is some writes).makes);
+    current = ((unwritten writer bytes draft is some writes).makes, (unwritten writer bytes draft is some writes).size);
+  });
+  moves = λ draft writes. moves_as told _ _ _ _ old new (part_none writer.style draft.ended (last_contents false draft) (unwritten writer bytes draft is some writes).none) (unwritten writer bytes draft is some writes).high
+      (moves_again told _ _ _ old mid new (made_moves told writer made draft.ended slot old mid (unwritten writer bytes draft is some writes).count makes)
+      (write_moves told (size_lines writer.style draft.ended) (files_of writer.style 0 draft.ended) (name_after writer.style draft.ended) [] bytes slot mid new at.1 wrote));
+  keeps = keeps_again old mid new (keeps_open _ old mid makes.added) (keeps_write slot _ mid new wrote);
+  owns = owns_again writer made next old mid new (owned_opened writer made slot old mid (ready_could writer old ready) makes)
+      (owned_same made next mid new (ap (λ (those : WriterState). those.made) same) (ap (λ (those : WriterState). those.first) same) (ready_could made mid (made_ready writer made slot old mid ready makes)) (made_write slot _ mid new wrote));
+  ready = ready_written told made next slot _ _ mid new at (made_ready writer made slot old mid ready makes) same wrote;
+} where
+  at : (2 ≤ slot) × (suc slot ≡ length mid) × IsTrue (is_writable mid slot)
+  at = at_file made slot 0 mid (current_made writer made slot old mid makes) (made_ready writer made slot old mid ready makes)
+put_first told writer made next slot bytes old mid new (Err f) is some ready makes (same, cut) = record {
+  style = ap (λ (those : WriterState). those.style) same ∙ ap (λ (those : WriterState). those.style) makes.same;
+  halts = λ draft writes. halts_as told _ _ _ _ old new f (part_none writer.style draft.ended (last_contents false draft) (unwritten writer bytes draft is some writes).none) (unwritten writer bytes draft is some writes).high
+      (halts_after told _ (with_last (size_lines writer.style draft.ended) (files_of writer.style 0 draft.ended) (file_of (name_after writer.style draft.ended) [] state.Open)) _ old mid new f
+      (file_begins (size_lines writer.style draft.ended) (files_of writer.style 0 draft.ended) (file_of (name_after writer.style draft.ended) [] state.Open))
+      (made_moves told writer made draft.ended slot old mid (unwritten writer bytes draft is some writes).count makes)
+      (write_halts told (size_lines writer.style draft.ended) (files_of writer.style 0 draft.ended) (name_after writer.style draft.ended) [] bytes slot mid new f (closed_files writer.style 0 draft.ended writes.closed) at.1 cut));
+  breaks = breaks_later writer.style old mid new f (keeps_open _ old mid makes.added) (write_breaks told writer.style slot bytes mid new f at.0 at.2 cut);
+  owns = owns_again writer made next old mid new (owned_opened writer made slot old mid (ready_could writer old ready) makes)
+      (owned_same made next mid new (ap (λ (those : WriterState). those.made) same) (ap (λ (those : WriterState). those.first) same) (ready_could made mid (made_ready writer made slot old mid ready makes)) (short_made told slot bytes mid new f cut));
+} where
+  at : (2 ≤ slot) × (suc slot ≡ length mid) × IsTrue (is_writable mid slot)
+  at = at_file made slot 0 mid (current_made writer made slot old mid makes) (made_ready writer made slot old mid ready makes)
+
+pub put_unmade : (told : Bool) (writer next : WriterState) (bytes : List ℕ) (old new : List Slot) (f : Fault) → writer.current ≡ Unmade → is_empty bytes ≡ false → IsReady writer old → Makes writer old new next (Err f) → Stopped told writer (with_bytes bytes) old new next f
+put_unmade told writer next bytes old new f is some ready (same, none) = record {
+  style = ap (λ (those : WriterState). those.style) same;
+  halts = λ draft writes. halts_as told _ _ _ _ old new f (part_none writer.style draft.ended (last_contents false draft) (unwritten writer bytes draft is some writes).none) refl
+      (made_halts told writer draft.ended (last_contents false (with_bytes bytes draft)) old new f (unwritten writer bytes draft is some writes).makes writes.closed (unwritten writer bytes draft is some writes).count none);
+  breaks = make_breaks writer.style (next_name writer) old new f none;
+  owns = subst (λ those. Rattle.csplit_core.specs.Writer.KeepsFiles writer those old new) (sym same) (owned_unopened writer (next_name writer) old new f (ready_could writer old ready) none);
+}
+
+-- A section begins
+
+abbrev begun : Bool → Contents
+begun kept = record { is_kept = kept; is_closed = false; bytes = [] }
+
+-- one without a file
+begun_none : (told : Bool) (writer : WriterState) (kept : Bool) (current : Current) (slots : List Slot) → makes_file writer.style (begun kept) ≡ false → Rattle.csplit_core.specs.Writer.IsCurrent writer.style kept [] current → IsOpenAt current slots → size_of current ≡ 0
+    → IsReady writer slots → Started told writer.style writer kept slots slots (record writer { current = current })
+begun_none told writer kept current slots none is at size ready = record {
+  asked = refl;
+  writes = λ ended pauses. record {
+    closed = pauses.closed;
+    made = pauses.made ∙ sym (count_none writer.style ended (begun kept) none);
+    current = is;
+  };
+  moves = λ ended pauses. moves_same told _ _ slots (sym (part_none writer.style ended (begun kept) none));
+  size = size;
+  keeps = keeps_same slots;
+  owns = owned_same writer (record writer { current = current }) slots slots refl refl (ready_could writer slots ready) (Rattle.csplit_core.proofs.SlotSteps.made_same slots);
+  ready = record {
+    output = ready.output;
+    first = ready.first;
+    owns = owned_same writer (record writer { current = current }) slots slots refl refl (ready_could writer slots ready) (Rattle.csplit_core.proofs.SlotSteps.made_same slots) ready.first ready.owns;
+    current = at;
+  };
+}
+
+pub begin_skipped : (told : Bool) (writer : WriterState) (kept : Bool) (slots : List Slot) → kept ≡ false → IsReady writer slots → Started told writer.style writer kept slots slots (record writer { current = Skipped })
+begin_skipped told writer kept slots is ready = begun_none told writer kept Skipped slots (skips_file writer.style (begun kept) is) is tt refl ready
+
+pub begin_unmade : (told : Bool) (writer : WriterState) (kept : Bool) (slots : List Slot) → kept ≡ true → writer.style.elide ≡ true → IsReady writer slots → Started told writer.style writer kept slots slots (record writer { current = Unmade })
+begin_unmade told writer kept slots is elide ready = begun_none told writer kept Unmade slots (elides_file writer.style (begun kept) elide refl) (is, elide, refl) tt refl ready
+
+-- one with a file
+begun_makes : (style : Style) (kept : Bool) → kept ≡ true → style.elide ≡ false → makes_file style (begun kept) ≡ true
+begun_makes style kept is elide = ap (λ k. k && not (style.elide && true)) is ∙ ap (λ e. true && not (e && true)) elide
+
+pub begin_made : (told : Bool) (writer next : WriterState) (kept : Bool) (slot : ℕ) (old new : List Slot) → kept ≡ true → writer.style.elide ≡ false → IsReady writer old → Made writer old new next slot → Started told writer.style writer kept old new next
+begin_made told writer next kept slot old new is elide ready made = record {
+  asked = ap (λ (those : WriterState). those.style) made.same;
+  writes = λ ended pauses. subst (λ those. Writes those (begun_after ended kept)) (sym made.same) (record {
+    closed = pauses.closed;
+    made = ap (λ n. n + 1) pauses.made ∙ sym (count_made writer.style ended (begun kept) (begun_makes writer.style kept is elide));
+    current = (begun_makes writer.style kept is elide, refl);
+  });
+  moves = λ ended pauses. moves_as told _ _ _ _ old new refl (open_part writer.style (begun_after ended kept) (begun_makes writer.style kept is elide)) (made_moves told writer next ended slot old new pauses.made made);
+  size = ap size_of (current_made writer next slot old new made);
+  keeps = keeps_open _ old new made.added;
+  owns = owned_opened writer next slot old new (ready_could writer old ready) made;
+  ready = made_ready writer next slot old new ready made;
+}
+
+pub begin_not : (told : Bool) (writer next : WriterState) (kept : Bool) (old new : List Slot) (f : Fault) → kept ≡ true → writer.style.elide ≡ false → IsReady writer old → Makes writer old new next (Err f) → StartedNot told writer.style writer kept old new next f
+begin_not told writer next kept old new f is elide ready (same, none) = record {
+  asked = ap (λ (those : WriterState). those.style) same;
+  halts = λ ended pauses. made_halts told writer ended (begun kept) old new f (begun_makes writer.style kept is elide) pauses.closed pauses.made none;
+  none_made = ap (λ (those : WriterState). those.made) same;
+  breaks = make_breaks writer.style (next_name writer) old new f none;
+  owns = subst (λ those. Rattle.csplit_core.specs.Writer.KeepsFiles writer those old new) (sym same) (owned_unopened writer (next_name writer) old new f (ready_could writer old ready) none);
+}
+
+-- The first section
+
+abbrev pub new_writer : Style → WriterState
+new_writer style = record { style = style; first = 0; made = 0; current = Skipped }
+
+pub new_owns : (style : Style) (slots : List Slot) → 2 ≤ length slots → OwnsFiles (new_writer style) (length slots) slots
+new_owns style slots two = record {
+  streams = two;
+  place = λ some. absurd (omega (arith, some));
+  files = record { files = λ place above within. absurd (omega (arith, above, within)); none_after = λ place past. none_past slots place (omega (arith, past)) };
+  last = λ still. omega arith;
+}
+
+pub new_ready : (style : Style) (slots : List Slot) → 2 ≤ length slots → IsTrue (is_writable slots 0) → IsReady (new_writer style) slots
+new_ready style slots two can = record { output = can; first = length slots; owns = new_owns style slots two; current = tt }
+
+new_pauses : (style : Style) → Pauses (new_writer style) []
+new_pauses style = record { closed = tt; made = refl }
+
+pub first_begun : (told : Bool) (style : Style) (kept : Bool) (old new : List Slot) (next : WriterState) → 2 ≤ length old → Started told style (new_writer style) kept old new next → Begun told style kept old new next
+first_begun told style kept old new next two started = record {
+  asked = started.asked;
+  writes = started.writes [] (new_pauses style);
+  moves = started.moves [] (new_pauses style);
+  size = started.size;
+  owns = started.owns (length old) (new_owns style old two);
+  ready = started.ready;
+}
+
+pub first_not : (told : Bool) (style : Style) (kept : Bool) (old new : List Slot) (next : WriterState) (f : Fault) → 2 ≤ length old → StartedNot told style (new_writer style) kept old new next f → BegunNot told style kept old new f
+first_not told style kept old new next f two started = record {
+  halts = started.halts [] (new_pauses style);
+  breaks = started.breaks;
+  none = λ place past. record {
+    files = λ at above within. absurd (omega (arith, above, within));
+    none_after = λ at beyond. own.files.none_after at (let made : next.made ≡ 0 = started.none_made in omega (arith, past, beyond));
+  };
+} where
+  own : OwnsFiles next (length old) new
+  own = started.owns (length old) (new_owns style old two)

@@ -1,0 +1,117 @@
+-- More bytes of the open section
+use Rattle.std.proofs.Common.{◌≡◌, ◌≢◌, eqb, ℕ, ◌+◌, ◌<◌, ◌≤◌, zero, suc, Bool, true, false, not, ◌&&◌, List, [], ◌∷◌, ◌++◌, length, Result, Ok, Err, OnOk, IsTrue, refl, sym, ◌∙◌, ap, subst, arith, length-append}
+use Rattle.std.proofs.lemmas.Bool.{false≢true, eq-eqb}
+use Rattle.std.proofs.lemmas.List.{append-nil}
+use Rattle.ports_core.specs.Name.{numbered_name}
+use Rattle.ports_core.specs.Part.{Part}
+use Rattle.ports_core.specs.Slot.{Slot, opened, is_writable}
+use Rattle.ports_core.specs.declared.fault.Fault.{Fault}
+use Rattle.ports_core.specs.declared.slot.Mode.TheVariants.{Fresh}
+use Rattle.ports_core.specs.declared.slot.State.TheVariants as state
+use Rattle.csplit_core.specs.Output.{Style, Contents, is_empty, makes_file, files_of, size_lines, part_by}
+use Rattle.csplit_core.specs.Draft.{Draft, draft_part, last_contents, with_bytes}
+use Rattle.csplit_core.specs.SectionLaws.{made_more}
+use Rattle.csplit_core.specs.Writer.{WriterState, Writes, IsCurrent, IsReady, Moves, Halts, Went, Stopped, Goes, size_of}
+use Rattle.csplit_core.specs.WriterSteps.{WritesShort, MakesNone, Made, Makes, Appends, next_name}
+use Rattle.csplit_core.specs.declared.section_writer.Current.{Current}
+use Rattle.csplit_core.specs.declared.section_writer.Current.TheVariants.{Skipped, Unmade, File, Unopened}
+use Rattle.csplit_core.proofs.WriterLemmas.{moves_again, moves_as, moves_same, halts_after, halts_as, halts_wider, bytes_begin, keeps_again, breaks_later, owns_again}
+use Rattle.csplit_core.proofs.OutputSteps.{file_of, with_last, file_begins, open_moves, write_moves, open_halts, write_halts, bytes_more}
+use Rattle.csplit_core.proofs.SlotSteps.{keeps_same, keeps_write, keeps_open, made_write, writable_still, writable_before, writable_opened}
+use Rattle.csplit_core.proofs.DraftLemmas.{name_after, part_none, part_made, open_part, count_made, count_none, closed_files}
+use Rattle.csplit_core.proofs.OwnLemmas.{ready_could, two_slots, at_file, owned_same, owned_opened, owned_unopened, make_breaks, write_breaks, short_made}
+
+-- What the open section is
+
+pub now_file : (writer : WriterState) (draft : Draft) (slot size : ℕ) → writer.current ≡ File slot size → Writes writer draft → (makes_file writer.style (last_contents false draft) ≡ true) × (size ≡ length draft.bytes)
+now_file writer draft slot size is writes = subst (λ current. IsCurrent writer.style draft.is_kept draft.bytes current) is writes.current
+
+pub now_skipped : (writer : WriterState) (draft : Draft) → writer.current ≡ Skipped → Writes writer draft → draft.is_kept ≡ false
+now_skipped writer draft is writes = subst (λ current. IsCurrent writer.style draft.is_kept draft.bytes current) is writes.current
+
+pub now_unmade : (writer : WriterState) (draft : Draft) → writer.current ≡ Unmade → Writes writer draft → (draft.is_kept ≡ true) × (writer.style.elide ≡ true) × (draft.bytes ≡ [])
+now_unmade writer draft is writes = subst (λ current. IsCurrent writer.style draft.is_kept draft.bytes current) is writes.current
+
+-- a section that is skipped makes no file, and neither does an empty one where those are left out
+pub skips_file : (style : Style) (one : Contents) → one.is_kept ≡ false → makes_file style one ≡ false
+skips_file style one kept = ap (λ k. k && not (style.elide && is_empty one.bytes)) kept
+
+pub elides_file : (style : Style) (one : Contents) → style.elide ≡ true → one.bytes ≡ [] → makes_file style one ≡ false
+elides_file style one elide none = ap (λ bytes. one.is_kept && not (style.elide && is_empty bytes)) none ∙ ap (λ e. one.is_kept && not (e && true)) elide ∙ never one.is_kept where
+  never : (kept : Bool) → (kept && false) ≡ false
+  never true = refl
+  never false = refl
+
+-- Nothing is written of a section that is skipped
+
+skipped_part : (writer : WriterState) (bytes : List ℕ) (draft : Draft) → draft.is_kept ≡ false → draft_part writer.style draft ≡ draft_part writer.style (with_bytes bytes draft)
+skipped_part writer bytes draft kept =
+    part_none writer.style draft.ended (last_contents false draft) (skips_file writer.style (last_contents false draft) kept)
+    ∙ sym (part_none writer.style draft.ended (last_contents false (with_bytes bytes draft)) (skips_file writer.style (last_contents false (with_bytes bytes draft)) kept))
+
+pub put_skipped : (told : Bool) (writer : WriterState) (bytes : List ℕ) (slots : List Slot) → writer.current ≡ Skipped → IsReady writer slots → Went told writer (with_bytes bytes) slots slots writer
+put_skipped told writer bytes slots is ready = record {
+  style = refl;
+  writes = λ draft writes. record {
+    closed = writes.closed;
+    made = writes.made ∙ ap (λ (part : Part). length part.files) (skipped_part writer bytes draft (now_skipped writer draft is writes));
+    current = subst (λ current. IsCurrent writer.style draft.is_kept (draft.bytes ++ bytes) current) (sym is) (now_skipped writer draft is writes);
+  };
+  moves = λ draft writes. moves_same told _ _ slots (skipped_part writer bytes draft (now_skipped writer draft is writes));
+  keeps = keeps_same slots;
+  owns = λ first own. own;
+  ready = ready;
+}
+
+-- The file of the open section gets more bytes
+
+still_makes : (style : Style) (draft : Draft) (bytes : List ℕ) → makes_file style (last_contents false draft) ≡ true → makes_file style (last_contents false (with_bytes bytes draft)) ≡ true
+still_makes style draft bytes makes = made_more style.elide draft.is_kept draft.bytes bytes makes
+
+pub ready_written : (told : Bool) (writer next : WriterState) (slot size : ℕ) (bytes : List ℕ) (old new : List Slot) → (2 ≤ slot) × (suc slot ≡ length old) × IsTrue (is_writable old slot) → IsReady writer old
+    → next ≡ record writer { current = File slot size } → new ≡ Rattle.ports_core.specs.Slot.with_written slot bytes old → IsReady next new
+ready_written told writer next slot size bytes old new at ready is wrote = subst (λ those. IsReady those new) (sym is) (record {
+  output = writable_still 0 slot bytes old new wrote ready.output;
+  first = ready.first;
+  owns = owned_same writer (record writer { current = File slot size }) old new refl refl (ready_could writer old ready) (made_write slot bytes old new wrote) ready.first ready.owns;
+  current = (at.0, at.1 ∙ sym (made_write slot bytes old new wrote).size, writable_still slot slot bytes old new wrote at.2);
+})
+
+pub put_file : (told : Bool) (writer next : WriterState) (slot size : ℕ) (bytes : List ℕ) (old new : List Slot) (result : Result (Unit {0}) Fault) → writer.current ≡ File slot size → IsReady writer old → Appends told writer slot size bytes old new next result
+    → Goes told writer (with_bytes bytes) old new next result
+put_file told writer next slot size bytes old new (Ok done) is ready (same, wrote) = record {
+  style = ap (λ (those : WriterState). those.style) same;
+  writes = λ draft writes. subst (λ those. Writes those (with_bytes bytes draft)) (sym same) (record {
+    closed = writes.closed;
+    made = writes.made ∙ count_made writer.style draft.ended (last_contents false draft) (now_file writer draft slot size is writes).0
+        ∙ sym (count_made writer.style draft.ended (last_contents false (with_bytes bytes draft)) (still_makes writer.style draft bytes (now_file writer draft slot size is writes).0));
+    current = (
+      still_makes writer.style draft bytes (now_file writer draft slot size is writes).0,
+      ap (λ n. n + length bytes) (now_file writer draft slot size is writes).1 ∙ sym (length-append draft.bytes bytes),
+    );
+  });
+  moves = λ draft writes. moves_as told _ _ _ _ old new (open_part writer.style draft (now_file writer draft slot size is writes).0)
+      (open_part writer.style (with_bytes bytes draft) (still_makes writer.style draft bytes (now_file writer draft slot size is writes).0))
+      (write_moves told (size_lines writer.style draft.ended) (files_of writer.style 0 draft.ended) (name_after writer.style draft.ended) draft.bytes bytes slot old new (at_file writer slot size old is ready).1 wrote);
+  keeps = keeps_write slot _ old new wrote;
+  owns = owned_same writer next old new (ap (λ (those : WriterState). those.made) same) (ap (λ (those : WriterState). those.first) same) (ready_could writer old ready) (made_write slot _ old new wrote);
+  ready = ready_written told writer next slot _ _ old new (at_file writer slot size old is ready) ready same wrote;
+}
+put_file told writer next slot size bytes old new (Err f) is ready (same, cut) = record {
+  style = ap (λ (those : WriterState). those.style) same;
+  halts = λ draft writes. halts_as told _ _ _ _ old new f (open_part writer.style draft (now_file writer draft slot size is writes).0)
+      (open_part writer.style (with_bytes bytes draft) (still_makes writer.style draft bytes (now_file writer draft slot size is writes).0))
+      (write_halts told (size_lines writer.style draft.ended) (files_of writer.style 0 draft.ended) (name_after writer.style draft.ended) draft.bytes bytes slot old new f (closed_files writer.style 0 draft.ended writes.closed) (at_file writer slot size old is ready).1 cut);
+  breaks = write_breaks told writer.style slot bytes old new f (at_file writer slot size old is ready).0 (at_file writer slot size old is ready).2 cut;
+  owns = owned_same writer next old new (ap (λ (those : WriterState). those.made) same) (ap (λ (those : WriterState). those.first) same) (ready_could writer old ready) (short_made told slot bytes old new f cut);
+}
+
+pub append_size : (told : Bool) (writer next : WriterState) (slot size : ℕ) (bytes : List ℕ) (old new : List Slot) (result : Result (Unit {0}) Fault) → size ≤ size_of writer.current → Appends told writer slot size bytes old new next result
+    → OnOk result (size_of next.current ≤ size_of writer.current + length bytes)
+append_size told writer next slot size bytes old new (Ok done) within (same, wrote) =
+    let now : size_of next.current ≡ size + length bytes = ap (λ (those : WriterState). size_of those.current) same in omega (arith, within)
+append_size told writer next slot size bytes old new (Err f) within appends = tt
+
+pub some_bytes : (bytes : List ℕ) → false ≡ eqb (length bytes) 0 → is_empty bytes ≡ false
+some_bytes [] is = absurd (false≢true (is ∙ eq-eqb 0 0 refl))
+some_bytes (byte ∷ bytes) is = refl

@@ -1,0 +1,149 @@
+-- Slots as they are opened, written and closed, and as they break.
+use Rattle.std.proofs.Common.{◌≡◌, ℕ, ◌+◌, ◌<◌, ◌≤◌, zero, suc, not, ◌&&◌, List, [], ◌∷◌, ◌++◌, length, take, Bool, true, false, IsTrue, refl, sym, ◌∙◌, ap, subst, arith, length-append}
+use Rattle.std.proofs.lemmas.Bool.{false≢true}
+use Rattle.std.proofs.lemmas.List.{get_or_past, get_or_append_left}
+use Rattle.ports_core.specs.Slot.{Slot, Rose, is_open, has_file, no_slot, slot_at, changed_at, opened, unopened, adds, closes, breaks, with_written, with_broken, told_of, is_writable}
+use Rattle.ports_core.specs.Write.{BrokeAfter}
+use Rattle.ports_core.specs.declared.slot.Mode.{Mode}
+use Rattle.ports_core.specs.declared.slot.State.{State}
+use Rattle.ports_core.specs.declared.slot.State.TheVariants.{Open, Closed, Removed, Unopened}
+use Rattle.ports_core.proofs.PartLemmas.{sound_at, broken_at}
+use Rattle.ports_core.proofs.SlotLemmas.{length-changed_at, slot_at-changed, slot_at-elsewhere}
+use Rattle.ports_core.proofs.WriteLemmas.{writable-written}
+use Rattle.csplit_core.specs.Writer.{KeepsBroken}
+
+-- Outputs that were broken stay broken.
+
+flag_stays : (change : Slot → Slot) → ((slot : Slot) → (change slot).is_broken ≡ slot.is_broken) → (place other : ℕ) (slots : List Slot) → (slot_at (changed_at place change slots) other).is_broken ≡ (slot_at slots other).is_broken
+flag_stays change same place other [] = refl
+flag_stays change same zero zero (slot ∷ slots) = same slot
+flag_stays change same zero (suc other) (slot ∷ slots) = refl
+flag_stays change same (suc place) zero (slot ∷ slots) = refl
+flag_stays change same (suc place) (suc other) (slot ∷ slots) = flag_stays change same place other slots
+
+pub keeps_same : (slots : List Slot) → KeepsBroken slots slots
+keeps_same slots place sound = sound
+
+keeps_change : (change : Slot → Slot) → ((slot : Slot) → (change slot).is_broken ≡ slot.is_broken) → (slot : ℕ) (old new : List Slot) → new ≡ changed_at slot change old → KeepsBroken old new
+keeps_change change same slot old new is place sound = sym (flag_stays change same slot place old) ∙ ap (λ those. (slot_at those place).is_broken) (sym is) ∙ sound
+
+pub keeps_write : (slot : ℕ) (bytes : List ℕ) (old new : List Slot) → new ≡ with_written slot bytes old → KeepsBroken old new
+keeps_write slot bytes old new is = keeps_change (adds bytes) (λ one. refl) slot old new is
+
+pub keeps_close : (slot : ℕ) (old new : List Slot) → new ≡ changed_at slot closes old → KeepsBroken old new
+keeps_close slot old new is = keeps_change closes (λ one. refl) slot old new is
+
+sound_before : (slots : List Slot) (one : Slot) (place : ℕ) → (slot_at (slots ++ one ∷ []) place).is_broken ≡ false → (slot_at slots place).is_broken ≡ false
+sound_before [] one place sound = refl
+sound_before (slot ∷ slots) one zero sound = sound
+sound_before (slot ∷ slots) one (suc place) sound = sound_before slots one place sound
+
+pub keeps_open : (one : Slot) (old new : List Slot) → new ≡ old ++ one ∷ [] → KeepsBroken old new
+keeps_open one old new is place sound = sound_before old one place (ap (λ those. (slot_at those place).is_broken) (sym is) ∙ sound)
+
+-- One that breaks was sound.
+
+broken_there : (place : ℕ) (slots : List Slot) → place < length slots → (slot_at (with_broken place slots) place).is_broken ≡ true
+broken_there place [] within = absurd (omega (arith, within))
+broken_there zero (slot ∷ slots) within = refl
+broken_there (suc place) (slot ∷ slots) within = broken_there place slots (omega arith)
+
+pub write_rose : (told : Bool) (slot : ℕ) (bytes : List ℕ) (n : ℕ) (old new : List Slot) → IsTrue (is_writable old slot) → BrokeAfter told old new slot bytes n → Rose slot old new
+write_rose told slot bytes n old new can cut = (
+  sound_at slot old can,
+  ap (λ those. (slot_at those slot).is_broken) cut.slots ∙ broken_at slot (with_written slot (told_of told (take n bytes)) old) (writable-written old slot slot (told_of told (take n bytes)) ∙ can),
+)
+
+pub close_rose : (slot : ℕ) (old new : List Slot) → IsTrue (is_writable old slot) → slot < length old → new ≡ with_broken slot (changed_at slot closes old) → Rose slot old new
+close_rose slot old new can within is = (
+  sound_at slot old can,
+  ap (λ those. (slot_at those slot).is_broken) is ∙ broken_there slot (changed_at slot closes old) (let same : length (changed_at slot closes old) ≡ length old = length-changed_at slot closes old in omega arith),
+)
+
+pub at_end : (slots : List Slot) (one : Slot) → slot_at (slots ++ one ∷ []) (length slots) ≡ one
+at_end [] one = refl
+at_end (slot ∷ slots) one = at_end slots one
+
+past_end : (slots : List Slot) → (slot_at slots (length slots)).is_broken ≡ false
+past_end [] = refl
+past_end (slot ∷ slots) = past_end slots
+
+pub open_rose : (slot : ℕ) (kept : List ℕ) (old new : List Slot) → slot ≡ length old → new ≡ old ++ unopened kept ∷ [] → Rose slot old new
+open_rose slot kept old new number is = (
+  ap (λ n. (slot_at old n).is_broken) number ∙ past_end old,
+  ap (λ those. (slot_at those slot).is_broken) is ∙ ap (λ n. (slot_at (old ++ unopened kept ∷ []) n).is_broken) number ∙ ap (λ (one : Slot). one.is_broken) (at_end old (unopened kept)),
+)
+
+-- Which outputs can be written
+
+pub writable_opened : (slot : ℕ) (name : List ℕ) (mode : Mode) (old new : List Slot) → slot ≡ length old → new ≡ old ++ opened name mode ∷ [] → IsTrue (is_writable new slot)
+writable_opened slot name mode old new number is =
+    ap (λ those. is_writable those slot) is ∙ ap (λ n. is_writable (old ++ opened name mode ∷ []) n) number
+    ∙ ap (λ (one : Slot). is_open one.state && not one.is_broken) (at_end old (opened name mode))
+
+pub writable_before : (place : ℕ) (one : Slot) (old new : List Slot) → place < length old → new ≡ old ++ one ∷ [] → IsTrue (is_writable old place) → IsTrue (is_writable new place)
+writable_before place one old new within is can =
+    ap (λ those. is_writable those place) is ∙ ap (λ (slot : Slot). is_open slot.state && not slot.is_broken) (get_or_append_left old (one ∷ []) no_slot place within) ∙ can
+
+pub writable_still : (slot place : ℕ) (bytes : List ℕ) (old new : List Slot) → new ≡ with_written place bytes old → IsTrue (is_writable old slot) → IsTrue (is_writable new slot)
+writable_still slot place bytes old new is can = ap (λ those. is_writable those slot) is ∙ writable-written old place slot bytes ∙ can
+
+pub writable_elsewhere : (slot place : ℕ) (change : Slot → Slot) (old new : List Slot) → (slot ≡ place → ⊥) → new ≡ changed_at place change old → IsTrue (is_writable old slot) → IsTrue (is_writable new slot)
+writable_elsewhere slot place change old new differs is can =
+    ap (λ those. is_writable those slot) is ∙ ap (λ (one : Slot). is_open one.state && not one.is_broken) (slot_at-elsewhere place slot change old differs) ∙ can
+
+-- Which outputs have a file
+
+-- as many outputs, each with a file where it had one
+pub record KeepsMade (old new : List Slot) : Type 0 where
+  pub size : length new ≡ length old
+  pub same : (place : ℕ) → has_file (slot_at new place).state ≡ has_file (slot_at old place).state
+
+pub made_same : (slots : List Slot) → KeepsMade slots slots
+made_same slots = record { size = refl; same = λ place. refl }
+
+pub made_again : (old mid new : List Slot) → KeepsMade old mid → KeepsMade mid new → KeepsMade old new
+made_again old mid new first second = record { size = second.size ∙ first.size; same = λ place. second.same place ∙ first.same place }
+
+file_stays : (change : Slot → Slot) (place other : ℕ) (slots : List Slot) → has_file (change (slot_at slots place)).state ≡ has_file (slot_at slots place).state → has_file (slot_at (changed_at place change slots) other).state ≡ has_file (slot_at slots other).state
+file_stays change place other [] same = refl
+file_stays change zero zero (slot ∷ slots) same = same
+file_stays change zero (suc other) (slot ∷ slots) same = refl
+file_stays change (suc place) zero (slot ∷ slots) same = refl
+file_stays change (suc place) (suc other) (slot ∷ slots) same = file_stays change place other slots same
+
+made_change : (change : Slot → Slot) (slot : ℕ) (old new : List Slot) → has_file (change (slot_at old slot)).state ≡ has_file (slot_at old slot).state → new ≡ changed_at slot change old → KeepsMade old new
+made_change change slot old new same is = record {
+  size = ap length is ∙ length-changed_at slot change old;
+  same = λ place. ap (λ those. has_file (slot_at those place).state) is ∙ file_stays change slot place old same;
+}
+
+pub made_write : (slot : ℕ) (bytes : List ℕ) (old new : List Slot) → new ≡ with_written slot bytes old → KeepsMade old new
+made_write slot bytes old new is = made_change (adds bytes) slot old new refl is
+
+pub made_break : (slot : ℕ) (old new : List Slot) → new ≡ with_broken slot old → KeepsMade old new
+made_break slot old new is = made_change breaks slot old new refl is
+
+pub made_cut : (told : Bool) (slot : ℕ) (bytes : List ℕ) (n : ℕ) (old new : List Slot) → BrokeAfter told old new slot bytes n → KeepsMade old new
+made_cut told slot bytes n old new cut = made_again old (with_written slot (told_of told (take n bytes)) old) new (made_write slot _ old _ refl) (made_break slot _ new cut.slots)
+
+open_has_file : (state : State) (broken : Bool) → (is_open state && not broken) ≡ true → has_file state ≡ true
+open_has_file Open broken can = refl
+open_has_file Closed broken can = absurd (false≢true can)
+open_has_file Removed broken can = absurd (false≢true can)
+open_has_file Unopened broken can = absurd (false≢true can)
+
+pub made_close : (slot : ℕ) (old new : List Slot) → IsTrue (is_writable old slot) → new ≡ changed_at slot closes old → KeepsMade old new
+made_close slot old new can is = made_change closes slot old new (sym (open_has_file (slot_at old slot).state (slot_at old slot).is_broken can)) is
+
+pub none_past : (slots : List Slot) (place : ℕ) → length slots ≤ place → has_file (slot_at slots place).state ≡ false
+none_past slots place past = ap (λ (one : Slot). has_file one.state) (get_or_past slots place no_slot past)
+
+pub none_opened : (slots : List Slot) (name : List ℕ) (place : ℕ) → length slots ≤ place → has_file (slot_at (slots ++ unopened name ∷ []) place).state ≡ false
+none_opened [] name zero past = refl
+none_opened [] name (suc place) past = refl
+none_opened (slot ∷ slots) name zero past = absurd (omega arith)
+none_opened (slot ∷ slots) name (suc place) past = none_opened slots name place (omega arith)
+
+pub file_before : (slots : List Slot) (one : Slot) (place : ℕ) → place < length slots → has_file (slot_at (slots ++ one ∷ []) place).state ≡ has_file (slot_at slots place).state
+file_before slots one place within = ap (λ (slot : Slot). has_file slot.state) (get_or_append_left slots (one ∷ []) no_slot place within)
