@@ -58,6 +58,7 @@ at_more cutter lines aim x t left whole some at ends count =
 
 pub part_more : (cutter : CutterState) (lines : ℕ) (aim : Turn) (x t left : List ℕ) (whole : IsWhole x) (some : 1 ≤ cutter.progress.current) (at : IsAt cutter x left) (ends : EndsNow cutter x) (count : lines ≡ line_count newline (x ++ t))
     → part_at cutter x left at ≡ part_at (record cutter { lines = lines; aim = aim }) (x ++ t) (left ++ t) (at_more cutter lines aim x t left whole some at ends count)
+unfolding at_more
 part_more cutter lines aim x t left whole some at ends count =
     ap (draft_part cutter.writer.style) (ended_still cutter.writer.style cutter.operands x t at.steps (state_in cutter) ends.ending (kept_by (state_in cutter).operands) at.written whole (runs_to cutter x left at ends))
 

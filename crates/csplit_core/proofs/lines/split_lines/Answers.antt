@@ -1,3 +1,5 @@
+use Rattle.csplit_core.proofs.CutterLemmas.{taken_all}
+use Rattle.csplit_core.proofs.SettledLemmas.{aims_past}
 use Rattle.std.proofs.Common.{◌≡◌, length, sym, ◌∙◌, arith}
 use Rattle.std.proofs.lemmas.List.{take_all, drop_all}
 use Rattle.csplit_core.proofs.LineLemmas.{rest_is, short_all, short_none}
