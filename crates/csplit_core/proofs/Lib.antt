@@ -28,3 +28,4 @@ pub mod OwnLemmas
 pub mod PutLemmas
 pub mod BeginLemmas
 pub mod EndLemmas
+pub mod HoldLemmas

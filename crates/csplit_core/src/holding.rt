@@ -1,6 +1,7 @@
 //! Lines that wait, and what leaves them.
-ghost use Rattle.std.specs.Prelude.{◌≡◌, ◌+◌, ◌<◌, ◌≤◌, ◌^◌, ◌++◌, [], length, IfOk, IfErr, OnOk};
+ghost use Rattle.std.specs.Prelude.{◌≡◌, ◌+◌, ◌<◌, ◌≤◌, ◌^◌, ◌++◌, [], length, take, IfOk, IfErr, OnOk};
 ghost use Rattle.seg_core.specs.Line.{but_last_lines, last_lines};
+ghost use Rattle.seg_core.specs.Window.{without_first};
 ghost use Rattle.csplit_core.specs.Draft.{with_bytes};
 ghost use Rattle.csplit_core.specs.Writer.{Goes, IsReady, size_of};
 
@@ -36,12 +37,19 @@ pub(crate) fn hold_last<O: Outs>(
 }
 
 /// Writes the first `n` bytes that wait, and drops them.
-pub(crate) fn write_front<O: Outs>(
+fn write_front<O: Outs>(
     window: &mut LineWindow,
     n: u64,
     writer: &mut SectionWriter,
     outs: &mut O,
-) -> Result<(), Fault> {
+) -> Result<(), Fault>
+    requires held { n ≤ length window.old.held }
+    requires fits { size_of writer.old.current + length window.old.held < 2 ^ 64 }
+    requires ready { IsReady writer.old (O.slots outs.old) }
+    ensures goes { Goes O.told writer.old (with_bytes (take n window.old.held)) (O.slots outs.old) (O.slots outs.new) writer.new result }
+    ensures window { OnOk result (window.new ≡ without_first window.old n) }
+    ensures size { OnOk result (size_of writer.new.current + length window.new.held ≤ size_of writer.old.current + length window.old.held) }
+{
     let mut left = n;
     while 0 < left {
         let front = window.front();
@@ -54,7 +62,11 @@ pub(crate) fn write_front<O: Outs>(
 }
 
 /// Puts lines after those that wait.
-fn keep(window: &mut LineWindow, text: &[u8]) -> Result<(), Fault> {
+fn keep(window: &mut LineWindow, text: &[u8]) -> Result<(), Fault>
+    requires { but_last_lines window.old.delim window.old.most (window.old.held ++ text.now) ≡ [] }
+    ensures ok { OnOk result (window.new ≡ record { most = window.old.most; delim = window.old.delim; held = window.old.held ++ text.now }) }
+    ensures err { IfErr result (λ fault. fault ≡ Fault.Memory) }
+{
     match window.put(text) {
         Ok(()) => Ok(()),
         Err(_) => Err(Fault::Memory),

@@ -1,3 +1,4 @@
+use Rattle.csplit_core.proofs.HoldLemmas.{went_as}
 use Rattle.csplit_core.proofs.CutterLemmas.{taken_all}
 use Rattle.csplit_core.proofs.SettledLemmas.{aims_past}
 use Rattle.std.proofs.Common.{◌≡◌, length, sym, ◌∙◌, arith}
