@@ -1,8 +1,13 @@
 -- Writing lines that wait to the open section.
-use Rattle.std.proofs.Common.{◌≡◌, ◌⊎◌, inl, inr, ℕ, ◌+◌, ◌-◌, ◌<◌, ◌≤◌, Bool, true, false, List, [], ◌∷◌, ◌++◌, length, take, drop, refl, sym, ◌∙◌, ap, subst, arith, append_assoc, length-append}
-use Rattle.std.proofs.lemmas.List.{append-nil, length-take-le, length-drop, take-append-drop, take-append-le, drop-append-le, drop-drop, take_at, drop_at}
+use Rattle.std.proofs.Common.{◌≡◌, ◌⊎◌, inl, inr, ℕ, ◌+◌, ◌-◌, ◌<◌, ◌≤◌, min, Bool, true, false, Result, Ok, Err, OnOk, IfErr, List, [], ◌∷◌, ◌++◌, length, take, drop, refl, sym, ◌∙◌, ap, subst, arith, append_assoc, length-append}
+use Rattle.std.proofs.lemmas.Bool.{cases_lt}
+use Rattle.std.proofs.Math.Nat.{min-eq_left, min-eq_right}
+use Rattle.std.proofs.lemmas.List.{append-nil, length-take-le, length-drop, take-append-drop, take-append-le, take_all, drop_all, take_at, drop_at}
 use Rattle.std.proofs.Math.Seq.{take-add, take-append-add}
+use Rattle.seg_core.specs.Line.{line_count, but_last_lines, last_lines}
 use Rattle.seg_core.specs.Window.{Window, without_first}
+use Rattle.seg_core.proofs.FirstLines.{first_lines-is_take}
+use Rattle.seg_core.proofs.Carried.{left_behind, left_alone, but_last_lines-last, over-le-length}
 use Rattle.ports_core.specs.Slot.{Slot}
 use Rattle.ports_core.specs.Part.{Part, InTurn}
 use Rattle.ports_core.specs.declared.fault.Fault.{Fault}
@@ -10,7 +15,7 @@ use Rattle.ports_core.specs.declared.fault.Fault.TheVariants.{Memory}
 use Rattle.ports_core.proofs.PartLemmas.{part_begins_itself, turn_last, turn_next}
 use Rattle.csplit_core.specs.Output.{Style, Contents, makes_file, files_of, part_by}
 use Rattle.csplit_core.specs.Draft.{Draft, draft_part, last_contents, with_bytes, AreClosed}
-use Rattle.csplit_core.specs.Writer.{WriterState, Writes, IsReady, Moves, Halts, KeepsBroken, Went, Stopped, size_of}
+use Rattle.csplit_core.specs.Writer.{WriterState, Writes, IsReady, Moves, Halts, KeepsBroken, Went, Stopped, Goes, size_of}
 use Rattle.csplit_core.proofs.WriterLemmas.{moves_again, halts_after, halts_wider, bytes_begin, keeps_again, breaks_later, owns_again, moves_same, moves_as, halts_as}
 use Rattle.csplit_core.proofs.DraftLemmas.{open_part, part_none, closed_files}
 
@@ -193,3 +198,76 @@ empties_short told writer now next window left_in n left bytes front rest old mi
     stopped_as told writer next ((so_far.gone ++ take bytes front) ++ take (left - bytes) (drop bytes left_in.held)) (take n window.held) old new fault (sym all)
     (stopped_wider told writer next (so_far.gone ++ take bytes front) (take (left - bytes) (drop bytes left_in.held)) old new fault
     (stopped_more told writer now next so_far.gone (take bytes front) old mid new fault so_far.went stopped))
+
+-- What leaves of the lines that wait and of a text after them, and what stays: of the text only where all that waited leaves.
+
+by_front : (over long front : ℕ) → front ≡ min over long → ((over ≤ long) × (front ≡ over)) ⊎ ((long ≤ over) × (front ≡ long))
+by_front over long front is = elim (cases_lt over long) [
+  | inl less ↦ inl (omega (arith, less), is ∙ min-eq_left (omega (arith, less)))
+  | inr more ↦ inr (more, is ∙ min-eq_right more)
+]
+
+front_all : (delim most over front : ℕ) (held text : List ℕ) → over ≡ length (but_last_lines delim most (held ++ text)) → ((over ≤ length held) × (front ≡ over)) ⊎ ((length held ≤ over) × (front ≡ length held))
+    → take front held ++ take (over - front) text ≡ take over (held ++ text)
+front_all delim most over front held text is (inl (less, same)) =
+    ap (λ n. take front held ++ take n text) (let e : over - front ≡ 0 = omega (arith, same) in e) ∙ append-nil (take front held) ∙ ap (λ n. take n held) same ∙ sym (take-append-le over held text less)
+front_all delim most over front held text is (inr (more, same)) =
+    ap (λ bytes. bytes ++ take (over - front) text) (ap (λ n. take n held) same ∙ take_all (length held) held (omega arith)) ∙ sym (take-append-add held text (over - front))
+    ∙ ap (λ n. take n (held ++ text)) (let e : length held + (over - front) ≡ over = omega (arith, more, same) in e)
+
+pub leaves_front : (delim most over front : ℕ) (held text : List ℕ) → over ≡ length (but_last_lines delim most (held ++ text)) → front ≡ min over (length held) → take front held ++ take (over - front) text ≡ but_last_lines delim most (held ++ text)
+leaves_front delim most over front held text is at =
+    front_all delim most over front held text is (by_front over (length held) front at) ∙ ap (λ n. take n (held ++ text)) is
+    ∙ sym (first_lines-is_take delim (line_count delim (held ++ text) - most) (held ++ text))
+
+stays_by : (delim most over front : ℕ) (held text : List ℕ) → over ≡ length (but_last_lines delim most (held ++ text)) → ((over ≤ length held) × (front ≡ over)) ⊎ ((length held ≤ over) × (front ≡ length held))
+    → drop front held ++ drop (over - front) text ≡ last_lines delim most (held ++ text)
+stays_by delim most over front held text is (inl (less, same)) =
+    ap (λ n. drop front held ++ drop n text) (let e : over - front ≡ 0 = omega (arith, same) in e) ∙ ap (λ n. drop n held ++ text) same ∙ left_behind delim most held text over is less
+stays_by delim most over front held text is (inr (more, same)) =
+    ap (λ bytes. bytes ++ drop (over - front) text) (ap (λ n. drop n held) same ∙ drop_all (length held) held (omega arith)) ∙ left_alone delim most held text over (over - front) is (omega (arith, more, same))
+
+pub stays_rest : (delim most over front : ℕ) (held text : List ℕ) → over ≡ length (but_last_lines delim most (held ++ text)) → front ≡ min over (length held) → drop front held ++ drop (over - front) text ≡ last_lines delim most (held ++ text)
+stays_rest delim most over front held text is at = stays_by delim most over front held text is (by_front over (length held) front at)
+
+pub fits_rest : (delim most over front : ℕ) (held text : List ℕ) → over ≡ length (but_last_lines delim most (held ++ text)) → front ≡ min over (length held) → but_last_lines delim most (drop front held ++ drop (over - front) text) ≡ []
+fits_rest delim most over front held text is at = ap (but_last_lines delim most) (stays_rest delim most over front held text is at) ∙ but_last_lines-last delim most (held ++ text)
+
+pub rest_within : (delim most over front : ℕ) (held text : List ℕ) → over ≡ length (but_last_lines delim most (held ++ text)) → front ≡ min over (length held) → over - front ≤ length text
+rest_within delim most over front held text is at = by (by_front over (length held) front at) where
+  by : ((over ≤ length held) × (front ≡ over)) ⊎ ((length held ≤ over) × (front ≡ length held)) → over - front ≤ length text
+  by (inl (less, same)) = omega (arith, same)
+  by (inr (more, same)) = let most' = over-le-length delim most held text in omega (arith, most', is, same)
+
+-- what `hold_last` owes at each of its ends
+
+pub hold_short : (told : Bool) (writer next : WriterState) (delim most over front : ℕ) (held text : List ℕ) (old new : List Slot) (fault : Fault) → over ≡ length (but_last_lines delim most (held ++ text)) → front ≡ min over (length held)
+    → Stopped told writer (with_bytes (take front held)) old new next fault → Stopped told writer (with_bytes (but_last_lines delim most (held ++ text))) old new next fault
+hold_short told writer next delim most over front held text old new fault is at stopped =
+    stopped_as told writer next (take front held ++ take (over - front) text) (but_last_lines delim most (held ++ text)) old new fault (leaves_front delim most over front held text is at)
+    (stopped_wider told writer next (take front held) (take (over - front) text) old new fault stopped)
+
+pub hold_cut : (told : Bool) (writer between next : WriterState) (delim most over front : ℕ) (held text piece : List ℕ) (old mid new : List Slot) (fault : Fault) → piece ≡ take (over - front) text → over ≡ length (but_last_lines delim most (held ++ text)) → front ≡ min over (length held)
+    → Went told writer (with_bytes (take front held)) old mid between → Stopped told between (with_bytes piece) mid new next fault → Stopped told writer (with_bytes (but_last_lines delim most (held ++ text))) old new next fault
+hold_cut told writer between next delim most over front held text piece old mid new fault piece_is is at went stopped =
+    stopped_as told writer next (take front held ++ take (over - front) text) (but_last_lines delim most (held ++ text)) old new fault (leaves_front delim most over front held text is at)
+    (stopped_more told writer between next (take front held) (take (over - front) text) old mid new fault went (stopped_as told between next piece (take (over - front) text) mid new fault piece_is stopped))
+
+pub hold_went : (told : Bool) (writer between next : WriterState) (delim most over front : ℕ) (held text piece : List ℕ) (old mid new : List Slot) → piece ≡ take (over - front) text → over ≡ length (but_last_lines delim most (held ++ text)) → front ≡ min over (length held)
+    → Went told writer (with_bytes (take front held)) old mid between → Went told between (with_bytes piece) mid new next → Went told writer (with_bytes (but_last_lines delim most (held ++ text))) old new next
+hold_went told writer between next delim most over front held text piece old mid new piece_is is at first second =
+    went_as told writer next (take front held ++ take (over - front) text) (but_last_lines delim most (held ++ text)) old new (leaves_front delim most over front held text is at)
+    (went_more told writer between next (take front held) (take (over - front) text) old mid new first (went_as told between next piece (take (over - front) text) mid new piece_is second))
+
+-- where the last call only wants memory
+pub goes_or_lacks : (told : Bool) (writer next : WriterState) (bytes : List ℕ) (old new : List Slot) (result : Result (Unit {0}) Fault) → Went told writer (with_bytes bytes) old new next → IfErr result (λ fault. fault ≡ Memory) → Goes told writer (with_bytes bytes) old new next result
+goes_or_lacks told writer next bytes old new (Ok done) went lacks = went
+goes_or_lacks told writer next bytes old new (Err fault) went lacks = subst (λ why. Stopped told writer (with_bytes bytes) old new next why) (sym lacks) (stopped_after told writer next bytes old new went)
+
+pub kept_window : (window mid new : Window) (over front : ℕ) (text : List ℕ) (result : Result (Unit {0}) Fault) → over ≡ length (but_last_lines window.delim window.most (window.held ++ text)) → front ≡ min over (length window.held)
+    → mid ≡ without_first window front → OnOk result (new ≡ record { most = mid.most; delim = mid.delim; held = mid.held ++ drop (over - front) text })
+    → OnOk result (new ≡ record { most = window.most; delim = window.delim; held = last_lines window.delim window.most (window.held ++ text) })
+kept_window window mid new over front text (Ok done) is at dropped put =
+    put ∙ ap (λ (w : Window). record { most = w.most; delim = w.delim; held = w.held ++ drop (over - front) text }) dropped
+    ∙ ap (λ held. record { most = window.most; delim = window.delim; held = held }) (stays_rest window.delim window.most over front window.held text is at)
+kept_window window mid new over front text (Err fault) is at dropped put = tt
