@@ -39,7 +39,7 @@ pub runs_to : (cutter : CutterState) (x left : List ℕ) (at : IsAt cutter x lef
 runs_to cutter x left at ends = subst (λ steps. Runs (suppress_in cutter) (all_lines x) (start cutter.operands) steps (state_in cutter) ends.ending) (append-nil at.steps) (at.leads [] (state_in cutter) ends.ending ends.runs)
 
 -- more lines came in, and nothing was done with them yet
-pub at_more : (cutter : CutterState) (lines : ℕ) (aim : Turn) (x t left : List ℕ) → IsWhole x → 1 ≤ cutter.progress.current → (at : IsAt cutter x left) → EndsNow cutter x → lines ≡ line_count newline (x ++ t)
+unfoldable pub at_more : (cutter : CutterState) (lines : ℕ) (aim : Turn) (x t left : List ℕ) → IsWhole x → 1 ≤ cutter.progress.current → (at : IsAt cutter x left) → EndsNow cutter x → lines ≡ line_count newline (x ++ t)
     → IsAt (record cutter { lines = lines; aim = aim }) (x ++ t) (left ++ t)
 at_more cutter lines aim x t left whole some at ends count =
     let e = all_lines-append x t whole in record {
@@ -73,7 +73,7 @@ live_part cutter x live =
     ∙ settled_part_is cutter.writer.style cutter.operands (all_lines x)
 
 -- some lines of those that were left are written, and the others wait
-pub at_held : (cutter : CutterState) (writer : WriterState) (x left bytes held : List ℕ) (n : ℕ) → 1 ≤ cutter.progress.current → (at : IsAt cutter x left) → writer.style ≡ cutter.writer.style → n ≤ line_count newline left
+unfoldable pub at_held : (cutter : CutterState) (writer : WriterState) (x left bytes held : List ℕ) (n : ℕ) → 1 ≤ cutter.progress.current → (at : IsAt cutter x left) → writer.style ≡ cutter.writer.style → n ≤ line_count newline left
     → bytes ≡ first_lines newline n left → held ≡ after_lines newline n left → ((draft : Draft) → Writes cutter.writer draft → Writes writer (with_bytes bytes draft))
     → IsAt (record cutter { writer = writer; window = record cutter.window { held = held } }) x held
 at_held cutter writer x left bytes held n some at same within bytes_is held_is writes =

@@ -29,3 +29,4 @@ pub mod PutLemmas
 pub mod BeginLemmas
 pub mod EndLemmas
 pub mod HoldLemmas
+pub mod HeldLemmas

@@ -1,3 +1,4 @@
+use Rattle.csplit_core.proofs.HeldLemmas.{hold_past}
 use Rattle.csplit_core.proofs.HoldLemmas.{went_as}
 use Rattle.csplit_core.proofs.CutterLemmas.{taken_all}
 use Rattle.csplit_core.proofs.SettledLemmas.{aims_past}

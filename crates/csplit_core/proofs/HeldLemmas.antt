@@ -1,0 +1,175 @@
+-- What `hold` leaves: all that is settled of the lines that came in is written, and the others wait.
+use Rattle.std.proofs.Common.{◌≡◌, ◌⊎◌, inl, inr, ℕ, ◌+◌, ◌-◌, ◌<◌, ◌≤◌, Bool, true, false, Result, Ok, Err, OnOk, List, [], ◌∷◌, ◌++◌, length, drop, refl, sym, ◌∙◌, ap, subst, arith, length-append}
+use Rattle.std.proofs.lemmas.List.{drop_all}
+use Rattle.seg_core.specs.Line.{line_count, first_lines, after_lines, but_last_lines, last_lines}
+use Rattle.seg_core.specs.Window.{Window, without_first}
+use Rattle.ports_core.specs.Slot.{Slot}
+use Rattle.ports_core.specs.declared.fault.Fault.{Fault}
+use Rattle.csplit_core.specs.Draft.{Draft, draft_part, with_bytes}
+use Rattle.csplit_core.specs.Input.{newline, all_lines}
+use Rattle.csplit_core.specs.Output.{Style}
+use Rattle.csplit_core.specs.Plan.{State, start, Step, Ending, Runs}
+use Rattle.csplit_core.specs.Planned.{Plan, plan}
+use Rattle.csplit_core.specs.PlanLaws.{plan_once}
+use Rattle.csplit_core.specs.Progress.{EndsHere, AimsAt}
+use Rattle.csplit_core.specs.Section.{is_final, most_waiting, settled_end}
+use Rattle.csplit_core.specs.SectionLaws.{ends_as}
+use Rattle.csplit_core.specs.declared.progress.Turn.{Turn}
+use Rattle.csplit_core.specs.declared.progress.Turn.TheVariants.{Below}
+use Rattle.csplit_core.specs.Writer.{WriterState, Writes, IsReady, Went, Stopped, Goes, size_of}
+use Rattle.csplit_core.specs.Cutter.{CutterState, suppress_in, state_in, kept_by, text_from, draft_by, settled_draft, settled_part, IsFit, IsAt, part_at, EndsNow, IsLive, IsPast, Arrives, Held, HeldNot, Holds}
+use Rattle.csplit_core.proofs.LineLemmas.{count_from, first_further}
+use Rattle.csplit_core.proofs.SettledLemmas.{settled_draft_is, settled_part_is, settled_count, final_count, most_is, aims_live, aims_past}
+use Rattle.csplit_core.proofs.CutterLemmas.{runs_to, at_held, taken_all}
+use Rattle.csplit_core.proofs.WriterLemmas.{moves_as, moves_same, halts_as}
+
+-- the cutter once `hold` has written and kept what it was to
+abbrev pub holding : CutterState → WriterState → List ℕ → CutterState
+holding cutter writer held = record cutter { writer = writer; window = record cutter.window { held = held } }
+
+-- how many lines of those that are left no longer wait
+abbrev pub over_of : CutterState → List ℕ → ℕ
+over_of cutter left = line_count newline left - cutter.window.most
+
+left_count : (cutter : CutterState) (x left : List ℕ) (at : IsAt cutter x left) → line_count newline left ≡ cutter.lines - (cutter.progress.current + at.taken - 1)
+left_count cutter x left at = ap (line_count newline) at.left_is ∙ count_from (cutter.progress.current + at.taken) x ∙ ap (λ n. n - (cutter.progress.current + at.taken - 1)) (sym at.counted)
+
+few_taken : (cutter : CutterState) (x left : List ℕ) (at : IsAt cutter x left) → cutter.progress.current + at.taken ≤ cutter.lines + 1
+few_taken cutter x left at = let f : cutter.progress.current + at.taken ≤ line_count newline x + 1 = at.few in let e : cutter.lines ≡ line_count newline x = at.counted in omega (arith, f, e)
+
+-- then all lines but those that may wait are taken
+taken_is : (cutter : CutterState) (x left : List ℕ) (at : IsAt cutter x left) (arrives : Arrives cutter x left at) → IsFit cutter → is_final arrives.ends.ending ≡ false
+    → at.taken + over_of cutter left ≡ cutter.lines + 1 - cutter.progress.current - most_waiting arrives.ends.ending
+taken_is cutter x left at arrives fit live =
+    let runs = runs_to cutter x left at arrives.ends in
+    let most : cutter.window.most ≡ most_waiting arrives.ends.ending = fit.most ∙ most_is (suppress_in cutter) (all_lines x) (state_in cutter) arrives.ends.ending (ends_as (suppress_in cutter) (all_lines x) _ at.steps (state_in cutter) arrives.ends.ending runs) live in
+    taken_all at.taken cutter.lines cutter.progress.current (line_count newline left) cutter.window.most fit.fits.some (few_taken cutter x left at) (left_count cutter x left at) arrives.enough
+    ∙ ap (λ n. cutter.lines + 1 - cutter.progress.current - n) most
+
+-- and what is written is what is settled
+held_part : (cutter : CutterState) (x left bytes : List ℕ) (at : IsAt cutter x left) (arrives : Arrives cutter x left at) → IsFit cutter → is_final arrives.ends.ending ≡ false → bytes ≡ first_lines newline (over_of cutter left) left
+    → draft_part cutter.writer.style (with_bytes bytes (draft_by (all_lines x) at.steps (kept_by (state_in cutter).operands) at.written)) ≡ settled_part cutter x
+held_part cutter x left bytes at arrives fit live bytes_is =
+    let runs = runs_to cutter x left at arrives.ends in
+    let taken = taken_is cutter x left at arrives fit live in
+    let counted : cutter.lines + 1 - cutter.progress.current - most_waiting arrives.ends.ending ≡ line_count newline x + 1 - cutter.progress.current - most_waiting arrives.ends.ending =
+    ap (λ n. n + 1 - cutter.progress.current - most_waiting arrives.ends.ending) at.counted in
+    let written : at.written ++ bytes ≡ first_lines newline (at.taken + over_of cutter left) (text_from cutter.progress.current x) =
+    ap (λ those. those ++ bytes) at.written_is
+    ∙ ap (λ those. first_lines newline at.taken (text_from cutter.progress.current x) ++ those) (bytes_is ∙ ap (first_lines newline (over_of cutter left)) at.left_is)
+    ∙ sym (first_further cutter.progress.current at.taken (over_of cutter left) x fit.fits.some) in
+    ap (draft_part cutter.writer.style) (settled_draft_is (suppress_in cutter) cutter.operands x at.steps (state_in cutter) arrives.ends.ending (at.taken + over_of cutter left) (at.written ++ bytes) runs
+    (taken ∙ counted ∙ settled_count (line_count newline x) cutter.progress.current arrives.ends.ending live) written)
+    ∙ settled_part_is cutter.writer.style cutter.operands (all_lines x)
+
+held_live : (cutter : CutterState) (writer : WriterState) (x left bytes held : List ℕ) (at : IsAt cutter x left) (arrives : Arrives cutter x left at) → IsFit cutter → is_final arrives.ends.ending ≡ false → writer.style ≡ cutter.writer.style
+    → bytes ≡ first_lines newline (over_of cutter left) left → held ≡ after_lines newline (over_of cutter left) left → ((draft : Draft) → Writes cutter.writer draft → Writes writer (with_bytes bytes draft)) → IsLive (holding cutter writer held) x
+unfolding at_held
+held_live cutter writer x left bytes held at arrives fit live same bytes_is held_is writes = record {
+  at = at_held cutter writer x left bytes held (over_of cutter left) fit.fits.some at same (omega arith) bytes_is held_is writes;
+  ends = record {
+    ending = arrives.ends.ending;
+    runs = subst (λ (style : Style). Runs style.suppress (all_lines x) (state_in cutter) [] (state_in cutter) arrives.ends.ending) (sym same) arrives.ends.runs;
+    aims = arrives.ends.aims;
+  };
+  live = live;
+  settled = taken_is cutter x left at arrives fit live;
+}
+
+pub hold_live : (told : Bool) (cutter : CutterState) (writer : WriterState) (window : Window) (left : List ℕ) (old new : List Slot) → IsFit cutter → (cutter.aim ≡ Below → ⊥)
+    → Went told cutter.writer (with_bytes (but_last_lines cutter.window.delim cutter.window.most left)) old new writer
+    → window ≡ record { most = cutter.window.most; delim = cutter.window.delim; held = last_lines cutter.window.delim cutter.window.most left }
+    → size_of writer.current + length window.held ≤ size_of cutter.writer.current + length left → Held told cutter left old new (record cutter { writer = writer; window = window })
+hold_live told cutter writer window left old new fit differs went kept size =
+    let bytes_is : but_last_lines cutter.window.delim cutter.window.most left ≡ first_lines newline (over_of cutter left) left = ap (λ d. but_last_lines d cutter.window.most left) fit.delim in
+    let held_is : window.held ≡ after_lines newline (over_of cutter left) left = ap (λ (w : Window). w.held) kept ∙ ap (λ d. last_lines d cutter.window.most left) fit.delim in
+    let window_is : window ≡ record cutter.window { held = window.held } = kept ∙ ap (λ held. record cutter.window { held = held }) (sym (ap (λ (w : Window). w.held) kept)) in record {
+      same = refl;
+      style = went.style;
+      window = window_is;
+      stands = λ x at arrives. let live = aims_live cutter.aim arrives.ends.ending arrives.ends.aims differs in
+          subst (λ w. Rattle.csplit_core.specs.Cutter.Stands (record cutter { writer = writer; window = w }) x) (sym window_is) (inl (held_live cutter writer x left _ window.held at arrives fit live went.style bytes_is held_is went.writes));
+      moves = λ x at arrives. let live = aims_live cutter.aim arrives.ends.ending arrives.ends.aims differs in
+          moves_as told _ _ _ _ old new refl (sym (held_part cutter x left _ at arrives fit live bytes_is)) (went.moves (draft_by (all_lines x) at.steps (kept_by (state_in cutter).operands) at.written) at.writes);
+      keeps = went.keeps;
+      owns = went.owns;
+      ready = went.ready;
+      size = size;
+    }
+
+pub hold_stopped : (told : Bool) (cutter : CutterState) (writer : WriterState) (window : Window) (left : List ℕ) (old new : List Slot) (fault : Fault) → IsFit cutter → (cutter.aim ≡ Below → ⊥)
+    → Stopped told cutter.writer (with_bytes (but_last_lines cutter.window.delim cutter.window.most left)) old new writer fault → HeldNot told cutter left old new (record cutter { writer = writer; window = window }) fault
+hold_stopped told cutter writer window left old new fault fit differs stopped =
+    let bytes_is : but_last_lines cutter.window.delim cutter.window.most left ≡ first_lines newline (over_of cutter left) left = ap (λ d. but_last_lines d cutter.window.most left) fit.delim in record {
+      same = record { operands = refl; style = stopped.style };
+      halts = λ x at arrives. let live = aims_live cutter.aim arrives.ends.ending arrives.ends.aims differs in
+          halts_as told _ _ _ _ old new fault refl (sym (held_part cutter x left _ at arrives fit live bytes_is)) (stopped.halts (draft_by (all_lines x) at.steps (kept_by (state_in cutter).operands) at.written) at.writes);
+      breaks = stopped.breaks;
+      owns = stopped.owns;
+    }
+
+pub hold_goes : (told : Bool) (cutter : CutterState) (writer : WriterState) (window : Window) (left : List ℕ) (old new : List Slot) (result : Result (Unit {0}) Fault) → IsFit cutter → (cutter.aim ≡ Below → ⊥)
+    → Goes told cutter.writer (with_bytes (but_last_lines cutter.window.delim cutter.window.most left)) old new writer result
+    → OnOk result (window ≡ record { most = cutter.window.most; delim = cutter.window.delim; held = last_lines cutter.window.delim cutter.window.most left })
+    → OnOk result (size_of writer.current + length window.held ≤ size_of cutter.writer.current + length left) → Holds told cutter left old new (record cutter { writer = writer; window = window }) result
+hold_goes told cutter writer window left old new (Ok done) fit differs went kept size = hold_live told cutter writer window left old new fit differs went kept size
+hold_goes told cutter writer window left old new (Err fault) fit differs stopped kept size = hold_stopped told cutter writer window left old new fault fit differs stopped
+
+-- where the cut is below the current line, none waits
+
+past_draft : (cutter : CutterState) (x left : List ℕ) (at : IsAt cutter x left) (arrives : Arrives cutter x left at) → is_final arrives.ends.ending ≡ true
+    → draft_by (all_lines x) at.steps (kept_by (state_in cutter).operands) at.written ≡ settled_draft (suppress_in cutter) cutter.operands (all_lines x)
+past_draft cutter x left at arrives past =
+    settled_draft_is (suppress_in cutter) cutter.operands x at.steps (state_in cutter) arrives.ends.ending at.taken at.written (runs_to cutter x left at arrives.ends)
+    (arrives.low past ∙ final_count (line_count newline x) cutter.progress.current arrives.ends.ending past) at.written_is
+
+pub hold_past : (told : Bool) (cutter : CutterState) (window : Window) (left : List ℕ) (slots : List Slot) (n : ℕ) → cutter.aim ≡ Below → IsReady cutter.writer slots → n ≡ length cutter.window.held → length cutter.window.held ≤ length left
+    → window ≡ without_first cutter.window n → Held told cutter left slots slots (record cutter { window = window })
+hold_past told cutter window left slots n aim ready all less dropped =
+    let none : window.held ≡ [] = ap (λ (w : Window). w.held) dropped ∙ drop_all n cutter.window.held (omega (arith, all)) in
+    let window_is : window ≡ record cutter.window { held = window.held } = dropped ∙ ap (λ held. record cutter.window { held = held }) (sym (ap (λ (w : Window). w.held) dropped)) in record {
+      same = refl;
+      style = refl;
+      window = window_is;
+      stands = λ x at arrives.
+          let past = aims_past arrives.ends.ending (subst (λ a. AimsAt a arrives.ends.ending) aim arrives.ends.aims) in
+          let is = plan_once (suppress_in cutter) cutter.operands (all_lines x) at.steps (state_in cutter) arrives.ends.ending (runs_to cutter x left at arrives.ends) in
+          inr (record {
+            aim = aim;
+            past = ap (λ (p : Plan). is_final p.ending) is ∙ past;
+            last = sym (ap (λ (p : Plan). p.last) is);
+            none = none;
+            writes = subst (Writes cutter.writer) (past_draft cutter x left at arrives past) at.writes;
+          });
+      moves = λ x at arrives.
+          let past = aims_past arrives.ends.ending (subst (λ a. AimsAt a arrives.ends.ending) aim arrives.ends.aims) in
+          moves_same told _ _ slots (ap (draft_part cutter.writer.style) (past_draft cutter x left at arrives past) ∙ settled_part_is cutter.writer.style cutter.operands (all_lines x));
+      keeps = λ place sound. sound;
+      owns = λ first owns. owns;
+      ready = ready;
+      size = (let e : length window.held ≡ 0 = ap length none in omega (arith, e));
+    }
+
+pub held_less : (held text : List ℕ) → length held ≤ length (held ++ text)
+held_less held text = let e : length (held ++ text) ≡ length held + length text = length-append held text in omega (arith, e)
+
+pub joined_size : (now before : ℕ) (held text : List ℕ) (result : Result (Unit {0}) Fault) → OnOk result (now ≤ before + length held + length text) → OnOk result (now ≤ before + length (held ++ text))
+joined_size now before held text (Ok done) less = let e : length (held ++ text) ≡ length held + length text = length-append held text in omega (arith, e, less)
+joined_size now before held text (Err fault) less = tt
+
+-- The same of a cutter that is known by its fields.
+
+pub hold_goes_at : (told : Bool) (cutter now : CutterState) (writer : WriterState) (window : Window) (text : List ℕ) (old new : List Slot) (result : Result (Unit {0}) Fault) → cutter ≡ now → IsFit now → (now.aim ≡ Below → ⊥)
+    → Goes told cutter.writer (with_bytes (but_last_lines cutter.window.delim cutter.window.most (cutter.window.held ++ text))) old new writer result
+    → OnOk result (window ≡ record { most = cutter.window.most; delim = cutter.window.delim; held = last_lines cutter.window.delim cutter.window.most (cutter.window.held ++ text) })
+    → OnOk result (size_of writer.current + length window.held ≤ size_of cutter.writer.current + length cutter.window.held + length text) → Holds told now (now.window.held ++ text) old new (record cutter { writer = writer; window = window }) result
+hold_goes_at told cutter now writer window text old new result is fit differs goes kept size =
+    subst (λ (those : CutterState). Holds told those (those.window.held ++ text) old new (record cutter { writer = writer; window = window }) result) is
+    (hold_goes told cutter writer window (cutter.window.held ++ text) old new result (subst IsFit (sym is) fit) (λ below. differs (sym (ap (λ (those : CutterState). those.aim) is) ∙ below)) goes kept
+    (joined_size (size_of writer.current + length window.held) (size_of cutter.writer.current) cutter.window.held text result size))
+
+pub hold_past_at : (told : Bool) (cutter now : CutterState) (window : Window) (text : List ℕ) (slots : List Slot) (n : ℕ) → cutter ≡ now → now.aim ≡ Below → IsReady now.writer slots → n ≡ length cutter.window.held
+    → window ≡ without_first cutter.window n → Held told now (now.window.held ++ text) slots slots (record cutter { window = window })
+hold_past_at told cutter now window text slots n is aim ready all dropped =
+    subst (λ (those : CutterState). Held told those (those.window.held ++ text) slots slots (record cutter { window = window })) is
+    (hold_past told cutter window (cutter.window.held ++ text) slots n (ap (λ (those : CutterState). those.aim) is ∙ aim) (subst (λ (those : CutterState). IsReady those.writer slots) (sym is) ready) all (held_less cutter.window.held text) dropped)
