@@ -120,7 +120,7 @@ misses_still : (suppress : Bool) (a b : List Line) (state : State) (operand : Op
 misses_still suppress a b state operand (Number n) none those = none
 misses_still suppress a b state operand (Search pattern kept offset) none those = none_more operand a b (search_line suppress state) (search_some suppress state) none those
 
-stays_by : (suppress : Bool) (a b : List Line) (first : State) (steps : List Step) (last : State) (ending : Ending) → Runs suppress a first steps last ending → StaysFor b (length (a ++ b)) ending → Runs suppress (a ++ b) last [] last ending
+pub stays_by : (suppress : Bool) (a b : List Line) (first : State) (steps : List Step) (last : State) (ending : Ending) → Runs suppress a first steps last ending → StaysFor b (length (a ++ b)) ending → Runs suppress (a ++ b) last [] last ending
 stays_by suppress a b first steps last ending (is_used_up state none) stays = is_used_up state none
 stays_by suppress a b first steps last ending (misses state operand operands is none) stays = misses state operand operands is (misses_still suppress a b state operand operand.target none stays)
 stays_by suppress a b first steps last ending (is_above state operand operands matched cut is at far) stays = is_above state operand operands matched cut is (cuts_still suppress a b state operand operand.target matched cut at) stays

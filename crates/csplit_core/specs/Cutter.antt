@@ -13,7 +13,7 @@ use Rattle.csplit_core.specs.Input.{newline, without_newline, marked, all_lines}
 use Rattle.csplit_core.specs.Measure.{Moves, Fits}
 use Rattle.csplit_core.specs.Operand.{Target, Number, Search, Operand, Line, is_match, is_kept, most_held}
 use Rattle.csplit_core.specs.Output.{Style, contents_of}
-use Rattle.csplit_core.specs.Plan.{State, start, Step, Ending, search_line, state_after, Runs}
+use Rattle.csplit_core.specs.Plan.{State, start, Step, Ending, search_line, line_after, state_after, Runs}
 use Rattle.csplit_core.specs.Planned.{plan}
 use Rattle.csplit_core.specs.PlanLaws.{needed}
 use Rattle.csplit_core.specs.Progress.{state_of, EndsHere, GoesPast, WillMove}
@@ -248,25 +248,41 @@ pub record WillCut (cutter : CutterState) (cut : Cut) : Type 0 where
   pub from : cutter.progress.current ≤ cut.line
   pub within : cut.line ≤ cutter.lines
 
+-- where a search after this cut begins
+abbrev pub search_after : Bool → Cut → ℕ
+search_after suppress cut = search_line suppress (record { operands = []; repetition = 0; current = line_after suppress cut.line; matched = cut.matched })
+
+-- After the cut no line before the last one is looked at: so it is where that was so before it, and where a pattern cuts.
+abbrev pub StaysNear : CutterState → Cut → Type 0
+StaysNear cutter cut = (cutter.lines ≤ search_line (suppress_in cutter) (state_in cutter)) ⊎ (cutter.sought ≡ None → ⊥) → cutter.lines ≤ search_after (suppress_in cutter) cut
+
 -- What trying the next operand with the last line says of the plan over all lines that came in.
 abbrev pub Tries : CutterState → List ℕ → CutterState → Option Cut → Type 0
 Tries cutter line next None = (x : List ℕ) → Looked cutter x line → EndsNow next x
-Tries cutter line next (Some cut) = (x : List ℕ) → Looked cutter x line → GoesPast (suppress_in cutter) (all_lines x) (state_in cutter) cut.matched cut.line
+Tries cutter line next (Some cut) = (x : List ℕ) → Looked cutter x line → GoesPast (suppress_in cutter) (all_lines x) (state_in cutter) cut.matched cut.line × StaysNear cutter cut
 
 -- The same of a line that is counted first, where the lines x came in before it.
 abbrev pub TriesNext : CutterState → List ℕ → CutterState → Option Cut → Type 0
 TriesNext cutter line next None = (x : List ℕ) → IsWhole x → IsLive cutter x → EndsNow next (x ++ line)
 TriesNext cutter line next (Some cut) = (x : List ℕ) → IsWhole x → IsLive cutter x
-    → GoesPast (suppress_in cutter) (all_lines (x ++ line)) (state_in cutter) cut.matched cut.line × ((cut.matched ≡ next.lines) ⊎ (cut.line ≡ next.lines))
+    → GoesPast (suppress_in cutter) (all_lines (x ++ line)) (state_in cutter) cut.matched cut.line × (next.lines ≤ search_after (suppress_in cutter) cut)
 
 -- The plan over x cuts there, and no line of it before the last one is to be looked at again. The lines that are left begin with
 -- number `place`.
 pub record CutsNow (cutter : CutterState) (x left line : List ℕ) (cut : Cut) (place : ℕ) (at : IsAt cutter x left) : Type 0 where
   pub last : IsLastLine x line
-  pub near : (cut.matched ≡ cutter.lines) ⊎ (cut.line ≡ cutter.lines)
+  pub near : cutter.lines ≤ search_after (suppress_in cutter) cut
   pub place_is : place ≡ cutter.progress.current + at.taken
   pub before : place ≤ cut.line
   pub goes : GoesPast (suppress_in cutter) (all_lines x) (state_in cutter) cut.matched cut.line
+
+-- the turn is no cut
+abbrev pub IsNoCut : Turn → Type 0
+IsNoCut UsedUp = Unit {0}
+IsNoCut Missed = Unit {0}
+IsNoCut (Above matched line) = Unit {0}
+IsNoCut Below = Unit {0}
+IsNoCut (Cuts matched line) = ⊥
 
 -- where the run stands after a cut
 abbrev pub PassesOn : CutterState → Cut → CutterState → Type 0

@@ -2,7 +2,7 @@
 ghost use Rattle.std.specs.Prelude.{◌≡◌, ◌≢◌, ◌+◌, ◌-◌, ◌<◌, ◌≤◌, ◌^◌, ◌++◌, List, ℕ, [], length, drop, Some, IfOk, IfErr, IfSome, IfNone, OnOk, true, false};
 ghost use Rattle.seg_core.specs.Line.{line_count};
 ghost use Rattle.ports_core.specs.Slot.{is_writable};
-ghost use Rattle.csplit_core.specs.Cutter.{AimHolds, CutAt, CutNot, CutsAll, Holds, IsFit, IsFound, IsLine, IsSound, IsWhole, PassesOn, PassesOver, Stretches, Takes, Tries, TriesNext, WillCut, load, most_by, pattern_by, state_in, suppress_in};
+ghost use Rattle.csplit_core.specs.Cutter.{AimHolds, CutAt, CutNot, CutsAll, Holds, IsFit, IsFound, IsLine, IsNoCut, IsSound, IsWhole, PassesOn, PassesOver, Stretches, Takes, Tries, TriesNext, WillCut, load, most_by, pattern_by, state_in, suppress_in};
 ghost use Rattle.csplit_core.specs.Input.{newline};
 ghost use Rattle.csplit_core.specs.Measure.{Fits};
 ghost use Rattle.csplit_core.specs.Operand.{Line};
@@ -241,11 +241,13 @@ impl<'o> LineCutter<'o> {
     {
         let found = self.is_match(text_of(line), self.lines);
         let turn = self.find_turn(found);
-        if let Turn::Cuts(matched, line) = turn {
-            return Some(Cut { matched, line });
+        match cut_of(turn) {
+            Some(cut) => Some(cut),
+            None => {
+                self.aim = turn;
+                None
+            }
         }
-        self.aim = turn;
-        None
     }
 
     /// What the next operand does, where `found` says whether the last line has its pattern.
@@ -399,5 +401,19 @@ impl<'o> LineCutter<'o> {
             return Ok(());
         }
         hold_last(&mut self.window, text, &mut self.writer, outs)
+    }
+}
+
+/// The cut of a turn, if it is one.
+fn cut_of(turn: Turn) -> Option<Cut>
+    ensures some { IfSome result (λ cut. turn ≡ turn_is.Cuts cut.matched cut.line) }
+    ensures none { IfNone result (IsNoCut turn) }
+{
+    match turn {
+        Turn::Cuts(matched, line) => Some(Cut { matched, line }),
+        Turn::UsedUp => None,
+        Turn::Missed => None,
+        Turn::Above(_, _) => None,
+        Turn::Below => None,
     }
 }
