@@ -4,10 +4,11 @@ use Rattle.bre_core.specs.Pattern.{Pattern}
 use Rattle.bre_core.specs.Search.{contains}
 use Rattle.seg_core.specs.Line.{lines_of, line_count, after_lines, first_lines, ends_with}
 use Rattle.seg_core.specs.Window.{Window}
-use Rattle.ports_core.specs.Part.{Part}
+use Rattle.ports_core.specs.Part.{Part, nothing}
+use Rattle.ports_core.specs.Swept.{AreMade}
 use Rattle.ports_core.specs.Slot.{Slot}
 use Rattle.ports_core.specs.declared.fault.Fault.{Fault}
-use Rattle.csplit_core.specs.Csplit.{settled_of}
+use Rattle.csplit_core.specs.Csplit.{settled_of, whole_of}
 use Rattle.csplit_core.specs.Draft.{Draft, draft_part}
 use Rattle.csplit_core.specs.Input.{newline, without_newline, marked, all_lines}
 use Rattle.csplit_core.specs.Measure.{Moves, Fits}
@@ -16,9 +17,9 @@ use Rattle.csplit_core.specs.Output.{Style, contents_of}
 use Rattle.csplit_core.specs.Plan.{State, start, Step, Ending, search_line, line_after, state_after, Runs}
 use Rattle.csplit_core.specs.Planned.{plan}
 use Rattle.csplit_core.specs.PlanLaws.{needed}
-use Rattle.csplit_core.specs.Progress.{state_of, EndsHere, GoesPast, WillMove}
+use Rattle.csplit_core.specs.Progress.{state_of, AimsAt, EndsHere, GoesPast, WillMove}
 use Rattle.csplit_core.specs.Section.{section_of, lines_between, is_last_kept, settled_end, is_final, most_waiting, bytes_of}
-use Rattle.csplit_core.specs.Writer.{WriterState, Writes, IsReady, KeepsBroken, KeepsFiles, Breaks, Halts, size_of}
+use Rattle.csplit_core.specs.Writer.{WriterState, Writes, OwnsFiles, IsReady, KeepsBroken, KeepsFiles, Breaks, Halts, size_of}
 use Rattle.csplit_core.specs.Writer.{Moves as Gets}
 use Rattle.csplit_core.specs.declared.progress.Progress.{Progress}
 use Rattle.csplit_core.specs.declared.progress.Turn.{Turn}
@@ -164,6 +165,11 @@ pub record IsPast (cutter : CutterState) (x : List ℕ) : Type 0 where
 -- the lines x can have come in
 abbrev pub Stands : CutterState → List ℕ → Type 0
 Stands cutter x = IsLive cutter x ⊎ IsPast cutter x
+
+-- where the plan over x ends, as far as its fault is known from it
+pub record IsJudged (cutter : CutterState) (x : List ℕ) : Type 0 where
+  pub last : state_in cutter ≡ (plan (suppress_in cutter) cutter.operands (all_lines x)).last
+  pub aims : AimsAt cutter.aim (plan (suppress_in cutter) cutter.operands (all_lines x)).ending
 
 -- the same operands and style
 pub record IsSame (cutter next : CutterState) : Type 0 where
@@ -352,3 +358,49 @@ pub record PassesOver (cutter : CutterState) (text : List ℕ) (next : CutterSta
 abbrev pub Stretches : Bool → CutterState → List ℕ → List Slot → List Slot → CutterState → Result ℕ Fault → Type 0
 Stretches told cutter text old new next (Ok n) = (0 < n) × (n ≤ length text) × IsWhole (drop n text) × Took told cutter (take n text) old new next
 Stretches told cutter text old new next (Err fault) = TookNot told cutter text old new next fault
+
+-- what is written where the input ends after these lines
+abbrev pub whole_part : CutterState → List ℕ → Part
+whole_part cutter x = whole_of cutter.writer.style cutter.operands (all_lines x)
+
+-- The first section began, and no line came in yet.
+pub record Opened (told : Bool) (style : Style) (operands : List Operand) (old new : List Slot) (cutter : CutterState) : Type 0 where
+  pub asked : cutter.writer.style ≡ style
+  pub operands_are : cutter.operands ≡ operands
+  pub stands : Stands cutter []
+  pub moves : Gets told nothing (settled_of style operands []) old new
+  pub owns : OwnsFiles cutter.writer (length old) new
+  pub ready : IsReady cutter.writer new
+  pub sound : IsSound cutter
+  pub size : load cutter ≡ 0
+
+-- It could not begin.
+pub record OpenedNot (told : Bool) (style : Style) (operands : List Operand) (old new : List Slot) (fault : Fault) : Type 0 where
+  pub halts : Halts told nothing (settled_of style operands []) old new fault
+  pub breaks : Breaks style old new fault
+  -- no file was made
+  pub none : (place : ℕ) → length old ≤ place → AreMade place 0 new
+
+abbrev pub Opens : Bool → Style → List Operand → List Slot → List Slot → Result CutterState Fault → Type 0
+Opens told style operands old new (Ok cutter) = Opened told style operands old new cutter
+Opens told style operands old new (Err fault) = OpenedNot told style operands old new fault
+
+-- The last section ended.
+pub record EndedAll (told : Bool) (cutter : CutterState) (old new : List Slot) (next : CutterState) : Type 0 where
+  pub same : IsSame cutter next
+  pub moves : (x : List ℕ) → Stands cutter x → Gets told (settled_part cutter x) (whole_part cutter x) old new
+  -- how the plan ends stays
+  pub judged : (x : List ℕ) → Stands cutter x → IsJudged next x
+  pub keeps : KeepsBroken old new
+  pub owns : KeepsFiles cutter.writer next.writer old new
+  pub ready : IsReady next.writer new
+
+pub record EndedNone (told : Bool) (cutter : CutterState) (old new : List Slot) (next : CutterState) (fault : Fault) : Type 0 where
+  pub same : IsSame cutter next
+  pub halts : (x : List ℕ) → Stands cutter x → Halts told (settled_part cutter x) (whole_part cutter x) old new fault
+  pub breaks : Breaks cutter.writer.style old new fault
+  pub owns : KeepsFiles cutter.writer next.writer old new
+
+abbrev pub EndsAll : Bool → CutterState → List Slot → List Slot → CutterState → Result (Unit {0}) Fault → Type 0
+EndsAll told cutter old new next (Ok done) = EndedAll told cutter old new next
+EndsAll told cutter old new next (Err fault) = EndedNone told cutter old new next fault

@@ -37,7 +37,7 @@ pub(crate) fn hold_last<O: Outs>(
 }
 
 /// Writes the first `n` bytes that wait, and drops them.
-fn write_front<O: Outs>(
+pub(crate) fn write_front<O: Outs>(
     window: &mut LineWindow,
     n: u64,
     writer: &mut SectionWriter,

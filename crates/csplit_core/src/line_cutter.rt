@@ -1,23 +1,27 @@
 //! Cutting lines into sections as they come in: what is settled of them goes to the sections, and the others wait.
-ghost use Rattle.std.specs.Prelude.{◌≡◌, ◌≢◌, ◌+◌, ◌-◌, ◌<◌, ◌≤◌, ◌^◌, ◌++◌, List, ℕ, [], length, drop, Some, IfOk, IfErr, IfSome, IfNone, OnOk, true, false};
+ghost use Rattle.std.specs.Prelude.{◌≡◌, ◌≢◌, ◌+◌, ◌-◌, ◌<◌, ◌≤◌, ◌^◌, ◌++◌, List, ℕ, [], length, drop, Some, IfOk, IfErr, IfSome, IfNone, OnOk, IsTrue, true, false};
 ghost use Rattle.seg_core.specs.Line.{line_count};
 ghost use Rattle.ports_core.specs.Slot.{is_writable};
-ghost use Rattle.csplit_core.specs.Cutter.{AimHolds, CutAt, CutNot, CutsAll, Holds, IsFit, IsFound, IsLine, IsNoCut, IsSound, IsWhole, PassesOn, PassesOver, Stretches, Takes, Tries, TriesNext, WillCut, load, most_by, pattern_by, state_in, suppress_in};
-ghost use Rattle.csplit_core.specs.Input.{newline};
+ghost use Rattle.csplit_core.specs.Csplit.{verdict_of};
+ghost use Rattle.csplit_core.specs.Plan.{above, missed};
+ghost use Rattle.csplit_core.specs.Planned.{plan};
+ghost use Rattle.ports_core.specs.Swept.{SweptFrom};
+ghost use Rattle.csplit_core.specs.Cutter.{AimHolds, CutAt, CutNot, CutsAll, EndsAll, IsJudged, Opens, Holds, IsFit, IsFound, IsLine, IsNoCut, IsSound, IsWhole, PassesOn, PassesOver, Stretches, Takes, Tries, TriesNext, WillCut, load, most_by, pattern_by, state_in, suppress_in};
+ghost use Rattle.csplit_core.specs.Input.{all_lines, newline};
 ghost use Rattle.csplit_core.specs.Measure.{Fits};
 ghost use Rattle.csplit_core.specs.Operand.{Line};
 ghost use Rattle.csplit_core.specs.PlanLaws.{needed};
 ghost use Rattle.csplit_core.specs.Progress.{AreSeen, MovesOn, Turns};
-ghost use Rattle.csplit_core.specs.Writer.{IsReady, size_of};
+ghost use Rattle.csplit_core.specs.Writer.{IsReady, OwnsFiles, size_of};
 ghost use Rattle.csplit_core.specs.declared.progress.Turn.TheVariants as turn_is;
 
-use crate::holding::{drain, hold_last};
+use crate::holding::{drain, hold_last, write_front};
 use crate::lines::split_lines;
 use crate::matcher::{Matcher, text_of};
 use crate::next_operand::{find_matcher, find_window, is_kept};
 use crate::progress::{Progress, Turn};
 use crate::section_writer::SectionWriter;
-use crate::Operand;
+use crate::{Operand, Style, Target, Times};
 use memchr::memchr;
 use ports_core::{Fault, Outs};
 use seg_core::line::{NEWLINE, count_delimiters, next_line, reach};
@@ -65,6 +69,94 @@ impl<'o> Model for LineCutter<'o> {
 }
 
 impl<'o> LineCutter<'o> {
+    /// A cutter to which no line came, and which has begun the first section.
+    ///
+    /// # Errors
+    ///
+    /// `Memory` where there is no room for what the first operand needs, or for a name; `Open` where the first section's
+    /// file can't be opened.
+    pub(crate) fn open<O: Outs>(
+        alloc: Global,
+        operands: &'o [Operand],
+        style: Style,
+        outs: &mut O,
+    ) -> Result<LineCutter<'o>, Fault>
+        requires streams { 2 ≤ length (O.slots outs.old) }
+        requires output { IsTrue (is_writable (O.slots outs.old) 0) }
+        ensures { Opens O.told style operands.now (O.slots outs.old) (O.slots outs.new) result }
+    {
+        let next = operands.first();
+        let matcher = find_matcher(alloc, next)?;
+        let window = find_window(alloc, next)?;
+        let suppress = style.suppress;
+        let writer = SectionWriter::open(alloc, style, is_kept(next), outs)?;
+        let progress = Progress::start();
+        let aim = progress.turn(suppress, operands, 0, false);
+        Ok(LineCutter {
+            alloc,
+            operands,
+            writer,
+            progress,
+            aim,
+            lines: 0,
+            window,
+            matcher,
+        })
+    }
+
+    /// How files are made.
+    pub(crate) fn style(&self) -> &Style
+        ensures { result.now ≡ self.now.writer.style }
+    {
+        self.writer.style()
+    }
+
+    /// How many bytes wait.
+    pub(crate) fn held(&self) -> u64
+        ensures { result ≡ length self.now.window.held }
+    {
+        self.window.len()
+    }
+
+    /// Ends the last section: it has all lines that wait.
+    ///
+    /// # Errors
+    ///
+    /// Those of `take`.
+    pub(crate) fn end<O: Outs>(&mut self, outs: &mut O) -> Result<(), Fault>
+        requires fits { load self.old < 2 ^ 63 }
+        requires sound { IsSound self.old }
+        requires ready { IsReady self.old.writer (O.slots outs.old) }
+        ensures { EndsAll O.told self.old (O.slots outs.old) (O.slots outs.new) self.new result }
+    {
+        let held = self.window.len();
+        write_front(&mut self.window, held, &mut self.writer, outs)?;
+        self.writer.end(outs)
+    }
+
+    /// The fault with which the work itself ends where the input ends here, if it ends with one.
+    pub(crate) fn verdict(&self) -> Option<Fault>
+        ensures { (x : List ℕ) → IsJudged self.now x → result ≡ verdict_of (plan (suppress_in self.now) self.now.operands (all_lines x)).ending }
+    {
+        let operand = self.operands.get(self.progress.done)?;
+        let repetition = self.progress.repetition;
+        match self.aim {
+            Turn::Missed => operand.fault_of_miss(repetition),
+            Turn::Above(_, _) => operand.fault_of_range(repetition),
+            Turn::Below => Some(Fault::Range(operand.index, repetition)),
+            Turn::UsedUp => None,
+            Turn::Cuts(_, _) => None,
+        }
+    }
+
+    /// Removes all files, in order. One that can't be removed is broken and closed, and the next is tried.
+    pub(crate) fn clear<O: Outs>(&self, outs: &mut O)
+        requires { (first : ℕ) × OwnsFiles self.now.writer first (O.slots outs.old) }
+        ensures { (first : ℕ) → OwnsFiles self.now.writer first (O.slots outs.old) → SweptFrom first (O.slots outs.old) (O.slots outs.new) }
+    {
+        self.writer.clear(outs);
+    }
+
     /// Takes in a text of complete lines.
     ///
     /// # Errors
@@ -401,6 +493,29 @@ impl<'o> LineCutter<'o> {
             return Ok(());
         }
         hold_last(&mut self.window, text, &mut self.writer, outs)
+    }
+}
+
+impl Operand {
+    /// The fault where its pattern matches no line, if that is one.
+    fn fault_of_miss(&self, repetition: u64) -> Option<Fault>
+        ensures { result ≡ verdict_of (missed self.now repetition) }
+    {
+        match self.times {
+            Times::Endless => None,
+            Times::Count(_) => Some(Fault::NoMatch(self.index, repetition)),
+        }
+    }
+
+    /// The fault where its cut is above the last line, if that is one.
+    fn fault_of_range(&self, repetition: u64) -> Option<Fault>
+        ensures { (matched cut : ℕ) → result ≡ verdict_of (above self.now repetition matched cut) }
+    {
+        match (&self.times, &self.target) {
+            (Times::Endless, Target::Number(_)) => None,
+            (Times::Endless, Target::Search { .. }) => Some(Fault::Range(self.index, repetition)),
+            (Times::Count(_), _) => Some(Fault::Range(self.index, repetition)),
+        }
     }
 }
 
