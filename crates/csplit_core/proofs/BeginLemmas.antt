@@ -1,18 +1,17 @@
 -- A file is made for the open section, and a section begins.
-use Rattle.std.proofs.Common.{◌≡◌, ℕ, ◌+◌, ◌<◌, ◌≤◌, suc, Bool, true, false, not, ◌&&◌, List, [], ◌∷◌, ◌++◌, length, Result, Ok, Err, IsTrue, refl, sym, ◌∙◌, ap, subst, arith, length-append}
+use Rattle.std.proofs.Common.{◌≡◌, ℕ, ◌+◌, ◌≤◌, suc, Bool, true, false, not, ◌&&◌, List, [], ◌∷◌, ◌++◌, length, Result, Ok, Err, IsTrue, refl, sym, ◌∙◌, ap, subst, arith, length-append}
 use Rattle.ports_core.specs.Name.{numbered_name}
 use Rattle.ports_core.specs.Part.{Part, IsNext}
 use Rattle.ports_core.specs.Slot.{Slot, opened, is_writable}
-use Rattle.ports_core.specs.Swept.{AreMade}
 use Rattle.ports_core.specs.declared.fault.Fault.{Fault}
 use Rattle.ports_core.specs.declared.slot.Mode.TheVariants.{Fresh}
 use Rattle.ports_core.specs.declared.slot.State.TheVariants as state
 use Rattle.csplit_core.specs.Output.{Style, Contents, is_empty, makes_file, file_at, files_of, size_lines, part_by}
 use Rattle.csplit_core.specs.Draft.{Draft, draft_part, last_contents, with_bytes, AreClosed}
 use Rattle.csplit_core.specs.Writer.{WriterState, Writes, Pauses, OwnsFiles, IsReady, IsOpenAt, Moves, Halts, Went, Stopped, Goes, Begun, BegunNot, size_of}
-use Rattle.csplit_core.specs.WriterSteps.{WritesShort, MakesNone, Made, Makes, Appends, Started, StartedNot, next_name, begun_after}
+use Rattle.csplit_core.specs.WriterSteps.{MakesNone, Made, Makes, Appends, Started, StartedNot, next_name, begun_after}
 use Rattle.csplit_core.specs.declared.section_writer.Current.{Current}
-use Rattle.csplit_core.specs.declared.section_writer.Current.TheVariants.{Skipped, Unmade, File, Unopened}
+use Rattle.csplit_core.specs.declared.section_writer.Current.TheVariants.{Skipped, Unmade, File}
 use Rattle.csplit_core.proofs.WriterLemmas.{moves_again, moves_as, moves_same, halts_after, halts_as, keeps_again, breaks_later, owns_again}
 use Rattle.csplit_core.proofs.OutputSteps.{file_of, with_last, file_begins, open_moves, write_moves, open_halts, write_halts}
 use Rattle.csplit_core.proofs.SlotSteps.{keeps_same, keeps_write, keeps_open, made_write, writable_before, writable_opened, none_past}

@@ -1,9 +1,7 @@
 -- Outputs that have a part have another, as their last file is opened, written and closed, and standard output gets a line; or a fault stops
 -- them in between.
-use Rattle.std.proofs.Common.{◌≡◌, ℕ, ◌+◌, ◌<◌, ◌≤◌, suc, Bool, false, List, [], ◌∷◌, ◌++◌, length, take, inl, inr, refl, sym, ◌∙◌, ap, subst, arith, length-append}
-use Rattle.std.proofs.lemmas.List.{append-nil}
-use Rattle.ports_core.specs.Slot.{Slot, FailsToOpen, broke, numberless, opened, changed_at, adds, breaks, closes, with_written, with_broken, told_of}
-use Rattle.ports_core.specs.Write.{BrokeAfter}
+use Rattle.std.proofs.Common.{◌≡◌, ℕ, ◌+◌, ◌<◌, suc, Bool, false, List, [], ◌∷◌, ◌++◌, length, take, inl, inr, refl, sym, ◌∙◌, arith, length-append}
+use Rattle.ports_core.specs.Slot.{Slot, broke, numberless, opened, changed_at, adds, closes, with_written, with_broken, told_of}
 use Rattle.ports_core.specs.Part.{File, Part, OutputsAt, Begins, FilesBegin, IsNext, Marks, IsAt, AllClosed, InTurn}
 use Rattle.ports_core.specs.declared.fault.Fault.{Fault}
 use Rattle.ports_core.specs.declared.fault.Fault.TheVariants as fault

@@ -1,13 +1,13 @@
 -- The files that the writer made stay its own, its outputs can be written, and which faults come.
-use Rattle.std.proofs.Common.{◌≡◌, ◌⊎◌, inl, inr, ℕ, ◌+◌, ◌<◌, ◌≤◌, zero, suc, Bool, true, false, List, [], ◌∷◌, ◌++◌, length, IsTrue, refl, sym, ◌∙◌, ap, subst, arith, length-append}
+use Rattle.std.proofs.Common.{◌≡◌, ◌⊎◌, inl, inr, ℕ, ◌+◌, ◌<◌, ◌≤◌, suc, Bool, true, false, List, [], ◌∷◌, ◌++◌, length, IsTrue, refl, sym, ◌∙◌, ap, subst, arith, length-append}
 use Rattle.std.proofs.lemmas.Bool.{false≢true, cases_lt}
-use Rattle.ports_core.specs.Slot.{Slot, has_file, slot_at, changed_at, opened, unopened, closes, with_written, with_broken, told_of, is_writable, broke, numberless}
+use Rattle.ports_core.specs.Slot.{Slot, has_file, slot_at, changed_at, opened, unopened, closes, with_broken, is_writable, broke, numberless}
 use Rattle.ports_core.specs.Swept.{AreMade}
 use Rattle.ports_core.specs.declared.fault.Fault.{Fault}
 use Rattle.ports_core.specs.declared.fault.Fault.TheVariants as fault
 use Rattle.ports_core.specs.declared.slot.Mode.TheVariants.{Fresh}
 use Rattle.csplit_core.specs.Output.{Style}
-use Rattle.csplit_core.specs.Writer.{WriterState, OwnsFiles, IsReady, IsOpenAt, KeepsFiles, Breaks, could_open}
+use Rattle.csplit_core.specs.Writer.{WriterState, IsReady, IsOpenAt, KeepsFiles, Breaks, could_open}
 use Rattle.csplit_core.specs.WriterSteps.{WritesShort, MakesNone, unnamed, failed, Made, next_name}
 use Rattle.csplit_core.specs.WriterSteps as short
 use Rattle.csplit_core.specs.declared.section_writer.Current.{Current}

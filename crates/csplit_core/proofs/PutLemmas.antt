@@ -1,25 +1,20 @@
 -- More bytes of the open section
-use Rattle.std.proofs.Common.{◌≡◌, ◌≢◌, eqb, ℕ, ◌+◌, ◌<◌, ◌≤◌, zero, suc, Bool, true, false, not, ◌&&◌, List, [], ◌∷◌, ◌++◌, length, Result, Ok, Err, OnOk, IsTrue, refl, sym, ◌∙◌, ap, subst, arith, length-append}
+use Rattle.std.proofs.Common.{◌≡◌, eqb, ℕ, ◌+◌, ◌≤◌, suc, Bool, true, false, not, ◌&&◌, List, [], ◌∷◌, ◌++◌, length, Result, Ok, Err, IsTrue, refl, sym, ◌∙◌, ap, subst, length-append}
 use Rattle.std.proofs.lemmas.Bool.{false≢true, eq-eqb}
-use Rattle.std.proofs.lemmas.List.{append-nil}
-use Rattle.ports_core.specs.Name.{numbered_name}
 use Rattle.ports_core.specs.Part.{Part}
 use Rattle.ports_core.specs.Slot.{Slot, opened, is_writable}
 use Rattle.ports_core.specs.declared.fault.Fault.{Fault}
-use Rattle.ports_core.specs.declared.slot.Mode.TheVariants.{Fresh}
-use Rattle.ports_core.specs.declared.slot.State.TheVariants as state
-use Rattle.csplit_core.specs.Output.{Style, Contents, is_empty, makes_file, files_of, size_lines, part_by}
+use Rattle.csplit_core.specs.Output.{Style, Contents, is_empty, makes_file, files_of, size_lines}
 use Rattle.csplit_core.specs.Draft.{Draft, draft_part, last_contents, with_bytes}
 use Rattle.csplit_core.specs.SectionLaws.{made_more}
-use Rattle.csplit_core.specs.Writer.{WriterState, Writes, IsCurrent, IsReady, Moves, Halts, Went, Stopped, Goes, size_of}
-use Rattle.csplit_core.specs.WriterSteps.{WritesShort, MakesNone, Made, Makes, Appends, next_name}
-use Rattle.csplit_core.specs.declared.section_writer.Current.{Current}
-use Rattle.csplit_core.specs.declared.section_writer.Current.TheVariants.{Skipped, Unmade, File, Unopened}
-use Rattle.csplit_core.proofs.WriterLemmas.{moves_again, moves_as, moves_same, halts_after, halts_as, halts_wider, bytes_begin, keeps_again, breaks_later, owns_again}
-use Rattle.csplit_core.proofs.OutputSteps.{file_of, with_last, file_begins, open_moves, write_moves, open_halts, write_halts, bytes_more}
-use Rattle.csplit_core.proofs.SlotSteps.{keeps_same, keeps_write, keeps_open, made_write, writable_still, writable_before, writable_opened}
-use Rattle.csplit_core.proofs.DraftLemmas.{name_after, part_none, part_made, open_part, count_made, count_none, closed_files}
-use Rattle.csplit_core.proofs.OwnLemmas.{ready_could, two_slots, at_file, owned_same, owned_opened, owned_unopened, make_breaks, write_breaks, short_made}
+use Rattle.csplit_core.specs.Writer.{WriterState, Writes, IsCurrent, IsReady, Went, Goes}
+use Rattle.csplit_core.specs.WriterSteps.{Appends}
+use Rattle.csplit_core.specs.declared.section_writer.Current.TheVariants.{Skipped, Unmade, File}
+use Rattle.csplit_core.proofs.WriterLemmas.{moves_as, moves_same, halts_as}
+use Rattle.csplit_core.proofs.OutputSteps.{write_moves, write_halts}
+use Rattle.csplit_core.proofs.SlotSteps.{keeps_same, keeps_write, made_write, writable_still}
+use Rattle.csplit_core.proofs.DraftLemmas.{name_after, part_none, open_part, count_made, closed_files}
+use Rattle.csplit_core.proofs.OwnLemmas.{ready_could, at_file, owned_same, write_breaks, short_made}
 
 -- What the open section is
 
@@ -105,12 +100,6 @@ put_file told writer next slot size bytes old new (Err f) is ready (same, cut) =
   breaks = write_breaks told writer.style slot bytes old new f (at_file writer slot size old is ready).0 (at_file writer slot size old is ready).2 cut;
   owns = owned_same writer next old new (ap (λ (those : WriterState). those.made) same) (ap (λ (those : WriterState). those.first) same) (ready_could writer old ready) (short_made told slot bytes old new f cut);
 }
-
-pub append_size : (told : Bool) (writer next : WriterState) (slot size : ℕ) (bytes : List ℕ) (old new : List Slot) (result : Result (Unit {0}) Fault) → size ≤ size_of writer.current → Appends told writer slot size bytes old new next result
-    → OnOk result (size_of next.current ≤ size_of writer.current + length bytes)
-append_size told writer next slot size bytes old new (Ok done) within (same, wrote) =
-    let now : size_of next.current ≡ size + length bytes = ap (λ (those : WriterState). size_of those.current) same in omega (arith, within)
-append_size told writer next slot size bytes old new (Err f) within appends = tt
 
 pub some_bytes : (bytes : List ℕ) → false ≡ eqb (length bytes) 0 → is_empty bytes ≡ false
 some_bytes [] is = absurd (false≢true (is ∙ eq-eqb 0 0 refl))

@@ -1,5 +1,5 @@
 -- Slots as they are opened, written and closed, and as they break.
-use Rattle.std.proofs.Common.{◌≡◌, ℕ, ◌+◌, ◌<◌, ◌≤◌, zero, suc, not, ◌&&◌, List, [], ◌∷◌, ◌++◌, length, take, Bool, true, false, IsTrue, refl, sym, ◌∙◌, ap, subst, arith, length-append}
+use Rattle.std.proofs.Common.{◌≡◌, ℕ, ◌<◌, ◌≤◌, zero, suc, not, ◌&&◌, List, [], ◌∷◌, ◌++◌, length, take, Bool, true, false, IsTrue, refl, sym, ◌∙◌, ap, arith}
 use Rattle.std.proofs.lemmas.Bool.{false≢true}
 use Rattle.std.proofs.lemmas.List.{get_or_past, get_or_append_left}
 use Rattle.ports_core.specs.Slot.{Slot, Rose, is_open, has_file, no_slot, slot_at, changed_at, opened, unopened, adds, closes, breaks, with_written, with_broken, told_of, is_writable}
@@ -8,7 +8,7 @@ use Rattle.ports_core.specs.declared.slot.Mode.{Mode}
 use Rattle.ports_core.specs.declared.slot.State.{State}
 use Rattle.ports_core.specs.declared.slot.State.TheVariants.{Open, Closed, Removed, Unopened}
 use Rattle.ports_core.proofs.PartLemmas.{sound_at, broken_at}
-use Rattle.ports_core.proofs.SlotLemmas.{length-changed_at, slot_at-changed, slot_at-elsewhere}
+use Rattle.ports_core.proofs.SlotLemmas.{length-changed_at, slot_at-elsewhere}
 use Rattle.ports_core.proofs.WriteLemmas.{writable-written}
 use Rattle.csplit_core.specs.Writer.{KeepsBroken}
 

@@ -1,12 +1,12 @@
 -- Lemmas on the writer of sections.
-use Rattle.std.proofs.Common.{◌≡◌, ℕ, Bool, true, false, List, [], ◌∷◌, ◌++◌, refl, sym, ◌∙◌, ap, subst, append_assoc}
+use Rattle.std.proofs.Common.{◌≡◌, ℕ, Bool, true, false, List, [], ◌∷◌, refl, sym, subst, append_assoc}
 use Rattle.std.proofs.lemmas.List.{append-nil}
 use Rattle.ports_core.specs.Slot.{Slot, Rose}
 use Rattle.ports_core.specs.Part.{Part, OutputsAt, StoppedInTurn, Begins}
 use Rattle.ports_core.specs.declared.fault.Fault.{Fault}
 use Rattle.ports_core.specs.declared.fault.Fault.TheVariants.{Memory, Write, Read, Open, Suffixes, NoMatch, Range, Usage, Failed, TooLong}
 use Rattle.ports_core.proofs.PartLemmas.{part_begins_itself, turn_between}
-use Rattle.csplit_core.specs.Output.{Style, Contents, part_by}
+use Rattle.csplit_core.specs.Output.{Style, part_by}
 use Rattle.csplit_core.specs.Draft.{Draft, draft_part, ended_part, last_contents, with_bytes, with_section}
 use Rattle.csplit_core.specs.SectionLaws.{part_grows}
 use Rattle.csplit_core.specs.Writer.{WriterState, Moves, Halts, KeepsBroken, KeepsFiles, Breaks}

@@ -179,7 +179,12 @@ impl SectionWriter {
         ensures { Makes self.old (O.slots outs.old) (O.slots outs.new) self.new result }
     {
         self.current = Current::Unopened;
-        let name = numbered(self.alloc, &self.style.prefix, self.style.digits, self.made as u64)?;
+        let name = numbered(
+            self.alloc,
+            &self.style.prefix,
+            self.style.digits,
+            self.made as u64,
+        )?;
         let slot = outs.open(name.as_str(), Mode::Fresh)?;
         if self.made == 0 {
             self.first = slot;
