@@ -12,13 +12,14 @@ use Rattle.csplit_core.specs.Input.{newline}
 use Rattle.csplit_core.specs.Output.{Style, makes_file, files_of, size_line, size_lines}
 use Rattle.csplit_core.specs.Draft.{Draft, draft_part, ended_part, last_contents, with_section}
 use Rattle.csplit_core.specs.Writer.{WriterState, Writes, Pauses, IsReady, Went, Stopped, Goes, Ended, EndedNot, Ends, size_of}
-use Rattle.csplit_core.specs.WriterSteps.{WritesShort, Started, StartedNot, Starts}
+use Rattle.csplit_core.specs.WriterSteps.{Started, StartedNot, Starts}
 use Rattle.csplit_core.specs.declared.section_writer.Current.TheVariants.{Skipped, Unmade, File as Filed}
-use Rattle.csplit_core.proofs.WriterLemmas.{moves_again, moves_as, moves_same, halts_after, halts_as, halts_wider, end_begins, keeps_again, breaks_later, owns_again}
+use Rattle.csplit_core.proofs.WriterLemmas.{moves_again, moves_as, moves_same, halts_after, halts_as, halts_wider, end_begins, breaks_later, owns_again}
 use Rattle.csplit_core.proofs.OutputSteps.{file_of, with_last, line_begins, close_begins, close_moves, line_moves, close_halts, line_halts}
-use Rattle.csplit_core.proofs.SlotSteps.{made_again, made_write, made_close, made_break, keeps_same, keeps_write, keeps_close, writable_still, writable_elsewhere}
+use Rattle.ports_core.proofs.SlotSteps.{made_again, made_write, made_close, made_break, keeps_same, keeps_write, keeps_close, written_writable, writable_elsewhere, made_short, keeps_again}
+use Rattle.ports_core.specs.Write.{WritesShort}
 use Rattle.csplit_core.proofs.DraftLemmas.{name_after, part_none, open_part, closed_part, line_told, line_untold, count_made, count_none, closed_files, all_closed, more_begins}
-use Rattle.csplit_core.proofs.OwnLemmas.{ready_could, two_slots, at_file, owned_same, line_breaks, close_breaks, short_made}
+use Rattle.csplit_core.proofs.OwnLemmas.{ready_could, two_slots, at_file, owned_same, line_breaks, close_breaks}
 use Rattle.csplit_core.proofs.PutLemmas.{now_file, now_skipped, now_unmade, skips_file, elides_file}
 
 -- A section without a file
@@ -27,7 +28,7 @@ end_none : (told : Bool) (writer : WriterState) (slots : List Slot) → ((draft 
 end_none told writer slots none ready = record {
   style = refl;
   moves = λ draft writes. moves_same told _ _ slots (part_none writer.style draft.ended (last_contents false draft) (none draft writes false) ∙ sym (part_none writer.style draft.ended (last_contents true draft) (none draft writes true)));
-  keeps = keeps_same slots;
+  keeps = keeps_same slots slots refl;
   owns = λ first own. own;
   ready = ready;
   pauses = λ draft writes. record {
@@ -55,7 +56,7 @@ file_pauses writer draft slot size is writes = record {
 
 closed_ready : (writer : WriterState) (slot size : ℕ) (old new : List Slot) → writer.current ≡ Filed slot size → IsReady writer old → new ≡ changed_at slot closes old → IsReady (ended_writer writer) new
 closed_ready writer slot size old new is ready closed = record {
-  output = writable_elsewhere 0 slot closes old new (λ same. (let at = (at_file writer slot size old is ready).0 in omega (arith, same, at))) closed ready.output;
+  output = writable_elsewhere old new 0 slot closes (λ same. (let at = (at_file writer slot size old is ready).0 in omega (arith, same, at))) closed ready.output;
   first = ready.first;
   owns = owned_same writer (ended_writer writer) old new refl refl (ready_could writer old ready) (made_close slot old new (at_file writer slot size old is ready).2 closed) ready.first ready.owns;
   current = tt;
@@ -63,7 +64,7 @@ closed_ready writer slot size old new is ready closed = record {
 
 line_ready : (writer : WriterState) (line : List ℕ) (old new : List Slot) → IsReady (ended_writer writer) old → new ≡ with_written 0 line old → IsReady (ended_writer writer) new
 line_ready writer line old new ready wrote = record {
-  output = writable_still 0 0 line old new wrote ready.output;
+  output = written_writable old new 0 0 line ready.output wrote;
   first = ready.first;
   owns = owned_same (ended_writer writer) (ended_writer writer) old new refl refl refl (made_write 0 line old new wrote) ready.first ready.owns;
   current = tt;
@@ -139,7 +140,7 @@ line_not told writer slot size old mid new f is ready told_so closed cut = recor
       (last_closed (files_of writer.style 0 draft.ended) (file_of (name_after writer.style draft.ended) draft.bytes state.Closed) (closed_files writer.style 0 draft.ended writes.closed) refl)
       (let two : 2 ≤ length mid = two_slots (ended_writer writer) mid (closed_ready writer slot size old mid is ready closed) in omega arith) cut));
   breaks = breaks_later writer.style old mid new f (keeps_close slot old mid closed) (line_breaks told writer.style (decimal size ++ newline ∷ []) mid new f told_so (closed_ready writer slot size old mid is ready closed).output cut);
-  owns = owned_same writer (ended_writer writer) old new refl refl (ready_could writer old ready) (made_again old mid new (made_close slot old mid (at_file writer slot size old is ready).2 closed) (short_made told 0 _ mid new f cut));
+  owns = owned_same writer (ended_writer writer) old new refl refl (ready_could writer old ready) (made_again old mid new (made_close slot old mid (at_file writer slot size old is ready).2 closed) (made_short told 0 _ mid new f cut));
 }
 
 -- the size was written, or standard output broke

@@ -18,7 +18,6 @@ pub mod WriterLemmas
 pub mod SizeLine
 pub mod MakeLemmas
 pub mod OutputSteps
-pub mod SlotSteps
 pub mod DraftLemmas
 pub mod OwnLemmas
 pub mod PutLemmas

@@ -11,9 +11,10 @@ use Rattle.ports_core.specs.declared.slot.State.TheVariants as state
 use Rattle.ports_core.proofs.SlotLemmas.{length-changed_at}
 use Rattle.ports_core.proofs.FileLemmas.{gets, ended, file_more, last_changes, write_makes, close_makes}
 use Rattle.ports_core.proofs.PartLemmas.{begins_itself, begins_more, take_begins_behind, files_begin_themselves, part_begins_itself, out_more, outputs_count, turn_last, turn_next}
+use Rattle.ports_core.specs.Write.{WritesShort}
 use Rattle.csplit_core.specs.Writer.{Moves, Halts}
-use Rattle.csplit_core.specs.WriterSteps.{WritesShort, MakesNone, unnamed, failed}
-use Rattle.csplit_core.specs.WriterSteps as short
+use Rattle.csplit_core.specs.WriterSteps.{MakesNone, unnamed, failed}
+use Rattle.ports_core.specs.Write as short
 use Rattle.csplit_core.proofs.WriterLemmas.{halts_after}
 
 -- a file with this name
