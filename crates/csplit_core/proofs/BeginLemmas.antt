@@ -59,10 +59,6 @@ made_ready writer next slot old new ready made = record {
   );
 }
 
--- the file can be written
-pub made_writable : (writer next : WriterState) (slot : ℕ) (old new : List Slot) → IsReady writer old → Made writer old new next slot → IsTrue (is_writable new slot)
-made_writable writer next slot old new ready made = opened_writable old new slot (next_name writer) Fresh made.place made.added
-
 -- The first bytes of a section whose file isn't made before them
 
 first_makes : (style : Style) (draft : Draft) (bytes : List ℕ) → draft.is_kept ≡ true → style.elide ≡ true → draft.bytes ≡ [] → is_empty bytes ≡ false → makes_file style (last_contents false (with_bytes bytes draft)) ≡ true

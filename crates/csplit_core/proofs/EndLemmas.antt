@@ -1,22 +1,21 @@
 -- A section ends, and the next begins.
-use Rattle.std.proofs.Common.{◌≡◌, ℕ, ◌≤◌, Bool, true, false, List, [], ◌∷◌, ◌++◌, length, decimal, Result, Ok, Err, OnOk, IfErr, IsTrue, refl, sym, ◌∙◌, ap, subst, arith}
+use Rattle.std.proofs.Common.{◌≡◌, ℕ, ◌≤◌, Bool, true, false, List, [], ◌∷◌, ◌++◌, length, decimal, Result, Ok, Err, OnOk, IfErr, refl, sym, ◌∙◌, ap, subst, arith}
 use Rattle.std.proofs.lemmas.List.{append-nil}
 use Rattle.ports_core.specs.Part.{File, Begins, AllClosed}
-use Rattle.ports_core.specs.Slot.{Slot, changed_at, closes, is_writable, told_of, with_written, with_broken}
+use Rattle.ports_core.specs.Slot.{Slot, changed_at, closes, told_of, with_written, with_broken}
 use Rattle.ports_core.specs.Swept.{AreMade, SweptFrom}
-use Rattle.ports_core.specs.Swept as swept
 use Rattle.ports_core.specs.declared.fault.Fault.{Fault}
 use Rattle.ports_core.specs.declared.fault.Fault.TheVariants as fault
 use Rattle.ports_core.specs.declared.slot.State.TheVariants as state
 use Rattle.csplit_core.specs.Input.{newline}
 use Rattle.csplit_core.specs.Output.{Style, makes_file, files_of, size_line, size_lines}
 use Rattle.csplit_core.specs.Draft.{Draft, draft_part, ended_part, last_contents, with_section}
-use Rattle.csplit_core.specs.Writer.{WriterState, Writes, Pauses, IsReady, Went, Stopped, Goes, Ended, EndedNot, Ends, size_of}
+use Rattle.csplit_core.specs.Writer.{WriterState, Writes, Pauses, IsReady, Went, Stopped, Goes, Ended, EndedNot, Ends}
 use Rattle.csplit_core.specs.WriterSteps.{Started, StartedNot, Starts}
 use Rattle.csplit_core.specs.declared.section_writer.Current.TheVariants.{Skipped, Unmade, File as Filed}
 use Rattle.csplit_core.proofs.WriterLemmas.{moves_again, moves_as, moves_same, halts_after, halts_as, halts_wider, end_begins, breaks_later, owns_again}
 use Rattle.csplit_core.proofs.OutputSteps.{file_of, with_last, line_begins, close_begins, close_moves, line_moves, close_halts, line_halts}
-use Rattle.ports_core.proofs.SlotSteps.{made_again, made_write, made_close, made_break, keeps_same, keeps_write, keeps_close, written_writable, writable_elsewhere, made_short, keeps_again}
+use Rattle.ports_core.proofs.SlotSteps.{made_again, made_write, made_close, made_break, keeps_same, keeps_write, keeps_close, written_writable, writable_elsewhere, made_short, keeps_again, swept_none}
 use Rattle.ports_core.specs.Write.{WritesShort}
 use Rattle.csplit_core.proofs.DraftLemmas.{name_after, part_none, open_part, closed_part, line_told, line_untold, count_made, count_none, closed_files, all_closed, more_begins}
 use Rattle.csplit_core.proofs.OwnLemmas.{ready_could, two_slots, at_file, owned_same, line_breaks, close_breaks}
@@ -149,10 +148,6 @@ pub end_sized : (told : Bool) (writer : WriterState) (slot size : ℕ) (old mid 
 end_sized told writer slot size old mid new (Ok done) is ready told_so closed wrote cut = end_told told writer slot size old mid new is ready told_so closed wrote
 end_sized told writer slot size old mid new (Err f) is ready told_so closed wrote cut = line_not told writer slot size old mid new f is ready told_so closed cut
 
--- standard output can be written once the file is closed
-pub closed_output : (writer : WriterState) (slot size : ℕ) (old new : List Slot) → writer.current ≡ Filed slot size → IsReady writer old → new ≡ changed_at slot closes old → IsTrue (is_writable new 0)
-closed_output writer slot size old new is ready closed = (closed_ready writer slot size old new is ready closed).output
-
 -- One section ends, and the next begins.
 
 next_begins : (style : Style) (kept : Bool) (draft : Draft) → Begins (ended_part style draft) (draft_part style (with_section kept draft))
@@ -193,10 +188,6 @@ pub next_begun : (told : Bool) (writer mid next : WriterState) (kept : Bool) (ol
 next_begun told writer mid next kept old between new (Ok done) ended start = next_ok told writer mid next kept old between new ended start
 next_begun told writer mid next kept old between new (Err f) ended start = next_not_begun told writer mid next kept old between new f ended start
 
-pub begun_size : (told : Bool) (style : Style) (writer next : WriterState) (kept : Bool) (old new : List Slot) (result : Result (Unit {0}) Fault) → Starts told style writer kept old new next result → OnOk result (size_of next.current ≡ 0)
-begun_size told style writer next kept old new (Ok done) started = started.size
-begun_size told style writer next kept old new (Err f) started = tt
-
 -- where no file was made, none is removed
 pub none_to_clear : (first made : ℕ) (slots : List Slot) → made ≡ 0 → AreMade first made slots → SweptFrom first slots slots
-none_to_clear first made slots none are = record { size = refl; before = λ place within. refl; cleared = λ place past. swept.none (are.none_after place (omega (arith, past, none))) }
+none_to_clear first made slots none are = swept_none true first slots (λ place past. are.none_after place (omega (arith, past, none)))

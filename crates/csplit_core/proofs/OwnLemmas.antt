@@ -12,7 +12,7 @@ use Rattle.csplit_core.specs.WriterSteps.{MakesNone, unnamed, failed, Made, next
 use Rattle.ports_core.specs.Write as short
 use Rattle.csplit_core.specs.declared.section_writer.Current.{Current}
 use Rattle.csplit_core.specs.declared.section_writer.Current.TheVariants.{Skipped, Unmade, File, Unopened}
-use Rattle.ports_core.proofs.SlotSteps.{KeepsMade, made_same, none_past, none_opened, file_before, at_end, open_rose, write_rose, close_rose, opened_writable, writable_before}
+use Rattle.ports_core.proofs.SlotSteps.{KeepsMade, none_past, none_opened, file_before, at_end, open_rose, write_rose, close_rose}
 use Rattle.ports_core.specs.Write.{WritesShort}
 
 pub could_so : (current : Current) (slots : List Slot) → IsOpenAt current slots → could_open current ≡ true
