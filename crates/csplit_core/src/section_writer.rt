@@ -29,7 +29,7 @@ pub enum Current {
         /// How many bytes it has.
         size: u64,
     },
-    /// It is kept, and its file could not be opened.
+    /// It is kept, and its file could not be opened. Nothing follows but `clear`.
     Unopened,
 }
 
