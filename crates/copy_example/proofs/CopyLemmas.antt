@@ -1,23 +1,22 @@
 -- Lemmas on the copier.
-use Rattle.std.proofs.Common.{◌≡◌, ℕ, ◌+◌, ◌<◌, ◌≤◌, zero, suc, not, ◌&&◌, ◌||◌, ◌==◌, List, [], ◌∷◌, ◌++◌, length, take, Bool, true, false, IsTrue, ◌⊎◌, inl, inr, Some, None, if◌then◌else◌, refl, sym, ◌∙◌, ap, subst, arith, codes, length-append}
+use Rattle.std.proofs.Common.{◌≡◌, ℕ, ◌+◌, ◌<◌, ◌≤◌, zero, suc, not, ◌||◌, ◌==◌, List, [], ◌∷◌, ◌++◌, length, take, Bool, true, false, IsTrue, ◌⊎◌, inl, inr, Some, None, if◌then◌else◌, refl, sym, ◌∙◌, ap, subst, arith, codes}
 use Rattle.std.proofs.lemmas.Bool.{false≢true}
-use Rattle.std.proofs.lemmas.List.{get_or_past}
 use Rattle.std.proofs.lemmas.List.Folds.{list_any-append}
-use Rattle.ports_core.specs.Slot.{Slot, is_open, has_file, no_slot, slot_at, changed_at, opened, unopened, adds, breaks, closes, with_written, with_broken, told_of, is_writable, FailsToOpen, broke, numberless}
+use Rattle.ports_core.specs.Slot.{Slot, has_file, slot_at, changed_at, opened, adds, breaks, closes, with_written, with_broken, told_of, is_writable, FailsToOpen, broke, numberless}
 use Rattle.ports_core.specs.Write.{BrokeAfter}
 use Rattle.ports_core.specs.Part.{Part, Begins, IsBeginning, OutputsAt, StoppedBetween, nothing}
-use Rattle.ports_core.specs.Swept.{AreMade, Swept, none}
+use Rattle.ports_core.specs.Swept.{AreMade, Swept}
 use Rattle.ports_core.specs.Engine.{Ended, IsMet, cut}
 use Rattle.ports_core.specs.Work.{no_needs}
 use Rattle.ports_core.specs.declared.fault.Fault.{Fault}
 use Rattle.ports_core.specs.declared.fault.Fault.TheVariants as fault
 use Rattle.ports_core.specs.declared.slot.Mode.TheVariants.{Fresh}
 use Rattle.ports_core.specs.declared.slot.State.{State}
-use Rattle.ports_core.specs.declared.slot.State.TheVariants.{Open, Closed, Removed, Unopened}
-use Rattle.ports_core.proofs.SlotLemmas.{length-changed_at, slot_at-changed, slot_at-elsewhere}
-use Rattle.ports_core.proofs.WriteLemmas.{writable-written}
+use Rattle.ports_core.specs.declared.slot.State.TheVariants.{Open, Closed}
+use Rattle.ports_core.proofs.SlotLemmas.{length-changed_at, slot_at-changed}
 use Rattle.ports_core.proofs.FileLemmas.{gets, ended, last_changes, write_makes, close_makes, file_more}
 use Rattle.ports_core.proofs.PartLemmas.{begins_itself, begins_more, nothing_begins, nothing_begins_part, nothing_out, out_more, outputs_count, sound_at, stopped_here, take_begins_behind}
+use Rattle.ports_core.proofs.SlotSteps.{open_has_file, none_past, none_opened, opened_last, opened_writable, writable_before, swept_none, written_last, written_writable, writable_elsewhere}
 use Rattle.run_core.specs.RunSteps.{OpensShort}
 use Rattle.copy_example.specs.Copy.{copied, copy_opening, copy_work, has_newline}
 use Rattle.copy_example.specs.Copying.{IsReady, OwnsFile}
@@ -109,22 +108,14 @@ last_still slot place change old new last is = last ∙ sym (length-changed_at p
 pub ready_still : (slot : ℕ) (bytes : List ℕ) (old new : List Slot) → IsReady slot old → new ≡ with_written slot bytes old → IsReady slot new
 ready_still slot bytes old new ready wrote = record {
   streams = ready.streams;
-  last = last_still slot slot (adds bytes) old new ready.last wrote;
-  file = ap (λ those. is_writable those slot) wrote ∙ writable-written old slot slot bytes ∙ ready.file;
-  output = ap (λ those. is_writable those 0) wrote ∙ writable-written old slot 0 bytes ∙ ready.output;
+  last = written_last old new slot bytes ready.last wrote;
+  file = written_writable old new slot slot bytes ready.file wrote;
+  output = written_writable old new 0 slot bytes ready.output wrote;
 }
 
 -- standard output can be written still once the file is closed
 pub output_still : (slot : ℕ) (old new : List Slot) → IsReady slot old → new ≡ changed_at slot closes old → IsTrue (is_writable new 0)
-output_still slot old new ready closed =
-    ap (λ those. is_writable those 0) closed
-    ∙ ap (λ (s : Slot). is_open s.state && not s.is_broken) (slot_at-elsewhere slot 0 closes old (λ same. let two = ready.streams in omega (arith, same, two))) ∙ ready.output
-
-open_has_file : (state : State) (broken : Bool) → (is_open state && not broken) ≡ true → has_file state ≡ true
-open_has_file Open broken can = refl
-open_has_file Closed broken can = refl
-open_has_file Removed broken can = absurd (false≢true can)
-open_has_file Unopened broken can = absurd (false≢true can)
+output_still slot old new ready closed = writable_elsewhere old new 0 slot closes (λ same. let two = ready.streams in omega (arith, same, two)) closed ready.output
 
 -- changes that leave a file
 abbrev pub Leaves : (Slot → Slot) → Type 0
@@ -155,9 +146,6 @@ owns_closed slot first old new own closed = owns_still slot first slot closes ol
 pub owns_ready : (slot : ℕ) (slots : List Slot) → IsReady slot slots → OwnsFile slot slot slots
 owns_ready slot slots ready = record { streams = ready.streams; last = ready.last; made = open_has_file (slot_at slots slot).state (slot_at slots slot).is_broken ready.file; only = refl }
 
-none_past : (slots : List Slot) (place : ℕ) → length slots ≤ place → has_file (slot_at slots place).state ≡ false
-none_past slots place past = ap (λ (s : Slot). has_file s.state) (get_or_past slots place no_slot past)
-
 -- the file, and none after it
 pub are_made : (slot first : ℕ) (slots : List Slot) → OwnsFile slot first slots → AreMade slot 1 slots
 are_made slot first slots own = record {
@@ -176,34 +164,16 @@ swept_own told keep before x slot old reached new last at swept = subst (λ firs
 
 -- opening
 
-opened_first : (slots : List Slot) (s : Slot) → 2 ≤ length slots → slot_at (slots ++ s ∷ []) 0 ≡ slot_at slots 0
-opened_first [] s two = absurd (omega arith)
-opened_first (first ∷ slots) s two = refl
-
-opened_last : (slots : List Slot) (s : Slot) → slot_at (slots ++ s ∷ []) (length slots) ≡ s
-opened_last [] s = refl
-opened_last (first ∷ slots) s = opened_last slots s
-
 pub ready_opened : (name : List ℕ) (slot : ℕ) (old new : List Slot) → 2 ≤ length old → IsTrue (is_writable old 0) → slot ≡ length old → new ≡ old ++ opened name Fresh ∷ [] → IsReady slot new
 ready_opened name slot old new two can number is = record {
   streams = omega (arith, number);
-  last = let all : length new ≡ length old + 1 = ap length is ∙ length-append old (opened name Fresh ∷ []) in omega (arith, number);
-  file = ap (λ n. is_writable new n) number ∙ ap (λ those. is_writable those (length old)) is ∙ ap (λ (s : Slot). is_open s.state && not s.is_broken) (opened_last old (opened name Fresh));
-  output = ap (λ those. is_writable those 0) is ∙ ap (λ (s : Slot). is_open s.state && not s.is_broken) (opened_first old (opened name Fresh) two) ∙ can;
+  last = opened_last old new slot name Fresh number is;
+  file = opened_writable old new slot name Fresh number is;
+  output = writable_before old new 0 (opened name Fresh) (omega (arith, two)) is can;
 }
 
 pub begins : (told : Bool) (old new : List Slot) → 2 ≤ length old → new ≡ old ++ opened (codes "copy") Fresh ∷ [] → OutputsAt told old (copied [] [] Open) new
 begins told old new two is = file_more told old nothing old new (codes "copy") Fresh (nothing_out told old (omega arith)) is
-
-none_opened : (slots : List Slot) (name : List ℕ) (place : ℕ) → length slots ≤ place → has_file (slot_at (slots ++ unopened name ∷ []) place).state ≡ false
-none_opened [] name zero past = refl
-none_opened [] name (suc place) past = refl
-none_opened (s ∷ slots) name zero past = absurd (omega arith)
-none_opened (s ∷ slots) name (suc place) past = none_opened slots name place (omega arith)
-
-none_swept : (clears : Bool) (first : ℕ) (slots : List Slot) → ((place : ℕ) → first ≤ place → has_file (slot_at slots place).state ≡ false) → Swept clears first slots slots
-none_swept true first slots no_file = record { size = refl; before = λ place within. refl; cleared = λ place past. none (no_file place past) }
-none_swept false first slots no_file = refl
 
 pub opens_short : (told keep : Bool) (old new : List Slot) (f : Fault) → 2 ≤ length old → FailsToOpen old (codes "copy") new f → OpensShort (copy_work keep) copy_opening told old new f
 opens_short told keep old new _ two (broke slot kept number is added) = record {
@@ -212,14 +182,14 @@ opens_short told keep old new _ two (broke slot kept number is added) = record {
   why = (refl, refl);
   stop = stopped_here told old nothing (copied [] [] Open) (fault.Open slot) old new (nothing_out told old (omega arith)) (nothing_begins_part _)
       (number, (codes "copy", kept, record { front = []; file = _; rest = []; files = refl; place = refl; name_is = refl }, is, added)) refl;
-  swept = none_swept (not keep) (length old) new (subst (λ (those : List Slot). (place : ℕ) → length old ≤ place → has_file (slot_at those place).state ≡ false) (sym added) (none_opened old kept));
+  swept = swept_none (not keep) (length old) new (subst (λ (those : List Slot). (place : ℕ) → length old ≤ place → has_file (slot_at those place).state ≡ false) (sym added) (none_opened old kept));
 }
 opens_short told keep old new _ two (numberless full same) = record {
   unjudged = refl;
   reached = new;
   why = refl;
   stop = stopped_here told old nothing (copied [] [] Open) fault.Memory old new (nothing_out told old (omega arith)) (nothing_begins_part _) same tt;
-  swept = none_swept (not keep) (length old) new (subst (λ (those : List Slot). (place : ℕ) → length old ≤ place → has_file (slot_at those place).state ≡ false) (sym same) (none_past old));
+  swept = swept_none (not keep) (length old) new (subst (λ (those : List Slot). (place : ℕ) → length old ≤ place → has_file (slot_at those place).state ≡ false) (sym same) (none_past old));
 }
 
 -- what came in has a newline, or not

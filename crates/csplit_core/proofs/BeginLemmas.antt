@@ -1,23 +1,22 @@
 -- A file is made for the open section, and a section begins.
-use Rattle.std.proofs.Common.{◌≡◌, ℕ, ◌+◌, ◌<◌, ◌≤◌, suc, Bool, true, false, not, ◌&&◌, List, [], ◌∷◌, ◌++◌, length, Result, Ok, Err, IsTrue, refl, sym, ◌∙◌, ap, subst, arith, length-append}
+use Rattle.std.proofs.Common.{◌≡◌, ℕ, ◌+◌, ◌≤◌, suc, Bool, true, false, not, ◌&&◌, List, [], ◌∷◌, ◌++◌, length, Result, Ok, Err, IsTrue, refl, sym, ◌∙◌, ap, subst, arith, length-append}
 use Rattle.ports_core.specs.Name.{numbered_name}
 use Rattle.ports_core.specs.Part.{Part, IsNext}
 use Rattle.ports_core.specs.Slot.{Slot, opened, is_writable}
-use Rattle.ports_core.specs.Swept.{AreMade}
 use Rattle.ports_core.specs.declared.fault.Fault.{Fault}
 use Rattle.ports_core.specs.declared.slot.Mode.TheVariants.{Fresh}
 use Rattle.ports_core.specs.declared.slot.State.TheVariants as state
 use Rattle.csplit_core.specs.Output.{Style, Contents, is_empty, makes_file, file_at, files_of, size_lines, part_by}
 use Rattle.csplit_core.specs.Draft.{Draft, draft_part, last_contents, with_bytes, AreClosed}
 use Rattle.csplit_core.specs.Writer.{WriterState, Writes, Pauses, OwnsFiles, IsReady, IsOpenAt, Moves, Halts, Went, Stopped, Goes, Begun, BegunNot, size_of}
-use Rattle.csplit_core.specs.WriterSteps.{WritesShort, MakesNone, Made, Makes, Appends, Started, StartedNot, next_name, begun_after}
+use Rattle.csplit_core.specs.WriterSteps.{MakesNone, Made, Makes, Appends, Started, StartedNot, next_name, begun_after}
 use Rattle.csplit_core.specs.declared.section_writer.Current.{Current}
-use Rattle.csplit_core.specs.declared.section_writer.Current.TheVariants.{Skipped, Unmade, File, Unopened}
-use Rattle.csplit_core.proofs.WriterLemmas.{moves_again, moves_as, moves_same, halts_after, halts_as, keeps_again, breaks_later, owns_again}
+use Rattle.csplit_core.specs.declared.section_writer.Current.TheVariants.{Skipped, Unmade, File}
+use Rattle.csplit_core.proofs.WriterLemmas.{moves_again, moves_as, moves_same, halts_after, halts_as, breaks_later, owns_again}
 use Rattle.csplit_core.proofs.OutputSteps.{file_of, with_last, file_begins, open_moves, write_moves, open_halts, write_halts}
-use Rattle.csplit_core.proofs.SlotSteps.{keeps_same, keeps_write, keeps_open, made_write, writable_before, writable_opened, none_past}
+use Rattle.ports_core.proofs.SlotSteps.{keeps_same, keeps_write, keeps_open, made_write, writable_before, opened_writable, none_past, made_short, keeps_again, made_same}
 use Rattle.csplit_core.proofs.DraftLemmas.{name_after, part_none, part_made, open_part, count_made, count_none, closed_files, more_begins}
-use Rattle.csplit_core.proofs.OwnLemmas.{ready_could, two_slots, at_file, owned_same, owned_opened, owned_unopened, make_breaks, write_breaks, short_made}
+use Rattle.csplit_core.proofs.OwnLemmas.{ready_could, two_slots, at_file, owned_same, owned_opened, owned_unopened, make_breaks, write_breaks}
 use Rattle.csplit_core.proofs.PutLemmas.{now_unmade, skips_file, elides_file, ready_written}
 
 -- The next file
@@ -50,19 +49,15 @@ current_made writer next slot old new made = ap (λ (those : WriterState). those
 
 pub made_ready : (writer next : WriterState) (slot : ℕ) (old new : List Slot) → IsReady writer old → Made writer old new next slot → IsReady next new
 made_ready writer next slot old new ready made = record {
-  output = writable_before 0 (opened (next_name writer) Fresh) old new (let two : 2 ≤ length old = two_slots writer old ready in omega arith) made.added ready.output;
+  output = writable_before old new 0 (opened (next_name writer) Fresh) (let two : 2 ≤ length old = two_slots writer old ready in omega arith) made.added ready.output;
   first = ready.first;
   owns = owned_opened writer next slot old new (ready_could writer old ready) made ready.first ready.owns;
   current = subst (λ current. IsOpenAt current new) (sym (current_made writer next slot old new made)) (
     (let two : 2 ≤ length old = two_slots writer old ready in let here : slot ≡ length old = made.place in omega arith),
     (let size : length new ≡ length old + 1 = ap length made.added ∙ length-append old (opened (next_name writer) Fresh ∷ []) in let here : slot ≡ length old = made.place in omega arith),
-    writable_opened slot (next_name writer) Fresh old new made.place made.added,
+    opened_writable old new slot (next_name writer) Fresh made.place made.added,
   );
 }
-
--- the file can be written
-pub made_writable : (writer next : WriterState) (slot : ℕ) (old new : List Slot) → IsReady writer old → Made writer old new next slot → IsTrue (is_writable new slot)
-made_writable writer next slot old new ready made = writable_opened slot (next_name writer) Fresh old new made.place made.added
 
 -- The first bytes of a section whose file isn't made before them
 
@@ -129,7 +124,7 @@ put_first told writer made next slot bytes old mid new (Err f) is some ready mak
       (write_halts told (size_lines writer.style draft.ended) (files_of writer.style 0 draft.ended) (name_after writer.style draft.ended) [] bytes slot mid new f (closed_files writer.style 0 draft.ended writes.closed) at.1 cut));
   breaks = breaks_later writer.style old mid new f (keeps_open _ old mid makes.added) (write_breaks told writer.style slot bytes mid new f at.0 at.2 cut);
   owns = owns_again writer made next old mid new (owned_opened writer made slot old mid (ready_could writer old ready) makes)
-      (owned_same made next mid new (ap (λ (those : WriterState). those.made) same) (ap (λ (those : WriterState). those.first) same) (ready_could made mid (made_ready writer made slot old mid ready makes)) (short_made told slot bytes mid new f cut));
+      (owned_same made next mid new (ap (λ (those : WriterState). those.made) same) (ap (λ (those : WriterState). those.first) same) (ready_could made mid (made_ready writer made slot old mid ready makes)) (made_short told slot bytes mid new f cut));
 } where
   at : (2 ≤ slot) × (suc slot ≡ length mid) × IsTrue (is_writable mid slot)
   at = at_file made slot 0 mid (current_made writer made slot old mid makes) (made_ready writer made slot old mid ready makes)
@@ -160,12 +155,12 @@ begun_none told writer kept current slots none is at size ready = record {
   };
   moves = λ ended pauses. moves_same told _ _ slots (sym (part_none writer.style ended (begun kept) none));
   size = size;
-  keeps = keeps_same slots;
-  owns = owned_same writer (record writer { current = current }) slots slots refl refl (ready_could writer slots ready) (Rattle.csplit_core.proofs.SlotSteps.made_same slots);
+  keeps = keeps_same slots slots refl;
+  owns = owned_same writer (record writer { current = current }) slots slots refl refl (ready_could writer slots ready) (made_same slots);
   ready = record {
     output = ready.output;
     first = ready.first;
-    owns = owned_same writer (record writer { current = current }) slots slots refl refl (ready_could writer slots ready) (Rattle.csplit_core.proofs.SlotSteps.made_same slots) ready.first ready.owns;
+    owns = owned_same writer (record writer { current = current }) slots slots refl refl (ready_could writer slots ready) (made_same slots) ready.first ready.owns;
     current = at;
   };
 }

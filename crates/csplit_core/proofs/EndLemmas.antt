@@ -1,25 +1,24 @@
 -- A section ends, and the next begins.
-use Rattle.std.proofs.Common.{◌≡◌, ℕ, ◌+◌, ◌<◌, ◌≤◌, suc, Bool, true, false, List, [], ◌∷◌, ◌++◌, length, decimal, Result, Ok, Err, OnOk, IfErr, IsTrue, refl, sym, ◌∙◌, ap, subst, arith, append_assoc}
+use Rattle.std.proofs.Common.{◌≡◌, ℕ, ◌≤◌, Bool, true, false, List, [], ◌∷◌, ◌++◌, length, decimal, Result, Ok, Err, OnOk, IfErr, refl, sym, ◌∙◌, ap, subst, arith}
 use Rattle.std.proofs.lemmas.List.{append-nil}
-use Rattle.ports_core.specs.Part.{Part, File, Begins, AllClosed}
-use Rattle.ports_core.specs.Slot.{Slot, changed_at, closes, is_writable, told_of, with_written, with_broken}
+use Rattle.ports_core.specs.Part.{File, Begins, AllClosed}
+use Rattle.ports_core.specs.Slot.{Slot, changed_at, closes, told_of, with_written, with_broken}
 use Rattle.ports_core.specs.Swept.{AreMade, SweptFrom}
-use Rattle.ports_core.specs.Swept as swept
 use Rattle.ports_core.specs.declared.fault.Fault.{Fault}
 use Rattle.ports_core.specs.declared.fault.Fault.TheVariants as fault
 use Rattle.ports_core.specs.declared.slot.State.TheVariants as state
 use Rattle.csplit_core.specs.Input.{newline}
-use Rattle.csplit_core.specs.Output.{Style, Contents, makes_file, files_of, size_line, size_lines, part_by}
-use Rattle.csplit_core.specs.Draft.{Draft, draft_part, ended_part, last_contents, with_section, AreClosed}
-use Rattle.csplit_core.specs.Writer.{WriterState, Writes, Pauses, IsReady, KeepsFiles, Moves, Halts, Went, Stopped, Goes, Ended, EndedNot, Ends, size_of}
-use Rattle.csplit_core.specs.WriterSteps.{WritesShort, Started, StartedNot, Starts}
-use Rattle.csplit_core.specs.declared.section_writer.Current.{Current}
-use Rattle.csplit_core.specs.declared.section_writer.Current.TheVariants.{Skipped, Unmade, File as Filed, Unopened}
-use Rattle.csplit_core.proofs.WriterLemmas.{moves_again, moves_as, moves_same, halts_after, halts_as, halts_wider, end_begins, keeps_again, breaks_later, owns_again}
+use Rattle.csplit_core.specs.Output.{Style, makes_file, files_of, size_line, size_lines}
+use Rattle.csplit_core.specs.Draft.{Draft, draft_part, ended_part, last_contents, with_section}
+use Rattle.csplit_core.specs.Writer.{WriterState, Writes, Pauses, IsReady, Went, Stopped, Goes, Ended, EndedNot, Ends}
+use Rattle.csplit_core.specs.WriterSteps.{Started, StartedNot, Starts}
+use Rattle.csplit_core.specs.declared.section_writer.Current.TheVariants.{Skipped, Unmade, File as Filed}
+use Rattle.csplit_core.proofs.WriterLemmas.{moves_again, moves_as, moves_same, halts_after, halts_as, halts_wider, end_begins, breaks_later, owns_again}
 use Rattle.csplit_core.proofs.OutputSteps.{file_of, with_last, line_begins, close_begins, close_moves, line_moves, close_halts, line_halts}
-use Rattle.csplit_core.proofs.SlotSteps.{KeepsMade, made_same, made_again, made_write, made_close, made_break, keeps_same, keeps_write, keeps_close, writable_still, writable_elsewhere}
-use Rattle.csplit_core.proofs.DraftLemmas.{name_after, part_none, part_made, open_part, closed_part, line_told, line_untold, count_made, count_none, closed_files, all_closed, more_begins}
-use Rattle.csplit_core.proofs.OwnLemmas.{ready_could, two_slots, at_file, owned_same, line_breaks, close_breaks, short_made}
+use Rattle.ports_core.proofs.SlotSteps.{made_again, made_write, made_close, made_break, keeps_same, keeps_write, keeps_close, written_writable, writable_elsewhere, made_short, keeps_again, swept_none}
+use Rattle.ports_core.specs.Write.{WritesShort}
+use Rattle.csplit_core.proofs.DraftLemmas.{name_after, part_none, open_part, closed_part, line_told, line_untold, count_made, count_none, closed_files, all_closed, more_begins}
+use Rattle.csplit_core.proofs.OwnLemmas.{ready_could, two_slots, at_file, owned_same, line_breaks, close_breaks}
 use Rattle.csplit_core.proofs.PutLemmas.{now_file, now_skipped, now_unmade, skips_file, elides_file}
 
 -- A section without a file
@@ -28,7 +27,7 @@ end_none : (told : Bool) (writer : WriterState) (slots : List Slot) → ((draft 
 end_none told writer slots none ready = record {
   style = refl;
   moves = λ draft writes. moves_same told _ _ slots (part_none writer.style draft.ended (last_contents false draft) (none draft writes false) ∙ sym (part_none writer.style draft.ended (last_contents true draft) (none draft writes true)));
-  keeps = keeps_same slots;
+  keeps = keeps_same slots slots refl;
   owns = λ first own. own;
   ready = ready;
   pauses = λ draft writes. record {
@@ -56,7 +55,7 @@ file_pauses writer draft slot size is writes = record {
 
 closed_ready : (writer : WriterState) (slot size : ℕ) (old new : List Slot) → writer.current ≡ Filed slot size → IsReady writer old → new ≡ changed_at slot closes old → IsReady (ended_writer writer) new
 closed_ready writer slot size old new is ready closed = record {
-  output = writable_elsewhere 0 slot closes old new (λ same. (let at = (at_file writer slot size old is ready).0 in omega (arith, same, at))) closed ready.output;
+  output = writable_elsewhere old new 0 slot closes (λ same. (let at = (at_file writer slot size old is ready).0 in omega (arith, same, at))) closed ready.output;
   first = ready.first;
   owns = owned_same writer (ended_writer writer) old new refl refl (ready_could writer old ready) (made_close slot old new (at_file writer slot size old is ready).2 closed) ready.first ready.owns;
   current = tt;
@@ -64,7 +63,7 @@ closed_ready writer slot size old new is ready closed = record {
 
 line_ready : (writer : WriterState) (line : List ℕ) (old new : List Slot) → IsReady (ended_writer writer) old → new ≡ with_written 0 line old → IsReady (ended_writer writer) new
 line_ready writer line old new ready wrote = record {
-  output = writable_still 0 0 line old new wrote ready.output;
+  output = written_writable old new 0 0 line ready.output wrote;
   first = ready.first;
   owns = owned_same (ended_writer writer) (ended_writer writer) old new refl refl refl (made_write 0 line old new wrote) ready.first ready.owns;
   current = tt;
@@ -140,7 +139,7 @@ line_not told writer slot size old mid new f is ready told_so closed cut = recor
       (last_closed (files_of writer.style 0 draft.ended) (file_of (name_after writer.style draft.ended) draft.bytes state.Closed) (closed_files writer.style 0 draft.ended writes.closed) refl)
       (let two : 2 ≤ length mid = two_slots (ended_writer writer) mid (closed_ready writer slot size old mid is ready closed) in omega arith) cut));
   breaks = breaks_later writer.style old mid new f (keeps_close slot old mid closed) (line_breaks told writer.style (decimal size ++ newline ∷ []) mid new f told_so (closed_ready writer slot size old mid is ready closed).output cut);
-  owns = owned_same writer (ended_writer writer) old new refl refl (ready_could writer old ready) (made_again old mid new (made_close slot old mid (at_file writer slot size old is ready).2 closed) (short_made told 0 _ mid new f cut));
+  owns = owned_same writer (ended_writer writer) old new refl refl (ready_could writer old ready) (made_again old mid new (made_close slot old mid (at_file writer slot size old is ready).2 closed) (made_short told 0 _ mid new f cut));
 }
 
 -- the size was written, or standard output broke
@@ -148,10 +147,6 @@ pub end_sized : (told : Bool) (writer : WriterState) (slot size : ℕ) (old mid 
     → OnOk result (new ≡ with_written 0 (told_of told (decimal size ++ newline ∷ [])) mid) → IfErr result (WritesShort told 0 (decimal size ++ newline ∷ []) mid new) → Ends told writer old new (ended_writer writer) result
 end_sized told writer slot size old mid new (Ok done) is ready told_so closed wrote cut = end_told told writer slot size old mid new is ready told_so closed wrote
 end_sized told writer slot size old mid new (Err f) is ready told_so closed wrote cut = line_not told writer slot size old mid new f is ready told_so closed cut
-
--- standard output can be written once the file is closed
-pub closed_output : (writer : WriterState) (slot size : ℕ) (old new : List Slot) → writer.current ≡ Filed slot size → IsReady writer old → new ≡ changed_at slot closes old → IsTrue (is_writable new 0)
-closed_output writer slot size old new is ready closed = (closed_ready writer slot size old new is ready closed).output
 
 -- One section ends, and the next begins.
 
@@ -193,10 +188,6 @@ pub next_begun : (told : Bool) (writer mid next : WriterState) (kept : Bool) (ol
 next_begun told writer mid next kept old between new (Ok done) ended start = next_ok told writer mid next kept old between new ended start
 next_begun told writer mid next kept old between new (Err f) ended start = next_not_begun told writer mid next kept old between new f ended start
 
-pub begun_size : (told : Bool) (style : Style) (writer next : WriterState) (kept : Bool) (old new : List Slot) (result : Result (Unit {0}) Fault) → Starts told style writer kept old new next result → OnOk result (size_of next.current ≡ 0)
-begun_size told style writer next kept old new (Ok done) started = started.size
-begun_size told style writer next kept old new (Err f) started = tt
-
 -- where no file was made, none is removed
 pub none_to_clear : (first made : ℕ) (slots : List Slot) → made ≡ 0 → AreMade first made slots → SweptFrom first slots slots
-none_to_clear first made slots none are = record { size = refl; before = λ place within. refl; cleared = λ place past. swept.none (are.none_after place (omega (arith, past, none))) }
+none_to_clear first made slots none are = swept_none true first slots (λ place past. are.none_after place (omega (arith, past, none)))

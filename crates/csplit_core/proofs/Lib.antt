@@ -22,7 +22,6 @@ pub mod SizeLine
 pub mod MakeLemmas
 pub mod SettledLemmas
 pub mod OutputSteps
-pub mod SlotSteps
 pub mod DraftLemmas
 pub mod OwnLemmas
 pub mod PutLemmas

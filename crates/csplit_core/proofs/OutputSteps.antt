@@ -1,9 +1,7 @@
 -- Outputs that have a part have another, as their last file is opened, written and closed, and standard output gets a line; or a fault stops
 -- them in between.
-use Rattle.std.proofs.Common.{◌≡◌, ℕ, ◌+◌, ◌<◌, ◌≤◌, suc, Bool, false, List, [], ◌∷◌, ◌++◌, length, take, inl, inr, refl, sym, ◌∙◌, ap, subst, arith, length-append}
-use Rattle.std.proofs.lemmas.List.{append-nil}
-use Rattle.ports_core.specs.Slot.{Slot, FailsToOpen, broke, numberless, opened, changed_at, adds, breaks, closes, with_written, with_broken, told_of}
-use Rattle.ports_core.specs.Write.{BrokeAfter}
+use Rattle.std.proofs.Common.{◌≡◌, ℕ, ◌+◌, ◌<◌, suc, Bool, false, List, [], ◌∷◌, ◌++◌, length, take, inl, inr, refl, sym, ◌∙◌, arith, length-append}
+use Rattle.ports_core.specs.Slot.{Slot, broke, numberless, opened, changed_at, adds, closes, with_written, with_broken, told_of}
 use Rattle.ports_core.specs.Part.{File, Part, OutputsAt, Begins, FilesBegin, IsNext, Marks, IsAt, AllClosed, InTurn}
 use Rattle.ports_core.specs.declared.fault.Fault.{Fault}
 use Rattle.ports_core.specs.declared.fault.Fault.TheVariants as fault
@@ -13,9 +11,10 @@ use Rattle.ports_core.specs.declared.slot.State.TheVariants as state
 use Rattle.ports_core.proofs.SlotLemmas.{length-changed_at}
 use Rattle.ports_core.proofs.FileLemmas.{gets, ended, file_more, last_changes, write_makes, close_makes}
 use Rattle.ports_core.proofs.PartLemmas.{begins_itself, begins_more, take_begins_behind, files_begin_themselves, part_begins_itself, out_more, outputs_count, turn_last, turn_next}
+use Rattle.ports_core.specs.Write.{WritesShort}
 use Rattle.csplit_core.specs.Writer.{Moves, Halts}
-use Rattle.csplit_core.specs.WriterSteps.{WritesShort, MakesNone, unnamed, failed}
-use Rattle.csplit_core.specs.WriterSteps as short
+use Rattle.csplit_core.specs.WriterSteps.{MakesNone, unnamed, failed}
+use Rattle.ports_core.specs.Write as short
 use Rattle.csplit_core.proofs.WriterLemmas.{halts_after}
 
 -- a file with this name

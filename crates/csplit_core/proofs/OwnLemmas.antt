@@ -1,18 +1,19 @@
 -- The files that the writer made stay its own, its outputs can be written, and which faults come.
-use Rattle.std.proofs.Common.{◌≡◌, ◌⊎◌, inl, inr, ℕ, ◌+◌, ◌<◌, ◌≤◌, zero, suc, Bool, true, false, List, [], ◌∷◌, ◌++◌, length, IsTrue, refl, sym, ◌∙◌, ap, subst, arith, length-append}
+use Rattle.std.proofs.Common.{◌≡◌, ◌⊎◌, inl, inr, ℕ, ◌+◌, ◌<◌, ◌≤◌, suc, Bool, true, false, List, [], ◌∷◌, ◌++◌, length, IsTrue, refl, sym, ◌∙◌, ap, subst, arith, length-append}
 use Rattle.std.proofs.lemmas.Bool.{false≢true, cases_lt}
-use Rattle.ports_core.specs.Slot.{Slot, has_file, slot_at, changed_at, opened, unopened, closes, with_written, with_broken, told_of, is_writable, broke, numberless}
+use Rattle.ports_core.specs.Slot.{Slot, has_file, slot_at, changed_at, opened, unopened, closes, with_broken, is_writable, broke, numberless}
 use Rattle.ports_core.specs.Swept.{AreMade}
 use Rattle.ports_core.specs.declared.fault.Fault.{Fault}
 use Rattle.ports_core.specs.declared.fault.Fault.TheVariants as fault
 use Rattle.ports_core.specs.declared.slot.Mode.TheVariants.{Fresh}
 use Rattle.csplit_core.specs.Output.{Style}
-use Rattle.csplit_core.specs.Writer.{WriterState, OwnsFiles, IsReady, IsOpenAt, KeepsFiles, Breaks, could_open}
-use Rattle.csplit_core.specs.WriterSteps.{WritesShort, MakesNone, unnamed, failed, Made, next_name}
-use Rattle.csplit_core.specs.WriterSteps as short
+use Rattle.csplit_core.specs.Writer.{WriterState, IsReady, IsOpenAt, KeepsFiles, Breaks, could_open}
+use Rattle.csplit_core.specs.WriterSteps.{MakesNone, unnamed, failed, Made, next_name}
+use Rattle.ports_core.specs.Write as short
 use Rattle.csplit_core.specs.declared.section_writer.Current.{Current}
 use Rattle.csplit_core.specs.declared.section_writer.Current.TheVariants.{Skipped, Unmade, File, Unopened}
-use Rattle.csplit_core.proofs.SlotSteps.{KeepsMade, made_same, none_past, none_opened, file_before, at_end, open_rose, write_rose, close_rose, writable_opened, writable_before}
+use Rattle.ports_core.proofs.SlotSteps.{KeepsMade, none_past, none_opened, file_before, at_end, open_rose, write_rose, close_rose}
+use Rattle.ports_core.specs.Write.{WritesShort}
 
 pub could_so : (current : Current) (slots : List Slot) → IsOpenAt current slots → could_open current ≡ true
 could_so Skipped slots at = refl
@@ -104,7 +105,3 @@ line_breaks told style line old new _ told_so can (short.broke n cut) = (λ here
 
 pub close_breaks : (style : Style) (slot : ℕ) (old new : List Slot) → 2 ≤ slot → suc slot ≡ length old → IsTrue (is_writable old slot) → new ≡ with_broken slot (changed_at slot closes old) → Breaks style old new (fault.Write slot)
 close_breaks style slot old new streams last can is = (λ none. absurd (omega (arith, streams, none)), close_rose slot old new can (omega (arith, last)) is)
-
--- what a write that broke leaves
-pub short_made : (told : Bool) (slot : ℕ) (bytes : List ℕ) (old new : List Slot) (f : Fault) → WritesShort told slot bytes old new f → KeepsMade old new
-short_made told slot bytes old new _ (short.broke n cut) = Rattle.csplit_core.proofs.SlotSteps.made_cut told slot bytes n old new cut

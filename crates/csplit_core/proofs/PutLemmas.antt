@@ -12,9 +12,9 @@ use Rattle.csplit_core.specs.WriterSteps.{Appends}
 use Rattle.csplit_core.specs.declared.section_writer.Current.TheVariants.{Skipped, Unmade, File}
 use Rattle.csplit_core.proofs.WriterLemmas.{moves_as, moves_same, halts_as}
 use Rattle.csplit_core.proofs.OutputSteps.{write_moves, write_halts}
-use Rattle.csplit_core.proofs.SlotSteps.{keeps_same, keeps_write, made_write, writable_still}
+use Rattle.ports_core.proofs.SlotSteps.{keeps_same, keeps_write, made_write, written_writable, made_short}
 use Rattle.csplit_core.proofs.DraftLemmas.{name_after, part_none, open_part, count_made, closed_files}
-use Rattle.csplit_core.proofs.OwnLemmas.{ready_could, at_file, owned_same, write_breaks, short_made}
+use Rattle.csplit_core.proofs.OwnLemmas.{ready_could, at_file, owned_same, write_breaks}
 
 -- What the open section is
 
@@ -53,7 +53,7 @@ put_skipped told writer bytes slots is ready = record {
     current = subst (λ current. IsCurrent writer.style draft.is_kept (draft.bytes ++ bytes) current) (sym is) (now_skipped writer draft is writes);
   };
   moves = λ draft writes. moves_same told _ _ slots (skipped_part writer bytes draft (now_skipped writer draft is writes));
-  keeps = keeps_same slots;
+  keeps = keeps_same slots slots refl;
   owns = λ first own. own;
   ready = ready;
 }
@@ -66,10 +66,10 @@ still_makes style draft bytes makes = made_more style.elide draft.is_kept draft.
 pub ready_written : (told : Bool) (writer next : WriterState) (slot size : ℕ) (bytes : List ℕ) (old new : List Slot) → (2 ≤ slot) × (suc slot ≡ length old) × IsTrue (is_writable old slot) → IsReady writer old
     → next ≡ record writer { current = File slot size } → new ≡ Rattle.ports_core.specs.Slot.with_written slot bytes old → IsReady next new
 ready_written told writer next slot size bytes old new at ready is wrote = subst (λ those. IsReady those new) (sym is) (record {
-  output = writable_still 0 slot bytes old new wrote ready.output;
+  output = written_writable old new 0 slot bytes ready.output wrote;
   first = ready.first;
   owns = owned_same writer (record writer { current = File slot size }) old new refl refl (ready_could writer old ready) (made_write slot bytes old new wrote) ready.first ready.owns;
-  current = (at.0, at.1 ∙ sym (made_write slot bytes old new wrote).size, writable_still slot slot bytes old new wrote at.2);
+  current = (at.0, at.1 ∙ sym (made_write slot bytes old new wrote).size, written_writable old new slot slot bytes at.2 wrote);
 })
 
 pub put_file : (told : Bool) (writer next : WriterState) (slot size : ℕ) (bytes : List ℕ) (old new : List Slot) (result : Result (Unit {0}) Fault) → writer.current ≡ File slot size → IsReady writer old → Appends told writer slot size bytes old new next result
@@ -98,7 +98,7 @@ put_file told writer next slot size bytes old new (Err f) is ready (same, cut) =
       (open_part writer.style (with_bytes bytes draft) (still_makes writer.style draft bytes (now_file writer draft slot size is writes).0))
       (write_halts told (size_lines writer.style draft.ended) (files_of writer.style 0 draft.ended) (name_after writer.style draft.ended) draft.bytes bytes slot old new f (closed_files writer.style 0 draft.ended writes.closed) (at_file writer slot size old is ready).1 cut);
   breaks = write_breaks told writer.style slot bytes old new f (at_file writer slot size old is ready).0 (at_file writer slot size old is ready).2 cut;
-  owns = owned_same writer next old new (ap (λ (those : WriterState). those.made) same) (ap (λ (those : WriterState). those.first) same) (ready_could writer old ready) (short_made told slot bytes old new f cut);
+  owns = owned_same writer next old new (ap (λ (those : WriterState). those.made) same) (ap (λ (those : WriterState). those.first) same) (ready_could writer old ready) (made_short told slot bytes old new f cut);
 }
 
 pub some_bytes : (bytes : List ℕ) → false ≡ eqb (length bytes) 0 → is_empty bytes ≡ false

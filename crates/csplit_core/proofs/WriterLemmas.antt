@@ -1,15 +1,16 @@
 -- Lemmas on the writer of sections.
-use Rattle.std.proofs.Common.{◌≡◌, ℕ, Bool, true, false, List, [], ◌∷◌, ◌++◌, refl, sym, ◌∙◌, ap, subst, append_assoc}
+use Rattle.std.proofs.Common.{◌≡◌, ℕ, Bool, true, false, List, [], ◌∷◌, refl, sym, subst, append_assoc}
 use Rattle.std.proofs.lemmas.List.{append-nil}
-use Rattle.ports_core.specs.Slot.{Slot, Rose}
+use Rattle.ports_core.specs.Slot.{Slot, KeepsBroken}
 use Rattle.ports_core.specs.Part.{Part, OutputsAt, StoppedInTurn, Begins}
 use Rattle.ports_core.specs.declared.fault.Fault.{Fault}
 use Rattle.ports_core.specs.declared.fault.Fault.TheVariants.{Memory, Write, Read, Open, Suffixes, NoMatch, Range, Usage, Failed, TooLong}
 use Rattle.ports_core.proofs.PartLemmas.{part_begins_itself, turn_between}
-use Rattle.csplit_core.specs.Output.{Style, Contents, part_by}
+use Rattle.ports_core.proofs.SlotSteps.{rose_later}
+use Rattle.csplit_core.specs.Output.{Style, part_by}
 use Rattle.csplit_core.specs.Draft.{Draft, draft_part, ended_part, last_contents, with_bytes, with_section}
 use Rattle.csplit_core.specs.SectionLaws.{part_grows}
-use Rattle.csplit_core.specs.Writer.{WriterState, Moves, Halts, KeepsBroken, KeepsFiles, Breaks}
+use Rattle.csplit_core.specs.Writer.{WriterState, Moves, Halts, KeepsFiles, Breaks}
 
 -- From one state of the outputs to another
 
@@ -38,12 +39,6 @@ section_begins style kept draft =
     (part_grows style draft.ended (last_contents false draft) (last_contents true draft) (last_contents false (with_section kept draft) ∷ []) refl refl [] (sym (append-nil draft.bytes)))
 
 -- Outputs that were broken stay broken, and files stay the writer's own.
-
-pub keeps_again : (old mid new : List Slot) → KeepsBroken old mid → KeepsBroken mid new → KeepsBroken old new
-keeps_again old mid new first second place sound = first place (second place sound)
-
-rose_later : (slot : ℕ) (old mid new : List Slot) → KeepsBroken old mid → Rose slot mid new → Rose slot old new
-rose_later slot old mid new keeps rose = (keeps slot rose.0, rose.1)
 
 pub breaks_later : (style : Style) (old mid new : List Slot) (fault : Fault) → KeepsBroken old mid → Breaks style mid new fault → Breaks style old new fault
 breaks_later style old mid new Memory keeps breaks = tt

@@ -1,7 +1,7 @@
 -- What contracts see of the writer of sections, and what its calls do.
 use Rattle.std.specs.Prelude.{◌≡◌, ℕ, ◌+◌, ◌<◌, ◌≤◌, suc, Bool, true, false, List, [], ◌∷◌, ◌++◌, length, IsTrue, Result, Ok, Err}
 use Rattle.ports_core.specs.Part.{Part, OutputsAt, StoppedInTurn}
-use Rattle.ports_core.specs.Slot.{Slot, Rose, slot_at, is_writable}
+use Rattle.ports_core.specs.Slot.{Slot, Rose, KeepsBroken, is_writable}
 use Rattle.ports_core.specs.Swept.{AreMade}
 use Rattle.ports_core.specs.declared.fault.Fault.{Fault}
 use Rattle.ports_core.specs.declared.fault.Fault.TheVariants.{Memory, Write, Read, Open, Suffixes, NoMatch, Range, Usage, Failed, TooLong}
@@ -73,10 +73,6 @@ Moves told low high old new = (before : List Slot) → OutputsAt told before low
 -- a fault stopped them between the two
 abbrev pub Halts : Bool → Part → Part → List Slot → List Slot → Fault → Type 0
 Halts told low high old new fault = (before : List Slot) → OutputsAt told before low old → StoppedInTurn told before low high fault new
-
--- no output that was broken is sound again
-abbrev pub KeepsBroken : List Slot → List Slot → Type 0
-KeepsBroken old new = (place : ℕ) → (slot_at new place).is_broken ≡ false → (slot_at old place).is_broken ≡ false
 
 -- the files of the slots from a place on stay its own
 abbrev pub KeepsFiles : WriterState → WriterState → List Slot → List Slot → Type 0

@@ -1,19 +1,15 @@
 -- What the steps of the writer of sections do.
 use Rattle.std.specs.Prelude.{◌≡◌, ℕ, ◌+◌, ◌<◌, Bool, List, [], ◌∷◌, ◌++◌, length, Result, Ok, Err}
 use Rattle.ports_core.specs.Name.{numbered_name}
-use Rattle.ports_core.specs.Slot.{Slot, FailsToOpen, opened, told_of, with_written}
-use Rattle.ports_core.specs.Write.{BrokeAfter}
+use Rattle.ports_core.specs.Slot.{Slot, FailsToOpen, KeepsBroken, opened, told_of, with_written}
+use Rattle.ports_core.specs.Write.{WritesShort}
 use Rattle.ports_core.specs.declared.fault.Fault.{Fault}
-use Rattle.ports_core.specs.declared.fault.Fault.TheVariants.{Memory, Write}
+use Rattle.ports_core.specs.declared.fault.Fault.TheVariants.{Memory}
 use Rattle.ports_core.specs.declared.slot.Mode.TheVariants.{Fresh}
 use Rattle.csplit_core.specs.Output.{Style, Contents, part_by}
 use Rattle.csplit_core.specs.Draft.{Draft, draft_part}
-use Rattle.csplit_core.specs.Writer.{WriterState, Writes, Pauses, IsReady, Moves, Halts, KeepsBroken, KeepsFiles, Breaks, size_of}
+use Rattle.csplit_core.specs.Writer.{WriterState, Writes, Pauses, IsReady, Moves, Halts, KeepsFiles, Breaks, size_of}
 use Rattle.csplit_core.specs.declared.section_writer.Current.TheVariants.{File, Unopened}
-
--- the output broke among these bytes
-pub data WritesShort (told : Bool) (slot : ℕ) (bytes : List ℕ) (old new : List Slot) : Fault → Type 0 where
-  broke : (n : ℕ) → BrokeAfter told old new slot bytes n → WritesShort told slot bytes old new (Write slot)
 
 -- the file of the open section, which has `size` bytes, got these as well, or broke among them
 abbrev pub Appends : Bool → WriterState → ℕ → ℕ → List ℕ → List Slot → List Slot → WriterState → Result (Unit {0}) Fault → Type 0

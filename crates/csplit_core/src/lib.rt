@@ -17,6 +17,8 @@ mod section_writer;
 mod style;
 mod target;
 mod word;
+#[cfg(test)]
+mod writer_tests;
 
 pub use operand::{Offset, Operand, Target, Times};
 pub use operand_fault::{OperandFault, OperandFaultKind};

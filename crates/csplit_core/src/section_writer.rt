@@ -2,10 +2,11 @@
 ghost use Rattle.std.specs.Prelude.{◌≡◌, ◌+◌, ◌<◌, ◌≤◌, ◌^◌, ◌++◌, ◌∷◌, [], ℕ, length, decimal, IsTrue, IfErr, OnOk};
 ghost use Rattle.ports_core.specs.Slot.{is_writable, told_of, with_written};
 ghost use Rattle.ports_core.specs.Swept.{SweptFrom};
+ghost use Rattle.ports_core.specs.Write.{WritesShort};
 ghost use Rattle.csplit_core.specs.Draft.{with_bytes, with_section};
 ghost use Rattle.csplit_core.specs.Input.{newline};
 ghost use Rattle.csplit_core.specs.Writer.{Begins, Ends, Goes, IsReady, OwnsFiles, size_of};
-ghost use Rattle.csplit_core.specs.WriterSteps.{Appends, Makes, Starts, WritesShort};
+ghost use Rattle.csplit_core.specs.WriterSteps.{Appends, Makes, Starts};
 ghost use Rattle.csplit_core.specs.declared.section_writer.Current.TheVariants.{File};
 
 use crate::Style;
@@ -28,7 +29,7 @@ pub enum Current {
         /// How many bytes it has.
         size: u64,
     },
-    /// It is kept, and its file could not be opened.
+    /// It is kept, and its file could not be opened. Nothing follows but `clear`.
     Unopened,
 }
 

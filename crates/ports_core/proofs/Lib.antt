@@ -13,3 +13,4 @@ pub mod OrderLemmas
 pub mod DirInLemmas
 pub mod DirOutLemmas
 pub mod MessageLemmas
+pub mod SlotSteps

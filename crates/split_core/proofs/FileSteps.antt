@@ -1,9 +1,9 @@
 -- One file is opened, written or closed.
-use Rattle.std.proofs.Common.{◌≡◌, ◌≢◌, ℕ, ◌+◌, ◌-◌, ◌<◌, ◌≤◌, zero, suc, max, Bool, true, not, ◌&&◌, List, [], ◌∷◌, ◌++◌, length, map, take, drop, get_or, ◌⊎◌, inl, inr, IsTrue, refl, sym, ◌∙◌, ap, subst, arith, length-append, Ok, Err, Result, OnOk, IfErr}
+use Rattle.std.proofs.Common.{◌≡◌, ◌≢◌, ℕ, ◌+◌, ◌-◌, ◌<◌, ◌≤◌, zero, suc, max, Bool, true, List, [], ◌∷◌, ◌++◌, length, map, take, drop, get_or, ◌⊎◌, inl, inr, IsTrue, refl, sym, ◌∙◌, ap, subst, arith, length-append, Ok, Err, Result, OnOk, IfErr}
 use Rattle.std.proofs.lemmas.Bool.{cases_lt}
 use Rattle.std.proofs.lemmas.List.{map-append, length-map, length-take-le, get_or-append_right, get_or_append_left, get_or_past}
 use Rattle.ports_core.specs.Name.{Naming, next_name, with_one_drawn}
-use Rattle.ports_core.specs.Slot.{Slot, is_open, no_slot, slot_at, changed_at, opened, unopened, adds, breaks, closes, is_writable, is_closable, with_written, with_broken, told_of, broke, numberless, Rose}
+use Rattle.ports_core.specs.Slot.{Slot, no_slot, slot_at, changed_at, opened, unopened, adds, breaks, closes, is_writable, is_closable, with_written, with_broken, told_of, broke, numberless, Rose}
 use Rattle.ports_core.specs.Write.{BrokeAfter}
 use Rattle.ports_core.specs.Part.{OutputsAt, Begins, Marks, IsAt}
 use Rattle.ports_core.specs.declared.slot.Mode.TheVariants.{Fresh}
@@ -14,23 +14,15 @@ use Rattle.ports_core.proofs.PartLemmas.{broken_at, sound_at}
 use Rattle.ports_core.proofs.SlotLemmas.{length-changed_at}
 use Rattle.ports_core.proofs.WriteLemmas.{writable-written}
 use Rattle.ports_core.proofs.FileLemmas.{file_more, file_changes, write_makes, close_makes, gets, ended}
+use Rattle.ports_core.proofs.SlotSteps.{writable_within, writable_before, opened_writable}
 use Rattle.split_core.specs.Split.{share, name_of, from_start, file_at, only_files}
 use Rattle.split_core.specs.FilesState.{FilesState}
 use Rattle.split_core.specs.Round.{AreReady, OwnsFiles, output_at}
 use Rattle.split_core.specs.RoundLaws.{all_begin_themselves}
 use Rattle.split_core.specs.Sharing.{AllBegin, added, filled, filed, closed_first, open_part, closing_part, StayBroken, StandAt, KeepsFiles, Became, IsDue, StopsAt, StopsShort, HaveClosed, ClosesShort, with_opened, FailsToFollow, CannotOpen, CannotClose, could_not, unnamed, IsOfFiles}
-use Rattle.split_core.proofs.MoveLemmas.{writable_within}
 use Rattle.split_core.proofs.FilesLemmas.{filled_begin, filled_next, filled_same, length-filled, filed_more, open_length, length-filed, filed_gets, filed_ends, changed_begin, cut_begin, parts_begin, closed_shares, stay_broken, stay_later, stay_changed, stay_opened, became_then, halts_then, stops_in_order, caused_later, added_next, added_begin, added_fewer, filled_again, filled_further, length-added, added_before, added_past, take_changed, drop_changed, take_filled, take_further, drop_filled, drop_past_filled, take_filed, drop_filed}
 
 -- Opening
-
-writable_before : (slots : List Slot) (one : Slot) (place : ℕ) → place < length slots → IsTrue (is_writable slots place) → IsTrue (is_writable (slots ++ one ∷ []) place)
-writable_before slots one place within can = ap (λ slot. is_open slot.state && not slot.is_broken) (get_or_append_left slots (one ∷ []) no_slot place within) ∙ can
-
-writable_last : (slots : List Slot) (name : List ℕ) (place : ℕ) → place ≡ length slots → IsTrue (is_writable (slots ++ opened name Fresh ∷ []) place)
-writable_last slots name place is =
-    let none : place - length slots ≡ 0 = omega arith in
-    ap (λ slot. is_open slot.state && not slot.is_broken) (get_or-append_right slots (opened name Fresh ∷ []) (length slots) place no_slot refl (omega arith) ∙ ap (λ at. slot_at (opened name Fresh ∷ []) at) none)
 
 -- the output that was added, and those before it
 
@@ -68,8 +60,8 @@ ready_opened files next old new name ready made is = rw (made, is) (record {
 
   closable : (place : ℕ) → (place < length files.outputs) ⊎ (length files.outputs ≤ place) → place < length files.outputs + 1 → is_closable (old ++ opened name Fresh ∷ []) (get_or (files.outputs ++ length old ∷ []) place 0)
   closable place (inl before) within = rw (output_before files.outputs (length old) place before)
-      ((ready.closable place before).0, writable_before old (opened name Fresh) (output_at files place) (output_within files old place ready before) (ready.closable place before).1)
-  closable place (inr past) within = rw (last_output files.outputs (length old) place (omega arith)) (ready.streams, writable_last old name (length old) refl)
+      ((ready.closable place before).0, writable_before old (old ++ opened name Fresh ∷ []) (output_at files place) (opened name Fresh) (output_within files old place ready before) refl (ready.closable place before).1)
+  closable place (inr past) within = rw (last_output files.outputs (length old) place (omega arith)) (ready.streams, opened_writable old (old ++ opened name Fresh ∷ []) (length old) name Fresh refl refl)
 
 owned_opened : (files next : FilesState) (old new : List Slot) (name : List ℕ) → files.names.drawn ≡ length files.outputs → next ≡ with_opened (length old) files → new ≡ old ++ opened name Fresh ∷ [] → KeepsFiles files old next new
 owned_opened files next old new name drawn made is first owns = rw (made, is) (record {

@@ -1,21 +1,22 @@
 -- How the files of `split` change, as they are opened, written and closed.
-use Rattle.std.proofs.Common.{◌≡◌, ℕ, ◌+◌, ◌<◌, ◌≤◌, zero, suc, List, [], ◌∷◌, ◌++◌, length, take, Bool, true, false, cond, IsTrue, Option, Some, None, inl, inr, refl, sym, ◌∙◌, ap, subst, arith, length-append}
+use Rattle.std.proofs.Common.{◌≡◌, ℕ, ◌+◌, ◌<◌, ◌≤◌, suc, List, [], ◌∷◌, ◌++◌, length, take, Bool, true, false, cond, IsTrue, Option, Some, None, inl, inr, refl, sym, ◌∙◌, ap, subst, arith, length-append}
 use Rattle.std.proofs.lemmas.Bool.{false≢true}
 use Rattle.ports_core.specs.Name.{Naming, next_name}
-use Rattle.ports_core.specs.Slot.{Slot, Rose, slot_at, changed_at, opened, unopened, adds, closes, breaks, with_written, with_broken, told_of, is_writable, is_closable}
+use Rattle.ports_core.specs.Slot.{Slot, changed_at, opened, unopened, adds, closes, breaks, with_written, with_broken, told_of, is_writable, KeepsBroken}
 use Rattle.ports_core.specs.declared.slot.Mode.TheVariants.{Fresh}
 use Rattle.ports_core.specs.declared.slot.State.TheVariants as state
 use Rattle.ports_core.specs.Part.{File, Part, OutputsAt, Begins, IsNext, Marks, IsAt, AllClosed, InTurn, StoppedInTurn}
 use Rattle.ports_core.specs.declared.fault.Fault.{Fault}
 use Rattle.ports_core.specs.declared.fault.Fault.TheVariants.{Memory, Write, Read, Open, Suffixes, NoMatch, Range, Usage, Failed, TooLong}
-use Rattle.ports_core.proofs.PartLemmas.{begins_itself, begins_more, take_begins_behind, turn_between, turn_last, turn_next, outputs_count, sound_at, broken_at, part_begins_itself}
+use Rattle.ports_core.proofs.PartLemmas.{begins_itself, begins_more, take_begins_behind, turn_between, turn_last, turn_next, outputs_count, part_begins_itself}
 use Rattle.ports_core.proofs.FileLemmas.{file_more, last_changes, gets, ended, write_makes, close_makes}
-use Rattle.ports_core.proofs.WriteLemmas.{writable-written}
 use Rattle.ports_core.proofs.SlotLemmas.{length-changed_at}
+use Rattle.ports_core.specs.Write.{WritesShort, broke}
+use Rattle.ports_core.proofs.SlotSteps.{rose_later, write_rose, open_rose}
 use Rattle.split_core.specs.Split.{Share, share, is_named, file_at, named, name_of}
 use Rattle.split_core.specs.ShareLaws.{AllShut, SharesBegin, shares_more, last_grows, part_begins, no_more}
 use Rattle.split_core.specs.PartsState.{IsAtEnd, OwnsFile}
-use Rattle.split_core.specs.Moves.{part_of, Moves, Halts, KeepsBroken, KeepsFile, Breaks, OpensNone, WritesShort, broke}
+use Rattle.split_core.specs.Moves.{part_of, Moves, Halts, KeepsFile, Breaks, OpensNone}
 
 -- names
 
@@ -216,47 +217,7 @@ open_halts told names shares more one old new (Usage kind word) shut drawn none 
 open_halts told names shares more one old new Failed shut drawn none = absurd none
 open_halts told names shares more one old new TooLong shut drawn none = absurd none
 
--- outputs that were broken stay broken
-
-flag_stays : (change : Slot → Slot) → ((slot : Slot) → (change slot).is_broken ≡ slot.is_broken) → (place other : ℕ) (slots : List Slot) → (slot_at (changed_at place change slots) other).is_broken ≡ (slot_at slots other).is_broken
-flag_stays change same place other [] = refl
-flag_stays change same zero zero (slot ∷ slots) = same slot
-flag_stays change same zero (suc other) (slot ∷ slots) = refl
-flag_stays change same (suc place) zero (slot ∷ slots) = refl
-flag_stays change same (suc place) (suc other) (slot ∷ slots) = flag_stays change same place other slots
-
-pub keeps_same : (old new : List Slot) → new ≡ old → KeepsBroken old new
-keeps_same old new is place sound = subst (λ those. (slot_at those place).is_broken ≡ false) is sound
-
-pub keeps_again : (old mid new : List Slot) → KeepsBroken old mid → KeepsBroken mid new → KeepsBroken old new
-keeps_again old mid new first second place sound = first place (second place sound)
-
-keeps_change : (change : Slot → Slot) → ((slot : Slot) → (change slot).is_broken ≡ slot.is_broken) → (slot : ℕ) (old new : List Slot) → new ≡ changed_at slot change old → KeepsBroken old new
-keeps_change change same slot old new is place sound = sym (flag_stays change same slot place old) ∙ ap (λ those. (slot_at those place).is_broken) (sym is) ∙ sound
-
-pub keeps_write : (slot : ℕ) (bytes : List ℕ) (old new : List Slot) → new ≡ with_written slot bytes old → KeepsBroken old new
-keeps_write slot bytes old new is = keeps_change (adds bytes) (λ one. refl) slot old new is
-
-pub keeps_close : (slot : ℕ) (old new : List Slot) → new ≡ changed_at slot closes old → KeepsBroken old new
-keeps_close slot old new is = keeps_change closes (λ one. refl) slot old new is
-
-sound_before : (slots : List Slot) (one : Slot) (place : ℕ) → (slot_at (slots ++ one ∷ []) place).is_broken ≡ false → (slot_at slots place).is_broken ≡ false
-sound_before [] one place sound = refl
-sound_before (slot ∷ slots) one zero sound = sound
-sound_before (slot ∷ slots) one (suc place) sound = sound_before slots one place sound
-
-pub keeps_open : (one : Slot) (old new : List Slot) → new ≡ old ++ one ∷ [] → KeepsBroken old new
-keeps_open one old new is place sound = sound_before old one place (ap (λ those. (slot_at those place).is_broken) (sym is) ∙ sound)
-
--- and one that breaks was sound
-
-broken_there : (place : ℕ) (slots : List Slot) → place < length slots → (slot_at (with_broken place slots) place).is_broken ≡ true
-broken_there place [] within = absurd (omega (arith, within))
-broken_there zero (slot ∷ slots) within = refl
-broken_there (suc place) (slot ∷ slots) within = broken_there place slots (omega arith)
-
-pub rose_later : (slot : ℕ) (old mid new : List Slot) → KeepsBroken old mid → Rose slot mid new → Rose slot old new
-rose_later slot old mid new keeps rose = (keeps slot rose.0, rose.1)
+-- which faults come
 
 pub breaks_later : (old mid new : List Slot) (fault : Fault) → KeepsBroken old mid → Breaks mid new fault → Breaks old new fault
 breaks_later old mid new Memory keeps breaks = tt
@@ -271,34 +232,11 @@ breaks_later old mid new Failed keeps breaks = absurd breaks
 breaks_later old mid new TooLong keeps breaks = absurd breaks
 
 pub write_breaks : (told : Bool) (slot : ℕ) (bytes : List ℕ) (old new : List Slot) (fault : Fault) → 2 ≤ slot → IsTrue (is_writable old slot) → WritesShort told slot bytes old new fault → Breaks old new fault
-write_breaks told slot bytes old new _ behind can (broke n cut) = (
-  behind,
-  (
-    sound_at slot old can,
-    ap (λ those. (slot_at those slot).is_broken) cut.slots ∙ broken_at slot (with_written slot (told_of told (take n bytes)) old) (writable-written old slot slot (told_of told (take n bytes)) ∙ can),
-  ),
-)
-
-pub close_breaks : (slot : ℕ) (old new : List Slot) → IsTrue (is_writable old slot) → slot < length old → new ≡ with_broken slot (changed_at slot closes old) → Rose slot old new
-close_breaks slot old new can within is = (
-  sound_at slot old can,
-  ap (λ those. (slot_at those slot).is_broken) is ∙ broken_there slot (changed_at slot closes old) (let same : length (changed_at slot closes old) ≡ length old = length-changed_at slot closes old in omega arith),
-)
-
-at_end : (slots : List Slot) (one : Slot) → slot_at (slots ++ one ∷ []) (length slots) ≡ one
-at_end [] one = refl
-at_end (slot ∷ slots) one = at_end slots one
-
-past_end : (slots : List Slot) → (slot_at slots (length slots)).is_broken ≡ false
-past_end [] = refl
-past_end (slot ∷ slots) = past_end slots
+write_breaks told slot bytes old new _ behind can (broke n cut) = (behind, write_rose told slot bytes n old new can cut)
 
 pub open_breaks : (names : Naming) (old new : List Slot) (fault : Fault) → OpensNone names old new fault → Breaks old new fault
 open_breaks names old new Memory none = tt
-open_breaks names old new (Open slot) none = (
-  ap (λ n. (slot_at old n).is_broken) none.0 ∙ past_end old,
-  ap (λ those. (slot_at those slot).is_broken) none.2.2 ∙ ap (λ n. (slot_at (old ++ unopened none.2.0 ∷ []) n).is_broken) none.0 ∙ ap (λ (one : Slot). one.is_broken) (at_end old (unopened none.2.0)),
-)
+open_breaks names old new (Open slot) none = open_rose slot none.2.0 old new none.0 none.2.2
 open_breaks names old new Suffixes none = tt
 open_breaks names old new (Write slot) none = absurd none
 open_breaks names old new (Read slot) none = absurd none
@@ -357,37 +295,6 @@ owned_unopened names old new (Range operand repetition) none first owns = absurd
 owned_unopened names old new (Usage kind word) none first owns = absurd none
 owned_unopened names old new Failed none first owns = absurd none
 owned_unopened names old new TooLong none first owns = absurd none
-
-pub written_size : (slot : ℕ) (bytes : List ℕ) (old new : List Slot) → new ≡ with_written slot bytes old → length new ≡ length old
-written_size slot bytes old new is = ap length is ∙ length-changed_at slot (adds bytes) old
-
-pub short_size : (told : Bool) (slot : ℕ) (bytes : List ℕ) (old new : List Slot) (f : Fault) → WritesShort told slot bytes old new f → length new ≡ length old
-short_size told slot bytes old new _ (broke n cut) = ap length cut.slots ∙ length-changed_at slot breaks _ ∙ length-changed_at slot (adds (told_of told (take n bytes))) old
-
-pub broken_size : (slot : ℕ) (old new : List Slot) → new ≡ with_broken slot (changed_at slot closes old) → length new ≡ length old
-broken_size slot old new is = ap length is ∙ length-changed_at slot breaks _ ∙ length-changed_at slot closes old
-
--- which output is the last, and can be written
-
-pub writable_within : (place : ℕ) (slots : List Slot) → IsTrue (is_writable slots place) → place < length slots
-writable_within place [] can = absurd (false≢true can)
-writable_within zero (slot ∷ slots) can = omega arith
-writable_within (suc place) (slot ∷ slots) can = let rest = writable_within place slots can in omega (arith, rest)
-
-pub opened_last : (old new : List Slot) (slot : ℕ) (name : List ℕ) → slot ≡ length old → new ≡ old ++ opened name Fresh ∷ [] → suc slot ≡ length new
-opened_last old new slot name at is =
-    let size : length new ≡ length old + 1 = ap length is ∙ length-append old (opened name Fresh ∷ []) in omega (arith, at)
-
-pub opened_writable : (old new : List Slot) (slot : ℕ) (name : List ℕ) → slot ≡ length old → new ≡ old ++ opened name Fresh ∷ [] → IsTrue (is_writable new slot)
-opened_writable old new slot name at is =
-    ap (λ those. is_writable those slot) is ∙ ap (λ n. is_writable (old ++ opened name Fresh ∷ []) n) at
-    ∙ ap (λ (one : Slot). Rattle.ports_core.specs.Slot.can_write one) (at_end old (opened name Fresh))
-
-pub written_last : (old new : List Slot) (slot : ℕ) (bytes : List ℕ) → suc slot ≡ length old → new ≡ with_written slot bytes old → suc slot ≡ length new
-written_last old new slot bytes last is = last ∙ sym (ap length is ∙ length-changed_at slot (adds bytes) old)
-
-pub written_writable : (old new : List Slot) (slot : ℕ) (bytes : List ℕ) → IsTrue (is_writable old slot) → new ≡ with_written slot bytes old → IsTrue (is_writable new slot)
-written_writable old new slot bytes can is = ap (λ those. is_writable those slot) is ∙ writable-written old slot slot bytes ∙ can
 
 -- a write doesn't fail for want of names
 pub no_suffixes : (told : Bool) (slot : ℕ) (bytes : List ℕ) (old new : List Slot) (f : Fault) → WritesShort told slot bytes old new f → f ≡ Suffixes → ⊥

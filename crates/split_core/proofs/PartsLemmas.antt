@@ -3,16 +3,18 @@ use Rattle.std.proofs.Common.{◌≡◌, ℕ, ◌+◌, ◌≤◌, suc, List, [],
 use Rattle.std.proofs.lemmas.List.{append-nil}
 use Rattle.std.proofs.lemmas.Bool.{false≢true}
 use Rattle.ports_core.specs.Name.{Naming, next_name, has_next, with_one_drawn}
-use Rattle.ports_core.specs.Slot.{Slot, changed_at, opened, closes, with_written, with_broken, told_of, is_writable, is_closable}
+use Rattle.ports_core.specs.Slot.{Slot, changed_at, opened, closes, with_written, with_broken, told_of, is_writable, is_closable, KeepsBroken}
 use Rattle.ports_core.specs.declared.slot.Mode.TheVariants.{Fresh}
 use Rattle.ports_core.specs.declared.slot.State.TheVariants as state
 use Rattle.ports_core.specs.declared.fault.Fault.{Fault}
 use Rattle.ports_core.specs.declared.fault.Fault.TheVariants as fault
+use Rattle.ports_core.specs.Write.{WritesShort}
 use Rattle.split_core.specs.Split.{Share, share, is_some, is_named, are_named}
 use Rattle.split_core.specs.ShareLaws.{SharesBegin, shares_themselves, shares_more, last_grows}
 use Rattle.split_core.specs.PartsState.{PartsState, IsReady, IsAtEnd, is_given}
-use Rattle.split_core.specs.Moves.{Moves, Halts, KeepsBroken, KeepsFile, OpensNone, WritesShort, Begun, begun_share, HasFile, there, made, HasNone, IsLast, Extended, Interrupted, EndsFile, closed, failed}
+use Rattle.split_core.specs.Moves.{Moves, Halts, KeepsFile, OpensNone, Begun, begun_share, HasFile, there, made, HasNone, IsLast, Extended, Interrupted, EndsFile, closed, failed}
 use Rattle.split_core.proofs.HeldLemmas.{written_both}
+use Rattle.ports_core.proofs.SlotSteps as slot_steps
 use Rattle.split_core.proofs.MoveLemmas as move
 
 -- closing the file of the part that was begun
@@ -59,7 +61,7 @@ there_facts told parts old slot is ready =
       named = λ shares begun has. ap (are_named parts.names) (sym (counted shares begun has)) ∙ has.enough;
       grows = λ shares begun has. subst (λ more. SharesBegin (shares ++ more) (shares ++ share state.Open begun ∷ [])) (sym (one_share begun has.given)) (shares_themselves _);
       moves = λ shares begun has. subst (λ more. Moves told parts.names (shares ++ more) (shares ++ share state.Open begun ∷ []) old old) (sym (one_share begun has.given)) (move.moves_same told parts.names _ old old refl);
-      keeps = move.keeps_same old old refl;
+      keeps = slot_steps.keeps_same old old refl;
       last = λ at_end. subst (λ current. IsAtEnd current old) is at_end;
       owned = move.owned_same parts.current old old refl;
       behind = open_file.0;
@@ -89,11 +91,11 @@ made_facts told parts old new next slot none ready at has next_is made_it =
       moves = λ shares begun had. subst (λ those. Moves told parts.names (shares ++ begun_share those) (shares ++ share state.Open those ∷ []) old new) (sym (no_bytes begun had))
           (subst (λ low. Moves told parts.names low (shares ++ share state.Open [] ∷ []) old new) (sym (append-nil shares))
           (move.open_moves told parts.names shares old new (named_here shares begun had) (drawn shares begun had) made_it));
-      keeps = move.keeps_open (opened (next_name parts.names) Fresh) old new made_it;
-      last = λ at_end. move.opened_last old new slot (next_name parts.names) at made_it;
+      keeps = slot_steps.keeps_open (opened (next_name parts.names) Fresh) old new made_it;
+      last = λ at_end. slot_steps.opened_last old new slot (next_name parts.names) Fresh at made_it;
       owned = subst (λ current. KeepsFile current old next.current new) (sym none) (subst (λ current. KeepsFile None old current new) (sym (ap (λ (those : PartsState). those.current) next_is)) (move.owned_opened slot (opened (next_name parts.names) Fresh) old new at made_it));
       behind = omega (arith, at, streams);
-      writable = move.opened_writable old new slot (next_name parts.names) at made_it;
+      writable = slot_steps.opened_writable old new slot (next_name parts.names) Fresh at made_it;
     } where
       one_more : (n : ℕ) → n + 1 ≡ suc n
       one_more n = omega arith
@@ -126,9 +128,9 @@ extended told parts bytes old mid wet new found next slot facts one other is = r
       (let there : IsLast found shares = facts.last_part shares begun has in record { drawn = there.drawn; named = there.named; shut = there.shut });
   moves = λ shares begun has at_end. move.moves_again told parts.names _ (shares ++ share state.Open begun ∷ []) _ old mid new (facts.moves shares begun has)
       (move.write_moves told parts.names shares begun (parts.waiting ++ bytes) mid new slot (facts.named shares begun has) (facts.last at_end) both);
-  keeps = move.keeps_again old mid new facts.keeps (move.keeps_write slot _ mid new both);
-  owned = move.owned_again parts.current found.current next.current old mid new facts.owned (subst (λ current. KeepsFile found.current mid current new) (sym (ap (λ (those : PartsState). those.current) is)) (move.owned_same found.current mid new (move.written_size slot _ mid new both)));
-  ready = (facts.behind, move.written_writable mid new slot _ facts.writable both);
+  keeps = slot_steps.keeps_again old mid new facts.keeps (slot_steps.keeps_write slot _ mid new both);
+  owned = move.owned_again parts.current found.current next.current old mid new facts.owned (subst (λ current. KeepsFile found.current mid current new) (sym (ap (λ (those : PartsState). those.current) is)) (move.owned_same found.current mid new (slot_steps.written_size slot _ mid new both)));
+  ready = (facts.behind, slot_steps.written_writable mid new slot slot _ facts.writable both);
 } where
   both : new ≡ with_written slot (told_of told (parts.waiting ++ bytes)) mid
   both = written_both told slot parts.waiting bytes mid wet new one other
@@ -145,7 +147,7 @@ held_short told parts bytes old mid new found next slot f facts short held is = 
       (move.write_halts told parts.names shares begun parts.waiting mid new slot f has.shut (facts.named shares begun has) (facts.last at_end) short)
       (last_grows shares [] (share state.Open (begun ++ parts.waiting)) (share state.Open (begun ++ (parts.waiting ++ bytes))) (inl refl) (bytes, sym (all_behind begun parts.waiting bytes))));
   breaks = move.breaks_later old mid new f facts.keeps (move.write_breaks told slot parts.waiting mid new f facts.behind facts.writable short);
-  owned = move.owned_again parts.current found.current next.current old mid new facts.owned (subst (λ current. KeepsFile found.current mid current new) (sym (ap (λ (those : PartsState). those.current) is)) (move.owned_same found.current mid new (move.short_size told slot parts.waiting mid new f short)));
+  owned = move.owned_again parts.current found.current next.current old mid new facts.owned (subst (λ current. KeepsFile found.current mid current new) (sym (ap (λ (those : PartsState). those.current) is)) (move.owned_same found.current mid new (slot_steps.short_size told slot parts.waiting mid new f short)));
   short = λ is_short. absurd (move.no_suffixes told slot parts.waiting mid new f short is_short);
 }
 
@@ -161,10 +163,10 @@ bytes_short told parts bytes old mid wet new found next slot f facts one short h
       (last_grows shares [] (share state.Open begun) (share state.Open (begun ++ parts.waiting)) (inl refl) (parts.waiting, refl))
       (move.write_moves told parts.names shares begun parts.waiting mid wet slot (facts.named shares begun has) (facts.last at_end) one)
       (subst (λ those. Halts told parts.names (shares ++ share state.Open (begun ++ parts.waiting) ∷ []) (shares ++ share state.Open those ∷ []) wet new f) (all_behind begun parts.waiting bytes)
-      (move.write_halts told parts.names shares (begun ++ parts.waiting) bytes wet new slot f has.shut (facts.named shares begun has) (move.written_last mid wet slot _ (facts.last at_end) one) short)));
-  breaks = move.breaks_later old wet new f (move.keeps_again old mid wet facts.keeps (move.keeps_write slot _ mid wet one))
-      (move.write_breaks told slot bytes wet new f facts.behind (move.written_writable mid wet slot _ facts.writable one) short);
-  owned = move.owned_again parts.current found.current next.current old mid new facts.owned (subst (λ current. KeepsFile found.current mid current new) (sym (ap (λ (those : PartsState). those.current) is)) (move.owned_same found.current mid new (move.short_size told slot bytes wet new f short ∙ move.written_size slot _ mid wet one)));
+      (move.write_halts told parts.names shares (begun ++ parts.waiting) bytes wet new slot f has.shut (facts.named shares begun has) (slot_steps.written_last mid wet slot _ (facts.last at_end) one) short)));
+  breaks = move.breaks_later old wet new f (slot_steps.keeps_again old mid wet facts.keeps (slot_steps.keeps_write slot _ mid wet one))
+      (move.write_breaks told slot bytes wet new f facts.behind (slot_steps.written_writable mid wet slot slot _ facts.writable one) short);
+  owned = move.owned_again parts.current found.current next.current old mid new facts.owned (subst (λ current. KeepsFile found.current mid current new) (sym (ap (λ (those : PartsState). those.current) is)) (move.owned_same found.current mid new (slot_steps.short_size told slot bytes wet new f short ∙ slot_steps.written_size slot _ mid wet one)));
   short = λ is_short. absurd (move.no_suffixes told slot bytes wet new f short is_short);
 }
 

@@ -9,13 +9,15 @@ use Rattle.ports_core.specs.declared.fault.Fault.{Fault}
 use Rattle.ports_core.specs.declared.fault.Fault.TheVariants as fault
 use Rattle.ports_core.proofs.PartLemmas.{begins_itself}
 use Rattle.ports_core.proofs.SlotLemmas.{length-changed_at}
+use Rattle.ports_core.specs.Write.{WritesShort}
 use Rattle.split_core.specs.declared.cut.Limit.{Limit}
 use Rattle.split_core.specs.Parts.{cut_up, parts, unless_empty, settled_rest, waiting_rest}
 use Rattle.split_core.specs.CutLaws.{settled_then_waiting, settled_some}
 use Rattle.split_core.specs.Split.{Share, share, is_some, is_named, are_named, settled_parts}
 use Rattle.split_core.specs.ShareLaws.{shut_map, SharesBegin, last_grows, settled_grow, whole_parts}
 use Rattle.split_core.specs.PartsState.{PartsState, Stands, IsReady, IsAtEnd, is_given}
-use Rattle.split_core.specs.Moves.{Moves, Halts, KeepsFile, Breaks, WritesShort, begun_share, Took, Stopped, RunsShort, Finishes}
+use Rattle.split_core.specs.Moves.{Moves, Halts, KeepsFile, Breaks, begun_share, Took, Stopped, Finishes}
+use Rattle.ports_core.proofs.SlotSteps as slot_steps
 use Rattle.split_core.proofs.MoveLemmas as move
 use Rattle.split_core.proofs.PartsLemmas.{count_one, some_share}
 use Rattle.split_core.proofs.TakenLemmas.{are_named_drawn}
@@ -26,7 +28,7 @@ took_none told parts slots ready = record {
   names_same = refl;
   stands = λ x stands. subst (Stands parts) (sym (append-nil x)) stands;
   moves = λ x stands at_end. subst (λ all. Moves told parts.names (settled_parts parts.limit x) (settled_parts parts.limit all) slots slots) (sym (append-nil x)) (move.moves_same told parts.names _ slots slots refl);
-  keeps = move.keeps_same slots slots refl;
+  keeps = slot_steps.keeps_same slots slots refl;
   owned = move.owned_same parts.current slots slots refl;
   ready = ready;
 }
@@ -57,7 +59,7 @@ took_again told state mid next first more old wet new one other = record {
   stands = λ x stands. subst (Stands next) (append_assoc x first more) (other.stands (x ++ first) (one.stands x stands));
   moves = λ x stands at_end. move.moves_again told state.names _ (settled_parts state.limit (x ++ first)) _ old wet new (one.moves x stands at_end)
       (moves_from told state mid x first more wet new one.limit_same one.names_same (other.moves (x ++ first) (one.stands x stands) (move.stays_last state.current mid.current old wet one.owned at_end)));
-  keeps = move.keeps_again old wet new one.keeps other.keeps;
+  keeps = slot_steps.keeps_again old wet new one.keeps other.keeps;
   owned = move.owned_again state.current mid.current next.current old wet new one.owned other.owned;
   ready = other.ready;
 }
@@ -178,7 +180,7 @@ module _ (told : Bool) (state : PartsState) (old : List Slot) (ready : IsReady s
       (last_grows (full_shares x) [] (share file_state.Open (begun_bytes x)) (share file_state.Open (rest_bytes x)) (inl refl) (state.waiting, sym (rest_is x stands)))
 
   pub close_can : (slot : ℕ) (bytes : List ℕ) (wet : List Slot) → state.current ≡ Some slot → wet ≡ with_written slot bytes old → (2 ≤ slot) × IsTrue (is_writable wet slot)
-  close_can slot bytes wet is wrote = ((open_slot slot is).0, move.written_writable old wet slot bytes (open_slot slot is).1 wrote)
+  close_can slot bytes wet is wrote = ((open_slot slot is).0, slot_steps.written_writable old wet slot slot bytes (open_slot slot is).1 wrote)
 
   pub held_breaks : (slot : ℕ) (new : List Slot) (f : Fault) → state.current ≡ Some slot → WritesShort told slot state.waiting old new f → Finishes told state old new (Err f)
   held_breaks slot new f is short = (
@@ -191,26 +193,26 @@ module _ (told : Bool) (state : PartsState) (old : List Slot) (ready : IsReady s
         (last_grows (full_shares x) [] (share file_state.Open (rest_bytes x)) (share file_state.Closed (rest_bytes x)) (inl refl) (begins_itself (rest_bytes x)))),
   ) where
     slot_of : (slot : ℕ) (new : List Slot) (f : Fault) → WritesShort told slot state.waiting old new f → Breaks old new f → (at : ℕ) × (f ≡ fault.Write at) × (2 ≤ at) × Rose at old new
-    slot_of slot new _ (Rattle.split_core.specs.Moves.broke n cut) breaks = (slot, refl, breaks.0, breaks.1)
+    slot_of slot new _ (Rattle.ports_core.specs.Write.broke n cut) breaks = (slot, refl, breaks.0, breaks.1)
 
   pub close_ends : (slot : ℕ) (wet new : List Slot) (result : Result (Unit {0}) Fault) → state.current ≡ Some slot → wet ≡ with_written slot (told_of told state.waiting) old → OnOk result (new ≡ changed_at slot closes wet)
       → IfErr result (λ f. (f ≡ fault.Write slot) × (new ≡ with_broken slot (changed_at slot closes wet))) → Finishes told state old new result
   close_ends slot wet new (Ok done) is wrote ok err = λ x stands at_end.
       move.moves_again told state.names _ (full_shares x ++ share file_state.Open (rest_bytes x) ∷ []) _ old wet new (moved x slot wet stands at_end is wrote)
       (subst (λ high. Moves told state.names (full_shares x ++ share file_state.Open (rest_bytes x) ∷ []) high wet new) (sym (high_is x slot stands is))
-      (move.close_moves told state.names (full_shares x) (rest_bytes x) wet new slot (named_here x slot stands is) (move.written_last old wet slot _ (last_slot slot is at_end) wrote) ok))
+      (move.close_moves told state.names (full_shares x) (rest_bytes x) wet new slot (named_here x slot stands is) (slot_steps.written_last old wet slot _ (last_slot slot is at_end) wrote) ok))
   close_ends slot wet new (Err f) is wrote ok err = (
     (
       slot,
       err.0,
       (open_slot slot is).0,
-      move.rose_later slot old wet new (move.keeps_write slot _ old wet wrote)
-          (move.close_breaks slot wet new (move.written_writable old wet slot _ (open_slot slot is).1 wrote) (move.writable_within slot wet (move.written_writable old wet slot _ (open_slot slot is).1 wrote)) err.1),
+      slot_steps.rose_later slot old wet new (slot_steps.keeps_write slot _ old wet wrote)
+          (slot_steps.close_rose slot wet new (slot_steps.written_writable old wet slot slot _ (open_slot slot is).1 wrote) (slot_steps.writable_within slot wet (slot_steps.written_writable old wet slot slot _ (open_slot slot is).1 wrote)) err.1),
     ),
     λ x stands at_end. subst (λ those. Halts told state.names (settled_parts state.limit x) (whole_parts state.limit x) old new those) (sym err.0)
         (move.halts_after told state.names _ (full_shares x ++ share file_state.Open (rest_bytes x) ∷ []) _ old wet new (fault.Write slot) (low_begins x slot stands is) (moved x slot wet stands at_end is wrote)
         (subst (λ high. Halts told state.names (full_shares x ++ share file_state.Open (rest_bytes x) ∷ []) high wet new (fault.Write slot)) (sym (high_is x slot stands is))
-        (move.close_halts told state.names (full_shares x) [] (rest_bytes x) wet new slot (shut_map (cut_up state.limit x).full) (named_here x slot stands is) (move.written_last old wet slot _ (last_slot slot is at_end) wrote) err.1))),
+        (move.close_halts told state.names (full_shares x) [] (rest_bytes x) wet new slot (shut_map (cut_up state.limit x).full) (named_here x slot stands is) (slot_steps.written_last old wet slot _ (last_slot slot is at_end) wrote) err.1))),
   )
 
 -- the file of the part that was begun ended
@@ -219,4 +221,4 @@ pub end_owned : (state : PartsState) (slot : ℕ) (old wet new : List Slot) (res
 end_owned state slot old wet new result is size ok err = subst (λ current. KeepsFile current old None new) (sym is) (move.owned_ended slot old new (closed_size result ok err ∙ size)) where
   closed_size : (result : Result (Unit {0}) Fault) → OnOk result (new ≡ changed_at slot closes wet) → IfErr result (λ f. (f ≡ fault.Write slot) × (new ≡ with_broken slot (changed_at slot closes wet))) → length new ≡ length wet
   closed_size (Ok done) ok err = ap length ok ∙ length-changed_at slot closes wet
-  closed_size (Err f) ok err = move.broken_size slot wet new err.1
+  closed_size (Err f) ok err = slot_steps.broken_size slot wet new err.1

@@ -19,6 +19,7 @@ use Rattle.split_core.specs.ShareLaws.{AllShut, shut_map, SharesBegin, shares_tr
 use Rattle.split_core.specs.Step.{IsSettled, IsTurned, IsHeld, Leads}
 use Rattle.split_core.specs.PartsState.{PartsState, Lacks, Stands, IsReady, IsAtEnd, is_given}
 use Rattle.split_core.specs.Moves.{Moves, Halts, KeepsFile, Begun, begun_share, IsLast, Extended, Interrupted, Turned, TurnsNot, Took, Stopped, Steps}
+use Rattle.ports_core.proofs.SlotSteps as slot_steps
 use Rattle.split_core.proofs.MoveLemmas as move
 use Rattle.split_core.proofs.PartsLemmas.{count_one, some_share}
 
@@ -249,7 +250,7 @@ ends_part told parts mid next piece behind end bytes slot old wet new leads is e
       (ap (λ those. full_of parts x ++ share file_state.Closed (rest_of parts x ++ take end piece) ∷ begun_share those) all_behind
       ∙ sym (shares_turn parts x (take bytes piece) (rest_of parts x ++ take end piece) (drop end (take bytes piece)) led))
       (move.moves_by told parts.names mid.names _ _ wet new extends.names_same (turns.moves (full_of parts x) (rest_of parts x ++ take end piece) last given (move.stays_last parts.current mid.current old wet extends.owned at_end))));
-  keeps = move.keeps_again old wet new extends.keeps turns.keeps;
+  keeps = slot_steps.keeps_again old wet new extends.keeps turns.keeps;
   owned = move.owned_again parts.current mid.current next.current old wet new extends.owned turns.owned;
   ready = turns.ready;
 } where
@@ -280,7 +281,7 @@ waits_on told parts next piece old new n leads ready count is same =
       moves = λ x stands at_end.
           let held : IsHeld parts.limit (rest_of parts x) piece parts.left parts.has_line = leads (rest_of parts x) stands.lacks in
           subst (λ high. Moves told parts.names (settled_parts parts.limit x) high old new) (sym (shares_wait parts x piece parts.left parts.has_line held)) (move.moves_same told parts.names _ old new same);
-      keeps = move.keeps_same old new same;
+      keeps = slot_steps.keeps_same old new same;
       owned = move.owned_same parts.current old new (ap length same);
       ready = subst (IsReady parts.current) (sym same) ready;
     })) where

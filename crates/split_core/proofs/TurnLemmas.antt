@@ -3,7 +3,7 @@ use Rattle.std.proofs.Common.{◌≡◌, ℕ, ◌+◌, ◌-◌, ◌<◌, ◌≤�
 use Rattle.std.proofs.lemmas.List.{append-nil}
 use Rattle.std.proofs.lemmas.Bool.{false≢true, eqb-true, eq-eqb}
 use Rattle.ports_core.specs.Name.{Naming}
-use Rattle.ports_core.specs.Slot.{Slot, closes, is_closable}
+use Rattle.ports_core.specs.Slot.{Slot, closes, is_closable, KeepsBroken}
 use Rattle.ports_core.specs.declared.slot.State.TheVariants as state
 use Rattle.ports_core.specs.declared.fault.Fault.{Fault}
 use Rattle.ports_core.specs.declared.fault.Fault.TheVariants as fault
@@ -15,7 +15,8 @@ use Rattle.split_core.specs.ShareLaws.{shut_more, last_grows}
 use Rattle.seg_core.specs.Window.{ByteWindowState}
 use Rattle.split_core.specs.declared.cut.Limit.{Limit}
 use Rattle.split_core.specs.PartsState.{PartsState, Fits, IsReady, IsAtEnd, is_given}
-use Rattle.split_core.specs.Moves.{Moves, Halts, KeepsBroken, KeepsFile, Begun, begun_share, IsLast, Extended, Interrupted, EndsFile, none_there, closed, failed, Turned, TurnsNot}
+use Rattle.split_core.specs.Moves.{Moves, Halts, KeepsFile, Begun, begun_share, IsLast, Extended, Interrupted, EndsFile, none_there, closed, failed, Turned, TurnsNot}
+use Rattle.ports_core.proofs.SlotSteps as slot_steps
 use Rattle.split_core.proofs.MoveLemmas as move
 use Rattle.split_core.proofs.PartsLemmas.{count_one, some_share}
 
@@ -36,7 +37,7 @@ pub closed_facts : (told : Bool) (parts : PartsState) (old mid : List Slot) (nex
 closed_facts told parts old mid next ready (none_there none next_is same) = record {
   same = next_is ∙ ap (λ current. record parts { current = current }) none;
   streams = subst (λ slots. 2 ≤ length slots) (sym same) (subst (λ current. IsReady current old) none ready);
-  keeps = move.keeps_same old mid same;
+  keeps = slot_steps.keeps_same old mid same;
   owned = subst (λ current. KeepsFile parts.current old current mid) (sym (ap (λ (those : PartsState). those.current) next_is)) (move.owned_same parts.current old mid (ap length same));
   moves = λ shares begun last given at_end. absurd (false≢true (sym (ap is_given none) ∙ given));
 }
@@ -44,8 +45,8 @@ closed_facts told parts old mid next ready (closed slot is next_is changed) =
     let open_file : is_closable old slot = subst (λ current. IsReady current old) is ready in
     record {
       same = next_is;
-      streams = let size : length mid ≡ length old = ap length changed ∙ length-changed_at slot closes old in let within : slot < length old = move.writable_within slot old open_file.1 in let behind : 2 ≤ slot = open_file.0 in omega arith;
-      keeps = move.keeps_close slot old mid changed;
+      streams = let size : length mid ≡ length old = ap length changed ∙ length-changed_at slot closes old in let within : slot < length old = slot_steps.writable_within slot old open_file.1 in let behind : 2 ≤ slot = open_file.0 in omega arith;
+      keeps = slot_steps.keeps_close slot old mid changed;
       owned = file_ended parts next slot old mid is (ap (λ (those : PartsState). those.current) next_is) (ap length changed ∙ length-changed_at slot closes old);
       moves = λ shares begun last given at_end. move.close_moves told parts.names shares begun old mid slot last.named (subst (λ current. IsAtEnd current old) is at_end) changed;
     }
@@ -71,8 +72,8 @@ turns_not_closed told parts bytes old new next _ ready (failed slot is next_is c
       limit_same = ap (λ (those : PartsState). those.limit) next_is;
       names_same = ap (λ (those : PartsState). those.names) next_is ∙ ap (λ n. record parts.names { drawn = n }) (sym (ap (λ (those : PartsState). those.names.drawn) next_is));
       halts = λ shares begun last given at_end. move.close_halts told parts.names shares (begun_share (parts.waiting ++ bytes)) begun old new slot last.shut last.named (subst (λ current. IsAtEnd current old) is at_end) changed;
-      breaks = (open_file.0, move.close_breaks slot old new open_file.1 (move.writable_within slot old open_file.1) changed);
-      owned = file_ended parts next slot old new is (ap (λ (those : PartsState). those.current) next_is) (move.broken_size slot old new changed);
+      breaks = (open_file.0, slot_steps.close_rose slot old new open_file.1 (slot_steps.writable_within slot old open_file.1) changed);
+      owned = file_ended parts next slot old new is (ap (λ (those : PartsState). those.current) next_is) (slot_steps.broken_size slot old new changed);
       short = λ is_short. absurd (no_write slot is_short);
     }
 
@@ -174,7 +175,7 @@ module _ (told : Bool) (parts : PartsState) (bytes : List ℕ) (old wet : List S
             = sym (count_one (shares ++ share state.Closed begun ∷ []) (share state.Open ([] ++ (mid.waiting ++ bytes)))) ∙ ap length (high_is shares begun) in
             (there.drawn ∙ count, ap (are_named parts.names) (sym count) ∙ sym (ap (λ (those : Naming). is_named those (length (shares ++ share state.Closed begun ∷ []))) (drawn_so mid.names next.names names extends.names_same)) ∙ there.named);
         given = ap (λ (those : PartsState). is_given those.current) made ∙ sym (some_bytes parts.waiting bytes some);
-        keeps = move.keeps_again old wet new facts.keeps extends.keeps;
+        keeps = slot_steps.keeps_again old wet new facts.keeps extends.keeps;
         owned = move.owned_again parts.current mid.current next.current old wet new shut_owned extends.owned;
         ready = subst (λ current. IsReady current new) (sym (ap (λ (those : PartsState). those.current) made)) extends.ready;
       }

@@ -1,10 +1,9 @@
 -- How the files of `split` change in a step.
 use Rattle.std.specs.Prelude.{◌≡◌, ℕ, ◌-◌, ◌≤◌, ◌<◌, suc, Bool, true, false, List, [], ◌∷◌, ◌++◌, ◌⊎◌, length, take, map, IsTrue, Option, Some, None, Result, Ok, Err}
 use Rattle.ports_core.specs.Name.{Naming, next_name, has_next, with_one_drawn}
-use Rattle.ports_core.specs.Slot.{Slot, Rose, slot_at, opened, unopened, closes, changed_at, with_broken}
+use Rattle.ports_core.specs.Slot.{Slot, Rose, KeepsBroken, opened, unopened, closes, changed_at, with_broken}
 use Rattle.ports_core.specs.declared.slot.Mode.TheVariants.{Fresh}
 use Rattle.ports_core.specs.declared.slot.State.TheVariants as state
-use Rattle.ports_core.specs.Write.{BrokeAfter}
 use Rattle.ports_core.specs.Part.{Part, OutputsAt, StoppedInTurn}
 use Rattle.ports_core.specs.declared.fault.Fault.{Fault}
 use Rattle.ports_core.specs.declared.fault.Fault.TheVariants.{Memory, Write, Read, Open, Suffixes, NoMatch, Range, Usage, Failed, TooLong}
@@ -24,10 +23,6 @@ Moves told names low high old new = (before : List Slot) → OutputsAt told befo
 -- a fault stopped them between the two
 abbrev pub Halts : Bool → Naming → List Share → List Share → List Slot → List Slot → Fault → Type 0
 Halts told names low high old new fault = (before : List Slot) → OutputsAt told before (part_of names low) old → StoppedInTurn told before (part_of names low) (part_of names high) fault new
-
--- no output that was broken is sound again
-abbrev pub KeepsBroken : List Slot → List Slot → Type 0
-KeepsBroken old new = (place : ℕ) → (slot_at new place).is_broken ≡ false → (slot_at old place).is_broken ≡ false
 
 -- the file of the part that was begun stays the last of the outputs from a place on
 abbrev pub KeepsFile : Option ℕ → List Slot → Option ℕ → List Slot → Type 0
@@ -58,10 +53,6 @@ OpensNone names old new (Range operand repetition) = ⊥
 OpensNone names old new (Usage kind word) = ⊥
 OpensNone names old new Failed = ⊥
 OpensNone names old new TooLong = ⊥
-
--- the output broke among these bytes
-pub data WritesShort (told : Bool) (slot : ℕ) (bytes : List ℕ) (old new : List Slot) : Fault → Type 0 where
-  broke : (n : ℕ) → BrokeAfter told old new slot bytes n → WritesShort told slot bytes old new (Write slot)
 
 -- these bytes were taken in, and what is settled with them is written
 pub record Took (told : Bool) (parts : PartsState) (bytes : List ℕ) (old new : List Slot) (next : PartsState) : Type 0 where

@@ -1,9 +1,9 @@
 use Rattle.std.proofs.Common.{◌≡◌, ap}
 use Rattle.ports_core.proofs.HandedOn.{fault_is, of_write}
+use Rattle.ports_core.proofs.SlotSteps.{written_size}
 use Rattle.split_core.specs.FilesState.{FilesState}
 use Rattle.split_core.specs.Round.{output_at}
 use Rattle.split_core.proofs.FileSteps.{sent, sent_within, sent_short, sent_caused, sent_owned, sent_unreached, of_files, output_is, owned_same}
-use Rattle.split_core.proofs.MoveLemmas.{written_size}
 use Rattle.split_core.proofs.round_files.RoundFiles.send.Goals as goal
 
 pub returns-in_err-reach-clause-cut : goal.returns-in_err-reach-clause-cut

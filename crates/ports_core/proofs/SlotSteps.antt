@@ -1,16 +1,17 @@
 -- Slots as they are opened, written and closed, and as they break.
-use Rattle.std.proofs.Common.{◌≡◌, ℕ, ◌+◌, ◌<◌, ◌≤◌, zero, suc, not, ◌&&◌, List, [], ◌∷◌, ◌++◌, length, take, Bool, true, false, IsTrue, refl, sym, ◌∙◌, ap, subst, arith, length-append}
+use Rattle.std.proofs.Common.{◌≡◌, ℕ, ◌+◌, ◌<◌, ◌≤◌, zero, suc, not, ◌&&◌, List, [], ◌∷◌, ◌++◌, length, take, Bool, true, false, IsTrue, refl, sym, ◌∙◌, ap, arith, length-append}
 use Rattle.std.proofs.lemmas.Bool.{false≢true}
 use Rattle.std.proofs.lemmas.List.{get_or_past, get_or_append_left}
-use Rattle.ports_core.specs.Slot.{Slot, Rose, is_open, has_file, no_slot, slot_at, changed_at, opened, unopened, adds, closes, breaks, with_written, with_broken, told_of, is_writable}
-use Rattle.ports_core.specs.Write.{BrokeAfter}
+use Rattle.ports_core.specs.Slot.{Slot, Rose, KeepsBroken, is_open, has_file, can_write, no_slot, slot_at, changed_at, opened, unopened, adds, closes, breaks, with_written, with_broken, told_of, is_writable}
+use Rattle.ports_core.specs.Swept.{Swept, none}
+use Rattle.ports_core.specs.Write.{BrokeAfter, WritesShort, broke}
+use Rattle.ports_core.specs.declared.fault.Fault.{Fault}
 use Rattle.ports_core.specs.declared.slot.Mode.{Mode}
 use Rattle.ports_core.specs.declared.slot.State.{State}
 use Rattle.ports_core.specs.declared.slot.State.TheVariants.{Open, Closed, Removed, Unopened}
 use Rattle.ports_core.proofs.PartLemmas.{sound_at, broken_at}
-use Rattle.ports_core.proofs.SlotLemmas.{length-changed_at, slot_at-changed, slot_at-elsewhere}
+use Rattle.ports_core.proofs.SlotLemmas.{length-changed_at, slot_at-elsewhere}
 use Rattle.ports_core.proofs.WriteLemmas.{writable-written}
-use Rattle.csplit_core.specs.Writer.{KeepsBroken}
 
 -- Outputs that were broken stay broken.
 
@@ -21,8 +22,11 @@ flag_stays change same zero (suc other) (slot ∷ slots) = refl
 flag_stays change same (suc place) zero (slot ∷ slots) = refl
 flag_stays change same (suc place) (suc other) (slot ∷ slots) = flag_stays change same place other slots
 
-pub keeps_same : (slots : List Slot) → KeepsBroken slots slots
-keeps_same slots place sound = sound
+pub keeps_same : (old new : List Slot) → new ≡ old → KeepsBroken old new
+keeps_same old new is place sound = ap (λ those. (slot_at those place).is_broken) (sym is) ∙ sound
+
+pub keeps_again : (old mid new : List Slot) → KeepsBroken old mid → KeepsBroken mid new → KeepsBroken old new
+keeps_again old mid new first second place sound = first place (second place sound)
 
 keeps_change : (change : Slot → Slot) → ((slot : Slot) → (change slot).is_broken ≡ slot.is_broken) → (slot : ℕ) (old new : List Slot) → new ≡ changed_at slot change old → KeepsBroken old new
 keeps_change change same slot old new is place sound = sym (flag_stays change same slot place old) ∙ ap (λ those. (slot_at those place).is_broken) (sym is) ∙ sound
@@ -47,6 +51,9 @@ broken_there : (place : ℕ) (slots : List Slot) → place < length slots → (s
 broken_there place [] within = absurd (omega (arith, within))
 broken_there zero (slot ∷ slots) within = refl
 broken_there (suc place) (slot ∷ slots) within = broken_there place slots (omega arith)
+
+pub rose_later : (slot : ℕ) (old mid new : List Slot) → KeepsBroken old mid → Rose slot mid new → Rose slot old new
+rose_later slot old mid new keeps rose = (keeps slot rose.0, rose.1)
 
 pub write_rose : (told : Bool) (slot : ℕ) (bytes : List ℕ) (n : ℕ) (old new : List Slot) → IsTrue (is_writable old slot) → BrokeAfter told old new slot bytes n → Rose slot old new
 write_rose told slot bytes n old new can cut = (
@@ -74,27 +81,71 @@ open_rose slot kept old new number is = (
   ap (λ those. (slot_at those slot).is_broken) is ∙ ap (λ n. (slot_at (old ++ unopened kept ∷ []) n).is_broken) number ∙ ap (λ (one : Slot). one.is_broken) (at_end old (unopened kept)),
 )
 
--- Which outputs can be written
+-- How many there are
 
-pub writable_opened : (slot : ℕ) (name : List ℕ) (mode : Mode) (old new : List Slot) → slot ≡ length old → new ≡ old ++ opened name mode ∷ [] → IsTrue (is_writable new slot)
-writable_opened slot name mode old new number is =
-    ap (λ those. is_writable those slot) is ∙ ap (λ n. is_writable (old ++ opened name mode ∷ []) n) number
-    ∙ ap (λ (one : Slot). is_open one.state && not one.is_broken) (at_end old (opened name mode))
+pub written_size : (slot : ℕ) (bytes : List ℕ) (old new : List Slot) → new ≡ with_written slot bytes old → length new ≡ length old
+written_size slot bytes old new is = ap length is ∙ length-changed_at slot (adds bytes) old
 
-pub writable_before : (place : ℕ) (one : Slot) (old new : List Slot) → place < length old → new ≡ old ++ one ∷ [] → IsTrue (is_writable old place) → IsTrue (is_writable new place)
-writable_before place one old new within is can =
-    ap (λ those. is_writable those place) is ∙ ap (λ (slot : Slot). is_open slot.state && not slot.is_broken) (get_or_append_left old (one ∷ []) no_slot place within) ∙ can
+pub short_size : (told : Bool) (slot : ℕ) (bytes : List ℕ) (old new : List Slot) (f : Fault) → WritesShort told slot bytes old new f → length new ≡ length old
+short_size told slot bytes old new _ (broke n cut) = ap length cut.slots ∙ length-changed_at slot breaks _ ∙ length-changed_at slot (adds (told_of told (take n bytes))) old
 
-pub writable_still : (slot place : ℕ) (bytes : List ℕ) (old new : List Slot) → new ≡ with_written place bytes old → IsTrue (is_writable old slot) → IsTrue (is_writable new slot)
-writable_still slot place bytes old new is can = ap (λ those. is_writable those slot) is ∙ writable-written old place slot bytes ∙ can
+pub broken_size : (slot : ℕ) (old new : List Slot) → new ≡ with_broken slot (changed_at slot closes old) → length new ≡ length old
+broken_size slot old new is = ap length is ∙ length-changed_at slot breaks _ ∙ length-changed_at slot closes old
 
-pub writable_elsewhere : (slot place : ℕ) (change : Slot → Slot) (old new : List Slot) → (slot ≡ place → ⊥) → new ≡ changed_at place change old → IsTrue (is_writable old slot) → IsTrue (is_writable new slot)
-writable_elsewhere slot place change old new differs is can =
-    ap (λ those. is_writable those slot) is ∙ ap (λ (one : Slot). is_open one.state && not one.is_broken) (slot_at-elsewhere place slot change old differs) ∙ can
+pub opened_last : (old new : List Slot) (slot : ℕ) (name : List ℕ) (mode : Mode) → slot ≡ length old → new ≡ old ++ opened name mode ∷ [] → suc slot ≡ length new
+opened_last old new slot name mode at is =
+    let size : length new ≡ length old + 1 = ap length is ∙ length-append old (opened name mode ∷ []) in omega (arith, at)
 
--- Which outputs have a file
+pub written_last : (old new : List Slot) (slot : ℕ) (bytes : List ℕ) → suc slot ≡ length old → new ≡ with_written slot bytes old → suc slot ≡ length new
+written_last old new slot bytes last is = last ∙ sym (written_size slot bytes old new is)
 
--- as many outputs, each with a file where it had one
+-- Which can be written
+
+pub writable_within : (place : ℕ) (slots : List Slot) → IsTrue (is_writable slots place) → place < length slots
+writable_within place [] can = absurd (false≢true can)
+writable_within zero (slot ∷ slots) can = omega arith
+writable_within (suc place) (slot ∷ slots) can = let rest = writable_within place slots can in omega (arith, rest)
+
+pub opened_writable : (old new : List Slot) (slot : ℕ) (name : List ℕ) (mode : Mode) → slot ≡ length old → new ≡ old ++ opened name mode ∷ [] → IsTrue (is_writable new slot)
+opened_writable old new slot name mode at is =
+    ap (λ those. is_writable those slot) is ∙ ap (λ n. is_writable (old ++ opened name mode ∷ []) n) at
+    ∙ ap can_write (at_end old (opened name mode))
+
+pub writable_before : (old new : List Slot) (place : ℕ) (one : Slot) → place < length old → new ≡ old ++ one ∷ [] → IsTrue (is_writable old place) → IsTrue (is_writable new place)
+writable_before old new place one within is can = ap (λ those. is_writable those place) is ∙ ap can_write (get_or_append_left old (one ∷ []) no_slot place within) ∙ can
+
+pub written_writable : (old new : List Slot) (slot place : ℕ) (bytes : List ℕ) → IsTrue (is_writable old slot) → new ≡ with_written place bytes old → IsTrue (is_writable new slot)
+written_writable old new slot place bytes can is = ap (λ those. is_writable those slot) is ∙ writable-written old place slot bytes ∙ can
+
+pub writable_elsewhere : (old new : List Slot) (slot place : ℕ) (change : Slot → Slot) → (slot ≡ place → ⊥) → new ≡ changed_at place change old → IsTrue (is_writable old slot) → IsTrue (is_writable new slot)
+writable_elsewhere old new slot place change differs is can = ap (λ those. is_writable those slot) is ∙ ap can_write (slot_at-elsewhere place slot change old differs) ∙ can
+
+-- Which have a file
+
+pub open_has_file : (state : State) (broken : Bool) → (is_open state && not broken) ≡ true → has_file state ≡ true
+open_has_file Open broken can = refl
+open_has_file Closed broken can = absurd (false≢true can)
+open_has_file Removed broken can = absurd (false≢true can)
+open_has_file Unopened broken can = absurd (false≢true can)
+
+pub none_past : (slots : List Slot) (place : ℕ) → length slots ≤ place → has_file (slot_at slots place).state ≡ false
+none_past slots place past = ap (λ (one : Slot). has_file one.state) (get_or_past slots place no_slot past)
+
+pub none_opened : (slots : List Slot) (name : List ℕ) (place : ℕ) → length slots ≤ place → has_file (slot_at (slots ++ unopened name ∷ []) place).state ≡ false
+none_opened [] name zero past = refl
+none_opened [] name (suc place) past = refl
+none_opened (slot ∷ slots) name zero past = absurd (omega arith)
+none_opened (slot ∷ slots) name (suc place) past = none_opened slots name place (omega arith)
+
+pub file_before : (slots : List Slot) (one : Slot) (place : ℕ) → place < length slots → has_file (slot_at (slots ++ one ∷ []) place).state ≡ has_file (slot_at slots place).state
+file_before slots one place within = ap (λ (slot : Slot). has_file slot.state) (get_or_append_left slots (one ∷ []) no_slot place within)
+
+-- where there is no file, none is removed
+pub swept_none : (clears : Bool) (first : ℕ) (slots : List Slot) → ((place : ℕ) → first ≤ place → has_file (slot_at slots place).state ≡ false) → Swept clears first slots slots
+swept_none true first slots no_file = record { size = refl; before = λ place within. refl; cleared = λ place past. none (no_file place past) }
+swept_none false first slots no_file = refl
+
+-- as many outputs, each with a file just where it had one
 pub record KeepsMade (old new : List Slot) : Type 0 where
   pub size : length new ≡ length old
   pub same : (place : ℕ) → has_file (slot_at new place).state ≡ has_file (slot_at old place).state
@@ -124,26 +175,8 @@ made_write slot bytes old new is = made_change (adds bytes) slot old new refl is
 pub made_break : (slot : ℕ) (old new : List Slot) → new ≡ with_broken slot old → KeepsMade old new
 made_break slot old new is = made_change breaks slot old new refl is
 
-pub made_cut : (told : Bool) (slot : ℕ) (bytes : List ℕ) (n : ℕ) (old new : List Slot) → BrokeAfter told old new slot bytes n → KeepsMade old new
-made_cut told slot bytes n old new cut = made_again old (with_written slot (told_of told (take n bytes)) old) new (made_write slot _ old _ refl) (made_break slot _ new cut.slots)
-
-open_has_file : (state : State) (broken : Bool) → (is_open state && not broken) ≡ true → has_file state ≡ true
-open_has_file Open broken can = refl
-open_has_file Closed broken can = absurd (false≢true can)
-open_has_file Removed broken can = absurd (false≢true can)
-open_has_file Unopened broken can = absurd (false≢true can)
+pub made_short : (told : Bool) (slot : ℕ) (bytes : List ℕ) (old new : List Slot) (f : Fault) → WritesShort told slot bytes old new f → KeepsMade old new
+made_short told slot bytes old new _ (broke n cut) = made_again old (with_written slot (told_of told (take n bytes)) old) new (made_write slot _ old _ refl) (made_break slot _ new cut.slots)
 
 pub made_close : (slot : ℕ) (old new : List Slot) → IsTrue (is_writable old slot) → new ≡ changed_at slot closes old → KeepsMade old new
 made_close slot old new can is = made_change closes slot old new (sym (open_has_file (slot_at old slot).state (slot_at old slot).is_broken can)) is
-
-pub none_past : (slots : List Slot) (place : ℕ) → length slots ≤ place → has_file (slot_at slots place).state ≡ false
-none_past slots place past = ap (λ (one : Slot). has_file one.state) (get_or_past slots place no_slot past)
-
-pub none_opened : (slots : List Slot) (name : List ℕ) (place : ℕ) → length slots ≤ place → has_file (slot_at (slots ++ unopened name ∷ []) place).state ≡ false
-none_opened [] name zero past = refl
-none_opened [] name (suc place) past = refl
-none_opened (slot ∷ slots) name zero past = absurd (omega arith)
-none_opened (slot ∷ slots) name (suc place) past = none_opened slots name place (omega arith)
-
-pub file_before : (slots : List Slot) (one : Slot) (place : ℕ) → place < length slots → has_file (slot_at (slots ++ one ∷ []) place).state ≡ has_file (slot_at slots place).state
-file_before slots one place within = ap (λ (slot : Slot). has_file slot.state) (get_or_append_left slots (one ∷ []) no_slot place within)
