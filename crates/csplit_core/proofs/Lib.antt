@@ -30,3 +30,4 @@ pub mod EndLemmas
 pub mod HoldLemmas
 pub mod HeldLemmas
 pub mod TryLemmas
+pub mod PassOnLemmas

@@ -6,7 +6,7 @@ use Rattle.seg_core.specs.Line.{lines_of, line_count, after_lines, first_lines, 
 use Rattle.seg_core.specs.Window.{Window}
 use Rattle.ports_core.specs.Part.{Part, nothing}
 use Rattle.ports_core.specs.Swept.{AreMade}
-use Rattle.ports_core.specs.Slot.{Slot}
+use Rattle.ports_core.specs.Slot.{Slot, KeepsBroken}
 use Rattle.ports_core.specs.declared.fault.Fault.{Fault}
 use Rattle.csplit_core.specs.Csplit.{settled_of, whole_of}
 use Rattle.csplit_core.specs.Draft.{Draft, draft_part}
@@ -19,7 +19,7 @@ use Rattle.csplit_core.specs.Planned.{plan}
 use Rattle.csplit_core.specs.PlanLaws.{needed}
 use Rattle.csplit_core.specs.Progress.{state_of, AimsAt, EndsHere, GoesPast, WillMove}
 use Rattle.csplit_core.specs.Section.{section_of, lines_between, is_last_kept, settled_end, is_final, most_waiting, bytes_of}
-use Rattle.csplit_core.specs.Writer.{WriterState, Writes, OwnsFiles, IsReady, KeepsBroken, KeepsFiles, Breaks, Halts, size_of}
+use Rattle.csplit_core.specs.Writer.{WriterState, Writes, OwnsFiles, IsReady, KeepsFiles, Breaks, Halts, size_of}
 use Rattle.csplit_core.specs.Writer.{Moves as Gets}
 use Rattle.csplit_core.specs.declared.progress.Progress.{Progress}
 use Rattle.csplit_core.specs.declared.progress.Turn.{Turn}

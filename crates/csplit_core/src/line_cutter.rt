@@ -18,7 +18,7 @@ ghost use Rattle.csplit_core.specs.declared.progress.Turn.TheVariants as turn_is
 use crate::holding::{drain, hold_last, write_front};
 use crate::lines::split_lines;
 use crate::matcher::{Matcher, text_of};
-use crate::next_operand::{find_matcher, find_window, is_kept};
+use crate::next_operand::{find_matcher, find_window, is_kept, next_operand};
 use crate::progress::{Progress, Turn};
 use crate::section_writer::SectionWriter;
 use crate::{Operand, Style, Target, Times};
@@ -438,7 +438,7 @@ impl<'o> LineCutter<'o> {
         let (before, rest) = split_lines(waiting, cut.line.saturating_sub(place));
         self.writer.put(before, outs)?;
         self.pass(cut)?;
-        let is_kept = is_kept(self.operands.get(self.progress.done));
+        let is_kept = is_kept(next_operand(self.operands, self.progress.done));
         self.writer.next(is_kept, outs)?;
         if self.writer.style().suppress {
             return Ok(next_line(rest, NEWLINE).1);
@@ -475,9 +475,11 @@ impl<'o> LineCutter<'o> {
         ensures same { OnOk result (self.new ≡ record self.old { window = record { most = most_by (state_in self.old).operands; delim = newline; held = [] }; sought = pattern_by (state_in self.old).operands }) }
         ensures err { IfErr result (λ fault. (fault ≡ Fault.Memory) × (self.new.writer ≡ self.old.writer) × (self.new.operands ≡ self.old.operands)) }
     {
-        let next = self.operands.get(self.progress.done);
-        self.matcher = find_matcher(self.alloc, next)?;
-        self.window = find_window(self.alloc, next)?;
+        let next = next_operand(self.operands, self.progress.done);
+        let matcher = find_matcher(self.alloc, next)?;
+        let window = find_window(self.alloc, next)?;
+        self.matcher = matcher;
+        self.window = window;
         Ok(())
     }
 

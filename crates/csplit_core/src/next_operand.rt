@@ -1,6 +1,6 @@
 //! What the next operand needs.
-ghost use Rattle.std.specs.Prelude.{◌≡◌, [], IfOk, IfErr, option_map};
-ghost use Rattle.csplit_core.specs.Cutter.{kept_next, most_next, pattern_next};
+ghost use Rattle.std.specs.Prelude.{◌≡◌, [], drop, IfOk, IfErr, option_map};
+ghost use Rattle.csplit_core.specs.Cutter.{kept_next, most_next, next_of, pattern_next};
 ghost use Rattle.csplit_core.specs.Input.{newline};
 
 use crate::matcher::Matcher;
@@ -9,6 +9,16 @@ use ports_core::Fault;
 use seg_core::line::NEWLINE;
 use seg_core::line_window::LineWindow;
 use std::alloc::Global;
+
+/// The next operand, if one is left, where this many are done.
+pub(crate) fn next_operand(operands: &[Operand], done: usize) -> Option<&Operand>
+    ensures { option_map (λ operand. operand.now) result ≡ next_of (drop done operands.now) }
+{
+    match operands.get(done) {
+        Some(operand) => Some(operand),
+        None => None,
+    }
+}
 
 /// Whether the section that it ends is kept; the rest after all operands is.
 pub(crate) fn is_kept(next: Option<&Operand>) -> bool

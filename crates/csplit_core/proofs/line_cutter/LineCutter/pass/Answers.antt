@@ -1,32 +1,14 @@
-use Rattle.std.proofs.Common.{rules, ◌≡◌, ◌≢◌, ◌+◌, ◌-◌, ◌<◌, ◌≤◌, ◌^◌, ◌++◌, List, ℕ, [], length, drop, Some, IfOk, IfErr, IfSome, IfNone, OnOk, IsTrue, true, false, ◌*◌, ◌/◌, ◌%◌, Bool, nat_eq, nat_lt, ◌∷◌, slice_index_or, slice_set, bit_and, bit_or, w8, w32, w64, Bor, MutBor}
-use Rattle.seg_core.specs.Line.{line_count}
-use Rattle.ports_core.specs.Slot.{is_writable}
-use Rattle.csplit_core.specs.Csplit.{verdict_of}
-use Rattle.csplit_core.specs.Plan.{above, missed}
-use Rattle.csplit_core.specs.Planned.{plan}
-use Rattle.ports_core.specs.Swept.{SweptFrom}
-use Rattle.csplit_core.specs.Cutter.{AimHolds, CutAt, CutNot, CutsAll, EndsAll, IsJudged, Opens, Holds, IsFit, IsFound, IsLine, IsNoCut, IsSound, IsWhole, PassesOn, PassesOver, Stretches, Takes, Tries, TriesNext, WillCut, load, most_by, pattern_by, state_in, suppress_in}
-use Rattle.csplit_core.specs.Input.{all_lines, newline}
-use Rattle.csplit_core.specs.Measure.{Fits}
-use Rattle.csplit_core.specs.Operand.{Line}
-use Rattle.csplit_core.specs.PlanLaws.{needed}
-use Rattle.csplit_core.specs.Progress.{AreSeen, MovesOn, Turns}
-use Rattle.csplit_core.specs.Writer.{IsReady, OwnsFiles, size_of}
-use Rattle.csplit_core.specs.declared.progress.Turn.TheVariants as turn_is
+use Rattle.csplit_core.proofs.PassOnLemmas.{IsOn, goes_on_by, fit_again, fit_next, fewer_again, fewer_next}
 use Rattle.csplit_core.proofs.line_cutter.LineCutter.pass.Goals as goal
 
--- src/line_cutter.rt:468:13
 pub returns-then-self-done-clause-fit : goal.returns-then-self-done-clause-fit
-returns-then-self-done-clause-fit c = ?
+returns-then-self-done-clause-fit c = fit_again c.args.self.now _ c.pass.new.self c.self.view_is c.requires.fit (goes_on_by c.args.self.now _ c.args.cut c.index-operands-done.result c.pass.new.self c.behind-self.inside.suppress c.self.view_is c.requires.fit c.requires.cuts c.index-operands-done.is c.pass.ensures) c.if-self-done.true
 
--- src/line_cutter.rt:468:13
 pub returns-then-self-done-clause-fewer : goal.returns-then-self-done-clause-fewer
-returns-then-self-done-clause-fewer c = ?
+returns-then-self-done-clause-fewer c = fewer_again c.args.self.now _ c.pass.new.self c.self.view_is (goes_on_by c.args.self.now _ c.args.cut c.index-operands-done.result c.pass.new.self c.behind-self.inside.suppress c.self.view_is c.requires.fit c.requires.cuts c.index-operands-done.is c.pass.ensures)
 
--- src/line_cutter.rt:450:5
 pub returns-clause-fit : goal.returns-clause-fit
-returns-clause-fit c = ?
+returns-clause-fit c = fit_next c.args.self.now _ c.equip.new.self c.pass.new.self c.equip.result c.self.view_is (goes_on_by c.args.self.now _ c.args.cut c.index-operands-done.result c.pass.new.self c.behind-self.inside.suppress c.self.view_is c.requires.fit c.requires.cuts c.index-operands-done.is c.pass.ensures) c.equip.ensures.same
 
--- src/line_cutter.rt:450:5
 pub returns-clause-fewer : goal.returns-clause-fewer
-returns-clause-fewer c = ?
+returns-clause-fewer c = fewer_next c.args.self.now _ c.equip.new.self c.pass.new.self c.equip.result c.self.view_is (goes_on_by c.args.self.now _ c.args.cut c.index-operands-done.result c.pass.new.self c.behind-self.inside.suppress c.self.view_is c.requires.fit c.requires.cuts c.index-operands-done.is c.pass.ensures) c.equip.ensures.same
