@@ -30,3 +30,4 @@ pub mod BeginLemmas
 pub mod EndLemmas
 pub mod HoldLemmas
 pub mod HeldLemmas
+pub mod PassLemmas

@@ -1,0 +1,222 @@
+-- Lines over which the next operand stands as it does.
+use Rattle.std.proofs.Common.{◌≡◌, inl, inr, ℕ, zero, suc, ◌+◌, ◌-◌, ◌^◌, ◌<◌, ◌≤◌, eqb, Bool, true, false, cond, List, [], ◌∷◌, ◌++◌, length, map, take, drop, get_or, Option, Some, None, refl, sym, ◌∙◌, ap, subst, arith, length-append}
+use Rattle.std.specs.Prelude.{min}
+use Rattle.std.proofs.lemmas.Bool.{cases_lt}
+use Rattle.std.proofs.lemmas.List.{take_all, length-take-le}
+use Rattle.std.proofs.Math.Nat.{min-le_left}
+use Rattle.std.proofs.Math.Seq.{get_or-append_right}
+use Rattle.seg_core.specs.Line.{lines_of, line_count, delimiters, first_lines, ends_with, EndsAt, FallsShort}
+use Rattle.seg_core.proofs.Delimiters.{delimiters-le-length}
+use Rattle.seg_core.proofs.EndLines.{line_count_near}
+use Rattle.seg_core.proofs.FirstLines.{EndsAt-enough, lines_of-first_lines}
+use Rattle.seg_core.proofs.LineCounts.{line_count-open, line_count-le-length}
+use Rattle.csplit_core.specs.Cutter.{CutterState, suppress_in, state_in, pattern_in, pattern_by, AimHolds, IsFit, IsSound, IsWhole, IsLive, PassesOver}
+use Rattle.csplit_core.specs.Input.{newline, all_lines}
+use Rattle.csplit_core.specs.Measure.{Moves, IsRepeatedBy, IsRepeated, Fits}
+use Rattle.csplit_core.specs.Operand.{Target, Number, Search, Operand, Line, unmarked}
+use Rattle.csplit_core.specs.Plan.{State, Step, Ending, used_up, missed, above, below, search_line, MatchesNone, Misses, state_after, Runs, is_used_up, misses, is_above, is_below, cuts}
+use Rattle.csplit_core.specs.Progress.{state_of, AimsAt, WillMove}
+use Rattle.csplit_core.specs.declared.progress.Progress.{Progress}
+use Rattle.csplit_core.specs.declared.progress.Turn.{Turn}
+use Rattle.csplit_core.specs.declared.progress.Turn.TheVariants.{UsedUp, Missed, Above, Below, Cuts}
+use Rattle.csplit_core.specs.MatchLaws.{search_some, match_still}
+use Rattle.csplit_core.specs.PlanLaws.{cuts_still}
+use Rattle.csplit_core.proofs.LineLemmas.{all_lines-append, count-append, length-all_lines, whole_count}
+
+-- What stays so of a state when more lines come
+
+repeated_more : (total more : ℕ) (state : State) (target : Target) → total ≤ more → IsRepeatedBy total state target → IsRepeatedBy more state target
+repeated_more total more state (Number n) less few = omega (arith, less, few)
+repeated_more total more state (Search pattern kept offset) less few = few
+
+all_repeated_more : (total more : ℕ) (state : State) (operands : List Operand) → total ≤ more → IsRepeated total state operands → IsRepeated more state operands
+all_repeated_more total more state [] less none = none
+all_repeated_more total more state (operand ∷ operands) less few = repeated_more total more state operand.target less few
+
+fits_more : (total more : ℕ) (state : State) → total ≤ more → Fits total state → Fits more state
+fits_more total more state less fits = record {
+  some = fits.some;
+  current = let e : state.current ≤ total + 1 = fits.current in omega (arith, e, less);
+  matched = let e : state.matched ≤ total = fits.matched in omega (arith, e, less);
+  repeated = all_repeated_more total more state state.operands less fits.repeated;
+}
+
+moves_more : (total more : ℕ) (state : State) (target : Target) (matched cut : ℕ) → total ≤ more → Moves total state target matched cut → Moves more state target matched cut
+moves_more total more state (Number n) matched cut less at = at
+moves_more total more state (Search pattern kept offset) matched cut less at = (at.0, omega (arith, at.1, less))
+
+-- no line of these, of which `count` lines come before, has the operand's pattern, from a line on
+abbrev pub NoneFrom : Operand → (count : ℕ) → List Line → (from : ℕ) → Type 0
+NoneFrom operand count lines from = (k : ℕ) → k < length lines → from ≤ count + suc k → (get_or lines k unmarked).marks operand ≡ false
+
+-- With these lines, which make `lines` of all, the next operand stands as it did.
+abbrev pub StaysOver : CutterState → (text : List ℕ) (lines : ℕ) → Turn → Type 0
+StaysOver cutter text lines UsedUp = Unit {0}
+StaysOver cutter text lines Missed = (operand : Operand) → cutter.sought ≡ pattern_in operand.target → NoneFrom operand cutter.lines (all_lines text) (search_line (suppress_in cutter) (state_in cutter))
+StaysOver cutter text lines (Above matched line) = lines < line
+StaysOver cutter text lines Below = Unit {0}
+StaysOver cutter text lines (Cuts matched line) = Unit {0}
+
+aim_more : (cutter : CutterState) (text : List ℕ) (lines : ℕ) (aim : Turn) → cutter.lines ≤ lines → AimHolds cutter.operands cutter.lines cutter.progress aim → StaysOver cutter text lines aim → AimHolds cutter.operands lines cutter.progress aim
+aim_more cutter text lines UsedUp less holds stays = tt
+aim_more cutter text lines Missed less holds stays = tt
+aim_more cutter text lines (Above matched line) less will stays = record {
+  operand = will.operand;
+  rest = will.rest;
+  within = will.within;
+  left = will.left;
+  cut = will.cut;
+  moves = moves_more cutter.lines lines (state_in cutter) will.operand.target matched will.cut less will.moves;
+  line_is = will.line_is;
+  matched_within = let e : matched ≤ cutter.lines = will.matched_within in omega (arith, e, less);
+  above = stays;
+}
+aim_more cutter text lines Below less holds stays = tt
+aim_more cutter text lines (Cuts matched line) less holds stays = holds
+
+-- a search that matched nothing goes on over more lines
+none_from : (operand : Operand) (a b : List Line) (from : ℕ) → 1 ≤ from → MatchesNone operand a from → NoneFrom operand (length a) b from → MatchesNone operand (a ++ b) from
+none_from operand a b from some none those line from_on within = elim (cases_lt (length a) line) [
+  | inl beyond ↦
+      let e : length (a ++ b) ≡ length a + length b = length-append a b in
+      ap (λ (l : Line). l.marks operand) (get_or-append_right a b (line - 1) unmarked (omega (arith, beyond)))
+      ∙ those (line - 1 - length a) (omega (arith, e, beyond, within)) (omega (arith, beyond, from_on))
+  | inr here ↦ match_still operand a b line (omega (arith, some, from_on)) here ∙ none line from_on here
+]
+
+misses_from : (suppress : Bool) (a b : List Line) (state : State) (operand : Operand) (target : Target) → Misses suppress a state operand target → NoneFrom operand (length a) b (search_line suppress state) → Misses suppress (a ++ b) state operand target
+misses_from suppress a b state operand (Number n) none those = none
+misses_from suppress a b state operand (Search pattern kept offset) none those = none_from operand a b (search_line suppress state) (search_some suppress state) none those
+
+-- what more lines have to be, so that the plan still ends there
+abbrev pub EndsStill : Bool → (count : ℕ) → List Line → (total : ℕ) → State → Ending → Type 0
+EndsStill suppress count b total last used_up = Unit {0}
+EndsStill suppress count b total last (missed operand repetition) = (operand : Operand) (operands : List Operand) → last.operands ≡ operand ∷ operands → NoneFrom operand count b (search_line suppress last)
+EndsStill suppress count b total last (above operand repetition matched cut) = total < cut
+EndsStill suppress count b total last (below operand repetition) = Unit {0}
+
+ends_still : (suppress : Bool) (a b : List Line) (first : State) (steps : List Step) (last : State) (ending : Ending) → Runs suppress a first steps last ending → EndsStill suppress (length a) b (length (a ++ b)) last ending
+    → Runs suppress (a ++ b) last [] last ending
+ends_still suppress a b first steps last ending (is_used_up state none) still = is_used_up state none
+ends_still suppress a b first steps last ending (misses state operand operands is none) still =
+    misses state operand operands is (misses_from suppress a b state operand operand.target none (still operand operands is))
+ends_still suppress a b first steps last ending (is_above state operand operands matched cut is at far) still = is_above state operand operands matched cut is (cuts_still suppress a b state operand operand.target matched cut at) still
+ends_still suppress a b first steps last ending (is_below state operand operands matched cut is at within low) still =
+    is_below state operand operands matched cut is (cuts_still suppress a b state operand operand.target matched cut at) (let e : length (a ++ b) ≡ length a + length b = length-append a b in omega (arith, e, within)) low
+ends_still suppress a b first steps last ending (cuts state operand operands matched cut steps' last' ending' is at from within rest) still =
+    ends_still suppress a b (state_after suppress operand operands state.repetition matched cut) steps' last' ending' rest still
+
+-- that is so where the next operand stands as it did
+still_by : (cutter : CutterState) (x text : List ℕ) (lines : ℕ) (aim : Turn) (ending : Ending) → IsFit cutter → cutter.lines ≡ length (all_lines x) → lines ≡ length (all_lines x ++ all_lines text) → AimsAt aim ending
+    → StaysOver cutter text lines aim → EndsStill (suppress_in cutter) (length (all_lines x)) (all_lines text) (length (all_lines x ++ all_lines text)) (state_in cutter) ending
+still_by cutter x text lines aim used_up fit count all aims stays = tt
+still_by cutter x text lines aim (below operand repetition) fit count all aims stays = tt
+still_by cutter x text lines UsedUp (missed operand repetition) fit count all aims stays = absurd aims
+still_by cutter x text lines Missed (missed operand repetition) fit count all aims stays = λ next rest are.
+    subst (λ n. NoneFrom next n (all_lines text) (search_line (suppress_in cutter) (state_in cutter))) count (stays next (fit.sought ∙ ap pattern_by are))
+still_by cutter x text lines (Above last line) (missed operand repetition) fit count all aims stays = absurd aims
+still_by cutter x text lines Below (missed operand repetition) fit count all aims stays = absurd aims
+still_by cutter x text lines (Cuts last line) (missed operand repetition) fit count all aims stays = absurd aims
+still_by cutter x text lines UsedUp (above operand repetition matched cut) fit count all aims stays = absurd aims
+still_by cutter x text lines Missed (above operand repetition matched cut) fit count all aims stays = absurd aims
+still_by cutter x text lines (Above last line) (above operand repetition matched cut) fit count all aims stays =
+    let least : min cut (2 ^ 64 - 1) ≤ cut = min-le_left cut (2 ^ 64 - 1) in omega (arith, least, aims.1, stays, all)
+still_by cutter x text lines Below (above operand repetition matched cut) fit count all aims stays = absurd aims
+still_by cutter x text lines (Cuts last line) (above operand repetition matched cut) fit count all aims stays = absurd aims
+
+pub passes : (cutter : CutterState) (text : List ℕ) (lines n : ℕ) → IsSound cutter → n ≤ length text → IsWhole (take n text) → lines ≡ cutter.lines + line_count newline (take n text) → StaysOver cutter (take n text) lines cutter.aim
+    → PassesOver cutter text (record cutter { lines = lines }) n
+passes cutter text lines n sound within whole count stays = record {
+  same = refl;
+  within = within;
+  whole = whole;
+  few = let few : line_count newline (take n text) ≤ length (take n text) = line_count-le-length newline (take n text) in let long = length-take-le n text within in omega (arith, count, few, long);
+  sound = record {
+    fit = record {
+      fits = fits_more cutter.lines lines (state_in cutter) (omega (arith, count)) sound.fit.fits;
+      most = sound.fit.most;
+      delim = sound.fit.delim;
+      sought = sound.fit.sought;
+    };
+    aim = aim_more cutter (take n text) lines cutter.aim (omega (arith, count)) sound.aim stays;
+  };
+  ends = λ x before live.
+      let counted : cutter.lines ≡ line_count newline x = live.at.counted in
+      let sum : line_count newline (x ++ take n text) ≡ line_count newline x + line_count newline (take n text) = count-append x (take n text) before in
+      let here : length (all_lines x) ≡ line_count newline x = length-all_lines x in
+      let there : length (all_lines (take n text)) ≡ line_count newline (take n text) = length-all_lines (take n text) in
+      let both : length (all_lines x ++ all_lines (take n text)) ≡ length (all_lines x) + length (all_lines (take n text)) = length-append (all_lines x) (all_lines (take n text)) in
+      (omega (arith, count, counted, sum), record {
+        ending = live.ends.ending;
+        runs = subst (λ those. Runs (suppress_in cutter) those (state_in cutter) [] (state_in cutter) live.ends.ending) (sym (all_lines-append x (take n text) before))
+            (ends_still (suppress_in cutter) (all_lines x) (all_lines (take n text)) _ _ _ live.ends.ending live.ends.runs
+            (still_by cutter x (take n text) lines cutter.aim live.ends.ending sound.fit (omega (arith, counted, here)) (omega (arith, count, counted, here, there, both)) live.ends.aims stays));
+        aims = live.ends.aims;
+      });
+}
+
+-- All lines of a text
+
+pub fits_count : (cutter now : CutterState) (text : List ℕ) (n : ℕ) → cutter ≡ now → now.lines + length text < 2 ^ 63 → n ≡ delimiters newline text → cutter.lines + n < 2 ^ 64
+fits_count cutter now text n is few counted =
+    let same : cutter.lines ≡ now.lines = ap (λ (those : CutterState). those.lines) is in
+    let less : delimiters newline text ≤ length text = delimiters-le-length newline text in omega (arith, same, less, few, counted)
+
+pub passes_all : (cutter : CutterState) (text : List ℕ) (lines : ℕ) → IsSound cutter → IsWhole text → lines ≡ cutter.lines + delimiters newline text → StaysOver cutter text lines cutter.aim
+    → PassesOver cutter text (record cutter { lines = lines }) (length text)
+passes_all cutter text lines sound whole count stays =
+    let all : text ≡ take (length text) text = sym (take_all (length text) text (omega arith)) in
+    let same : line_count newline text ≡ delimiters newline text = whole_count text whole in
+    let taken : line_count newline text ≡ line_count newline (take (length text) text) = ap (line_count newline) all in
+    passes cutter text lines (length text) sound (omega arith) (subst IsWhole all whole) (omega (arith, count, same, taken)) (subst (λ those. StaysOver cutter those lines cutter.aim) all stays)
+
+pub passes_all_at : (cutter now : CutterState) (text : List ℕ) (n : ℕ) → cutter ≡ now → IsSound now → IsWhole text → n ≡ delimiters newline text → now.aim ≡ UsedUp
+    → PassesOver now text (record cutter { lines = cutter.lines + n }) (length text)
+passes_all_at cutter now text n is sound whole counted aim =
+    subst (λ (those : CutterState). PassesOver those text (record cutter { lines = cutter.lines + n }) (length text)) is
+    (passes_all cutter text (cutter.lines + n) (subst IsSound (sym is) sound) whole (ap (λ k. cutter.lines + k) counted)
+    (subst (StaysOver cutter text (cutter.lines + n)) (sym (ap (λ (those : CutterState). those.aim) is ∙ aim)) tt))
+
+-- Lines before the line of a cut
+
+whole_by_count : (x : List ℕ) → line_count newline x ≡ delimiters newline x → IsWhole x
+whole_by_count [] same = inl refl
+whole_by_count (byte ∷ x) same = by (ends_with newline (byte ∷ x)) refl where
+  by : (ends : Bool) → ends_with newline (byte ∷ x) ≡ ends → IsWhole (byte ∷ x)
+  by true is = inr is
+  by false is = absurd (let e : line_count newline (byte ∷ x) ≡ delimiters newline (byte ∷ x) + 1 = line_count-open newline (byte ∷ x) (omega arith) is in omega (arith, e, same))
+
+-- the lines that end there
+count_ends : (n : ℕ) (x : List ℕ) (end : ℕ) → EndsAt newline n x end → line_count newline (take end x) ≡ n
+count_ends n x end ends =
+    let enough : n ≤ delimiters newline x = EndsAt-enough newline n x end ends in
+    let near : delimiters newline x ≤ line_count newline x = (line_count_near newline x).0 in
+    ap (line_count newline) ends.lines ∙ ap length (lines_of-first_lines newline n x) ∙ length-take-le n (lines_of newline x) (omega (arith, enough, near))
+
+still_above : (cutter : CutterState) (matched line : ℕ) → IsSound cutter → cutter.aim ≡ Above matched line → cutter.lines < line
+still_above cutter matched line sound aim = let will : WillMove cutter.operands cutter.lines cutter.progress matched line = subst (AimHolds cutter.operands cutter.lines cutter.progress) aim sound.aim in will.above
+
+passes_below : (cutter : CutterState) (text : List ℕ) (matched line end : ℕ) → IsSound cutter → cutter.aim ≡ Above matched line → EndsAt newline (line - 1 - cutter.lines) text end → PassesOver cutter text (record cutter { lines = line - 1 }) end
+passes_below cutter text matched line end sound aim ends =
+    let less : cutter.lines < line = still_above cutter matched line sound aim in
+    let count : line_count newline (take end text) ≡ line - 1 - cutter.lines = count_ends (line - 1 - cutter.lines) text end ends in
+    passes cutter text (line - 1) end sound ends.within (whole_by_count (take end text) (count ∙ sym ends.complete)) (omega (arith, less, count))
+    (subst (StaysOver cutter (take end text) (line - 1)) (sym aim) (let e : line - 1 < line = omega (arith, less) in e))
+
+passes_short : (cutter : CutterState) (text : List ℕ) (matched line count : ℕ) → IsSound cutter → IsWhole text → cutter.aim ≡ Above matched line → FallsShort newline (line - 1 - cutter.lines) text count
+    → PassesOver cutter text (record cutter { lines = cutter.lines + count }) (length text)
+passes_short cutter text matched line count sound whole aim short =
+    passes_all cutter text (cutter.lines + count) sound whole (ap (λ k. cutter.lines + k) short.counted)
+    (subst (StaysOver cutter text (cutter.lines + count)) (sym aim) (let e : count < line - 1 - cutter.lines = short.fewer in let less : cutter.lines + count < line = omega (arith, e) in less))
+
+pub passes_below_at : (cutter now : CutterState) (text : List ℕ) (line end : ℕ) → cutter ≡ now → IsSound now → (matched : ℕ) × (now.aim ≡ Above matched line) → EndsAt newline (line - 1 - cutter.lines) text end
+    → PassesOver now text (record cutter { lines = line - 1 }) end
+passes_below_at cutter now text line end is sound (matched, aim) ends =
+    subst (λ (those : CutterState). PassesOver those text (record cutter { lines = line - 1 }) end) is
+    (passes_below cutter text matched line end (subst IsSound (sym is) sound) (ap (λ (those : CutterState). those.aim) is ∙ aim) ends)
+
+pub passes_short_at : (cutter now : CutterState) (text : List ℕ) (line count : ℕ) → cutter ≡ now → IsSound now → IsWhole text → (matched : ℕ) × (now.aim ≡ Above matched line) → FallsShort newline (line - 1 - cutter.lines) text count
+    → PassesOver now text (record cutter { lines = cutter.lines + count }) (length text)
+passes_short_at cutter now text line count is sound whole (matched, aim) short =
+    subst (λ (those : CutterState). PassesOver those text (record cutter { lines = cutter.lines + count }) (length text)) is
+    (passes_short cutter text matched line count (subst IsSound (sym is) sound) whole (ap (λ (those : CutterState). those.aim) is ∙ aim) short)
