@@ -1,17 +1,20 @@
 -- Lines over which the next operand stands as it does.
 use Rattle.std.proofs.Common.{◌≡◌, inl, inr, ℕ, zero, suc, ◌+◌, ◌-◌, ◌^◌, ◌<◌, ◌≤◌, eqb, Bool, true, false, cond, List, [], ◌∷◌, ◌++◌, length, map, take, drop, get_or, Option, Some, None, refl, sym, ◌∙◌, ap, subst, arith, length-append}
 use Rattle.std.specs.Prelude.{min}
-use Rattle.std.proofs.lemmas.Bool.{cases_lt}
-use Rattle.std.proofs.lemmas.List.{take_all, length-take-le}
+use Rattle.std.specs.List.{onto_first}
+use Rattle.std.proofs.lemmas.Bool.{cases_lt, eq-eqb, ne_eqb}
+use Rattle.std.proofs.lemmas.List.{take_all, take_at, length-drop, take-append-drop, append_assoc, length-take-le, get_or_append_left}
 use Rattle.std.proofs.Math.Nat.{min-le_left}
-use Rattle.std.proofs.Math.Seq.{get_or-append_right}
+use Rattle.std.proofs.Math.Seq.{get_or-append_right, get_or-append_seam}
+use Rattle.memchr.specs.Find.{Nowhere, Passes, is_byte}
+use Rattle.bre_core.specs.Search.{contains}
 use Rattle.seg_core.specs.Line.{lines_of, line_count, delimiters, first_lines, ends_with, EndsAt, FallsShort}
 use Rattle.seg_core.proofs.Delimiters.{delimiters-le-length}
 use Rattle.seg_core.proofs.EndLines.{line_count_near}
 use Rattle.seg_core.proofs.FirstLines.{EndsAt-enough, lines_of-first_lines}
 use Rattle.seg_core.proofs.LineCounts.{line_count-open, line_count-le-length}
-use Rattle.csplit_core.specs.Cutter.{CutterState, suppress_in, state_in, pattern_in, pattern_by, AimHolds, IsFit, IsSound, IsWhole, IsLive, PassesOver}
-use Rattle.csplit_core.specs.Input.{newline, all_lines}
+use Rattle.csplit_core.specs.Cutter.{CutterState, suppress_in, state_in, pattern_in, pattern_by, AimHolds, IsFit, IsSound, IsWhole, IsLine, IsLive, IsFound, PassesOver}
+use Rattle.csplit_core.specs.Input.{newline, without_newline, is_match_of, marked, all_lines}
 use Rattle.csplit_core.specs.Measure.{Moves, IsRepeatedBy, IsRepeated, Fits}
 use Rattle.csplit_core.specs.Operand.{Target, Number, Search, Operand, Line, unmarked}
 use Rattle.csplit_core.specs.Plan.{State, Step, Ending, used_up, missed, above, below, search_line, MatchesNone, Misses, state_after, Runs, is_used_up, misses, is_above, is_below, cuts}
@@ -21,7 +24,8 @@ use Rattle.csplit_core.specs.declared.progress.Turn.{Turn}
 use Rattle.csplit_core.specs.declared.progress.Turn.TheVariants.{UsedUp, Missed, Above, Below, Cuts}
 use Rattle.csplit_core.specs.MatchLaws.{search_some, match_still}
 use Rattle.csplit_core.specs.PlanLaws.{cuts_still}
-use Rattle.csplit_core.proofs.LineLemmas.{all_lines-append, count-append, length-all_lines, whole_count}
+use Rattle.csplit_core.proofs.LineLemmas.{all_lines-append, all_lines-line, count-append, count-line, length-all_lines, whole_count, whole-append}
+use Rattle.csplit_core.proofs.CutterLemmas.{small_current, small_matched}
 
 -- What stays so of a state when more lines come
 
@@ -220,3 +224,149 @@ pub passes_short_at : (cutter now : CutterState) (text : List ℕ) (line count :
 passes_short_at cutter now text line count is sound whole (matched, aim) short =
     subst (λ (those : CutterState). PassesOver those text (record cutter { lines = cutter.lines + count }) (length text)) is
     (passes_short cutter text matched line count (subst IsSound (sym is) sound) whole (ap (λ (those : CutterState). those.aim) is ∙ aim) short)
+
+-- Lines without the pattern that is searched for
+
+-- of these lines, as many as are counted since, none has the pattern that is searched for, from the line on where the search begins
+pub record Unmatched (cutter : CutterState) (text left : List ℕ) (next : CutterState) : Type 0 where
+  pub front : List ℕ
+  pub all : text ≡ front ++ left
+  pub whole : IsWhole front
+  pub same : next ≡ record cutter { lines = next.lines }
+  pub count : next.lines ≡ cutter.lines + line_count newline front
+  pub none : StaysOver cutter front next.lines Missed
+
+pub none_yet : (cutter : CutterState) (text : List ℕ) → Unmatched cutter text text cutter
+none_yet cutter text = record {
+  front = [];
+  all = refl;
+  whole = inl refl;
+  same = refl;
+  count = omega arith;
+  none = λ operand same k less near. absurd (omega (arith, less));
+}
+
+-- the line up to the first newline
+
+first_ends : (x : List ℕ) (end : ℕ) → end < length x → Passes (is_byte newline) x end → ends_with newline (take (suc end) x) ≡ true
+first_ends [] end within here = absurd (omega (arith, within))
+first_ends (byte ∷ x) zero within here = here
+first_ends (byte ∷ []) (suc end) within here = absurd (omega (arith, within))
+first_ends (byte ∷ next ∷ x) (suc end) within here = first_ends (next ∷ x) end (omega (arith, within)) here
+
+one_by : (byte : ℕ) (is : Bool) → cond is ((byte ∷ []) ∷ []) ((byte ∷ []) ∷ []) ≡ (byte ∷ []) ∷ []
+one_by byte true = refl
+one_by byte false = refl
+
+other_first : (x : List ℕ) (byte end : ℕ) → 0 < end → Nowhere (Passes (is_byte newline) (byte ∷ x)) 0 end → eqb byte newline ≡ false
+other_first x byte end some none = ne_eqb byte newline (λ same. none 0 (omega arith) some (eq-eqb byte newline same))
+
+none_after : (byte : ℕ) (x : List ℕ) (end : ℕ) → Nowhere (Passes (is_byte newline) (byte ∷ x)) 0 (suc end) → Nowhere (Passes (is_byte newline) x) 0 end
+none_after byte x end none k low high = none (suc k) (omega arith) (omega (arith, high))
+
+first_line : (x : List ℕ) (end : ℕ) → end < length x → Nowhere (Passes (is_byte newline) x) 0 end → IsLine (take (suc end) x)
+first_line [] end within none = absurd (omega (arith, within))
+first_line (byte ∷ x) zero within none = one_by byte (eqb byte newline)
+first_line (byte ∷ x) (suc end) within none =
+    ap (λ is. cond is ((byte ∷ []) ∷ lines_of newline (take (suc end) x)) (onto_first byte (lines_of newline (take (suc end) x)))) (other_first x byte (suc end) (omega arith) none)
+    ∙ ap (onto_first byte) (first_line x end (omega (arith, within)) (none_after byte x end none))
+
+first_text : (x : List ℕ) (end : ℕ) → end < length x → Passes (is_byte newline) x end → Nowhere (Passes (is_byte newline) x) 0 end → without_newline (take (suc end) x) ≡ take end x
+first_text [] end within here none = absurd (omega (arith, within))
+first_text (byte ∷ x) zero within here none = ap (λ is. cond is [] (byte ∷ [])) here
+first_text (byte ∷ x) (suc end) within here none =
+    ap (λ is. cond is [] (byte ∷ without_newline (take (suc end) x))) (other_first x byte (suc end) (omega arith) none)
+    ∙ ap (λ text. byte ∷ text) (first_text x end (omega (arith, within)) here (none_after byte x end none))
+
+-- one more line
+
+mark_none : (next : CutterState) (text line : List ℕ) (number : ℕ) (target : Target) → IsFound next text number false → without_newline line ≡ text → next.sought ≡ pattern_in target → search_line (suppress_in next) (state_in next) ≤ number
+    → is_match_of line target ≡ false
+mark_none next text line number (Number n) found is same near = refl
+mark_none next text line number (Search pattern kept offset) found is same near = ap (contains pattern) is ∙ sym (found.some pattern same near)
+
+none_line : (operand : Operand) (count : ℕ) (a : List Line) (line : Line) (from : ℕ) → NoneFrom operand count a from → (from ≤ count + suc (length a) → line.marks operand ≡ false) → NoneFrom operand count (a ++ line ∷ []) from
+none_line operand count a line from those here k less near = elim (cases_lt k (length a)) [
+  | inl before ↦ ap (λ (l : Line). l.marks operand) (get_or_append_left a (line ∷ []) unmarked k before) ∙ those k before near
+  | inr past ↦
+      let e : length (a ++ line ∷ []) ≡ length a + 1 = length-append a (line ∷ []) in
+      let last : k ≡ length a = omega (arith, e, past, less) in
+      ap (λ j. (get_or (a ++ line ∷ []) j unmarked).marks operand) last
+      ∙ ap (λ (l : Line). l.marks operand) (get_or-append_seam a line [] unmarked)
+      ∙ here (omega (arith, last, near))
+]
+
+one_more : (cutter : CutterState) (text left rest : List ℕ) (next : CutterState) (number end : ℕ) → Unmatched cutter text left next → number ≡ next.lines + 1 → end < length left → Passes (is_byte newline) left end
+    → Nowhere (Passes (is_byte newline) left) 0 end → IsFound next (take end left) number false → rest ≡ drop (suc end) left → Unmatched cutter text rest (record next { lines = number })
+one_more cutter text left rest next number end so is within here none found rest_is =
+    let line = take (suc end) left in
+    let one : IsLine line = first_line left end within none in
+    let found_at : IsFound (record cutter { lines = next.lines }) (take end left) number false = subst (λ (those : CutterState). IsFound those (take end left) number false) so.same found in
+    let before : length (all_lines so.front) ≡ line_count newline so.front = length-all_lines so.front in record {
+      front = so.front ++ line;
+      all = so.all ∙ ap (λ those. so.front ++ those) (sym (take-append-drop (suc end) left) ∙ ap (λ those. line ++ those) (sym rest_is)) ∙ sym (append_assoc so.front line rest);
+      whole = whole-append so.front line so.whole (inr (first_ends left end within here));
+      same = ap (λ (those : CutterState). record those { lines = number }) so.same;
+      count = is ∙ (let more : line_count newline (so.front ++ line) ≡ line_count newline so.front + 1 = count-line so.front line so.whole one in let c : next.lines ≡ cutter.lines + line_count newline so.front = so.count in omega (arith, more, c));
+      none = λ operand same. subst (λ those. NoneFrom operand cutter.lines those (search_line (suppress_in cutter) (state_in cutter))) (sym (all_lines-line so.front line so.whole one))
+          (none_line operand cutter.lines (all_lines so.front) (marked line) (search_line (suppress_in cutter) (state_in cutter)) (so.none operand same)
+          (λ near. mark_none (record cutter { lines = next.lines }) (take end left) line number operand.target found_at (first_text left end within here none) same
+          (let c : next.lines ≡ cutter.lines + line_count newline so.front = so.count in omega (arith, near, is, c, before))));
+    }
+
+-- all that were looked at are passed over
+all_passed : (cutter : CutterState) (text left : List ℕ) (next : CutterState) → IsSound cutter → cutter.aim ≡ Missed → Unmatched cutter text left next → PassesOver cutter text next (length text - length left)
+all_passed cutter text left next sound aim so =
+    let long : length text ≡ length so.front + length left = ap length so.all ∙ length-append so.front left in
+    let count : length so.front ≡ length text - length left = omega (arith, long) in
+    let front_is : so.front ≡ take (length text - length left) text = sym (ap (take (length text - length left)) so.all ∙ take_at so.front left (length text - length left) count) in
+    subst (λ (those : CutterState). PassesOver cutter text those (length text - length left)) (sym so.same)
+    (passes cutter text next.lines (length text - length left) sound (omega arith) (subst IsWhole front_is so.whole) (so.count ∙ ap (λ those. cutter.lines + line_count newline those) front_is)
+    (subst (StaysOver cutter (take (length text - length left) text) next.lines) (sym aim) (subst (λ those. StaysOver cutter those next.lines Missed) front_is so.none)))
+
+-- the numbers are small
+
+pub left_within : (cutter : CutterState) (text left : List ℕ) (next : CutterState) → Unmatched cutter text left next → length left ≤ length text
+left_within cutter text left next so = let long : length text ≡ length so.front + length left = ap length so.all ∙ length-append so.front left in omega (arith, long)
+
+pub few_counted : (cutter : CutterState) (text left : List ℕ) (next : CutterState) → Unmatched cutter text left next → next.lines ≤ cutter.lines + length text
+few_counted cutter text left next so =
+    let long : length text ≡ length so.front + length left = ap length so.all ∙ length-append so.front left in
+    let less : line_count newline so.front ≤ length so.front = line_count-le-length newline so.front in
+    let c : next.lines ≡ cutter.lines + line_count newline so.front = so.count in omega (arith, long, less, c)
+
+pub few_counted_at : (cutter : CutterState) (text left : List ℕ) (next now : CutterState) → Unmatched cutter text left next → now ≡ next → cutter.lines + length text < 2 ^ 63 → now.lines + 1 < 2 ^ 64
+few_counted_at cutter text left next now so is few =
+    let e : now.lines ≡ next.lines = ap (λ (those : CutterState). those.lines) is in
+    let less : next.lines ≤ cutter.lines + length text = few_counted cutter text left next so in omega (arith, e, less, few)
+
+pub current_small : (cutter : CutterState) (text left : List ℕ) (next : CutterState) → Unmatched cutter text left next → IsSound cutter → cutter.lines + length text < 2 ^ 63 → next.progress.current < 2 ^ 64 - 1
+current_small cutter text left next so sound few =
+    let e : next.progress.current ≡ cutter.progress.current = ap (λ (those : CutterState). those.progress.current) so.same in
+    let small = small_current cutter sound.fit (omega (arith, few)) in omega (arith, e, small)
+
+pub matched_small : (cutter : CutterState) (text left : List ℕ) (next : CutterState) → Unmatched cutter text left next → IsSound cutter → cutter.lines + length text < 2 ^ 63 → next.progress.matched < 2 ^ 64 - 1
+matched_small cutter text left next so sound few =
+    let e : next.progress.matched ≡ cutter.progress.matched = ap (λ (those : CutterState). those.progress.matched) so.same in
+    let small = small_matched cutter sound.fit (omega (arith, few)) in omega (arith, e, small)
+
+-- what is left of a slice
+pub all_left : (left : List ℕ) (n end : ℕ) → n ≡ length left → take (n - (end + 1)) (drop (end + 1) left) ≡ drop (suc end) left
+all_left left n end is =
+    take_all (n - (end + 1)) (drop (end + 1) left) (let e : length (drop (end + 1) left) ≡ length left - (end + 1) = length-drop (end + 1) left in omega (arith, e, is))
+    ∙ ap (λ k. drop k left) (let e : end + 1 ≡ suc end = omega arith in e)
+
+-- the same of cutters that are known by their fields
+
+pub one_more_at : (cutter : CutterState) (text left rest : List ℕ) (next before same now : CutterState) (end : ℕ) (found : Bool) → Unmatched cutter text left next → before ≡ next → same ≡ next → now ≡ same
+    → end < length left → Passes (is_byte newline) left end → Nowhere (Passes (is_byte newline) left) 0 end → IsFound next (take end left) (before.lines + 1) found → found ≡ false → rest ≡ drop (suc end) left
+    → Unmatched cutter text rest (record now { lines = now.lines + 1 })
+one_more_at cutter text left rest next before same now end found so before_is same_is now_is within here none finds not rest_is =
+    let is : now ≡ next = now_is ∙ same_is in
+    let number : before.lines + 1 ≡ now.lines + 1 = ap (λ (those : CutterState). those.lines + 1) (before_is ∙ sym is) in
+    subst (λ (those : CutterState). Unmatched cutter text rest (record those { lines = now.lines + 1 })) (sym is)
+    (one_more cutter text left rest next (now.lines + 1) end so (ap (λ (those : CutterState). those.lines + 1) is) within here none
+    (subst (λ k. IsFound next (take end left) k false) number (subst (IsFound next (take end left) (before.lines + 1)) not finds)) rest_is)
+
+pub all_passed_at : (cutter : CutterState) (text left : List ℕ) (next now : CutterState) → IsSound cutter → cutter.aim ≡ Missed → Unmatched cutter text left next → now ≡ next → PassesOver cutter text now (length text - length left)
+all_passed_at cutter text left next now sound aim so is = subst (λ (those : CutterState). PassesOver cutter text those (length text - length left)) (sym is) (all_passed cutter text left next sound aim so)
