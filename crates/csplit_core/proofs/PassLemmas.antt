@@ -1,5 +1,5 @@
 -- Lines over which the next operand stands as it does.
-use Rattle.std.proofs.Common.{◌≡◌, inl, inr, ℕ, zero, suc, ◌+◌, ◌-◌, ◌^◌, ◌<◌, ◌≤◌, eqb, Bool, true, false, cond, List, [], ◌∷◌, ◌++◌, length, map, take, drop, get_or, Option, Some, None, refl, sym, ◌∙◌, ap, subst, arith, length-append}
+use Rattle.std.proofs.Common.{◌≡◌, inl, inr, ℕ, zero, suc, ◌+◌, ◌-◌, ◌^◌, ◌<◌, ◌≤◌, eqb, Bool, true, false, cond, List, [], ◌∷◌, ◌++◌, length, take, drop, get_or, refl, sym, ◌∙◌, ap, subst, arith, length-append}
 use Rattle.std.specs.Prelude.{min}
 use Rattle.std.specs.List.{onto_first}
 use Rattle.std.proofs.lemmas.Bool.{cases_lt, eq-eqb, ne_eqb}
@@ -8,24 +8,22 @@ use Rattle.std.proofs.Math.Nat.{min-le_left}
 use Rattle.std.proofs.Math.Seq.{get_or-append_right, get_or-append_seam}
 use Rattle.memchr.specs.Find.{Nowhere, Passes, is_byte}
 use Rattle.bre_core.specs.Search.{contains}
-use Rattle.seg_core.specs.Line.{lines_of, line_count, delimiters, first_lines, ends_with, EndsAt, FallsShort}
+use Rattle.seg_core.specs.Line.{lines_of, line_count, delimiters, ends_with, EndsAt, FallsShort}
 use Rattle.seg_core.proofs.Delimiters.{delimiters-le-length}
 use Rattle.seg_core.proofs.EndLines.{line_count_near}
 use Rattle.seg_core.proofs.FirstLines.{EndsAt-enough, lines_of-first_lines}
 use Rattle.seg_core.proofs.LineCounts.{line_count-open, line_count-le-length}
-use Rattle.csplit_core.specs.Cutter.{CutterState, suppress_in, state_in, pattern_in, pattern_by, AimHolds, IsFit, IsSound, IsWhole, IsLine, IsLive, IsFound, PassesOver}
+use Rattle.csplit_core.specs.Cutter.{CutterState, suppress_in, state_in, pattern_in, pattern_by, AimHolds, IsFit, IsSound, IsWhole, IsLine, IsFound, PassesOver}
 use Rattle.csplit_core.specs.Input.{newline, without_newline, is_match_of, marked, all_lines}
 use Rattle.csplit_core.specs.Measure.{Moves, IsRepeatedBy, IsRepeated, Fits}
 use Rattle.csplit_core.specs.Operand.{Target, Number, Search, Operand, Line, unmarked}
 use Rattle.csplit_core.specs.Plan.{State, Step, Ending, used_up, missed, above, below, search_line, MatchesNone, Misses, state_after, Runs, is_used_up, misses, is_above, is_below, cuts}
-use Rattle.csplit_core.specs.Progress.{state_of, AimsAt, WillMove}
-use Rattle.csplit_core.specs.declared.progress.Progress.{Progress}
+use Rattle.csplit_core.specs.Progress.{AimsAt, WillMove}
 use Rattle.csplit_core.specs.declared.progress.Turn.{Turn}
 use Rattle.csplit_core.specs.declared.progress.Turn.TheVariants.{UsedUp, Missed, Above, Below, Cuts}
 use Rattle.csplit_core.specs.MatchLaws.{search_some, match_still}
 use Rattle.csplit_core.specs.PlanLaws.{cuts_still}
 use Rattle.csplit_core.proofs.LineLemmas.{all_lines-append, all_lines-line, count-append, count-line, length-all_lines, whole_count, whole-append}
-use Rattle.csplit_core.proofs.CutterLemmas.{small_current, small_matched}
 
 -- What stays so of a state when more lines come
 
@@ -49,11 +47,11 @@ moves_more : (total more : ℕ) (state : State) (target : Target) (matched cut :
 moves_more total more state (Number n) matched cut less at = at
 moves_more total more state (Search pattern kept offset) matched cut less at = (at.0, omega (arith, at.1, less))
 
--- no line of these, of which `count` lines come before, has the operand's pattern, from a line on
+-- `count` lines come before these, and none of these has the operand's pattern, from the line on of number `from`
 abbrev pub NoneFrom : Operand → (count : ℕ) → List Line → (from : ℕ) → Type 0
 NoneFrom operand count lines from = (k : ℕ) → k < length lines → from ≤ count + suc k → (get_or lines k unmarked).marks operand ≡ false
 
--- With these lines, which make `lines` of all, the next operand stands as it did.
+-- With the lines of this text too there are `lines`, and the next operand stands as it did.
 abbrev pub StaysOver : CutterState → (text : List ℕ) (lines : ℕ) → Turn → Type 0
 StaysOver cutter text lines UsedUp = Unit {0}
 StaysOver cutter text lines Missed = (operand : Operand) → cutter.sought ≡ pattern_in operand.target → NoneFrom operand cutter.lines (all_lines text) (search_line (suppress_in cutter) (state_in cutter))
@@ -149,14 +147,16 @@ passes cutter text lines n sound within whole count stays = record {
       let sum : line_count newline (x ++ take n text) ≡ line_count newline x + line_count newline (take n text) = count-append x (take n text) before in
       let here : length (all_lines x) ≡ line_count newline x = length-all_lines x in
       let there : length (all_lines (take n text)) ≡ line_count newline (take n text) = length-all_lines (take n text) in
-      let both : length (all_lines x ++ all_lines (take n text)) ≡ length (all_lines x) + length (all_lines (take n text)) = length-append (all_lines x) (all_lines (take n text)) in
-      (omega (arith, count, counted, sum), record {
-        ending = live.ends.ending;
-        runs = subst (λ those. Runs (suppress_in cutter) those (state_in cutter) [] (state_in cutter) live.ends.ending) (sym (all_lines-append x (take n text) before))
-            (ends_still (suppress_in cutter) (all_lines x) (all_lines (take n text)) _ _ _ live.ends.ending live.ends.runs
-            (still_by cutter x (take n text) lines cutter.aim live.ends.ending sound.fit (omega (arith, counted, here)) (omega (arith, count, counted, here, there, both)) live.ends.aims stays));
-        aims = live.ends.aims;
-      });
+      let both : length (all_lines x ++ all_lines (take n text)) ≡ length (all_lines x) + length (all_lines (take n text)) = length-append (all_lines x) (all_lines (take n text)) in (
+        omega (arith, count, counted, sum),
+        record {
+          ending = live.ends.ending;
+          runs = subst (λ those. Runs (suppress_in cutter) those (state_in cutter) [] (state_in cutter) live.ends.ending) (sym (all_lines-append x (take n text) before))
+              (ends_still (suppress_in cutter) (all_lines x) (all_lines (take n text)) _ _ _ live.ends.ending live.ends.runs
+              (still_by cutter x (take n text) lines cutter.aim live.ends.ending sound.fit (omega (arith, counted, here)) (omega (arith, count, counted, here, there, both)) live.ends.aims stays));
+          aims = live.ends.aims;
+        },
+      );
 }
 
 -- All lines of a text
@@ -227,7 +227,7 @@ passes_short_at cutter now text line count is sound whole (matched, aim) short =
 
 -- Lines without the pattern that is searched for
 
--- of these lines, as many as are counted since, none has the pattern that is searched for, from the line on where the search begins
+-- The text before what is left was counted, and none of its lines has the pattern that is searched for, from the line on where the search begins.
 pub record Unmatched (cutter : CutterState) (text left : List ℕ) (next : CutterState) : Type 0 where
   pub front : List ℕ
   pub all : text ≡ front ++ left
@@ -326,10 +326,7 @@ all_passed cutter text left next sound aim so =
 
 -- the numbers are small
 
-pub left_within : (cutter : CutterState) (text left : List ℕ) (next : CutterState) → Unmatched cutter text left next → length left ≤ length text
-left_within cutter text left next so = let long : length text ≡ length so.front + length left = ap length so.all ∙ length-append so.front left in omega (arith, long)
-
-pub few_counted : (cutter : CutterState) (text left : List ℕ) (next : CutterState) → Unmatched cutter text left next → next.lines ≤ cutter.lines + length text
+few_counted : (cutter : CutterState) (text left : List ℕ) (next : CutterState) → Unmatched cutter text left next → next.lines ≤ cutter.lines + length text
 few_counted cutter text left next so =
     let long : length text ≡ length so.front + length left = ap length so.all ∙ length-append so.front left in
     let less : line_count newline so.front ≤ length so.front = line_count-le-length newline so.front in
@@ -339,16 +336,6 @@ pub few_counted_at : (cutter : CutterState) (text left : List ℕ) (next now : C
 few_counted_at cutter text left next now so is few =
     let e : now.lines ≡ next.lines = ap (λ (those : CutterState). those.lines) is in
     let less : next.lines ≤ cutter.lines + length text = few_counted cutter text left next so in omega (arith, e, less, few)
-
-pub current_small : (cutter : CutterState) (text left : List ℕ) (next : CutterState) → Unmatched cutter text left next → IsSound cutter → cutter.lines + length text < 2 ^ 63 → next.progress.current < 2 ^ 64 - 1
-current_small cutter text left next so sound few =
-    let e : next.progress.current ≡ cutter.progress.current = ap (λ (those : CutterState). those.progress.current) so.same in
-    let small = small_current cutter sound.fit (omega (arith, few)) in omega (arith, e, small)
-
-pub matched_small : (cutter : CutterState) (text left : List ℕ) (next : CutterState) → Unmatched cutter text left next → IsSound cutter → cutter.lines + length text < 2 ^ 63 → next.progress.matched < 2 ^ 64 - 1
-matched_small cutter text left next so sound few =
-    let e : next.progress.matched ≡ cutter.progress.matched = ap (λ (those : CutterState). those.progress.matched) so.same in
-    let small = small_matched cutter sound.fit (omega (arith, few)) in omega (arith, e, small)
 
 -- what is left of a slice
 pub all_left : (left : List ℕ) (n end : ℕ) → n ≡ length left → take (n - (end + 1)) (drop (end + 1) left) ≡ drop (suc end) left
