@@ -31,3 +31,4 @@ pub mod HoldLemmas
 pub mod HeldLemmas
 pub mod TryLemmas
 pub mod PassOnLemmas
+pub mod PassLemmas

@@ -1,0 +1,359 @@
+-- Lines over which the next operand stands as it does.
+use Rattle.std.proofs.Common.{◌≡◌, inl, inr, ℕ, zero, suc, ◌+◌, ◌-◌, ◌^◌, ◌<◌, ◌≤◌, eqb, Bool, true, false, cond, List, [], ◌∷◌, ◌++◌, length, take, drop, get_or, refl, sym, ◌∙◌, ap, subst, arith, length-append}
+use Rattle.std.specs.Prelude.{min}
+use Rattle.std.specs.List.{onto_first}
+use Rattle.std.proofs.lemmas.Bool.{cases_lt, eq-eqb, ne_eqb}
+use Rattle.std.proofs.lemmas.List.{take_all, take_at, length-drop, take-append-drop, append_assoc, length-take-le, get_or_append_left}
+use Rattle.std.proofs.Math.Nat.{min-le_left}
+use Rattle.std.proofs.Math.Seq.{get_or-append_right, get_or-append_seam}
+use Rattle.memchr.specs.Find.{Nowhere, Passes, is_byte}
+use Rattle.bre_core.specs.Search.{contains}
+use Rattle.seg_core.specs.Line.{lines_of, line_count, delimiters, ends_with, EndsAt, FallsShort}
+use Rattle.seg_core.proofs.Delimiters.{delimiters-le-length}
+use Rattle.seg_core.proofs.EndLines.{line_count_near}
+use Rattle.seg_core.proofs.FirstLines.{EndsAt-enough, lines_of-first_lines}
+use Rattle.seg_core.proofs.LineCounts.{line_count-open, line_count-le-length}
+use Rattle.csplit_core.specs.Cutter.{CutterState, suppress_in, state_in, pattern_in, pattern_by, AimHolds, IsFit, IsSound, IsWhole, IsLine, IsFound, PassesOver}
+use Rattle.csplit_core.specs.Input.{newline, without_newline, is_match_of, marked, all_lines}
+use Rattle.csplit_core.specs.Measure.{Moves, IsRepeatedBy, IsRepeated, Fits}
+use Rattle.csplit_core.specs.Operand.{Target, Number, Search, Operand, Line, unmarked}
+use Rattle.csplit_core.specs.Plan.{State, Step, Ending, used_up, missed, above, below, search_line, MatchesNone, Misses, state_after, Runs, is_used_up, misses, is_above, is_below, cuts}
+use Rattle.csplit_core.specs.Progress.{AimsAt, WillMove}
+use Rattle.csplit_core.specs.declared.progress.Turn.{Turn}
+use Rattle.csplit_core.specs.declared.progress.Turn.TheVariants.{UsedUp, Missed, Above, Below, Cuts}
+use Rattle.csplit_core.specs.MatchLaws.{search_some, match_still}
+use Rattle.csplit_core.specs.PlanLaws.{cuts_still}
+use Rattle.csplit_core.proofs.LineLemmas.{all_lines-append, all_lines-line, count-append, count-line, length-all_lines, whole_count, whole-append}
+
+-- What stays so of a state when more lines come
+
+repeated_more : (total more : ℕ) (state : State) (target : Target) → total ≤ more → IsRepeatedBy total state target → IsRepeatedBy more state target
+repeated_more total more state (Number n) less few = omega (arith, less, few)
+repeated_more total more state (Search pattern kept offset) less few = few
+
+all_repeated_more : (total more : ℕ) (state : State) (operands : List Operand) → total ≤ more → IsRepeated total state operands → IsRepeated more state operands
+all_repeated_more total more state [] less none = none
+all_repeated_more total more state (operand ∷ operands) less few = repeated_more total more state operand.target less few
+
+fits_more : (total more : ℕ) (state : State) → total ≤ more → Fits total state → Fits more state
+fits_more total more state less fits = record {
+  some = fits.some;
+  current = let e : state.current ≤ total + 1 = fits.current in omega (arith, e, less);
+  matched = let e : state.matched ≤ total = fits.matched in omega (arith, e, less);
+  repeated = all_repeated_more total more state state.operands less fits.repeated;
+}
+
+moves_more : (total more : ℕ) (state : State) (target : Target) (matched cut : ℕ) → total ≤ more → Moves total state target matched cut → Moves more state target matched cut
+moves_more total more state (Number n) matched cut less at = at
+moves_more total more state (Search pattern kept offset) matched cut less at = (at.0, omega (arith, at.1, less))
+
+-- `count` lines come before these, and none of these has the operand's pattern, from the line on of number `from`
+abbrev pub NoneFrom : Operand → (count : ℕ) → List Line → (from : ℕ) → Type 0
+NoneFrom operand count lines from = (k : ℕ) → k < length lines → from ≤ count + suc k → (get_or lines k unmarked).marks operand ≡ false
+
+-- With the lines of this text too there are `lines`, and the next operand stands as it did.
+abbrev pub StaysOver : CutterState → (text : List ℕ) (lines : ℕ) → Turn → Type 0
+StaysOver cutter text lines UsedUp = Unit {0}
+StaysOver cutter text lines Missed = (operand : Operand) → cutter.sought ≡ pattern_in operand.target → NoneFrom operand cutter.lines (all_lines text) (search_line (suppress_in cutter) (state_in cutter))
+StaysOver cutter text lines (Above matched line) = lines < line
+StaysOver cutter text lines Below = Unit {0}
+StaysOver cutter text lines (Cuts matched line) = Unit {0}
+
+aim_more : (cutter : CutterState) (text : List ℕ) (lines : ℕ) (aim : Turn) → cutter.lines ≤ lines → AimHolds cutter.operands cutter.lines cutter.progress aim → StaysOver cutter text lines aim → AimHolds cutter.operands lines cutter.progress aim
+aim_more cutter text lines UsedUp less holds stays = tt
+aim_more cutter text lines Missed less holds stays = tt
+aim_more cutter text lines (Above matched line) less will stays = record {
+  operand = will.operand;
+  rest = will.rest;
+  within = will.within;
+  left = will.left;
+  cut = will.cut;
+  moves = moves_more cutter.lines lines (state_in cutter) will.operand.target matched will.cut less will.moves;
+  line_is = will.line_is;
+  matched_within = let e : matched ≤ cutter.lines = will.matched_within in omega (arith, e, less);
+  above = stays;
+}
+aim_more cutter text lines Below less holds stays = tt
+aim_more cutter text lines (Cuts matched line) less holds stays = holds
+
+-- a search that matched nothing goes on over more lines
+none_from : (operand : Operand) (a b : List Line) (from : ℕ) → 1 ≤ from → MatchesNone operand a from → NoneFrom operand (length a) b from → MatchesNone operand (a ++ b) from
+none_from operand a b from some none those line from_on within = elim (cases_lt (length a) line) [
+  | inl beyond ↦
+      let e : length (a ++ b) ≡ length a + length b = length-append a b in
+      ap (λ (l : Line). l.marks operand) (get_or-append_right a b (line - 1) unmarked (omega (arith, beyond)))
+      ∙ those (line - 1 - length a) (omega (arith, e, beyond, within)) (omega (arith, beyond, from_on))
+  | inr here ↦ match_still operand a b line (omega (arith, some, from_on)) here ∙ none line from_on here
+]
+
+misses_from : (suppress : Bool) (a b : List Line) (state : State) (operand : Operand) (target : Target) → Misses suppress a state operand target → NoneFrom operand (length a) b (search_line suppress state) → Misses suppress (a ++ b) state operand target
+misses_from suppress a b state operand (Number n) none those = none
+misses_from suppress a b state operand (Search pattern kept offset) none those = none_from operand a b (search_line suppress state) (search_some suppress state) none those
+
+-- what more lines have to be, so that the plan still ends there
+abbrev pub EndsStill : Bool → (count : ℕ) → List Line → (total : ℕ) → State → Ending → Type 0
+EndsStill suppress count b total last used_up = Unit {0}
+EndsStill suppress count b total last (missed operand repetition) = (operand : Operand) (operands : List Operand) → last.operands ≡ operand ∷ operands → NoneFrom operand count b (search_line suppress last)
+EndsStill suppress count b total last (above operand repetition matched cut) = total < cut
+EndsStill suppress count b total last (below operand repetition) = Unit {0}
+
+ends_still : (suppress : Bool) (a b : List Line) (first : State) (steps : List Step) (last : State) (ending : Ending) → Runs suppress a first steps last ending → EndsStill suppress (length a) b (length (a ++ b)) last ending
+    → Runs suppress (a ++ b) last [] last ending
+ends_still suppress a b first steps last ending (is_used_up state none) still = is_used_up state none
+ends_still suppress a b first steps last ending (misses state operand operands is none) still =
+    misses state operand operands is (misses_from suppress a b state operand operand.target none (still operand operands is))
+ends_still suppress a b first steps last ending (is_above state operand operands matched cut is at far) still = is_above state operand operands matched cut is (cuts_still suppress a b state operand operand.target matched cut at) still
+ends_still suppress a b first steps last ending (is_below state operand operands matched cut is at within low) still =
+    is_below state operand operands matched cut is (cuts_still suppress a b state operand operand.target matched cut at) (let e : length (a ++ b) ≡ length a + length b = length-append a b in omega (arith, e, within)) low
+ends_still suppress a b first steps last ending (cuts state operand operands matched cut steps' last' ending' is at from within rest) still =
+    ends_still suppress a b (state_after suppress operand operands state.repetition matched cut) steps' last' ending' rest still
+
+-- that is so where the next operand stands as it did
+still_by : (cutter : CutterState) (x text : List ℕ) (lines : ℕ) (aim : Turn) (ending : Ending) → IsFit cutter → cutter.lines ≡ length (all_lines x) → lines ≡ length (all_lines x ++ all_lines text) → AimsAt aim ending
+    → StaysOver cutter text lines aim → EndsStill (suppress_in cutter) (length (all_lines x)) (all_lines text) (length (all_lines x ++ all_lines text)) (state_in cutter) ending
+still_by cutter x text lines aim used_up fit count all aims stays = tt
+still_by cutter x text lines aim (below operand repetition) fit count all aims stays = tt
+still_by cutter x text lines UsedUp (missed operand repetition) fit count all aims stays = absurd aims
+still_by cutter x text lines Missed (missed operand repetition) fit count all aims stays = λ next rest are.
+    subst (λ n. NoneFrom next n (all_lines text) (search_line (suppress_in cutter) (state_in cutter))) count (stays next (fit.sought ∙ ap pattern_by are))
+still_by cutter x text lines (Above last line) (missed operand repetition) fit count all aims stays = absurd aims
+still_by cutter x text lines Below (missed operand repetition) fit count all aims stays = absurd aims
+still_by cutter x text lines (Cuts last line) (missed operand repetition) fit count all aims stays = absurd aims
+still_by cutter x text lines UsedUp (above operand repetition matched cut) fit count all aims stays = absurd aims
+still_by cutter x text lines Missed (above operand repetition matched cut) fit count all aims stays = absurd aims
+still_by cutter x text lines (Above last line) (above operand repetition matched cut) fit count all aims stays =
+    let least : min cut (2 ^ 64 - 1) ≤ cut = min-le_left cut (2 ^ 64 - 1) in omega (arith, least, aims.1, stays, all)
+still_by cutter x text lines Below (above operand repetition matched cut) fit count all aims stays = absurd aims
+still_by cutter x text lines (Cuts last line) (above operand repetition matched cut) fit count all aims stays = absurd aims
+
+pub passes : (cutter : CutterState) (text : List ℕ) (lines n : ℕ) → IsSound cutter → n ≤ length text → IsWhole (take n text) → lines ≡ cutter.lines + line_count newline (take n text) → StaysOver cutter (take n text) lines cutter.aim
+    → PassesOver cutter text (record cutter { lines = lines }) n
+passes cutter text lines n sound within whole count stays = record {
+  same = refl;
+  within = within;
+  whole = whole;
+  few = let few : line_count newline (take n text) ≤ length (take n text) = line_count-le-length newline (take n text) in let long = length-take-le n text within in omega (arith, count, few, long);
+  sound = record {
+    fit = record {
+      fits = fits_more cutter.lines lines (state_in cutter) (omega (arith, count)) sound.fit.fits;
+      most = sound.fit.most;
+      delim = sound.fit.delim;
+      sought = sound.fit.sought;
+    };
+    aim = aim_more cutter (take n text) lines cutter.aim (omega (arith, count)) sound.aim stays;
+  };
+  ends = λ x before live.
+      let counted : cutter.lines ≡ line_count newline x = live.at.counted in
+      let sum : line_count newline (x ++ take n text) ≡ line_count newline x + line_count newline (take n text) = count-append x (take n text) before in
+      let here : length (all_lines x) ≡ line_count newline x = length-all_lines x in
+      let there : length (all_lines (take n text)) ≡ line_count newline (take n text) = length-all_lines (take n text) in
+      let both : length (all_lines x ++ all_lines (take n text)) ≡ length (all_lines x) + length (all_lines (take n text)) = length-append (all_lines x) (all_lines (take n text)) in (
+        omega (arith, count, counted, sum),
+        record {
+          ending = live.ends.ending;
+          runs = subst (λ those. Runs (suppress_in cutter) those (state_in cutter) [] (state_in cutter) live.ends.ending) (sym (all_lines-append x (take n text) before))
+              (ends_still (suppress_in cutter) (all_lines x) (all_lines (take n text)) _ _ _ live.ends.ending live.ends.runs
+              (still_by cutter x (take n text) lines cutter.aim live.ends.ending sound.fit (omega (arith, counted, here)) (omega (arith, count, counted, here, there, both)) live.ends.aims stays));
+          aims = live.ends.aims;
+        },
+      );
+}
+
+-- All lines of a text
+
+pub fits_count : (cutter now : CutterState) (text : List ℕ) (n : ℕ) → cutter ≡ now → now.lines + length text < 2 ^ 63 → n ≡ delimiters newline text → cutter.lines + n < 2 ^ 64
+fits_count cutter now text n is few counted =
+    let same : cutter.lines ≡ now.lines = ap (λ (those : CutterState). those.lines) is in
+    let less : delimiters newline text ≤ length text = delimiters-le-length newline text in omega (arith, same, less, few, counted)
+
+pub passes_all : (cutter : CutterState) (text : List ℕ) (lines : ℕ) → IsSound cutter → IsWhole text → lines ≡ cutter.lines + delimiters newline text → StaysOver cutter text lines cutter.aim
+    → PassesOver cutter text (record cutter { lines = lines }) (length text)
+passes_all cutter text lines sound whole count stays =
+    let all : text ≡ take (length text) text = sym (take_all (length text) text (omega arith)) in
+    let same : line_count newline text ≡ delimiters newline text = whole_count text whole in
+    let taken : line_count newline text ≡ line_count newline (take (length text) text) = ap (line_count newline) all in
+    passes cutter text lines (length text) sound (omega arith) (subst IsWhole all whole) (omega (arith, count, same, taken)) (subst (λ those. StaysOver cutter those lines cutter.aim) all stays)
+
+pub passes_all_at : (cutter now : CutterState) (text : List ℕ) (n : ℕ) → cutter ≡ now → IsSound now → IsWhole text → n ≡ delimiters newline text → now.aim ≡ UsedUp
+    → PassesOver now text (record cutter { lines = cutter.lines + n }) (length text)
+passes_all_at cutter now text n is sound whole counted aim =
+    subst (λ (those : CutterState). PassesOver those text (record cutter { lines = cutter.lines + n }) (length text)) is
+    (passes_all cutter text (cutter.lines + n) (subst IsSound (sym is) sound) whole (ap (λ k. cutter.lines + k) counted)
+    (subst (StaysOver cutter text (cutter.lines + n)) (sym (ap (λ (those : CutterState). those.aim) is ∙ aim)) tt))
+
+-- Lines before the line of a cut
+
+whole_by_count : (x : List ℕ) → line_count newline x ≡ delimiters newline x → IsWhole x
+whole_by_count [] same = inl refl
+whole_by_count (byte ∷ x) same = by (ends_with newline (byte ∷ x)) refl where
+  by : (ends : Bool) → ends_with newline (byte ∷ x) ≡ ends → IsWhole (byte ∷ x)
+  by true is = inr is
+  by false is = absurd (let e : line_count newline (byte ∷ x) ≡ delimiters newline (byte ∷ x) + 1 = line_count-open newline (byte ∷ x) (omega arith) is in omega (arith, e, same))
+
+-- the lines that end there
+count_ends : (n : ℕ) (x : List ℕ) (end : ℕ) → EndsAt newline n x end → line_count newline (take end x) ≡ n
+count_ends n x end ends =
+    let enough : n ≤ delimiters newline x = EndsAt-enough newline n x end ends in
+    let near : delimiters newline x ≤ line_count newline x = (line_count_near newline x).0 in
+    ap (line_count newline) ends.lines ∙ ap length (lines_of-first_lines newline n x) ∙ length-take-le n (lines_of newline x) (omega (arith, enough, near))
+
+still_above : (cutter : CutterState) (matched line : ℕ) → IsSound cutter → cutter.aim ≡ Above matched line → cutter.lines < line
+still_above cutter matched line sound aim = let will : WillMove cutter.operands cutter.lines cutter.progress matched line = subst (AimHolds cutter.operands cutter.lines cutter.progress) aim sound.aim in will.above
+
+passes_below : (cutter : CutterState) (text : List ℕ) (matched line end : ℕ) → IsSound cutter → cutter.aim ≡ Above matched line → EndsAt newline (line - 1 - cutter.lines) text end → PassesOver cutter text (record cutter { lines = line - 1 }) end
+passes_below cutter text matched line end sound aim ends =
+    let less : cutter.lines < line = still_above cutter matched line sound aim in
+    let count : line_count newline (take end text) ≡ line - 1 - cutter.lines = count_ends (line - 1 - cutter.lines) text end ends in
+    passes cutter text (line - 1) end sound ends.within (whole_by_count (take end text) (count ∙ sym ends.complete)) (omega (arith, less, count))
+    (subst (StaysOver cutter (take end text) (line - 1)) (sym aim) (let e : line - 1 < line = omega (arith, less) in e))
+
+passes_short : (cutter : CutterState) (text : List ℕ) (matched line count : ℕ) → IsSound cutter → IsWhole text → cutter.aim ≡ Above matched line → FallsShort newline (line - 1 - cutter.lines) text count
+    → PassesOver cutter text (record cutter { lines = cutter.lines + count }) (length text)
+passes_short cutter text matched line count sound whole aim short =
+    passes_all cutter text (cutter.lines + count) sound whole (ap (λ k. cutter.lines + k) short.counted)
+    (subst (StaysOver cutter text (cutter.lines + count)) (sym aim) (let e : count < line - 1 - cutter.lines = short.fewer in let less : cutter.lines + count < line = omega (arith, e) in less))
+
+pub passes_below_at : (cutter now : CutterState) (text : List ℕ) (line end : ℕ) → cutter ≡ now → IsSound now → (matched : ℕ) × (now.aim ≡ Above matched line) → EndsAt newline (line - 1 - cutter.lines) text end
+    → PassesOver now text (record cutter { lines = line - 1 }) end
+passes_below_at cutter now text line end is sound (matched, aim) ends =
+    subst (λ (those : CutterState). PassesOver those text (record cutter { lines = line - 1 }) end) is
+    (passes_below cutter text matched line end (subst IsSound (sym is) sound) (ap (λ (those : CutterState). those.aim) is ∙ aim) ends)
+
+pub passes_short_at : (cutter now : CutterState) (text : List ℕ) (line count : ℕ) → cutter ≡ now → IsSound now → IsWhole text → (matched : ℕ) × (now.aim ≡ Above matched line) → FallsShort newline (line - 1 - cutter.lines) text count
+    → PassesOver now text (record cutter { lines = cutter.lines + count }) (length text)
+passes_short_at cutter now text line count is sound whole (matched, aim) short =
+    subst (λ (those : CutterState). PassesOver those text (record cutter { lines = cutter.lines + count }) (length text)) is
+    (passes_short cutter text matched line count (subst IsSound (sym is) sound) whole (ap (λ (those : CutterState). those.aim) is ∙ aim) short)
+
+-- Lines without the pattern that is searched for
+
+-- The text before what is left was counted, and none of its lines has the pattern that is searched for, from the line on where the search begins.
+pub record Unmatched (cutter : CutterState) (text left : List ℕ) (next : CutterState) : Type 0 where
+  pub front : List ℕ
+  pub all : text ≡ front ++ left
+  pub whole : IsWhole front
+  pub same : next ≡ record cutter { lines = next.lines }
+  pub count : next.lines ≡ cutter.lines + line_count newline front
+  pub none : StaysOver cutter front next.lines Missed
+
+pub none_yet : (cutter : CutterState) (text : List ℕ) → Unmatched cutter text text cutter
+none_yet cutter text = record {
+  front = [];
+  all = refl;
+  whole = inl refl;
+  same = refl;
+  count = omega arith;
+  none = λ operand same k less near. absurd (omega (arith, less));
+}
+
+-- the line up to the first newline
+
+first_ends : (x : List ℕ) (end : ℕ) → end < length x → Passes (is_byte newline) x end → ends_with newline (take (suc end) x) ≡ true
+first_ends [] end within here = absurd (omega (arith, within))
+first_ends (byte ∷ x) zero within here = here
+first_ends (byte ∷ []) (suc end) within here = absurd (omega (arith, within))
+first_ends (byte ∷ next ∷ x) (suc end) within here = first_ends (next ∷ x) end (omega (arith, within)) here
+
+one_by : (byte : ℕ) (is : Bool) → cond is ((byte ∷ []) ∷ []) ((byte ∷ []) ∷ []) ≡ (byte ∷ []) ∷ []
+one_by byte true = refl
+one_by byte false = refl
+
+other_first : (x : List ℕ) (byte end : ℕ) → 0 < end → Nowhere (Passes (is_byte newline) (byte ∷ x)) 0 end → eqb byte newline ≡ false
+other_first x byte end some none = ne_eqb byte newline (λ same. none 0 (omega arith) some (eq-eqb byte newline same))
+
+none_after : (byte : ℕ) (x : List ℕ) (end : ℕ) → Nowhere (Passes (is_byte newline) (byte ∷ x)) 0 (suc end) → Nowhere (Passes (is_byte newline) x) 0 end
+none_after byte x end none k low high = none (suc k) (omega arith) (omega (arith, high))
+
+first_line : (x : List ℕ) (end : ℕ) → end < length x → Nowhere (Passes (is_byte newline) x) 0 end → IsLine (take (suc end) x)
+first_line [] end within none = absurd (omega (arith, within))
+first_line (byte ∷ x) zero within none = one_by byte (eqb byte newline)
+first_line (byte ∷ x) (suc end) within none =
+    ap (λ is. cond is ((byte ∷ []) ∷ lines_of newline (take (suc end) x)) (onto_first byte (lines_of newline (take (suc end) x)))) (other_first x byte (suc end) (omega arith) none)
+    ∙ ap (onto_first byte) (first_line x end (omega (arith, within)) (none_after byte x end none))
+
+first_text : (x : List ℕ) (end : ℕ) → end < length x → Passes (is_byte newline) x end → Nowhere (Passes (is_byte newline) x) 0 end → without_newline (take (suc end) x) ≡ take end x
+first_text [] end within here none = absurd (omega (arith, within))
+first_text (byte ∷ x) zero within here none = ap (λ is. cond is [] (byte ∷ [])) here
+first_text (byte ∷ x) (suc end) within here none =
+    ap (λ is. cond is [] (byte ∷ without_newline (take (suc end) x))) (other_first x byte (suc end) (omega arith) none)
+    ∙ ap (λ text. byte ∷ text) (first_text x end (omega (arith, within)) here (none_after byte x end none))
+
+-- one more line
+
+mark_none : (next : CutterState) (text line : List ℕ) (number : ℕ) (target : Target) → IsFound next text number false → without_newline line ≡ text → next.sought ≡ pattern_in target → search_line (suppress_in next) (state_in next) ≤ number
+    → is_match_of line target ≡ false
+mark_none next text line number (Number n) found is same near = refl
+mark_none next text line number (Search pattern kept offset) found is same near = ap (contains pattern) is ∙ sym (found.some pattern same near)
+
+none_line : (operand : Operand) (count : ℕ) (a : List Line) (line : Line) (from : ℕ) → NoneFrom operand count a from → (from ≤ count + suc (length a) → line.marks operand ≡ false) → NoneFrom operand count (a ++ line ∷ []) from
+none_line operand count a line from those here k less near = elim (cases_lt k (length a)) [
+  | inl before ↦ ap (λ (l : Line). l.marks operand) (get_or_append_left a (line ∷ []) unmarked k before) ∙ those k before near
+  | inr past ↦
+      let e : length (a ++ line ∷ []) ≡ length a + 1 = length-append a (line ∷ []) in
+      let last : k ≡ length a = omega (arith, e, past, less) in
+      ap (λ j. (get_or (a ++ line ∷ []) j unmarked).marks operand) last
+      ∙ ap (λ (l : Line). l.marks operand) (get_or-append_seam a line [] unmarked)
+      ∙ here (omega (arith, last, near))
+]
+
+one_more : (cutter : CutterState) (text left rest : List ℕ) (next : CutterState) (number end : ℕ) → Unmatched cutter text left next → number ≡ next.lines + 1 → end < length left → Passes (is_byte newline) left end
+    → Nowhere (Passes (is_byte newline) left) 0 end → IsFound next (take end left) number false → rest ≡ drop (suc end) left → Unmatched cutter text rest (record next { lines = number })
+one_more cutter text left rest next number end so is within here none found rest_is =
+    let line = take (suc end) left in
+    let one : IsLine line = first_line left end within none in
+    let found_at : IsFound (record cutter { lines = next.lines }) (take end left) number false = subst (λ (those : CutterState). IsFound those (take end left) number false) so.same found in
+    let before : length (all_lines so.front) ≡ line_count newline so.front = length-all_lines so.front in record {
+      front = so.front ++ line;
+      all = so.all ∙ ap (λ those. so.front ++ those) (sym (take-append-drop (suc end) left) ∙ ap (λ those. line ++ those) (sym rest_is)) ∙ sym (append_assoc so.front line rest);
+      whole = whole-append so.front line so.whole (inr (first_ends left end within here));
+      same = ap (λ (those : CutterState). record those { lines = number }) so.same;
+      count = is ∙ (let more : line_count newline (so.front ++ line) ≡ line_count newline so.front + 1 = count-line so.front line so.whole one in let c : next.lines ≡ cutter.lines + line_count newline so.front = so.count in omega (arith, more, c));
+      none = λ operand same. subst (λ those. NoneFrom operand cutter.lines those (search_line (suppress_in cutter) (state_in cutter))) (sym (all_lines-line so.front line so.whole one))
+          (none_line operand cutter.lines (all_lines so.front) (marked line) (search_line (suppress_in cutter) (state_in cutter)) (so.none operand same)
+          (λ near. mark_none (record cutter { lines = next.lines }) (take end left) line number operand.target found_at (first_text left end within here none) same
+          (let c : next.lines ≡ cutter.lines + line_count newline so.front = so.count in omega (arith, near, is, c, before))));
+    }
+
+-- all that were looked at are passed over
+all_passed : (cutter : CutterState) (text left : List ℕ) (next : CutterState) → IsSound cutter → cutter.aim ≡ Missed → Unmatched cutter text left next → PassesOver cutter text next (length text - length left)
+all_passed cutter text left next sound aim so =
+    let long : length text ≡ length so.front + length left = ap length so.all ∙ length-append so.front left in
+    let count : length so.front ≡ length text - length left = omega (arith, long) in
+    let front_is : so.front ≡ take (length text - length left) text = sym (ap (take (length text - length left)) so.all ∙ take_at so.front left (length text - length left) count) in
+    subst (λ (those : CutterState). PassesOver cutter text those (length text - length left)) (sym so.same)
+    (passes cutter text next.lines (length text - length left) sound (omega arith) (subst IsWhole front_is so.whole) (so.count ∙ ap (λ those. cutter.lines + line_count newline those) front_is)
+    (subst (StaysOver cutter (take (length text - length left) text) next.lines) (sym aim) (subst (λ those. StaysOver cutter those next.lines Missed) front_is so.none)))
+
+-- the numbers are small
+
+few_counted : (cutter : CutterState) (text left : List ℕ) (next : CutterState) → Unmatched cutter text left next → next.lines ≤ cutter.lines + length text
+few_counted cutter text left next so =
+    let long : length text ≡ length so.front + length left = ap length so.all ∙ length-append so.front left in
+    let less : line_count newline so.front ≤ length so.front = line_count-le-length newline so.front in
+    let c : next.lines ≡ cutter.lines + line_count newline so.front = so.count in omega (arith, long, less, c)
+
+pub few_counted_at : (cutter : CutterState) (text left : List ℕ) (next now : CutterState) → Unmatched cutter text left next → now ≡ next → cutter.lines + length text < 2 ^ 63 → now.lines + 1 < 2 ^ 64
+few_counted_at cutter text left next now so is few =
+    let e : now.lines ≡ next.lines = ap (λ (those : CutterState). those.lines) is in
+    let less : next.lines ≤ cutter.lines + length text = few_counted cutter text left next so in omega (arith, e, less, few)
+
+-- what is left of a slice
+pub all_left : (left : List ℕ) (n end : ℕ) → n ≡ length left → take (n - (end + 1)) (drop (end + 1) left) ≡ drop (suc end) left
+all_left left n end is =
+    take_all (n - (end + 1)) (drop (end + 1) left) (let e : length (drop (end + 1) left) ≡ length left - (end + 1) = length-drop (end + 1) left in omega (arith, e, is))
+    ∙ ap (λ k. drop k left) (let e : end + 1 ≡ suc end = omega arith in e)
+
+-- the same of cutters that are known by their fields
+
+pub one_more_at : (cutter : CutterState) (text left rest : List ℕ) (next before same now : CutterState) (end : ℕ) (found : Bool) → Unmatched cutter text left next → before ≡ next → same ≡ next → now ≡ same
+    → end < length left → Passes (is_byte newline) left end → Nowhere (Passes (is_byte newline) left) 0 end → IsFound next (take end left) (before.lines + 1) found → found ≡ false → rest ≡ drop (suc end) left
+    → Unmatched cutter text rest (record now { lines = now.lines + 1 })
+one_more_at cutter text left rest next before same now end found so before_is same_is now_is within here none finds not rest_is =
+    let is : now ≡ next = now_is ∙ same_is in
+    let number : before.lines + 1 ≡ now.lines + 1 = ap (λ (those : CutterState). those.lines + 1) (before_is ∙ sym is) in
+    subst (λ (those : CutterState). Unmatched cutter text rest (record those { lines = now.lines + 1 })) (sym is)
+    (one_more cutter text left rest next (now.lines + 1) end so (ap (λ (those : CutterState). those.lines + 1) is) within here none
+    (subst (λ k. IsFound next (take end left) k false) number (subst (IsFound next (take end left) (before.lines + 1)) not finds)) rest_is)
+
+pub all_passed_at : (cutter : CutterState) (text left : List ℕ) (next now : CutterState) → IsSound cutter → cutter.aim ≡ Missed → Unmatched cutter text left next → now ≡ next → PassesOver cutter text now (length text - length left)
+all_passed_at cutter text left next now sound aim so is = subst (λ (those : CutterState). PassesOver cutter text those (length text - length left)) (sym is) (all_passed cutter text left next sound aim so)
