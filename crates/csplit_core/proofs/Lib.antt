@@ -32,3 +32,4 @@ pub mod HeldLemmas
 pub mod TryLemmas
 pub mod PassOnLemmas
 pub mod PassLemmas
+pub mod CutLemmas

@@ -16,7 +16,7 @@ ghost use Rattle.csplit_core.specs.Writer.{IsReady, OwnsFiles, size_of};
 ghost use Rattle.csplit_core.specs.declared.progress.Turn.TheVariants as turn_is;
 
 use crate::holding::{drain, hold_last, write_front};
-use crate::lines::split_lines;
+use crate::lines::{skip_line, split_lines};
 use crate::matcher::{Matcher, text_of};
 use crate::next_operand::{find_matcher, find_window, is_kept, next_operand};
 use crate::progress::{Progress, Turn};
@@ -440,10 +440,7 @@ impl<'o> LineCutter<'o> {
         self.pass(cut)?;
         let is_kept = is_kept(next_operand(self.operands, self.progress.done));
         self.writer.next(is_kept, outs)?;
-        if self.writer.style().suppress {
-            return Ok(next_line(rest, NEWLINE).1);
-        }
-        Ok(rest)
+        Ok(skip_line(self.writer.style().suppress, rest))
     }
 
     /// Goes on after a cut of the next operand, where no line waits.

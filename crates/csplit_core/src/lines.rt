@@ -1,9 +1,9 @@
 //! The first lines of a text.
-ghost use Rattle.std.specs.Prelude.{◌≡◌};
+ghost use Rattle.std.specs.Prelude.{◌≡◌, true, false};
 ghost use Rattle.seg_core.specs.Line.{after_lines, first_lines};
 ghost use Rattle.csplit_core.specs.Input.{newline};
 
-use seg_core::line::{NEWLINE, reach};
+use seg_core::line::{NEWLINE, next_line, reach};
 use seg_core::line_reach::Reach;
 
 /// The first `lines` lines of a text, or all of it where it has no more complete ones, and what follows them.
@@ -15,4 +15,16 @@ pub(crate) fn split_lines(text: &[u8], lines: u64) -> (&[u8], &[u8])
         Reach::Ends(end) => text.split_at(end),
         Reach::Short(_) => text.split_at(text.len()),
     }
+}
+
+/// What follows the first line of a text, or with `skips` unset the text.
+pub(crate) fn skip_line(skips: bool, text: &[u8]) -> &[u8]
+    ensures first { skips ≡ true → result.now ≡ after_lines newline 1 text.now }
+    ensures none { skips ≡ false → result.now ≡ text.now }
+{
+    if !skips {
+        return text;
+    }
+    let (_, rest) = next_line(text, NEWLINE);
+    rest
 }

@@ -1,0 +1,109 @@
+-- A cut ends the open section, and the next one begins.
+use Rattle.std.proofs.Common.{◌≡◌, ◌⊎◌, inl, inr, ℕ, suc, ◌+◌, ◌-◌, ◌<◌, ◌≤◌, Bool, true, false, Result, Ok, Err, OnOk, IfErr, List, [], ◌∷◌, ◌++◌, length, map, drop, refl, sym, ◌∙◌, ap, subst, arith, append_assoc}
+use Rattle.std.proofs.lemmas.List.{map-append, append-nil}
+use Rattle.seg_core.specs.Line.{line_count, first_lines, after_lines}
+use Rattle.seg_core.specs.Window.{Window}
+use Rattle.ports_core.specs.Part.{Part, Begins}
+use Rattle.ports_core.specs.Slot.{Slot, KeepsBroken}
+use Rattle.ports_core.specs.declared.fault.Fault.{Fault}
+use Rattle.ports_core.specs.declared.fault.Fault.TheVariants.{Memory}
+use Rattle.ports_core.proofs.SlotSteps.{keeps_again}
+use Rattle.csplit_core.specs.Csplit.{settled_of}
+use Rattle.csplit_core.specs.Draft.{Draft, draft_part, last_contents, with_bytes, with_section}
+use Rattle.csplit_core.specs.Input.{newline, marked, all_lines}
+use Rattle.csplit_core.specs.Operand.{Operand, Line, is_kept}
+use Rattle.csplit_core.specs.Output.{Style, Contents, contents_of, part_by, part_of}
+use Rattle.csplit_core.specs.Plan.{State, start, Step, Ending, search_line, line_after, state_after, step_of, Runs, is_used_up, misses, is_above, is_below, cuts}
+use Rattle.csplit_core.specs.Planned.{Plan, plan, plan_within}
+use Rattle.csplit_core.specs.PlanLaws.{needed, plan_once, runs}
+use Rattle.csplit_core.specs.Progress.{state_of, GoesPast}
+use Rattle.csplit_core.specs.Section.{Section, section, section_of, lines_between, bytes_of, is_last_kept, settled_end, settled_sections}
+use Rattle.csplit_core.specs.SectionLaws.{part_grows, front_of, ends_as}
+use Rattle.csplit_core.specs.Writer.{WriterState, Writes, IsReady, KeepsFiles, Halts, Went, Stopped, Goes, size_of}
+use Rattle.csplit_core.specs.Writer.{Moves as Gets}
+use Rattle.csplit_core.specs.declared.line_cutter.Cut.{Cut}
+use Rattle.csplit_core.specs.Cutter.{CutterState, suppress_in, state_in, kept_by, text_from, Leads, draft_by, settled_part, IsFit, IsSame, IsAt, part_at, Looked, search_after, CutsNow, PassesOn, IsAfter, CutAt, CutNot, WillCut}
+use Rattle.csplit_core.proofs.HoldLemmas.{memory_halts}
+use Rattle.csplit_core.proofs.LastSectionLemmas.{after_within}
+use Rattle.csplit_core.proofs.LineLemmas.{bytes_between, first_further, from_further, length-all_lines}
+use Rattle.csplit_core.proofs.SettledLemmas.{last_kept}
+use Rattle.csplit_core.proofs.WriterLemmas.{moves_again, moves_as, halts_after, halts_wider, halts_as, bytes_begin, section_begins, breaks_later, owns_again}
+
+-- What is settled begins with what stands where a section has begun.
+
+first_kept : (suppress : Bool) (lines : List Line) (state : State) (step : Step) (steps : List Step) (last : State) (ending : Ending) → Runs suppress lines state (step ∷ steps) last ending → kept_by state.operands ≡ is_kept step.operand.target
+first_kept suppress lines state step steps last ending (cuts state' operand operands matched cut steps' last' ending' are at from within rest) = ap kept_by are
+
+settled_by_plan : (style : Style) (operands : List Operand) (lines : List Line) (steps : List Step) (last : State) (ending : Ending) → Runs style.suppress lines (start operands) steps last ending
+    → settled_of style operands lines ≡ part_by style (map contents_of (map (section_of lines) steps ++ section (is_last_kept ending) false (lines_between last.current (settled_end (length lines) ending) lines) ∷ []))
+settled_by_plan style operands lines steps last ending runs = ap (λ (p : Plan). part_of style (settled_sections lines p)) (plan_once style.suppress operands lines steps last ending runs)
+
+-- one section, and those after it
+begins_with : (style : Style) (front : List Section) (one : Section) (more : List Section) (kept : Bool) → kept ≡ one.is_kept → Begins (draft_part style (record { ended = map contents_of front; is_kept = kept; bytes = [] })) (part_by style (map contents_of (front ++ one ∷ more)))
+begins_with style front one more kept same =
+    subst (λ those. Begins (draft_part style (record { ended = map contents_of front; is_kept = kept; bytes = [] })) (part_by style those)) (sym (map-append contents_of front (one ∷ more)))
+    (part_grows style (map contents_of front) (record { is_kept = kept; is_closed = false; bytes = [] }) (contents_of one) (map contents_of more) refl same (bytes_of one.lines) refl)
+
+begun_by : (style : Style) (operands : List Operand) (lines : List Line) (steps : List Step) (state : State) (more : List Step) (last : State) (ending : Ending) → Runs style.suppress lines state more last ending → Runs style.suppress lines (start operands) (steps ++ more) last ending
+    → Begins (draft_part style (draft_by lines steps (kept_by state.operands) [])) (settled_of style operands lines)
+begun_by style operands lines steps state [] last ending rest all =
+    subst (Begins (draft_part style (draft_by lines steps (kept_by state.operands) []))) (sym (settled_by_plan style operands lines (steps ++ []) last ending all))
+    (subst (λ those. Begins (draft_part style (draft_by lines steps (kept_by state.operands) [])) (part_by style (map contents_of (map (section_of lines) those ++ section (is_last_kept ending) false (lines_between last.current (settled_end (length lines) ending) lines) ∷ [])))) (sym (append-nil steps))
+    (begins_with style (map (section_of lines) steps) (section (is_last_kept ending) false (lines_between last.current (settled_end (length lines) ending) lines)) [] (kept_by state.operands) (at_end state last ending rest))) where
+  at_end : (state last : State) (ending : Ending) → Runs style.suppress lines state [] last ending → kept_by state.operands ≡ is_last_kept ending
+  at_end state last ending (is_used_up state' none) = last_kept style.suppress lines state' ending (ends_as style.suppress lines state' [] state' ending (is_used_up state' none))
+  at_end state last ending (misses state' operand those is none) = ap kept_by is
+  at_end state last ending (is_above state' operand those matched cut is at far) = ap kept_by is
+  at_end state last ending (is_below state' operand those matched cut is at within low) = ap kept_by is
+begun_by style operands lines steps state (step ∷ more) last ending rest all =
+    let tail = map (section_of lines) more ++ section (is_last_kept ending) false (lines_between last.current (settled_end (length lines) ending) lines) ∷ [] in
+    subst (Begins (draft_part style (draft_by lines steps (kept_by state.operands) []))) (sym (settled_by_plan style operands lines (steps ++ step ∷ more) last ending all
+    ∙ ap (λ those. part_by style (map contents_of (those ++ section (is_last_kept ending) false (lines_between last.current (settled_end (length lines) ending) lines) ∷ []))) (map-append (section_of lines) steps (step ∷ more))
+    ∙ ap (λ those. part_by style (map contents_of those)) (append_assoc (map (section_of lines) steps) (section_of lines step ∷ map (section_of lines) more) _)))
+    (begins_with style (map (section_of lines) steps) (section_of lines step) tail (kept_by state.operands) (first_kept style.suppress lines state step more last ending rest))
+
+pub begun_begins : (style : Style) (operands : List Operand) (lines : List Line) (steps : List Step) (state : State) → Leads style.suppress lines operands steps state → 1 ≤ state.current
+    → Begins (draft_part style (draft_by lines steps (kept_by state.operands) [])) (settled_of style operands lines)
+begun_begins style operands lines steps state leads some =
+    let p = plan_within (needed (length lines) state) style.suppress lines state in
+    let rest = runs (needed (length lines) state) style.suppress lines state (omega arith) some in
+    begun_by style operands lines steps state p.steps p.last p.ending rest (leads p.steps p.last p.ending rest)
+
+-- The sections once one more ended
+
+-- the step of a cut
+abbrev step_at : CutterState → Operand → Cut → Step
+step_at cutter operand cut = step_of (state_in cutter) operand cut.matched cut.line
+
+cut_draft : (cutter : CutterState) (x left before : List ℕ) (at : IsAt cutter x left) (cut : Cut) (operand : Operand) (operands : List Operand) (kept : Bool) → (state_in cutter).operands ≡ operand ∷ operands → 1 ≤ cutter.progress.current
+    → cutter.progress.current + at.taken ≤ cut.line → before ≡ first_lines newline (cut.line - (cutter.progress.current + at.taken)) left
+    → with_section kept (with_bytes before (draft_by (all_lines x) at.steps (kept_by (state_in cutter).operands) at.written)) ≡ draft_by (all_lines x) (at.steps ++ step_at cutter operand cut ∷ []) kept []
+cut_draft cutter x left before at cut operand operands kept are some on before_is =
+    let bytes : at.written ++ before ≡ bytes_of (lines_between cutter.progress.current cut.line (all_lines x)) =
+    ap (λ those. those ++ before) at.written_is
+    ∙ ap (λ those. first_lines newline at.taken (text_from cutter.progress.current x) ++ those) (before_is ∙ ap (first_lines newline (cut.line - (cutter.progress.current + at.taken))) at.left_is)
+    ∙ sym (first_further cutter.progress.current at.taken (cut.line - (cutter.progress.current + at.taken)) x some)
+    ∙ ap (λ n. first_lines newline n (text_from cutter.progress.current x)) (let e : at.taken + (cut.line - (cutter.progress.current + at.taken)) ≡ cut.line - cutter.progress.current = omega (arith, on) in e)
+    ∙ sym (bytes_between cutter.progress.current cut.line x) in
+    ap (λ k. record { ended = map contents_of (map (section_of (all_lines x)) at.steps) ++ record { is_kept = k; is_closed = true; bytes = at.written ++ before } ∷ []; is_kept = kept; bytes = [] }) (ap kept_by are)
+    ∙ ap (λ bytes. record { ended = map contents_of (map (section_of (all_lines x)) at.steps) ++ record { is_kept = is_kept operand.target; is_closed = true; bytes = bytes } ∷ []; is_kept = kept; bytes = [] }) bytes
+    ∙ ap (λ ended. record { ended = ended; is_kept = kept; bytes = [] })
+      (sym (ap (map contents_of) (map-append (section_of (all_lines x)) at.steps (step_at cutter operand cut ∷ [])) ∙ map-append contents_of (map (section_of (all_lines x)) at.steps) (section_of (all_lines x) (step_at cutter operand cut) ∷ [])))
+
+leads_on : (cutter : CutterState) (x left : List ℕ) (at : IsAt cutter x left) (cut : Cut) (goes : GoesPast (suppress_in cutter) (all_lines x) (state_in cutter) cut.matched cut.line)
+    → Leads (suppress_in cutter) (all_lines x) cutter.operands (at.steps ++ step_at cutter goes.operand cut ∷ []) (state_after (suppress_in cutter) goes.operand goes.operands cutter.progress.repetition cut.matched cut.line)
+leads_on cutter x left at cut goes more last ending run =
+    subst (λ steps. Runs (suppress_in cutter) (all_lines x) (start cutter.operands) steps last ending) (sym (append_assoc at.steps (step_at cutter goes.operand cut ∷ []) more))
+    (at.leads (step_at cutter goes.operand cut ∷ more) last ending (goes.runs more last ending run))
+
+-- what is settled begins with the sections after the cut
+pub cut_begins : (cutter : CutterState) (x left line before : List ℕ) (at : IsAt cutter x left) (cut : Cut) (place : ℕ) (now : CutsNow cutter x left line cut place at) → IsFit cutter → WillCut cutter cut → before ≡ first_lines newline (cut.line - place) left
+    → Begins (draft_part cutter.writer.style (with_section (kept_by (state_after (suppress_in cutter) now.goes.operand now.goes.operands cutter.progress.repetition cut.matched cut.line).operands)
+    (with_bytes before (draft_by (all_lines x) at.steps (kept_by (state_in cutter).operands) at.written)))) (settled_part cutter x)
+cut_begins cutter x left line before at cut place now fit will before_is =
+    let state = state_after (suppress_in cutter) now.goes.operand now.goes.operands cutter.progress.repetition cut.matched cut.line in
+    let on : cutter.progress.current + at.taken ≤ cut.line = (let p = now.place_is in let b = now.before in omega (arith, p, b)) in
+    let some : 1 ≤ state.current = (let least = Rattle.csplit_core.specs.PlanLaws.line_some (suppress_in cutter) cut.line in let s = fit.fits.some in let f = will.from in omega (arith, least, s, f)) in
+    subst (λ draft. Begins (draft_part cutter.writer.style draft) (settled_part cutter x))
+    (sym (cut_draft cutter x left before at cut now.goes.operand now.goes.operands (kept_by state.operands) now.goes.are fit.fits.some on (before_is ∙ ap (λ n. first_lines newline (cut.line - n) left) now.place_is)))
+    (begun_begins cutter.writer.style cutter.operands (all_lines x) (at.steps ++ step_at cutter now.goes.operand cut ∷ []) state (leads_on cutter x left at cut now.goes) some)
