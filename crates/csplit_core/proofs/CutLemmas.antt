@@ -7,6 +7,7 @@ use Rattle.ports_core.specs.Part.{Part, Begins}
 use Rattle.ports_core.specs.Slot.{Slot, KeepsBroken}
 use Rattle.ports_core.specs.declared.fault.Fault.{Fault}
 use Rattle.ports_core.specs.declared.fault.Fault.TheVariants.{Memory}
+use Rattle.ports_core.proofs.PartLemmas.{part_trans}
 use Rattle.ports_core.proofs.SlotSteps.{keeps_again}
 use Rattle.csplit_core.specs.Csplit.{settled_of}
 use Rattle.csplit_core.specs.Draft.{Draft, draft_part, last_contents, with_bytes, with_section}
@@ -107,3 +108,83 @@ cut_begins cutter x left line before at cut place now fit will before_is =
     subst (λ draft. Begins (draft_part cutter.writer.style draft) (settled_part cutter x))
     (sym (cut_draft cutter x left before at cut now.goes.operand now.goes.operands (kept_by state.operands) now.goes.are fit.fits.some on (before_is ∙ ap (λ n. first_lines newline (cut.line - n) left) now.place_is)))
     (begun_begins cutter.writer.style cutter.operands (all_lines x) (at.steps ++ step_at cutter now.goes.operand cut ∷ []) state (leads_on cutter x left at cut now.goes) some)
+
+-- What `cut_at` owes, by how far it came. First the lines before the cut are written; then the run goes on; then the next section begins.
+
+-- the sections, where a cut is due
+abbrev draft_at : (cutter : CutterState) (x left : List ℕ) → IsAt cutter x left → Draft
+draft_at cutter x left at = draft_by (all_lines x) at.steps (kept_by (state_in cutter).operands) at.written
+
+before_begins : (cutter : CutterState) (x left line before : List ℕ) (at : IsAt cutter x left) (cut : Cut) (place : ℕ) (now : CutsNow cutter x left line cut place at) → IsFit cutter → WillCut cutter cut → before ≡ first_lines newline (cut.line - place) left
+    → Begins (draft_part cutter.writer.style (with_bytes before (draft_at cutter x left at))) (settled_part cutter x)
+before_begins cutter x left line before at cut place now fit will before_is =
+    part_trans (draft_part cutter.writer.style (with_bytes before (draft_at cutter x left at))) _ (settled_part cutter x) (section_begins cutter.writer.style _ (with_bytes before (draft_at cutter x left at))) (cut_begins cutter x left line before at cut place now fit will before_is)
+
+put_stopped : (told : Bool) (cutter : CutterState) (writer : WriterState) (cut : Cut) (place : ℕ) (left before : List ℕ) (old new : List Slot) (fault : Fault) → IsFit cutter → WillCut cutter cut → before ≡ first_lines newline (cut.line - place) left
+    → Stopped told cutter.writer (with_bytes before) old new writer fault → CutNot told cutter cut place left old new (record cutter { writer = writer }) fault
+put_stopped told cutter writer cut place left before old new fault fit will before_is stopped = record {
+  same = record { operands = refl; style = stopped.style };
+  halts = λ x line at now. halts_wider told (part_at cutter x left at) (draft_part cutter.writer.style (with_bytes before (draft_at cutter x left at))) (settled_part cutter x) old new fault (stopped.halts (draft_at cutter x left at) at.writes)
+      (before_begins cutter x left line before at cut place now fit will before_is);
+  breaks = stopped.breaks;
+  owns = stopped.owns;
+}
+
+pub cut_put_stopped : (told : Bool) (cutter before_put : CutterState) (writer : WriterState) (cut : Cut) (place : ℕ) (left before : List ℕ) (old new : List Slot) (fault : Fault) → before_put ≡ cutter → IsFit cutter → WillCut cutter cut
+    → before ≡ first_lines newline (cut.line - place) left → Stopped told before_put.writer (with_bytes before) old new writer fault → CutNot told cutter cut place left old new (record before_put { writer = writer }) fault
+cut_put_stopped told cutter before_put writer cut place left before old new fault same fit will before_is stopped =
+    subst (λ (c : CutterState). CutNot told c cut place left old new (record before_put { writer = writer }) fault) same
+    (put_stopped told before_put writer cut place left before old new fault (subst IsFit (sym same) fit) (subst (λ (c : CutterState). WillCut c cut) (sym same) will) before_is stopped)
+
+pass_stopped : (told : Bool) (cutter mid : CutterState) (writer : WriterState) (cut : Cut) (place : ℕ) (left before : List ℕ) (old new : List Slot) (fault : Fault) → IsFit cutter → WillCut cutter cut → before ≡ first_lines newline (cut.line - place) left
+    → Went told cutter.writer (with_bytes before) old new writer → fault ≡ Memory → mid.writer ≡ writer → mid.operands ≡ cutter.operands → CutNot told cutter cut place left old new mid fault
+pass_stopped told cutter mid writer cut place left before old new fault fit will before_is went is_memory same_writer same_operands =
+    subst (λ why. CutNot told cutter cut place left old new mid why) (sym is_memory) (record {
+      same = record { operands = same_operands; style = ap (λ (w : WriterState). w.style) same_writer ∙ went.style };
+      halts = λ x line at now.
+          halts_after told (part_at cutter x left at) (draft_part cutter.writer.style (with_bytes before (draft_at cutter x left at))) (settled_part cutter x) old new new Memory (bytes_begin cutter.writer.style before (draft_at cutter x left at)) (went.moves (draft_at cutter x left at) at.writes)
+          (halts_wider told _ _ (settled_part cutter x) new new Memory (memory_halts told cutter.writer.style (with_bytes before (draft_at cutter x left at)) new at.writes.closed) (before_begins cutter x left line before at cut place now fit will before_is));
+      breaks = tt;
+      owns = subst (λ w. KeepsFiles cutter.writer w old new) (sym same_writer) went.owns;
+    })
+
+pub cut_pass_stopped : (told : Bool) (cutter before_put mid : CutterState) (writer : WriterState) (cut : Cut) (place : ℕ) (left before : List ℕ) (old new : List Slot) (fault : Fault) → before_put ≡ cutter → IsFit cutter → WillCut cutter cut → before ≡ first_lines newline (cut.line - place) left
+    → Went told before_put.writer (with_bytes before) old new writer → (fault ≡ Memory) × (mid.writer ≡ writer) × (mid.operands ≡ before_put.operands) → CutNot told cutter cut place left old new mid fault
+cut_pass_stopped told cutter before_put mid writer cut place left before old new fault same fit will before_is went lacks =
+    subst (λ (c : CutterState). CutNot told c cut place left old new mid fault) same
+    (pass_stopped told before_put mid writer cut place left before old new fault (subst IsFit (sym same) fit) (subst (λ (c : CutterState). WillCut c cut) (sym same) will) before_is went lacks.0 lacks.1 lacks.2)
+
+-- the run went on after the cut
+pub record Passed (cutter mid : CutterState) (writer : WriterState) (cut : Cut) : Type 0 where
+  pub same : mid ≡ record cutter { writer = writer; progress = mid.progress; window = mid.window; sought = mid.sought }
+  pub held : mid.window.held ≡ []
+  pub fit : IsFit mid
+  pub fewer : needed mid.lines (state_in mid) < needed cutter.lines (state_in cutter)
+  pub state : PassesOn (record cutter { writer = writer }) cut mid
+
+passed_style : (told : Bool) (cutter mid : CutterState) (writer : WriterState) (cut : Cut) (before : List ℕ) (old new : List Slot) → Went told cutter.writer (with_bytes before) old new writer → Passed cutter mid writer cut → mid.writer.style ≡ cutter.writer.style
+passed_style told cutter mid writer cut before old new went passed = ap (λ (c : CutterState). c.writer.style) passed.same ∙ went.style
+
+-- where the run stands then
+passed_state : (told : Bool) (cutter mid : CutterState) (writer : WriterState) (cut : Cut) (before : List ℕ) (old new : List Slot) → Went told cutter.writer (with_bytes before) old new writer → Passed cutter mid writer cut → (operand : Operand) (operands : List Operand) → (state_in cutter).operands ≡ operand ∷ operands
+    → state_in mid ≡ state_after (suppress_in cutter) operand operands cutter.progress.repetition cut.matched cut.line
+passed_state told cutter mid writer cut before old new went passed operand operands are =
+    passed.state operand operands are ∙ ap (λ (s : Style). state_after s.suppress operand operands cutter.progress.repetition cut.matched cut.line) went.style
+
+pub next_stopped : (told : Bool) (cutter mid : CutterState) (writer next : WriterState) (cut : Cut) (place : ℕ) (left before : List ℕ) (kept : Bool) (old between new : List Slot) (fault : Fault) → IsFit cutter → WillCut cutter cut → before ≡ first_lines newline (cut.line - place) left
+    → Went told cutter.writer (with_bytes before) old between writer → Passed cutter mid writer cut → kept ≡ kept_by (state_in mid).operands → Stopped told mid.writer (with_section kept) between new next fault → CutNot told cutter cut place left old new (record mid { writer = next }) fault
+next_stopped told cutter mid writer next cut place left before kept old between new fault fit will before_is went passed kept_is stopped =
+    let writer_is : mid.writer ≡ writer = ap (λ (c : CutterState). c.writer) passed.same in
+    let stopped' : Stopped told writer (with_section kept) between new next fault = subst (λ w. Stopped told w (with_section kept) between new next fault) writer_is stopped in record {
+      same = record { operands = ap (λ (c : CutterState). c.operands) passed.same; style = stopped'.style ∙ went.style };
+      halts = λ x line at now.
+          let state = passed_state told cutter mid writer cut before old between went passed now.goes.operand now.goes.operands now.goes.are in
+          let kept' : kept ≡ kept_by (state_after (suppress_in cutter) now.goes.operand now.goes.operands cutter.progress.repetition cut.matched cut.line).operands = kept_is ∙ ap (λ (s : State). kept_by s.operands) state in
+          let draft = draft_at cutter x left at in
+          halts_after told (part_at cutter x left at) (draft_part cutter.writer.style (with_bytes before draft)) (settled_part cutter x) old between new fault (bytes_begin cutter.writer.style before draft) (went.moves draft at.writes)
+          (halts_wider told (draft_part cutter.writer.style (with_bytes before draft)) (draft_part cutter.writer.style (with_section kept (with_bytes before draft))) (settled_part cutter x) between new fault
+          (halts_as told _ _ _ _ between new fault (ap (λ (s : Style). draft_part s (with_bytes before draft)) (sym went.style)) (ap (λ (s : Style). draft_part s (with_section kept (with_bytes before draft))) (sym went.style)) (stopped'.halts (with_bytes before draft) (went.writes draft at.writes)))
+          (subst (λ k. Begins (draft_part cutter.writer.style (with_section k (with_bytes before draft))) (settled_part cutter x)) (sym kept') (cut_begins cutter x left line before at cut place now fit will before_is)));
+      breaks = breaks_later cutter.writer.style old between new fault went.keeps (subst (λ (s : Style). Rattle.csplit_core.specs.Writer.Breaks s between new fault) went.style stopped'.breaks);
+      owns = owns_again cutter.writer writer next old between new went.owns stopped'.owns;
+    }

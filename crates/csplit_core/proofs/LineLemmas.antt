@@ -4,7 +4,7 @@ use Rattle.std.proofs.lemmas.Bool.{cases_lt}
 use Rattle.std.proofs.lemmas.List.{map-append, take-map, drop-map, length-map, length-drop, drop_at, drop_all, drop-append-le, take-append-le, drop-drop}
 use Rattle.std.proofs.Math.Seq.{take-add}
 use Rattle.seg_core.specs.Line.{lines_of, line_count, delimiters, joined, first_lines, after_lines, ends_with, Reaches, EndsAt, FallsShort}
-use Rattle.seg_core.proofs.LinesOf.{lines_of-append}
+use Rattle.seg_core.proofs.LinesOf.{lines_of-append, joined-lines_of}
 use Rattle.seg_core.proofs.LineCounts.{line_count-closed, ends_with-append, line_count-le-length}
 use Rattle.seg_core.proofs.FirstLines.{first_lines-short, first_lines_then_rest, joined-append}
 use Rattle.seg_core.proofs.EndLines.{after_lines-past, after_lines-append}
@@ -121,3 +121,11 @@ whole_from first x whole = by (cases_lt (first - 1) (line_count newline x)) wher
         let both : first_lines newline (first - 1) x ++ text_from first x ≡ x = first_lines_then_rest newline (first - 1) x in
         let some : 0 < line_count newline (text_from first x) = (let e = count_from first x in omega (arith, e, on)) in
         inr (sym (ends_with-append newline (first_lines newline (first - 1) x) (text_from first x) (let less = line_count-le-length newline (text_from first x) in omega (arith, less, some))) ∙ ap (ends_with newline) both ∙ ends)
+
+-- what follows the first line
+pub after_first : (text line rest : List ℕ) → text ≡ line ++ rest → (0 < length text → lines_of newline text ≡ line ∷ lines_of newline rest) → rest ≡ after_lines newline 1 text
+after_first [] line rest is first = by line rest is where
+  by : (line rest : List ℕ) → [] ≡ line ++ rest → rest ≡ []
+  by line [] is = refl
+  by line (byte ∷ rest) is = let e : 0 ≡ length line + suc (length rest) = ap length is ∙ length-append line (byte ∷ rest) in absurd (omega (arith, e))
+after_first (byte ∷ text) line rest is first = sym (joined-lines_of newline rest) ∙ sym (ap (λ those. joined (drop 1 those)) (first (omega arith)))

@@ -1,5 +1,5 @@
 //! The first lines of a text.
-ghost use Rattle.std.specs.Prelude.{◌≡◌, true, false};
+ghost use Rattle.std.specs.Prelude.{◌≡◌, ◌≤◌, length, true, false};
 ghost use Rattle.seg_core.specs.Line.{after_lines, first_lines};
 ghost use Rattle.csplit_core.specs.Input.{newline};
 
@@ -10,6 +10,7 @@ use seg_core::line_reach::Reach;
 pub(crate) fn split_lines(text: &[u8], lines: u64) -> (&[u8], &[u8])
     ensures first { result.0.now ≡ first_lines newline lines text.now }
     ensures rest { result.1.now ≡ after_lines newline lines text.now }
+    ensures shorter { length result.1.now ≤ length text.now }
 {
     match reach(text, lines, NEWLINE) {
         Reach::Ends(end) => text.split_at(end),
@@ -21,6 +22,7 @@ pub(crate) fn split_lines(text: &[u8], lines: u64) -> (&[u8], &[u8])
 pub(crate) fn skip_line(skips: bool, text: &[u8]) -> &[u8]
     ensures first { skips ≡ true → result.now ≡ after_lines newline 1 text.now }
     ensures none { skips ≡ false → result.now ≡ text.now }
+    ensures shorter { length result.now ≤ length text.now }
 {
     if !skips {
         return text;
