@@ -1,8 +1,8 @@
 -- A cut ends the open section, and the next one begins.
-use Rattle.std.proofs.Common.{◌≡◌, ◌⊎◌, inl, inr, ℕ, suc, ◌+◌, ◌-◌, ◌<◌, ◌≤◌, Bool, true, false, Result, Ok, Err, OnOk, IfErr, List, [], ◌∷◌, ◌++◌, length, map, drop, refl, sym, ◌∙◌, ap, subst, arith, append_assoc}
+use Rattle.std.proofs.Common.{◌≡◌, ◌⊎◌, inl, inr, ℕ, suc, ◌+◌, ◌-◌, ◌<◌, ◌≤◌, max, eqb, ◌&&◌, cond, Bool, true, false, List, [], ◌∷◌, ◌++◌, length, map, drop, refl, sym, ◌∙◌, ap, subst, arith, append_assoc}
 use Rattle.std.proofs.lemmas.List.{map-append, append-nil}
 use Rattle.seg_core.specs.Line.{line_count, first_lines, after_lines}
-use Rattle.seg_core.specs.Window.{Window}
+use Rattle.seg_core.proofs.FirstLines.{first_lines-zero}
 use Rattle.ports_core.specs.Part.{Part, Begins}
 use Rattle.ports_core.specs.Slot.{Slot, KeepsBroken}
 use Rattle.ports_core.specs.declared.fault.Fault.{Fault}
@@ -26,7 +26,7 @@ use Rattle.csplit_core.specs.declared.line_cutter.Cut.{Cut}
 use Rattle.csplit_core.specs.Cutter.{CutterState, suppress_in, state_in, kept_by, text_from, Leads, draft_by, settled_part, IsFit, IsSame, IsAt, part_at, Looked, search_after, CutsNow, PassesOn, IsAfter, CutAt, CutNot, WillCut}
 use Rattle.csplit_core.proofs.HoldLemmas.{memory_halts}
 use Rattle.csplit_core.proofs.LastSectionLemmas.{after_within}
-use Rattle.csplit_core.proofs.LineLemmas.{bytes_between, first_further, from_further, length-all_lines}
+use Rattle.csplit_core.proofs.LineLemmas.{bytes_between, first_further, from_further}
 use Rattle.csplit_core.proofs.SettledLemmas.{last_kept}
 use Rattle.csplit_core.proofs.WriterLemmas.{moves_again, moves_as, halts_after, halts_wider, halts_as, bytes_begin, section_begins, breaks_later, owns_again}
 
@@ -187,4 +187,89 @@ next_stopped told cutter mid writer next cut place left before kept old between 
           (subst (λ k. Begins (draft_part cutter.writer.style (with_section k (with_bytes before draft))) (settled_part cutter x)) (sym kept') (cut_begins cutter x left line before at cut place now fit will before_is)));
       breaks = breaks_later cutter.writer.style old between new fault went.keeps (subst (λ (s : Style). Rattle.csplit_core.specs.Writer.Breaks s between new fault) went.style stopped'.breaks);
       owns = owns_again cutter.writer writer next old between new went.owns stopped'.owns;
+    }
+
+-- the next section began
+
+search_same : (suppress : Bool) (a b : State) → a.current ≡ b.current → a.matched ≡ b.matched → search_line suppress a ≡ search_line suppress b
+search_same true a b current matched = ap (λ n. suc (max (n - 1) a.matched)) current ∙ ap (λ n. suc (max (b.current - 1) n)) matched
+search_same false a b current matched = ap (λ n. cond (eqb n 1 && eqb a.matched 0) 1 (suc (max n a.matched))) current ∙ ap (λ n. cond (eqb b.current 1 && eqb n 0) 1 (suc (max b.current n))) matched
+
+leads_as : (suppress suppress' : Bool) (lines : List Line) (operands operands' : List Operand) (steps : List Step) (state state' : State) → suppress' ≡ suppress → operands' ≡ operands → state' ≡ state → Leads suppress lines operands steps state → Leads suppress' lines operands' steps state'
+leads_as suppress suppress' lines operands operands' steps state state' one two three leads =
+    subst (λ s. Leads s lines operands' steps state') (sym one) (subst (λ o. Leads suppress lines o steps state') (sym two) (subst (Leads suppress lines operands steps) (sym three) leads))
+
+rest_from : (suppress : Bool) (rest all : List ℕ) (cut : ℕ) (x : List ℕ) → 1 ≤ cut → all ≡ text_from cut x → (suppress ≡ true → rest ≡ after_lines newline 1 all) → (suppress ≡ false → rest ≡ all) → rest ≡ text_from (line_after suppress cut) x
+rest_from true rest all cut x some is skipped whole = skipped refl ∙ ap (after_lines newline 1) is ∙ from_further cut 1 x some ∙ ap (λ n. text_from n x) (let e : cut + 1 ≡ suc cut = omega arith in e)
+rest_from false rest all cut x some is skipped whole = whole refl ∙ is
+
+abbrev next_of_cut : CutterState → WriterState → CutterState
+next_of_cut mid next = record mid { writer = next }
+
+after_at : (told : Bool) (cutter mid : CutterState) (writer next : WriterState) (cut : Cut) (place : ℕ) (x left line before rest all : List ℕ) (kept : Bool) (old between new : List Slot) → IsFit cutter → WillCut cutter cut → before ≡ first_lines newline (cut.line - place) left
+    → all ≡ after_lines newline (cut.line - place) left → (next.style.suppress ≡ true → rest ≡ after_lines newline 1 all) → (next.style.suppress ≡ false → rest ≡ all)
+    → Went told cutter.writer (with_bytes before) old between writer → Passed cutter mid writer cut → kept ≡ kept_by (state_in mid).operands → Went told mid.writer (with_section kept) between new next
+    → (at : IsAt cutter x left) (now : CutsNow cutter x left line cut place at) → IsAfter told cutter x line (next_of_cut mid next) rest (part_at cutter x left at) old new
+after_at told cutter mid writer next cut place x left line before rest all kept old between new fit will before_is all_is skipped whole went passed kept_is went' at now =
+    let writer_is : mid.writer ≡ writer = ap (λ (c : CutterState). c.writer) passed.same in
+    let second : Went told writer (with_section kept) between new next = subst (λ w. Went told w (with_section kept) between new next) writer_is went' in
+    let style_is : next.style ≡ cutter.writer.style = second.style ∙ went.style in
+    let suppress_is : next.style.suppress ≡ suppress_in cutter = ap (λ (s : Style). s.suppress) style_is in
+    let state = passed_state told cutter mid writer cut before old between went passed now.goes.operand now.goes.operands now.goes.are in
+    let current : mid.progress.current ≡ line_after (suppress_in cutter) cut.line = ap (λ (s : State). s.current) state in
+    let lines_is : mid.lines ≡ cutter.lines = ap (λ (c : CutterState). c.lines) passed.same in
+    let on : cutter.progress.current + at.taken ≤ cut.line = (let p = now.place_is in let b = now.before in omega (arith, p, b)) in
+    let first : 1 ≤ cut.line = (let s = fit.fits.some in let f = will.from in omega (arith, s, f)) in
+    let same_count : cut.line - place ≡ cut.line - (cutter.progress.current + at.taken) = ap (λ n. cut.line - n) now.place_is in
+    let left_after : all ≡ text_from cut.line x = all_is ∙ ap (λ n. after_lines newline n left) same_count ∙ ap (after_lines newline (cut.line - (cutter.progress.current + at.taken))) at.left_is
+        ∙ from_further (cutter.progress.current + at.taken) (cut.line - (cutter.progress.current + at.taken)) x (let s = fit.fits.some in omega (arith, s))
+        ∙ ap (λ n. text_from n x) (let e : cutter.progress.current + at.taken + (cut.line - (cutter.progress.current + at.taken)) ≡ cut.line = omega (arith, on) in e) in
+    let draft_is = cut_draft cutter x left before at cut now.goes.operand now.goes.operands kept now.goes.are fit.fits.some on (before_is ∙ ap (λ n. first_lines newline n left) same_count) in
+    let near : mid.lines ≤ search_line next.style.suppress (state_in mid) =
+        (let e : search_line next.style.suppress (state_in mid) ≡ search_after (suppress_in cutter) cut = ap (λ b. search_line b (state_in mid)) suppress_is
+        ∙ search_same (suppress_in cutter) (state_in mid) _ (ap (λ (s : State). s.current) state) (ap (λ (s : State). s.matched) state) in let n = now.near in omega (arith, e, n, lines_is)) in record {
+      now = record {
+        steps = at.steps ++ step_at cutter now.goes.operand cut ∷ [];
+        leads = leads_as (suppress_in cutter) next.style.suppress (all_lines x) cutter.operands mid.operands _ _ (state_in mid) suppress_is (ap (λ (c : CutterState). c.operands) passed.same) state (leads_on cutter x left at cut now.goes);
+        counted = lines_is ∙ at.counted;
+        taken = 0;
+        written = [];
+        few = (let w : line_after (suppress_in cutter) cut.line ≤ suc cutter.lines = after_within (suppress_in cutter) cut.line cutter.lines will.within in let c = at.counted in omega (arith, current, w, c));
+        written_is = sym (first_lines-zero newline (text_from mid.progress.current x));
+        left_is = rest_from next.style.suppress rest all cut.line x first left_after skipped whole
+            ∙ ap (λ n. text_from n x) (ap (λ b. line_after b cut.line) suppress_is ∙ sym current ∙ (let e : mid.progress.current ≡ mid.progress.current + 0 = omega arith in e));
+        writes = subst (Writes next) (draft_is ∙ ap (λ k. draft_by (all_lines x) (at.steps ++ step_at cutter now.goes.operand cut ∷ []) k []) kept_is)
+            (second.writes (with_bytes before (draft_at cutter x left at)) (went.writes (draft_at cutter x left at) at.writes));
+      };
+      looked = record {
+        counted = lines_is ∙ at.counted;
+        last = now.last;
+        others = λ operand operands are other from less. absurd (omega (arith, near, from, less));
+      };
+      near = near;
+      none = refl;
+      moves = moves_again told (part_at cutter x left at) (draft_part cutter.writer.style (with_bytes before (draft_at cutter x left at))) _ old between new (went.moves (draft_at cutter x left at) at.writes)
+          (moves_as told _ _ _ _ between new (ap (λ (s : Style). draft_part s (with_bytes before (draft_at cutter x left at))) (sym went.style))
+          (ap (λ (s : Style). draft_part s (draft_by (all_lines x) (at.steps ++ step_at cutter now.goes.operand cut ∷ []) (kept_by (state_in mid).operands) [])) (second.style)
+          ∙ ap (draft_part writer.style) (sym (draft_is ∙ ap (λ k. draft_by (all_lines x) (at.steps ++ step_at cutter now.goes.operand cut ∷ []) k []) kept_is)))
+          (second.moves (with_bytes before (draft_at cutter x left at)) (went.writes (draft_at cutter x left at) at.writes)));
+    }
+
+cut_went : (told : Bool) (cutter mid : CutterState) (writer next : WriterState) (cut : Cut) (place : ℕ) (left before rest all : List ℕ) (kept : Bool) (old between new : List Slot) → IsFit cutter → WillCut cutter cut → before ≡ first_lines newline (cut.line - place) left
+    → all ≡ after_lines newline (cut.line - place) left → (next.style.suppress ≡ true → rest ≡ after_lines newline 1 all) → (next.style.suppress ≡ false → rest ≡ all)
+    → Went told cutter.writer (with_bytes before) old between writer → Passed cutter mid writer cut → kept ≡ kept_by (state_in mid).operands → Went told mid.writer (with_section kept) between new next → size_of next.current ≡ 0 → length rest ≤ length left
+    → CutAt told cutter cut place left old new (next_of_cut mid next) rest
+cut_went told cutter mid writer next cut place left before rest all kept old between new fit will before_is all_is skipped whole went passed kept_is went' empty shorter =
+    let writer_is : mid.writer ≡ writer = ap (λ (c : CutterState). c.writer) passed.same in
+    let second : Went told writer (with_section kept) between new next = subst (λ w. Went told w (with_section kept) between new next) writer_is went' in record {
+      same = record { operands = ap (λ (c : CutterState). c.operands) passed.same; style = second.style ∙ went.style };
+      lines = ap (λ (c : CutterState). c.lines) passed.same;
+      fit = record { fits = passed.fit.fits; most = passed.fit.most; delim = passed.fit.delim; sought = passed.fit.sought };
+      fewer = passed.fewer;
+      held = passed.held;
+      after = λ x line at now. after_at told cutter mid writer next cut place x left line before rest all kept old between new fit will before_is all_is skipped whole went passed kept_is went' at now;
+      keeps = keeps_again old between new went.keeps second.keeps;
+      owns = owns_again cutter.writer writer next old between new went.owns second.owns;
+      ready = second.ready;
+      size = omega (arith, empty, shorter);
     }

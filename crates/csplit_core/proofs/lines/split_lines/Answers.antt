@@ -1,4 +1,4 @@
-use Rattle.csplit_core.proofs.CutLemmas.{cut_begins}
+use Rattle.csplit_core.proofs.CutLemmas.{next_stopped}
 use Rattle.csplit_core.proofs.PassOnLemmas.{fewer_next}
 use Rattle.csplit_core.proofs.HeldLemmas.{hold_past}
 use Rattle.csplit_core.proofs.HoldLemmas.{went_as}
