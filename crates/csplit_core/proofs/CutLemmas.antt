@@ -273,3 +273,31 @@ cut_went told cutter mid writer next cut place left before rest all kept old bet
       ready = second.ready;
       size = omega (arith, empty, shorter);
     }
+
+-- The same of a cutter that is known by its fields.
+
+pub cut_next_stopped : (told : Bool) (cutter start mid now : CutterState) (writer next : WriterState) (cut : Cut) (place : ℕ) (left before : List ℕ) (kept : Bool) (old between new : List Slot) (fault : Fault) → start ≡ cutter → now ≡ mid → IsFit cutter → WillCut cutter cut
+    → before ≡ first_lines newline (cut.line - place) left → Went told start.writer (with_bytes before) old between writer → Passed start mid writer cut → kept ≡ kept_by (state_in now).operands → Stopped told now.writer (with_section kept) between new next fault
+    → CutNot told cutter cut place left old new (record now { writer = next }) fault
+cut_next_stopped told cutter start mid now writer next cut place left before kept old between new fault same same_mid fit will before_is went passed kept_is stopped =
+    subst (λ (c : CutterState). CutNot told c cut place left old new (record now { writer = next }) fault) same
+    (subst (λ (m : CutterState). CutNot told start cut place left old new (record m { writer = next }) fault) (sym same_mid)
+    (next_stopped told start mid writer next cut place left before kept old between new fault (subst IsFit (sym same) fit) (subst (λ (c : CutterState). WillCut c cut) (sym same) will) before_is went passed
+    (kept_is ∙ ap (λ (m : CutterState). kept_by (state_in m).operands) same_mid) (subst (λ (m : CutterState). Stopped told m.writer (with_section kept) between new next fault) same_mid stopped)))
+
+pub cut_done : (told : Bool) (cutter start mid now : CutterState) (writer next : WriterState) (cut : Cut) (place : ℕ) (left before rest all : List ℕ) (kept : Bool) (old between new : List Slot) → start ≡ cutter → now ≡ mid → IsFit cutter → WillCut cutter cut
+    → before ≡ first_lines newline (cut.line - place) left → all ≡ after_lines newline (cut.line - place) left → (next.style.suppress ≡ true → rest ≡ after_lines newline 1 all) → (next.style.suppress ≡ false → rest ≡ all)
+    → Went told start.writer (with_bytes before) old between writer → Passed start mid writer cut → kept ≡ kept_by (state_in now).operands → Went told now.writer (with_section kept) between new next → size_of next.current ≡ 0 → length rest ≤ length left
+    → CutAt told cutter cut place left old new (record now { writer = next }) rest
+cut_done told cutter start mid now writer next cut place left before rest all kept old between new same same_mid fit will before_is all_is skipped whole went passed kept_is went' empty shorter =
+    subst (λ (c : CutterState). CutAt told c cut place left old new (record now { writer = next }) rest) same
+    (subst (λ (m : CutterState). CutAt told start cut place left old new (record m { writer = next }) rest) (sym same_mid)
+    (cut_went told start mid writer next cut place left before rest all kept old between new (subst IsFit (sym same) fit) (subst (λ (c : CutterState). WillCut c cut) (sym same) will) before_is all_is skipped whole went passed
+    (kept_is ∙ ap (λ (m : CutterState). kept_by (state_in m).operands) same_mid) (subst (λ (m : CutterState). Went told m.writer (with_section kept) between new next) same_mid went') empty shorter))
+
+-- a search for the place of the cut
+pub cut_place : (text first : List ℕ) (cut place n : ℕ) → first ≡ first_lines newline n text → n ≡ cut - place → first ≡ first_lines newline (cut - place) text
+cut_place text first cut place n is at = is ∙ ap (λ k. first_lines newline k text) at
+
+pub cut_rest : (text rest : List ℕ) (cut place n : ℕ) → rest ≡ after_lines newline n text → n ≡ cut - place → rest ≡ after_lines newline (cut - place) text
+cut_rest text rest cut place n is at = is ∙ ap (λ k. after_lines newline k text) at

@@ -1,36 +1,33 @@
-use Rattle.std.proofs.Common.{rules, ◌≡◌, ◌≢◌, ◌+◌, ◌-◌, ◌<◌, ◌≤◌, ◌^◌, ◌++◌, List, ℕ, [], length, drop, Some, IfOk, IfErr, IfSome, IfNone, OnOk, IsTrue, true, false, ◌*◌, ◌/◌, ◌%◌, Bool, nat_eq, nat_lt, ◌∷◌, slice_index_or, slice_set, bit_and, bit_or, w8, w32, w64, Bor, MutBor}
-use Rattle.seg_core.specs.Line.{line_count}
-use Rattle.ports_core.specs.Slot.{is_writable}
-use Rattle.csplit_core.specs.Csplit.{verdict_of}
-use Rattle.csplit_core.specs.Plan.{above, missed}
-use Rattle.csplit_core.specs.Planned.{plan}
-use Rattle.ports_core.specs.Swept.{SweptFrom}
-use Rattle.csplit_core.specs.Cutter.{AimHolds, CutAt, CutNot, CutsAll, EndsAll, IsJudged, Opens, Holds, IsFit, IsFound, IsLine, IsNoCut, IsSound, IsWhole, PassesOn, PassesOver, Stretches, Takes, Tries, TriesNext, WillCut, load, most_by, pattern_by, state_in, suppress_in}
-use Rattle.csplit_core.specs.Input.{all_lines, newline}
-use Rattle.csplit_core.specs.Measure.{Fits}
-use Rattle.csplit_core.specs.Operand.{Line}
-use Rattle.csplit_core.specs.PlanLaws.{needed}
-use Rattle.csplit_core.specs.Progress.{AreSeen, MovesOn, Turns}
-use Rattle.csplit_core.specs.Writer.{IsReady, OwnsFiles, size_of}
-use Rattle.csplit_core.specs.declared.progress.Turn.TheVariants as turn_is
+use Rattle.std.proofs.Common.{refl, sym, ◌∙◌, ap}
+use Rattle.ports_core.proofs.HandedOn.{fault_is}
+use Rattle.csplit_core.specs.Output.{Style}
+use Rattle.csplit_core.specs.Cutter.{kept_next}
+use Rattle.csplit_core.proofs.CutLemmas.{Passed, cut_put_stopped, cut_pass_stopped, cut_next_stopped, cut_done, cut_place, cut_rest}
 use Rattle.csplit_core.proofs.line_cutter.LineCutter.cut_at.Goals as goal
 
--- src/line_cutter.rt:439:9
 pub returns-in_err-put-clause-err : goal.returns-in_err-put-clause-err
-returns-in_err-put-clause-err g c = ?
+returns-in_err-put-clause-err g c = fault_is _ _ _ c.from_residual.ensures.1
+    (cut_put_stopped _ c.args.self.now _ c.put.new.self c.args.cut c.args.place c.args.waiting.now c.split_lines.result.0.now _ _ _ c.self.view_is c.requires.fit c.requires.cuts
+    (cut_place c.args.waiting.now c.split_lines.result.0.now c.args.cut.line c.args.place c.saturating_sub.result c.split_lines.ensures.first c.saturating_sub.ensures) c.in_err-put.ensures.goes)
 
--- src/line_cutter.rt:440:9
 pub returns-in_err-pass-clause-err : goal.returns-in_err-pass-clause-err
-returns-in_err-pass-clause-err g c = ?
+returns-in_err-pass-clause-err g c = fault_is _ _ _ c.from_residual-in_err-pass.ensures.1
+    (cut_pass_stopped _ c.args.self.now _ c.pass.new.self c.put.new.self c.args.cut c.args.place c.args.waiting.now c.split_lines.result.0.now _ _ _ c.self.view_is c.requires.fit c.requires.cuts
+    (cut_place c.args.waiting.now c.split_lines.result.0.now c.args.cut.line c.args.place c.saturating_sub.result c.split_lines.ensures.first c.saturating_sub.ensures) c.in_ok-put.ensures.goes c.in_err-pass.ensures.err)
 
--- src/line_cutter.rt:442:9
 pub returns-in_err-next-clause-err : goal.returns-in_err-next-clause-err
-returns-in_err-next-clause-err g c = ?
+returns-in_err-next-clause-err g c = fault_is _ _ _ c.from_residual-in_err-next.ensures.1
+    (cut_next_stopped _ c.args.self.now _ c.pass.new.self _ c.put.new.self c.next.new.self c.args.cut c.args.place c.args.waiting.now c.split_lines.result.0.now c.is_kept-is_kept.result _ _ _ _ c.self.view_is c.self-2.view_is c.requires.fit c.requires.cuts
+    (cut_place c.args.waiting.now c.split_lines.result.0.now c.args.cut.line c.args.place c.saturating_sub.result c.split_lines.ensures.first c.saturating_sub.ensures) c.in_ok-put.ensures.goes
+    (record { same = c.in_ok-pass.ensures.same; held = c.in_ok-pass.ensures.held; fit = c.in_ok-pass.ensures.fit; fewer = c.in_ok-pass.ensures.fewer; state = c.in_ok-pass.ensures.state })
+    (c.is_kept-is_kept.ensures ∙ ap kept_next c.next_operand.ensures) c.in_err-next.ensures.goes)
 
--- src/line_cutter.rt:444:13
-pub returns-then-style-clause-ok : goal.returns-then-style-clause-ok
-returns-then-style-clause-ok g c = ?
-
--- src/line_cutter.rt:422:5
 pub returns-clause-ok : goal.returns-clause-ok
-returns-clause-ok g c = ?
+returns-clause-ok g c =
+    cut_done _ c.args.self.now _ c.pass.new.self _ c.put.new.self c.next.new.self c.args.cut c.args.place c.args.waiting.now c.split_lines.result.0.now c.skip_line.result.now c.split_lines.result.1.now c.is_kept-is_kept.result _ _ _ c.self.view_is c.self-2.view_is c.requires.fit c.requires.cuts
+    (cut_place c.args.waiting.now c.split_lines.result.0.now c.args.cut.line c.args.place c.saturating_sub.result c.split_lines.ensures.first c.saturating_sub.ensures)
+    (cut_rest c.args.waiting.now c.split_lines.result.1.now c.args.cut.line c.args.place c.saturating_sub.result c.split_lines.ensures.rest c.saturating_sub.ensures)
+    (λ is. c.skip_line.ensures.first (ap (λ (s : Style). s.suppress) (c.behind-self.view_is ∙ c.style.ensures) ∙ is)) (λ is. c.skip_line.ensures.none (ap (λ (s : Style). s.suppress) (c.behind-self.view_is ∙ c.style.ensures) ∙ is))
+    c.in_ok-put.ensures.goes
+    (record { same = c.in_ok-pass.ensures.same; held = c.in_ok-pass.ensures.held; fit = c.in_ok-pass.ensures.fit; fewer = c.in_ok-pass.ensures.fewer; state = c.in_ok-pass.ensures.state })
+    (c.is_kept-is_kept.ensures ∙ ap kept_next c.next_operand.ensures) c.in_ok-next.ensures.goes c.in_ok-next.ensures.size (omega (Rattle.std.proofs.Common.arith, c.skip_line.ensures.shorter, c.split_lines.ensures.shorter))
