@@ -248,6 +248,10 @@ after_at told cutter mid writer next cut place x left line before rest all kept 
       };
       near = near;
       none = refl;
+      grows = subst (Begins (part_at cutter x left at))
+          (ap (draft_part cutter.writer.style) (draft_is ∙ ap (λ k. draft_by (all_lines x) (at.steps ++ step_at cutter now.goes.operand cut ∷ []) k []) kept_is)
+          ∙ ap (λ (s : Style). draft_part s (draft_by (all_lines x) (at.steps ++ step_at cutter now.goes.operand cut ∷ []) (kept_by (state_in mid).operands) [])) (sym style_is))
+          (part_trans (part_at cutter x left at) (draft_part cutter.writer.style (with_bytes before (draft_at cutter x left at))) _ (bytes_begin cutter.writer.style before (draft_at cutter x left at)) (section_begins cutter.writer.style kept (with_bytes before (draft_at cutter x left at))));
       moves = moves_again told (part_at cutter x left at) (draft_part cutter.writer.style (with_bytes before (draft_at cutter x left at))) _ old between new (went.moves (draft_at cutter x left at) at.writes)
           (moves_as told _ _ _ _ between new (ap (λ (s : Style). draft_part s (with_bytes before (draft_at cutter x left at))) (sym went.style))
           (ap (λ (s : Style). draft_part s (draft_by (all_lines x) (at.steps ++ step_at cutter now.goes.operand cut ∷ []) (kept_by (state_in mid).operands) [])) (second.style)

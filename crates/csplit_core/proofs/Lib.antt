@@ -33,3 +33,4 @@ pub mod TryLemmas
 pub mod PassOnLemmas
 pub mod PassLemmas
 pub mod CutLemmas
+pub mod SpreadLemmas

@@ -4,7 +4,7 @@ use Rattle.bre_core.specs.Pattern.{Pattern}
 use Rattle.bre_core.specs.Search.{contains}
 use Rattle.seg_core.specs.Line.{lines_of, line_count, after_lines, first_lines, ends_with}
 use Rattle.seg_core.specs.Window.{Window}
-use Rattle.ports_core.specs.Part.{Part, nothing}
+use Rattle.ports_core.specs.Part.{Part, Begins, nothing}
 use Rattle.ports_core.specs.Swept.{AreMade}
 use Rattle.ports_core.specs.Slot.{Slot, KeepsBroken}
 use Rattle.ports_core.specs.declared.fault.Fault.{Fault}
@@ -301,6 +301,7 @@ pub record IsAfter (told : Bool) (cutter : CutterState) (x line : List ℕ) (nex
   pub looked : Looked next x line
   pub near : next.lines ≤ search_line (suppress_in next) (state_in next)
   pub none : now.taken ≡ 0
+  pub grows : Begins low (part_at next x rest now)
   pub moves : Gets told low (part_at next x rest now) old new
 
 -- The open section ended at a cut, and the next one began.

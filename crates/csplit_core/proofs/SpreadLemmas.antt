@@ -1,0 +1,196 @@
+-- Cutting as often as operands cut the lines that are left.
+use Rattle.std.proofs.Common.{◌≡◌, ◌⊎◌, inl, inr, ℕ, suc, ◌+◌, ◌-◌, ◌<◌, ◌≤◌, max, Bool, true, false, Result, Ok, Err, OnOk, Option, Some, None, List, [], ◌∷◌, ◌++◌, length, refl, sym, ◌∙◌, ap, subst, arith}
+use Rattle.seg_core.specs.Line.{line_count, first_lines, after_lines}
+use Rattle.seg_core.specs.Window.{Window}
+use Rattle.bre_core.specs.Pattern.{Pattern}
+use Rattle.ports_core.specs.Part.{Part, Begins}
+use Rattle.ports_core.specs.Slot.{Slot, KeepsBroken}
+use Rattle.ports_core.specs.declared.fault.Fault.{Fault}
+use Rattle.ports_core.specs.declared.fault.Fault.TheVariants.{Memory}
+use Rattle.ports_core.proofs.PartLemmas.{part_trans}
+use Rattle.ports_core.proofs.SlotSteps.{keeps_again}
+use Rattle.csplit_core.specs.Draft.{draft_part, with_bytes}
+use Rattle.csplit_core.specs.Input.{newline, marked, all_lines}
+use Rattle.csplit_core.specs.Output.{Style}
+use Rattle.csplit_core.specs.PlanLaws.{needed}
+use Rattle.csplit_core.specs.Progress.{EndsHere, GoesPast}
+use Rattle.csplit_core.specs.Section.{is_final}
+use Rattle.csplit_core.specs.Writer.{WriterState, IsReady, KeepsFiles, Halts, size_of}
+use Rattle.csplit_core.specs.Writer.{Moves as Gets}
+use Rattle.csplit_core.specs.declared.line_cutter.Cut.{Cut}
+use Rattle.csplit_core.specs.declared.progress.Turn.{Turn}
+use Rattle.csplit_core.specs.Cutter.{CutterState, suppress_in, state_in, kept_by, draft_by, settled_part, AimHolds, IsFit, IsSound, IsSame, IsAt, part_at, Stands, EndsNow, Arrives, Held, HeldNot, Holds, Looked, Tries, StaysNear, CutsNow, IsAfter, CutAt, CutNot, CutAll, CutAllNot, CutsAll, WillCut}
+use Rattle.csplit_core.proofs.CutLemmas.{cut_begins}
+use Rattle.csplit_core.proofs.WriterLemmas.{moves_again, moves_as, halts_after, halts_wider, halts_as, breaks_later, owns_again}
+
+-- What is said of the sections and of where the run stands doesn't depend on the aim or the lines that wait.
+
+abbrev pub alike : CutterState → Turn → Window → CutterState
+alike cutter aim window = record cutter { aim = aim; window = window }
+
+unfoldable pub at_alike : (cutter : CutterState) (aim : Turn) (window : Window) (x left : List ℕ) → IsAt cutter x left → IsAt (alike cutter aim window) x left
+at_alike cutter aim window x left at = record { steps = at.steps; leads = at.leads; counted = at.counted; taken = at.taken; written = at.written; few = at.few; written_is = at.written_is; left_is = at.left_is; writes = at.writes }
+
+pub fit_alike : (cutter : CutterState) (aim : Turn) → IsFit cutter → IsFit (record cutter { aim = aim })
+fit_alike cutter aim fit = record { fits = fit.fits; most = fit.most; delim = fit.delim; sought = fit.sought }
+
+pub will_alike : (cutter : CutterState) (aim : Turn) (window : Window) (cut : Cut) → WillCut cutter cut → WillCut (alike cutter aim window) cut
+will_alike cutter aim window cut will = record { operand = will.operand; operands = will.operands; some = will.some; left = will.left; moves = will.moves; matched = will.matched; from = will.from; within = will.within }
+
+-- The lines that are left have been cut so often.
+pub record Spreading (told : Bool) (cutter : CutterState) (cut : Cut) (place : ℕ) (waiting line : List ℕ) (old new : List Slot) (now : CutterState) (left : List ℕ) : Type 0 where
+  pub same : IsSame cutter now
+  pub lines : now.lines ≡ cutter.lines
+  pub fit : IsFit now
+  pub held : now.window.held ≡ []
+  pub after : (x : List ℕ) (at : IsAt cutter x waiting) → CutsNow cutter x waiting line cut place at → IsAfter told cutter x line now left (part_at cutter x waiting at) old new
+  pub keeps : KeepsBroken old new
+  pub owns : KeepsFiles cutter.writer now.writer old new
+  pub ready : IsReady now.writer new
+  pub size : size_of now.writer.current + length left ≤ size_of cutter.writer.current + length waiting
+
+pub spread_once : (told : Bool) (cutter next : CutterState) (cut : Cut) (place : ℕ) (waiting line left : List ℕ) (old new : List Slot) → CutAt told cutter cut place waiting old new next left → Spreading told cutter cut place waiting line old new next left
+spread_once told cutter next cut place waiting line left old new at_cut = record {
+  same = at_cut.same;
+  lines = at_cut.lines;
+  fit = at_cut.fit;
+  held = at_cut.held;
+  after = λ x at now. at_cut.after x line at now;
+  keeps = at_cut.keeps;
+  owns = at_cut.owns;
+  ready = at_cut.ready;
+  size = at_cut.size;
+}
+
+-- the next operand cuts as well
+
+settled_same : (cutter next : CutterState) (x : List ℕ) → IsSame cutter next → settled_part next x ≡ settled_part cutter x
+settled_same cutter next x same = ap (λ (s : Style). Rattle.csplit_core.specs.Csplit.settled_of s next.operands (all_lines x)) same.style ∙ ap (λ operands. Rattle.csplit_core.specs.Csplit.settled_of cutter.writer.style operands (all_lines x)) same.operands
+
+same_again : (one two three : CutterState) → IsSame one two → IsSame two three → IsSame one three
+same_again one two three first second = record { operands = second.operands ∙ first.operands; style = second.style ∙ first.style }
+
+cuts_again : (told : Bool) (cutter now : CutterState) (aim : Turn) (cut : Cut) (x line left : List ℕ) (low : Part) (old new : List Slot) (after : IsAfter told cutter x line now left low old new) → Tries now line (record now { aim = aim }) (Some cut) → WillCut now cut
+    → CutsNow (record now { aim = aim }) x left line cut now.progress.current (at_alike now aim now.window x left after.now)
+unfolding at_alike
+cuts_again told cutter now aim cut x line left low old new after tries will =
+    let both = tries x after.looked in record {
+      last = after.looked.last;
+      near = both.1 (inl after.near);
+      place_is = (let none = after.none in omega (arith, none));
+      before = will.from;
+      goes = both.0;
+    }
+
+more_with : (told : Bool) (cutter now next : CutterState) (aim : Turn) (cut cut' : Cut) (place : ℕ) (waiting line left rest : List ℕ) (old between new : List Slot) → Spreading told cutter cut place waiting line old between now left
+    → Tries now line (record now { aim = aim }) (Some cut') → WillCut now cut' → CutAt told (record now { aim = aim }) cut' now.progress.current left between new next rest → Spreading told cutter cut place waiting line old new next rest
+unfolding at_alike
+more_with told cutter now next aim cut cut' place waiting line left rest old between new so_far tries will at_cut = record {
+  same = same_again cutter now next so_far.same (record { operands = at_cut.same.operands; style = at_cut.same.style });
+  lines = at_cut.lines ∙ so_far.lines;
+  fit = at_cut.fit;
+  held = at_cut.held;
+  after = λ x at here.
+      let after = so_far.after x at here in
+      let again = at_cut.after x line (at_alike now aim now.window x left after.now) (cuts_again told cutter now aim cut' x line left (part_at cutter x waiting at) old between after tries will) in record {
+        now = again.now;
+        looked = again.looked;
+        near = again.near;
+        none = again.none;
+        grows = part_trans (part_at cutter x waiting at) (part_at now x left after.now) (part_at next x rest again.now) after.grows again.grows;
+        moves = moves_again told (part_at cutter x waiting at) (part_at now x left after.now) (part_at next x rest again.now) old between new after.moves again.moves;
+      };
+  keeps = keeps_again old between new so_far.keeps at_cut.keeps;
+  owns = owns_again cutter.writer now.writer next.writer old between new so_far.owns at_cut.owns;
+  ready = at_cut.ready;
+  size = (let one = at_cut.size in let two = so_far.size in omega (arith, one, two));
+}
+
+pub spread_more : (told : Bool) (cutter now mid next : CutterState) (cut cut' : Cut) (place : ℕ) (waiting line left rest : List ℕ) (old between new : List Slot) → Spreading told cutter cut place waiting line old between now left → mid ≡ record now { aim = mid.aim }
+    → Tries now line mid (Some cut') → WillCut now cut' → CutAt told mid cut' mid.progress.current left between new next rest → Spreading told cutter cut place waiting line old new next rest
+spread_more told cutter now mid next cut cut' place waiting line left rest old between new so_far is tries will at_cut =
+    more_with told cutter now next mid.aim cut cut' place waiting line left rest old between new so_far (subst (λ (m : CutterState). Tries now line m (Some cut')) is tries) will
+    (subst (λ (m : CutterState). CutAt told m cut' m.progress.current left between new next rest) is at_cut)
+
+stopped_with : (told : Bool) (cutter now next : CutterState) (aim : Turn) (cut cut' : Cut) (place : ℕ) (waiting line left : List ℕ) (old between new : List Slot) (fault : Fault) → Spreading told cutter cut place waiting line old between now left
+    → Tries now line (record now { aim = aim }) (Some cut') → WillCut now cut' → CutNot told (record now { aim = aim }) cut' now.progress.current left between new next fault → CutAllNot told cutter cut place waiting line old new next fault
+unfolding at_alike
+stopped_with told cutter now next aim cut cut' place waiting line left old between new fault so_far tries will not_cut = record {
+  same = same_again cutter now next so_far.same (record { operands = not_cut.same.operands; style = not_cut.same.style });
+  halts = λ x at here.
+      let after = so_far.after x at here in
+      halts_after told (part_at cutter x waiting at) (part_at now x left after.now) (settled_part cutter x) old between new fault after.grows after.moves
+      (halts_as told _ _ _ _ between new fault refl (sym (settled_same cutter now x so_far.same)) (not_cut.halts x line (at_alike now aim now.window x left after.now) (cuts_again told cutter now aim cut' x line left (part_at cutter x waiting at) old between after tries will)));
+  breaks = breaks_later cutter.writer.style old between new fault so_far.keeps (subst (λ (s : Style). Rattle.csplit_core.specs.Writer.Breaks s between new fault) so_far.same.style not_cut.breaks);
+  owns = owns_again cutter.writer now.writer next.writer old between new so_far.owns not_cut.owns;
+}
+
+pub spread_stopped : (told : Bool) (cutter now mid next : CutterState) (cut cut' : Cut) (place : ℕ) (waiting line left : List ℕ) (old between new : List Slot) (fault : Fault) → Spreading told cutter cut place waiting line old between now left → mid ≡ record now { aim = mid.aim }
+    → Tries now line mid (Some cut') → WillCut now cut' → CutNot told mid cut' mid.progress.current left between new next fault → CutAllNot told cutter cut place waiting line old new next fault
+spread_stopped told cutter now mid next cut cut' place waiting line left old between new fault so_far is tries will not_cut =
+    stopped_with told cutter now next mid.aim cut cut' place waiting line left old between new fault so_far (subst (λ (m : CutterState). Tries now line m (Some cut')) is tries) will
+    (subst (λ (m : CutterState). CutNot told m cut' m.progress.current left between new next fault) is not_cut)
+
+-- a fault at the first cut
+pub first_stopped : (told : Bool) (cutter next : CutterState) (cut : Cut) (place : ℕ) (waiting line : List ℕ) (old new : List Slot) (fault : Fault) → CutNot told cutter cut place waiting old new next fault → CutAllNot told cutter cut place waiting line old new next fault
+first_stopped told cutter next cut place waiting line old new fault not_cut = record { same = not_cut.same; halts = λ x at now. not_cut.halts x line at now; breaks = not_cut.breaks; owns = not_cut.owns }
+
+-- Then no operand cuts any more, and the lines that are left are held.
+
+arrives_there : (told : Bool) (cutter now : CutterState) (aim : Turn) (x line left : List ℕ) (low : Part) (old new : List Slot) (after : IsAfter told cutter x line now left low old new) → EndsNow (record now { aim = aim }) x
+    → Arrives (record now { aim = aim }) x left (at_alike now aim now.window x left after.now)
+unfolding at_alike
+arrives_there told cutter now aim x line left low old new after ends = record { ends = ends; low = λ past. after.none; enough = inl after.none }
+
+held_with : (told : Bool) (cutter now next : CutterState) (aim : Turn) (cut : Cut) (place : ℕ) (waiting line left : List ℕ) (old between new : List Slot) → Spreading told cutter cut place waiting line old between now left
+    → Tries now line (record now { aim = aim }) None → AimHolds now.operands now.lines now.progress aim → Held told (record now { aim = aim }) left between new next → CutAll told cutter cut place waiting line old new next
+unfolding at_alike
+held_with told cutter now next aim cut place waiting line left old between new so_far tries holds held = record {
+  same = same_again cutter now next so_far.same (record { operands = ap (λ (c : CutterState). c.operands) held.same; style = held.style });
+  lines = ap (λ (c : CutterState). c.lines) held.same ∙ so_far.lines;
+  sound = subst IsSound (sym held.same) (record {
+    fit = record {
+      fits = so_far.fit.fits;
+      most = ap (λ (w : Window). w.most) held.window ∙ so_far.fit.most;
+      delim = ap (λ (w : Window). w.delim) held.window ∙ so_far.fit.delim;
+      sought = so_far.fit.sought;
+    };
+    aim = holds;
+  });
+  stands = λ x at here. let after = so_far.after x at here in held.stands x (at_alike now aim now.window x left after.now) (arrives_there told cutter now aim x line left (part_at cutter x waiting at) old between after (tries x after.looked));
+  moves = λ x at here.
+      let after = so_far.after x at here in
+      moves_again told (part_at cutter x waiting at) (part_at now x left after.now) (settled_part cutter x) old between new after.moves
+      (moves_as told _ _ _ _ between new refl (sym (settled_same cutter now x so_far.same)) (held.moves x (at_alike now aim now.window x left after.now) (arrives_there told cutter now aim x line left (part_at cutter x waiting at) old between after (tries x after.looked))));
+  keeps = keeps_again old between new so_far.keeps held.keeps;
+  owns = owns_again cutter.writer now.writer next.writer old between new so_far.owns held.owns;
+  ready = held.ready;
+  size = (let one = held.size in let two = so_far.size in omega (arith, one, two));
+}
+
+not_held_with : (told : Bool) (cutter now next : CutterState) (aim : Turn) (cut : Cut) (place : ℕ) (waiting line left : List ℕ) (old between new : List Slot) (fault : Fault) → Spreading told cutter cut place waiting line old between now left
+    → Tries now line (record now { aim = aim }) None → HeldNot told (record now { aim = aim }) left between new next fault → CutAllNot told cutter cut place waiting line old new next fault
+unfolding at_alike
+not_held_with told cutter now next aim cut place waiting line left old between new fault so_far tries held = record {
+  same = same_again cutter now next so_far.same (record { operands = held.same.operands; style = held.same.style });
+  halts = λ x at here.
+      let after = so_far.after x at here in
+      halts_after told (part_at cutter x waiting at) (part_at now x left after.now) (settled_part cutter x) old between new fault after.grows after.moves
+      (halts_as told _ _ _ _ between new fault refl (sym (settled_same cutter now x so_far.same)) (held.halts x (at_alike now aim now.window x left after.now) (arrives_there told cutter now aim x line left (part_at cutter x waiting at) old between after (tries x after.looked))));
+  breaks = breaks_later cutter.writer.style old between new fault so_far.keeps (subst (λ (s : Style). Rattle.csplit_core.specs.Writer.Breaks s between new fault) so_far.same.style held.breaks);
+  owns = owns_again cutter.writer now.writer next.writer old between new so_far.owns held.owns;
+}
+
+none_held : (mid : CutterState) (left : List ℕ) → mid.window.held ≡ [] → mid.window.held ++ left ≡ left
+none_held mid left none = ap (λ those. those ++ left) none
+
+pub spread_held : (told : Bool) (cutter now mid next : CutterState) (cut : Cut) (place : ℕ) (waiting line left : List ℕ) (old between new : List Slot) (result : Result (Unit {0}) Fault) → Spreading told cutter cut place waiting line old between now left → mid ≡ record now { aim = mid.aim }
+    → Tries now line mid None → AimHolds mid.operands mid.lines mid.progress mid.aim → Holds told mid (mid.window.held ++ left) between new next result → CutsAll told cutter cut place waiting line old new next result
+spread_held told cutter now mid next cut place waiting line left old between new (Ok done) so_far is tries holds held =
+    let none : mid.window.held ≡ [] = ap (λ (c : CutterState). c.window.held) is ∙ so_far.held in
+    held_with told cutter now next mid.aim cut place waiting line left old between new so_far (subst (λ (m : CutterState). Tries now line m None) is tries) (subst (λ (m : CutterState). AimHolds m.operands m.lines m.progress mid.aim) is holds)
+    (subst (λ (m : CutterState). Held told m left between new next) is (subst (λ those. Held told mid those between new next) (none_held mid left none) held))
+spread_held told cutter now mid next cut place waiting line left old between new (Err fault) so_far is tries holds held =
+    let none : mid.window.held ≡ [] = ap (λ (c : CutterState). c.window.held) is ∙ so_far.held in
+    not_held_with told cutter now next mid.aim cut place waiting line left old between new fault so_far (subst (λ (m : CutterState). Tries now line m None) is tries)
+    (subst (λ (m : CutterState). HeldNot told m left between new next fault) is (subst (λ those. HeldNot told mid those between new next fault) (none_held mid left none) held))
