@@ -194,3 +194,39 @@ spread_held told cutter now mid next cut place waiting line left old between new
     let none : mid.window.held ≡ [] = ap (λ (c : CutterState). c.window.held) is ∙ so_far.held in
     not_held_with told cutter now next mid.aim cut place waiting line left old between new fault so_far (subst (λ (m : CutterState). Tries now line m None) is tries)
     (subst (λ (m : CutterState). HeldNot told m left between new next fault) is (subst (λ those. HeldNot told mid those between new next fault) (none_held mid left none) held))
+
+-- What the calls in the loop need: trying the next operand changes the aim alone.
+
+pub spread_fit : (now mid : CutterState) → mid ≡ record now { aim = mid.aim } → IsFit now → IsFit mid
+spread_fit now mid is fit = subst IsFit (sym is) (fit_alike now mid.aim fit)
+
+pub spread_lines : (now mid : CutterState) (most : ℕ) → mid ≡ record now { aim = mid.aim } → now.lines ≤ most → mid.lines ≤ most
+spread_lines now mid most is few = subst (λ (c : CutterState). c.lines ≤ most) (sym is) few
+
+pub spread_size : (now mid : CutterState) (size most : ℕ) → mid ≡ record now { aim = mid.aim } → size_of now.writer.current + size < most → size_of mid.writer.current + size < most
+spread_size now mid size most is few = subst (λ (c : CutterState). size_of c.writer.current + size < most) (sym is) few
+
+pub spread_held_size : (now mid : CutterState) (size most : ℕ) → mid ≡ record now { aim = mid.aim } → now.window.held ≡ [] → size_of now.writer.current + size < most → size_of mid.writer.current + length mid.window.held + size < most
+spread_held_size now mid size most is none few =
+    subst (λ (c : CutterState). size_of c.writer.current + length c.window.held + size < most) (sym is) (let e : length now.window.held ≡ 0 = ap length none in omega (arith, e, few))
+
+pub spread_none : (now mid : CutterState) → mid ≡ record now { aim = mid.aim } → now.window.held ≡ [] → mid.window.held ≡ []
+spread_none now mid is none = ap (λ (c : CutterState). c.window.held) is ∙ none
+
+pub spread_ready : (now mid : CutterState) (slots : List Slot) → mid ≡ record now { aim = mid.aim } → IsReady now.writer slots → IsReady mid.writer slots
+spread_ready now mid slots is ready = subst (λ (c : CutterState). IsReady c.writer slots) (sym is) ready
+
+pub spread_fewer : (now mid : CutterState) (less : ℕ) → mid ≡ record now { aim = mid.aim } → less < needed mid.lines (state_in mid) → less < needed now.lines (state_in now)
+spread_fewer now mid less is fewer = subst (λ (c : CutterState). less < needed c.lines (state_in c)) is fewer
+
+-- The same with the place as it is computed.
+
+pub spread_more_at : (told : Bool) (cutter now mid next : CutterState) (cut cut' : Cut) (place at : ℕ) (waiting line left rest : List ℕ) (old between new : List Slot) → at ≡ mid.progress.current → Spreading told cutter cut place waiting line old between now left → mid ≡ record now { aim = mid.aim }
+    → Tries now line mid (Some cut') → WillCut now cut' → CutAt told mid cut' at left between new next rest → Spreading told cutter cut place waiting line old new next rest
+spread_more_at told cutter now mid next cut cut' place at waiting line left rest old between new at_is so_far is tries will at_cut =
+    spread_more told cutter now mid next cut cut' place waiting line left rest old between new so_far is tries will (subst (λ n. CutAt told mid cut' n left between new next rest) at_is at_cut)
+
+pub spread_stopped_at : (told : Bool) (cutter now mid next : CutterState) (cut cut' : Cut) (place at : ℕ) (waiting line left : List ℕ) (old between new : List Slot) (fault : Fault) → at ≡ mid.progress.current → Spreading told cutter cut place waiting line old between now left → mid ≡ record now { aim = mid.aim }
+    → Tries now line mid (Some cut') → WillCut now cut' → CutNot told mid cut' at left between new next fault → CutAllNot told cutter cut place waiting line old new next fault
+spread_stopped_at told cutter now mid next cut cut' place at waiting line left old between new fault at_is so_far is tries will not_cut =
+    spread_stopped told cutter now mid next cut cut' place waiting line left old between new fault so_far is tries will (subst (λ n. CutNot told mid cut' n left between new next fault) at_is not_cut)
