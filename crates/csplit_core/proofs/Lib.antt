@@ -34,3 +34,4 @@ pub mod PassOnLemmas
 pub mod PassLemmas
 pub mod CutLemmas
 pub mod SpreadLemmas
+pub mod TakeLemmas

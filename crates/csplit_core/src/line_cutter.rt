@@ -1,6 +1,6 @@
 //! Cutting lines into sections as they come in: what is settled of them goes to the sections, and the others wait.
 ghost use Rattle.std.specs.Prelude.{◌≡◌, ◌≢◌, ◌+◌, ◌-◌, ◌<◌, ◌≤◌, ◌^◌, ◌++◌, List, ℕ, [], length, drop, Some, IfOk, IfErr, IfSome, IfNone, OnOk, IsTrue, true, false};
-ghost use Rattle.seg_core.specs.Line.{line_count};
+ghost use Rattle.seg_core.specs.Line.{delimiters};
 ghost use Rattle.ports_core.specs.Slot.{is_writable};
 ghost use Rattle.csplit_core.specs.Csplit.{verdict_of};
 ghost use Rattle.csplit_core.specs.Plan.{above, missed};
@@ -381,7 +381,7 @@ impl<'o> LineCutter<'o> {
         requires fit { IsFit self.old }
         requires cuts { WillCut self.old cut }
         requires ready { IsReady self.old.writer (O.slots outs.old) }
-        ensures { (place : ℕ) → place + line_count newline self.old.window.held ≡ self.old.lines → CutsAll O.told self.old cut place (self.old.window.held ++ line.now) line.now (O.slots outs.old) (O.slots outs.new) self.new result }
+        ensures { CutsAll O.told self.old cut (self.old.lines - delimiters newline self.old.window.held) (self.old.window.held ++ line.now) line.now (O.slots outs.old) (O.slots outs.new) self.new result }
     {
         if self.window.is_empty() {
             return self.cut_all(cut, self.lines, line, line, outs);

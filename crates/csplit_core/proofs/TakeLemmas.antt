@@ -1,0 +1,233 @@
+-- Taking lines in.
+use Rattle.std.proofs.Common.{◌≡◌, ◌⊎◌, inl, inr, ℕ, suc, ◌+◌, ◌-◌, ◌<◌, ◌≤◌, max, Bool, true, false, Result, Ok, Err, OnOk, Option, Some, None, List, [], ◌∷◌, ◌++◌, length, take, refl, sym, ◌∙◌, ap, subst, arith, length-append}
+use Rattle.std.proofs.lemmas.Bool.{false≢true, cases_lt}
+use Rattle.seg_core.specs.Line.{line_count, delimiters}
+use Rattle.seg_core.specs.Window.{Window}
+use Rattle.std.proofs.Math.Nat.{max-le, le-max_left, le-max_right}
+use Rattle.seg_core.proofs.LineCounts.{line_count-le-length}
+use Rattle.ports_core.specs.Part.{Part, Begins}
+use Rattle.ports_core.specs.Slot.{Slot}
+use Rattle.ports_core.specs.declared.fault.Fault.{Fault}
+use Rattle.csplit_core.specs.Input.{newline, marked, all_lines}
+use Rattle.csplit_core.specs.Operand.{Target, Operand, Line, most_held}
+use Rattle.csplit_core.specs.Plan.{State, start, Step, Ending, used_up, missed, above, below, CutsAt, Misses, state_after, step_of, Runs, is_used_up, misses, is_above, is_below, cuts}
+use Rattle.csplit_core.specs.Planned.{plan_within}
+use Rattle.csplit_core.specs.PlanLaws.{cuts_still, needed, runs, line_some}
+use Rattle.seg_core.proofs.EndLines.{line_count-grows}
+use Rattle.csplit_core.specs.Progress.{EndsHere, GoesPast, AimsAt}
+use Rattle.csplit_core.specs.Section.{is_final, most_waiting, settled_end}
+use Rattle.csplit_core.specs.SectionLaws.{EndsAs, ends_as, front_of, none_there, missed_cut, cut_once}
+use Rattle.csplit_core.specs.Writer.{size_of}
+use Rattle.csplit_core.specs.Writer.{Moves as Gets}
+use Rattle.csplit_core.specs.declared.line_cutter.Cut.{Cut}
+use Rattle.csplit_core.specs.declared.progress.Turn.{Turn}
+use Rattle.csplit_core.specs.declared.progress.Turn.TheVariants.{Below}
+use Rattle.csplit_core.specs.Cutter.{CutterState, suppress_in, state_in, settled_part, load, IsFit, IsSound, IsSame, IsWhole, IsLine, IsAt, part_at, IsLive, IsPast, Stands, EndsNow, Arrives, Held, HeldNot, Holds, CutsNow, CutAll, CutAllNot, CutsAll, WillCut, TriesNext, search_after, Took, TookNot, Takes}
+use Rattle.csplit_core.proofs.CutterLemmas.{runs_to, at_more, part_more, live_part}
+use Rattle.csplit_core.proofs.LineLemmas.{all_lines-append, all_lines-line, length-all_lines, count-line, count_from, whole_count, whole_from}
+use Rattle.csplit_core.proofs.SettledLemmas.{settled_count, most_is, aims_live}
+use Rattle.csplit_core.proofs.WriterLemmas.{moves_as, halts_as}
+
+-- What is settled stands before each cut of the next operand.
+settled_before : (suppress : Bool) (a b : List Line) (state : State) (ending : Ending) (operand : Operand) (operands : List Operand) (matched cut : ℕ) → EndsAs suppress a state ending → is_final ending ≡ false → state.operands ≡ operand ∷ operands → CutsAt suppress (a ++ b) state operand operand.target matched cut
+    → settled_end (length a) ending ≤ suc (length a) → settled_end (length a) ending ≤ cut
+settled_before suppress a b state used_up operand operands matched cut ends live are at most = absurd (none_there operand operands (sym ends ∙ are))
+settled_before suppress a b state (missed operand' repetition) operand operands matched cut (operands', is, none) live are at most =
+    let same = front_of operand' operand operands' operands (sym is ∙ are) in
+    missed_cut suppress a b state operand' operand'.target none matched cut (subst (λ (o : Operand). CutsAt suppress (a ++ b) state o o.target matched cut) (sym same) at)
+settled_before suppress a b state (above operand' repetition matched' cut') operand operands matched cut (operands', is, at', far) live are at most =
+    let same = front_of operand' operand operands' operands (sym is ∙ are) in
+    let one : cut' ≡ cut = (cut_once suppress (a ++ b) state operand' operand'.target matched' cut' matched cut (cuts_still suppress a b state operand' operand'.target matched' cut' at') (subst (λ (o : Operand). CutsAt suppress (a ++ b) state o o.target matched cut) (sym same) at)).1 in
+    omega (arith, one, far, most)
+settled_before suppress a b state (below operand' repetition) operand operands matched cut ends live are at most = absurd (false≢true (sym live))
+
+settled_most : (total : ℕ) (ending : Ending) → is_final ending ≡ false → settled_end total ending ≤ suc total
+settled_most total used_up live = omega arith
+settled_most total (missed operand repetition) live = omega arith
+settled_most total (above operand repetition matched cut) live = omega arith
+settled_most total (below operand repetition) live = omega arith
+
+-- a step of the plan is a cut
+
+first_cuts : (suppress : Bool) (lines : List Line) (state : State) (step : Step) (steps : List Step) (last : State) (ending : Ending) → Runs suppress lines state (step ∷ steps) last ending → CutsAt suppress lines state step.operand step.operand.target step.matched step.cut
+first_cuts suppress lines state step steps last ending (cuts state' operand operands matched cut steps' last' ending' are at from within rest) = at
+
+goes_cuts : (suppress : Bool) (lines : List Line) (state : State) (matched cut : ℕ) (goes : GoesPast suppress lines state matched cut) → 1 ≤ cut → CutsAt suppress lines state goes.operand goes.operand.target matched cut
+goes_cuts suppress lines state matched cut goes some =
+    let next = state_after suppress goes.operand goes.operands state.repetition matched cut in
+    let p = plan_within (needed (length lines) next) suppress lines next in
+    let rest = runs (needed (length lines) next) suppress lines next (omega arith) (let least = line_some suppress cut in omega (arith, least, some)) in
+    first_cuts suppress lines state (step_of state goes.operand matched cut) p.steps p.last p.ending (goes.runs p.steps p.last p.ending rest)
+
+-- The lines that were left begin no later than a cut.
+
+taken_before : (total current taken most ending_at cut : ℕ) → taken ≡ total + 1 - current - most → total + 1 - current - most ≡ ending_at - current → ending_at ≤ cut → current ≤ cut → current + taken ≤ cut
+taken_before total current taken most ending_at cut taken_is is before from = omega (arith, taken_is, is, before, from)
+
+pub place_before : (cutter : CutterState) (x t : List ℕ) (matched cut : ℕ) (live : IsLive cutter x) → IsWhole x → (goes : GoesPast (suppress_in cutter) (all_lines (x ++ t)) (state_in cutter) matched cut) → IsFit cutter → cutter.progress.current ≤ cut → cutter.progress.current + live.at.taken ≤ cut
+place_before cutter x t matched cut live whole goes fit from =
+    let runs_here = runs_to cutter x cutter.window.held live.at live.ends in
+    let ends = ends_as (suppress_in cutter) (all_lines x) (start cutter.operands) live.at.steps (state_in cutter) live.ends.ending runs_here in
+    let at = subst (λ lines. CutsAt (suppress_in cutter) lines (state_in cutter) goes.operand goes.operand.target matched cut) (all_lines-append x t whole)
+        (goes_cuts (suppress_in cutter) (all_lines (x ++ t)) (state_in cutter) matched cut goes (let s = fit.fits.some in omega (arith, s, from))) in
+    let count : length (all_lines x) ≡ cutter.lines = length-all_lines x ∙ sym live.at.counted in
+    let before = settled_before (suppress_in cutter) (all_lines x) (all_lines t) (state_in cutter) live.ends.ending goes.operand goes.operands matched cut ends live.live goes.are at (settled_most (length (all_lines x)) live.ends.ending live.live) in
+    taken_before cutter.lines cutter.progress.current live.at.taken (most_waiting live.ends.ending) (settled_end cutter.lines live.ends.ending) cut live.settled (settled_count cutter.lines cutter.progress.current live.ends.ending live.live)
+    (subst (λ n. settled_end n live.ends.ending ≤ cut) count before) from
+
+-- What arrives where more lines came.
+
+low_none : (cutter : CutterState) (x t : List ℕ) (live : IsLive cutter x) → IsWhole x → IsFit cutter → (ending : Ending) → Runs (suppress_in cutter) (all_lines (x ++ t)) (state_in cutter) [] (state_in cutter) ending → is_final ending ≡ true → live.at.taken ≡ 0
+low_none cutter x t live whole fit used_up run past = absurd (false≢true past)
+low_none cutter x t live whole fit (missed operand repetition) run past = absurd (false≢true past)
+low_none cutter x t live whole fit (above operand repetition matched cut) run past = absurd (false≢true past)
+low_none cutter x t live whole fit (below operand repetition) run past =
+    let here = ends_as (suppress_in cutter) (all_lines (x ++ t)) (state_in cutter) [] (state_in cutter) (below operand repetition) run in
+    by here.0 here.1 here.2 here.3 here.4 here.6 where
+      by : (operands : List Operand) (matched cut : ℕ) → (state_in cutter).operands ≡ operand ∷ operands → CutsAt (suppress_in cutter) (all_lines (x ++ t)) (state_in cutter) operand operand.target matched cut → cut < cutter.progress.current → live.at.taken ≡ 0
+      by operands matched cut are at low =
+          let runs_here = runs_to cutter x cutter.window.held live.at live.ends in
+          let ends = ends_as (suppress_in cutter) (all_lines x) (start cutter.operands) live.at.steps (state_in cutter) live.ends.ending runs_here in
+          let count : length (all_lines x) ≡ cutter.lines = length-all_lines x ∙ sym live.at.counted in
+          let before = settled_before (suppress_in cutter) (all_lines x) (all_lines t) (state_in cutter) live.ends.ending operand operands matched cut ends live.live are
+              (subst (λ lines. CutsAt (suppress_in cutter) lines (state_in cutter) operand operand.target matched cut) (all_lines-append x t whole) at) (settled_most (length (all_lines x)) live.ends.ending live.live) in
+          let e : settled_end cutter.lines live.ends.ending ≤ cut = subst (λ n. settled_end n live.ends.ending ≤ cut) count before in
+          let s = settled_count cutter.lines cutter.progress.current live.ends.ending live.live in
+          let t' : live.at.taken ≡ cutter.lines + 1 - cutter.progress.current - most_waiting live.ends.ending = live.settled in omega (arith, e, s, t', low)
+
+enough_left : (lines current taken most left : ℕ) → 1 ≤ current → current + taken ≤ lines + 1 → taken ≡ lines + 1 - current - most → left ≡ lines - (current + taken - 1) → (taken ≡ 0) ⊎ (most ≤ left)
+enough_left lines current taken most left some few is left_is = elim (cases_lt most (lines + 1 - current)) [
+  | inl more ↦ inr (omega (arith, some, few, is, left_is, more))
+  | inr none ↦ inl (omega (arith, is, none))
+]
+
+held_count : (cutter : CutterState) (x : List ℕ) (live : IsLive cutter x) → line_count newline cutter.window.held ≡ cutter.lines - (cutter.progress.current + live.at.taken - 1)
+held_count cutter x live = ap (line_count newline) live.at.left_is ∙ count_from (cutter.progress.current + live.at.taken) x ∙ ap (λ n. n - (cutter.progress.current + live.at.taken - 1)) (sym live.at.counted)
+
+pub arrives_more : (cutter : CutterState) (lines : ℕ) (aim : Turn) (x t : List ℕ) (live : IsLive cutter x) (whole : IsWhole x) (fit : IsFit cutter) (count : lines ≡ line_count newline (x ++ t)) → EndsNow (record cutter { lines = lines; aim = aim }) (x ++ t)
+    → Arrives (record cutter { lines = lines; aim = aim }) (x ++ t) (cutter.window.held ++ t) (at_more cutter lines aim x t cutter.window.held whole fit.fits.some live.at live.ends count)
+unfolding at_more
+arrives_more cutter lines aim x t live whole fit count ends =
+    let few : cutter.progress.current + live.at.taken ≤ cutter.lines + 1 = (let f = live.at.few in let c = live.at.counted in omega (arith, f, c)) in
+    let runs_here = runs_to cutter x cutter.window.held live.at live.ends in
+    let most : cutter.window.most ≡ most_waiting live.ends.ending = fit.most ∙ most_is (suppress_in cutter) (all_lines x) (state_in cutter) live.ends.ending (ends_as (suppress_in cutter) (all_lines x) (start cutter.operands) live.at.steps (state_in cutter) live.ends.ending runs_here) live.live in
+    let either = enough_left cutter.lines cutter.progress.current live.at.taken (most_waiting live.ends.ending) (line_count newline cutter.window.held) fit.fits.some few live.settled (held_count cutter x live) in record {
+      ends = ends;
+      low = λ past. low_none cutter x t live whole fit ends.ending ends.runs past;
+      enough = more either most;
+    } where
+  more : {taken most other : ℕ} → (taken ≡ 0) ⊎ (other ≤ line_count newline cutter.window.held) → most ≡ other → (taken ≡ 0) ⊎ (most ≤ line_count newline (cutter.window.held ++ t))
+  more (inl none) is = inl none
+  more {most = most} {other = other} (inr enough) is = inr (let grows = line_count-grows newline cutter.window.held t in omega (arith, grows, enough, is))
+
+-- Once more lines came, and what is settled of them is written and the others held.
+
+abbrev pub more_lines : CutterState → ℕ → Turn → CutterState
+more_lines cutter lines aim = record cutter { lines = lines; aim = aim }
+
+-- it is live, where its aim isn't below the current line
+live_of : (cutter : CutterState) (x : List ℕ) → (cutter.aim ≡ Below → ⊥) → Stands cutter x → IsLive cutter x
+live_of cutter x differs (inl live) = live
+live_of cutter x differs (inr past) = absurd (differs past.aim)
+
+most_load : (lines size held more_lines more most : ℕ) → more_lines ≤ lines + more → size ≤ held + more → max more_lines size ≤ max lines held + more
+most_load lines size held count more most few less = max-le (let a = le-max_left lines held in omega (arith, a, few)) (let b = le-max_right lines held in omega (arith, b, less))
+
+pub took_held : (told : Bool) (cutter next : CutterState) (lines : ℕ) (aim : Turn) (t : List ℕ) (old new : List Slot) → IsSound (more_lines cutter lines aim) → IsFit cutter → (cutter.aim ≡ Below → ⊥) → lines ≤ cutter.lines + length t
+    → ((x : List ℕ) → IsWhole x → IsLive cutter x → (lines ≡ line_count newline (x ++ t)) × EndsNow (more_lines cutter lines aim) (x ++ t)) → Held told (more_lines cutter lines aim) (cutter.window.held ++ t) old new next → Took told cutter t old new next
+unfolding at_more
+took_held told cutter next lines aim t old new sound fit differs few ends held = record {
+  same = record { operands = ap (λ (c : CutterState). c.operands) held.same; style = held.style };
+  stands = λ x whole stands.
+      let live = live_of cutter x differs stands in
+      let there = ends x whole live in
+      held.stands (x ++ t) (at_more cutter lines aim x t cutter.window.held whole fit.fits.some live.at live.ends there.0) (arrives_more cutter lines aim x t live whole fit there.0 there.1);
+  moves = λ x whole stands.
+      let live = live_of cutter x differs stands in
+      let there = ends x whole live in
+      moves_as told _ _ _ _ old new (sym (live_part cutter x live) ∙ part_more cutter lines aim x t cutter.window.held whole fit.fits.some live.at live.ends there.0) refl
+      (held.moves (x ++ t) (at_more cutter lines aim x t cutter.window.held whole fit.fits.some live.at live.ends there.0) (arrives_more cutter lines aim x t live whole fit there.0 there.1));
+  keeps = held.keeps;
+  owns = held.owns;
+  ready = held.ready;
+  sound = subst IsSound (sym held.same) (record {
+    fit = record { fits = sound.fit.fits; most = ap (λ (w : Window). w.most) held.window ∙ sound.fit.most; delim = ap (λ (w : Window). w.delim) held.window ∙ sound.fit.delim; sought = sound.fit.sought };
+    aim = sound.aim;
+  });
+  size = (let lines_is : next.lines ≡ lines = ap (λ (c : CutterState). c.lines) held.same in
+      let joined : length (cutter.window.held ++ t) ≡ length cutter.window.held + length t = length-append cutter.window.held t in
+      let s = held.size in
+      most_load cutter.lines (size_of next.writer.current + length next.window.held) (size_of cutter.writer.current + length cutter.window.held) next.lines (length t) 0 (omega (arith, lines_is, few)) (omega (arith, joined, s)));
+}
+
+pub took_not_held : (told : Bool) (cutter next : CutterState) (lines : ℕ) (aim : Turn) (t : List ℕ) (old new : List Slot) (fault : Fault) → IsFit cutter → (cutter.aim ≡ Below → ⊥)
+    → ((x : List ℕ) → IsWhole x → IsLive cutter x → (lines ≡ line_count newline (x ++ t)) × EndsNow (more_lines cutter lines aim) (x ++ t)) → HeldNot told (more_lines cutter lines aim) (cutter.window.held ++ t) old new next fault → TookNot told cutter t old new next fault
+unfolding at_more
+took_not_held told cutter next lines aim t old new fault fit differs ends held = record {
+  same = record { operands = held.same.operands; style = held.same.style };
+  halts = λ x whole stands.
+      let live = live_of cutter x differs stands in
+      let there = ends x whole live in
+      halts_as told _ _ _ _ old new fault (sym (live_part cutter x live) ∙ part_more cutter lines aim x t cutter.window.held whole fit.fits.some live.at live.ends there.0) refl
+      (held.halts (x ++ t) (at_more cutter lines aim x t cutter.window.held whole fit.fits.some live.at live.ends there.0) (arrives_more cutter lines aim x t live whole fit there.0 there.1));
+  breaks = held.breaks;
+  owns = held.owns;
+}
+
+-- Once a line came that is cut.
+
+cuts_there : (cutter : CutterState) (lines : ℕ) (aim : Turn) (x line : List ℕ) (cut : Cut) (live : IsLive cutter x) (whole : IsWhole x) (fit : IsFit cutter) (one : IsLine line) (count : lines ≡ line_count newline (x ++ line)) → cutter.progress.current ≤ cut.line
+    → GoesPast (suppress_in cutter) (all_lines (x ++ line)) (state_in cutter) cut.matched cut.line → lines ≤ search_after (suppress_in cutter) cut
+    → CutsNow (more_lines cutter lines aim) (x ++ line) (cutter.window.held ++ line) line cut (lines - delimiters newline cutter.window.held) (at_more cutter lines aim x line cutter.window.held whole fit.fits.some live.at live.ends count)
+unfolding at_more
+cuts_there cutter lines aim x line cut live whole fit one count from goes near =
+    let held = held_count cutter x live in
+    let held_whole : IsWhole cutter.window.held = subst IsWhole (sym live.at.left_is) (whole_from (cutter.progress.current + live.at.taken) x whole) in
+    let same : line_count newline cutter.window.held ≡ delimiters newline cutter.window.held = whole_count cutter.window.held held_whole in
+    let more : lines ≡ cutter.lines + 1 = (let l = count-line x line whole one in let c = live.at.counted in omega (arith, count, l, c)) in
+    let few : cutter.progress.current + live.at.taken ≤ cutter.lines + 1 = (let f = live.at.few in let c = live.at.counted in omega (arith, f, c)) in
+    let place : lines - delimiters newline cutter.window.held ≡ cutter.progress.current + live.at.taken = (let s = fit.fits.some in omega (arith, held, same, more, few, s)) in record {
+      last = (all_lines x, all_lines-line x line whole one);
+      near = near;
+      place_is = place;
+      before = (let b = place_before cutter x line cut.matched cut.line live whole goes fit from in omega (arith, b, place));
+      goes = goes;
+    }
+
+pub took_cut : (told : Bool) (cutter next : CutterState) (lines : ℕ) (aim : Turn) (line : List ℕ) (cut : Cut) (old new : List Slot) → IsFit cutter → (cutter.aim ≡ Below → ⊥) → IsLine line → lines ≡ cutter.lines + 1 → WillCut (more_lines cutter lines aim) cut
+    → TriesNext cutter line (more_lines cutter lines aim) (Some cut) → CutAll told (more_lines cutter lines aim) cut (lines - delimiters newline cutter.window.held) (cutter.window.held ++ line) line old new next → Took told cutter line old new next
+unfolding at_more
+took_cut told cutter next lines aim line cut old new fit differs one more will tries all = record {
+  same = record { operands = all.same.operands; style = all.same.style };
+  stands = λ x whole stands.
+      let live = live_of cutter x differs stands in
+      let count : lines ≡ line_count newline (x ++ line) = more ∙ ap (λ n. n + 1) live.at.counted ∙ sym (count-line x line whole one) in
+      all.stands (x ++ line) (at_more cutter lines aim x line cutter.window.held whole fit.fits.some live.at live.ends count) (cuts_there cutter lines aim x line cut live whole fit one count will.from (tries x whole live).0 (tries x whole live).1);
+  moves = λ x whole stands.
+      let live = live_of cutter x differs stands in
+      let count : lines ≡ line_count newline (x ++ line) = more ∙ ap (λ n. n + 1) live.at.counted ∙ sym (count-line x line whole one) in
+      moves_as told _ _ _ _ old new (sym (live_part cutter x live) ∙ part_more cutter lines aim x line cutter.window.held whole fit.fits.some live.at live.ends count) refl
+      (all.moves (x ++ line) (at_more cutter lines aim x line cutter.window.held whole fit.fits.some live.at live.ends count) (cuts_there cutter lines aim x line cut live whole fit one count will.from (tries x whole live).0 (tries x whole live).1));
+  keeps = all.keeps;
+  owns = all.owns;
+  ready = all.ready;
+  sound = all.sound;
+  size = (let some : 1 ≤ length line = (let l = line_count-le-length newline line in let e : line_count newline line ≡ 1 = ap length one in omega (arith, l, e)) in
+      let joined : length (cutter.window.held ++ line) ≡ length cutter.window.held + length line = length-append cutter.window.held line in
+      let n = all.lines in let s = all.size in
+      most_load cutter.lines (size_of next.writer.current + length next.window.held) (size_of cutter.writer.current + length cutter.window.held) next.lines (length line) 0 (omega (arith, n, more, some)) (omega (arith, joined, s)));
+}
+
+pub took_not_cut : (told : Bool) (cutter next : CutterState) (lines : ℕ) (aim : Turn) (line : List ℕ) (cut : Cut) (old new : List Slot) (fault : Fault) → IsFit cutter → (cutter.aim ≡ Below → ⊥) → IsLine line → lines ≡ cutter.lines + 1 → WillCut (more_lines cutter lines aim) cut
+    → TriesNext cutter line (more_lines cutter lines aim) (Some cut) → CutAllNot told (more_lines cutter lines aim) cut (lines - delimiters newline cutter.window.held) (cutter.window.held ++ line) line old new next fault → TookNot told cutter line old new next fault
+unfolding at_more
+took_not_cut told cutter next lines aim line cut old new fault fit differs one more will tries all = record {
+  same = record { operands = all.same.operands; style = all.same.style };
+  halts = λ x whole stands.
+      let live = live_of cutter x differs stands in
+      let count : lines ≡ line_count newline (x ++ line) = more ∙ ap (λ n. n + 1) live.at.counted ∙ sym (count-line x line whole one) in
+      halts_as told _ _ _ _ old new fault (sym (live_part cutter x live) ∙ part_more cutter lines aim x line cutter.window.held whole fit.fits.some live.at live.ends count) refl
+      (all.halts (x ++ line) (at_more cutter lines aim x line cutter.window.held whole fit.fits.some live.at live.ends count) (cuts_there cutter lines aim x line cut live whole fit one count will.from (tries x whole live).0 (tries x whole live).1));
+  breaks = all.breaks;
+  owns = all.owns;
+}
