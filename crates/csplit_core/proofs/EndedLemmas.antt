@@ -1,5 +1,5 @@
 -- What ending the cutter leaves: all lines that waited belong to the last section, which ends.
-use Rattle.std.proofs.Common.{◌≡◌, ◌⊎◌, inl, inr, ℕ, suc, ◌+◌, ◌-◌, ◌≤◌, Bool, true, false, Result, Ok, Err, List, [], ◌∷◌, ◌++◌, length, map, take, refl, sym, ◌∙◌, ap, subst, arith}
+use Rattle.std.proofs.Common.{◌≡◌, inl, inr, ℕ, suc, ◌+◌, ◌-◌, ◌≤◌, Bool, true, false, Result, Ok, Err, List, [], ◌∷◌, ◌++◌, length, map, take, refl, sym, ◌∙◌, ap, subst, arith}
 use Rattle.std.proofs.lemmas.Bool.{false≢true}
 use Rattle.std.proofs.lemmas.List.{append-nil, map-append, take_all}
 use Rattle.seg_core.specs.Line.{lines_of, line_count, joined, first_lines, after_lines}
@@ -19,10 +19,9 @@ use Rattle.csplit_core.specs.PlanLaws.{plan_once}
 use Rattle.csplit_core.specs.Progress.{AimsAt}
 use Rattle.csplit_core.specs.Section.{section, section_of, lines_between, is_last_kept, settled_end, whole_end, is_final, bytes_of}
 use Rattle.csplit_core.specs.SectionLaws.{ends_as}
-use Rattle.csplit_core.specs.declared.progress.Turn.{Turn}
 use Rattle.csplit_core.specs.declared.progress.Turn.TheVariants.{Below}
-use Rattle.csplit_core.specs.Writer.{WriterState, Writes, Moves, Halts, Breaks, Went, Stopped, Goes, Ended, EndedNot, Ends}
-use Rattle.csplit_core.specs.Cutter.{CutterState, suppress_in, state_in, kept_by, text_from, draft_by, settled_draft, settled_part, whole_part, IsFit, EndsNow, IsLive, IsPast, Stands, IsJudged, EndedAll, EndedNone, EndsAll}
+use Rattle.csplit_core.specs.Writer.{WriterState, Writes, Moves, Halts, Breaks, Went, Stopped, Ended, EndedNot, Ends}
+use Rattle.csplit_core.specs.Cutter.{CutterState, suppress_in, state_in, kept_by, text_from, draft_by, settled_draft, settled_part, whole_part, IsFit, IsLive, IsPast, Stands, IsJudged, EndedAll, EndedNone, EndsAll}
 use Rattle.csplit_core.proofs.LineLemmas.{length-all_lines, bytes_between, count_from, from_further}
 use Rattle.csplit_core.proofs.SettledLemmas.{last_kept, settled_part_is}
 use Rattle.csplit_core.proofs.CutterLemmas.{runs_to, live_part}

@@ -1,18 +1,16 @@
 -- What opening the cutter leaves: the first section, with no line yet.
-use Rattle.std.proofs.Common.{◌≡◌, ◌⊎◌, inl, inr, ℕ, suc, ◌+◌, ◌-◌, ◌<◌, ◌≤◌, max, Bool, true, false, List, [], ◌∷◌, ◌++◌, length, Option, Some, None, slice_get, refl, sym, ◌∙◌, ap, subst, arith}
+use Rattle.std.proofs.Common.{◌≡◌, inl, inr, ℕ, ◌+◌, ◌-◌, ◌≤◌, max, Bool, true, false, List, [], ◌∷◌, Option, slice_get, refl, sym, ◌∙◌, ap, subst, arith}
 use Rattle.std.proofs.lemmas.Bool.{false≢true}
 use Rattle.bre_core.specs.Pattern.{Pattern}
 use Rattle.seg_core.specs.Window.{Window}
-use Rattle.ports_core.specs.Part.{Part, Begins, InTurn, nothing}
+use Rattle.ports_core.specs.Part.{Part, Begins, nothing}
 use Rattle.ports_core.specs.Slot.{Slot}
-use Rattle.ports_core.specs.Swept.{AreMade}
 use Rattle.ports_core.specs.declared.fault.Fault.{Fault}
 use Rattle.ports_core.specs.declared.fault.Fault.TheVariants.{Memory}
 use Rattle.ports_core.proofs.PartLemmas.{part_begins_itself}
 use Rattle.csplit_core.specs.Csplit.{settled_of}
-use Rattle.csplit_core.specs.Draft.{Draft, draft_part, first_draft}
-use Rattle.csplit_core.specs.Input.{newline, all_lines}
-use Rattle.csplit_core.specs.Measure.{Fits}
+use Rattle.csplit_core.specs.Draft.{draft_part, first_draft}
+use Rattle.csplit_core.specs.Input.{newline}
 use Rattle.csplit_core.specs.Operand.{Operand, Line}
 use Rattle.csplit_core.specs.Output.{Style}
 use Rattle.csplit_core.specs.Plan.{State, start, Step, Ending, used_up, missed, above, below, Runs, is_used_up, misses, is_above, is_below, cuts}
@@ -23,8 +21,8 @@ use Rattle.csplit_core.specs.Section.{settled_end, is_final, most_waiting}
 use Rattle.csplit_core.specs.declared.progress.Progress.{Progress}
 use Rattle.csplit_core.specs.declared.progress.Turn.{Turn}
 use Rattle.csplit_core.specs.declared.progress.Turn.TheVariants.{UsedUp, Missed, Above, Below, Cuts}
-use Rattle.csplit_core.specs.Writer.{WriterState, Writes, Moves, Halts, Begun, BegunNot, size_of}
-use Rattle.csplit_core.specs.Cutter.{CutterState, suppress_in, state_in, most_next, pattern_next, kept_next, next_of, most_by, pattern_by, kept_by, draft_by, settled_draft, IsFit, IsSound, AimHolds, IsAt, IsLive, IsPast, Stands, IsNoCut, Opened, OpenedNot}
+use Rattle.csplit_core.specs.Writer.{WriterState, Writes, Halts, Begun, BegunNot, size_of}
+use Rattle.csplit_core.specs.Cutter.{CutterState, most_next, pattern_next, kept_next, next_of, most_by, pattern_by, kept_by, settled_draft, IsFit, Stands, IsNoCut, Opened, OpenedNot}
 use Rattle.csplit_core.proofs.AdvanceLemmas.{advances}
 use Rattle.csplit_core.proofs.MoveLemmas.{repeated_anew}
 use Rattle.csplit_core.proofs.SettledLemmas.{settled_draft_is, settled_part_is}

@@ -1,5 +1,5 @@
 -- The fault with which the work ends, from where the cutter stands.
-use Rattle.std.proofs.Common.{◌≡◌, ℕ, suc, ◌+◌, ◌<◌, ◌≤◌, Bool, true, false, nat_lt, List, [], ◌∷◌, length, drop, get_or, Option, None, refl, sym, ◌∙◌, ap, subst, arith}
+use Rattle.std.proofs.Common.{◌≡◌, ℕ, suc, ◌+◌, ◌<◌, ◌≤◌, Bool, false, nat_lt, List, [], ◌∷◌, length, drop, get_or, Option, None, refl, sym, ◌∙◌, ap, subst, arith}
 use Rattle.std.proofs.lemmas.Bool.Decides.{nat_tests}
 use Rattle.std.proofs.lemmas.List.{drop_all}
 use Rattle.ports_core.specs.declared.fault.Fault.{Fault}
@@ -11,8 +11,7 @@ use Rattle.csplit_core.specs.Planned.{plan}
 use Rattle.csplit_core.specs.PlanLaws.{plan_runs}
 use Rattle.csplit_core.specs.Progress.{AimsAt}
 use Rattle.csplit_core.specs.SectionLaws.{front_of}
-use Rattle.csplit_core.specs.declared.progress.Turn.{Turn}
-use Rattle.csplit_core.specs.declared.progress.Turn.TheVariants.{UsedUp, Missed, Above, Below, Cuts}
+use Rattle.csplit_core.specs.declared.progress.Turn.TheVariants.{Missed, Above, Below}
 use Rattle.csplit_core.specs.Cutter.{CutterState, suppress_in, state_in, IsJudged}
 use Rattle.csplit_core.proofs.TurnLemmas.{left_is}
 
