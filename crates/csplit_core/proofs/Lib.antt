@@ -35,3 +35,6 @@ pub mod PassLemmas
 pub mod CutLemmas
 pub mod SpreadLemmas
 pub mod TakeLemmas
+pub mod VerdictLemmas
+pub mod EndedLemmas
+pub mod OpenLemmas

@@ -66,7 +66,7 @@ repeated_again total state next (Number (suc n)) matched cut at some within agai
     let cut_is : cut ≡ suc n * (state.repetition + 1) = at in omega (arith, is, cut_is, within, again)
 repeated_again total state next (Search pattern kept offset) matched cut at some within again same few = omega (arith, at.0, few, again, same)
 
-repeated_anew : (total : ℕ) (state : State) (operands : List Operand) → state.repetition ≡ 0 → IsRepeated total state operands
+pub repeated_anew : (total : ℕ) (state : State) (operands : List Operand) → state.repetition ≡ 0 → IsRepeated total state operands
 repeated_anew total state [] none = none
 repeated_anew total state (operand ∷ operands) none = by operand.target where
   by : (target : Target) → IsRepeatedBy total state target

@@ -1,0 +1,208 @@
+-- What ending the cutter leaves: all lines that waited belong to the last section, which ends.
+use Rattle.std.proofs.Common.{◌≡◌, inl, inr, ℕ, suc, ◌+◌, ◌-◌, ◌≤◌, Bool, true, false, Result, Ok, Err, List, [], ◌∷◌, ◌++◌, length, map, take, refl, sym, ◌∙◌, ap, subst, arith}
+use Rattle.std.proofs.lemmas.Bool.{false≢true}
+use Rattle.std.proofs.lemmas.List.{append-nil, map-append, take_all}
+use Rattle.seg_core.specs.Line.{lines_of, line_count, joined, first_lines, after_lines}
+use Rattle.seg_core.specs.Window.{Window}
+use Rattle.seg_core.proofs.LinesOf.{joined-lines_of}
+use Rattle.seg_core.proofs.FirstLines.{first_lines_then_rest}
+use Rattle.ports_core.specs.Slot.{Slot}
+use Rattle.ports_core.specs.declared.fault.Fault.{Fault}
+use Rattle.csplit_core.specs.Csplit.{whole_of}
+use Rattle.csplit_core.specs.Draft.{Draft, draft_part, ended_part, with_bytes}
+use Rattle.csplit_core.specs.Input.{newline, all_lines}
+use Rattle.csplit_core.specs.Operand.{Operand, Line}
+use Rattle.csplit_core.specs.Output.{Style, contents_of, part_by}
+use Rattle.csplit_core.specs.Plan.{State, start, Step, Ending, used_up, missed, above, below, Runs}
+use Rattle.csplit_core.specs.Planned.{Plan, plan}
+use Rattle.csplit_core.specs.PlanLaws.{plan_once}
+use Rattle.csplit_core.specs.Progress.{AimsAt}
+use Rattle.csplit_core.specs.Section.{section, section_of, lines_between, is_last_kept, settled_end, whole_end, is_final, bytes_of}
+use Rattle.csplit_core.specs.SectionLaws.{ends_as}
+use Rattle.csplit_core.specs.declared.progress.Turn.TheVariants.{Below}
+use Rattle.csplit_core.specs.Writer.{WriterState, Writes, Moves, Halts, Breaks, Went, Stopped, Ended, EndedNot, Ends}
+use Rattle.csplit_core.specs.Cutter.{CutterState, suppress_in, state_in, kept_by, text_from, draft_by, settled_draft, settled_part, whole_part, IsFit, IsLive, IsPast, Stands, IsJudged, EndedAll, EndedNone, EndsAll}
+use Rattle.csplit_core.proofs.LineLemmas.{length-all_lines, bytes_between, count_from, from_further}
+use Rattle.csplit_core.proofs.SettledLemmas.{last_kept, settled_part_is}
+use Rattle.csplit_core.proofs.CutterLemmas.{runs_to, live_part}
+use Rattle.csplit_core.proofs.HoldLemmas.{went_as, stopped_as}
+use Rattle.csplit_core.proofs.WriterLemmas.{moves_again, moves_as, halts_after, halts_as, halts_wider, bytes_begin, end_begins, breaks_later, keeps_again, owns_again}
+
+-- the whole of lines, where they end
+abbrev pub whole_draft : Bool → List Operand → List Line → Draft
+whole_draft suppress operands lines = draft_by lines (plan suppress operands lines).steps (is_last_kept (plan suppress operands lines).ending)
+    (bytes_of (lines_between (plan suppress operands lines).last.current (whole_end (length lines) (plan suppress operands lines).ending) lines))
+
+whole_draft_is : (suppress : Bool) (operands : List Operand) (x : List ℕ) (steps : List Step) (state : State) (ending : Ending) (written : List ℕ) → Runs suppress (all_lines x) (start operands) steps state ending
+    → written ≡ first_lines newline (whole_end (line_count newline x) ending - state.current) (text_from state.current x)
+    → draft_by (all_lines x) steps (kept_by state.operands) written ≡ whole_draft suppress operands (all_lines x)
+whole_draft_is suppress operands x steps state ending written runs written_is =
+    let kept = last_kept suppress (all_lines x) state ending (ends_as suppress (all_lines x) (start operands) steps state ending runs) in
+    let count : whole_end (length (all_lines x)) ending - state.current ≡ whole_end (line_count newline x) ending - state.current = ap (λ n. whole_end n ending - state.current) (length-all_lines x) in
+    let bytes = bytes_between state.current (whole_end (length (all_lines x)) ending) x ∙ ap (λ n. first_lines newline n (text_from state.current x)) count ∙ sym written_is in
+    ap (λ k. draft_by (all_lines x) steps k written) kept
+    ∙ ap (λ bytes. draft_by (all_lines x) steps (is_last_kept ending) bytes) (sym bytes)
+    ∙ ap (λ (p : Plan). draft_by (all_lines x) p.steps (is_last_kept p.ending) (bytes_of (lines_between p.last.current (whole_end (length (all_lines x)) p.ending) (all_lines x)))) (sym (plan_once suppress operands (all_lines x) steps state ending runs))
+
+whole_part_is : (style : Style) (operands : List Operand) (lines : List Line) → ended_part style (whole_draft style.suppress operands lines) ≡ whole_of style operands lines
+whole_part_is style operands lines =
+    let p = plan style.suppress operands lines in
+    ap (part_by style) (sym (map-append contents_of (map (section_of lines) p.steps) (section (is_last_kept p.ending) true (lines_between p.last.current (whole_end (length lines) p.ending) lines) ∷ [])))
+
+-- The last section has all lines that are left, and none where the cut is below the current line.
+
+whole_live : (total : ℕ) (ending : Ending) → is_final ending ≡ false → whole_end total ending ≡ suc total
+whole_live total used_up live = refl
+whole_live total (missed operand repetition) live = refl
+whole_live total (above operand repetition matched cut) live = refl
+whole_live total (below operand repetition) live = absurd (false≢true (sym live))
+
+whole_past : (total : ℕ) (ending : Ending) → is_final ending ≡ true → settled_end total ending ≡ whole_end total ending
+whole_past total used_up past = absurd (false≢true past)
+whole_past total (missed operand repetition) past = absurd (false≢true past)
+whole_past total (above operand repetition matched cut) past = absurd (false≢true past)
+whole_past total (below operand repetition) past = refl
+
+all_first : (n : ℕ) (y : List ℕ) → line_count newline y ≤ n → first_lines newline n y ≡ y
+all_first n y few = ap joined (take_all n (lines_of newline y) few) ∙ joined-lines_of newline y
+
+all_written : (x written held : List ℕ) (current taken : ℕ) (ending : Ending) → 1 ≤ current → is_final ending ≡ false → written ≡ first_lines newline taken (text_from current x) → held ≡ text_from (current + taken) x
+    → written ++ held ≡ first_lines newline (whole_end (line_count newline x) ending - current) (text_from current x)
+all_written x written held current taken ending some live written_is held_is =
+    let all : first_lines newline taken (text_from current x) ++ after_lines newline taken (text_from current x) ≡ text_from current x = first_lines_then_rest newline taken (text_from current x) in
+    let end : whole_end (line_count newline x) ending ≡ suc (line_count newline x) = whole_live (line_count newline x) ending live in
+    let count : line_count newline (text_from current x) ≡ line_count newline x - (current - 1) = count_from current x in
+    ap (λ those. those ++ held) written_is
+    ∙ ap (λ those. first_lines newline taken (text_from current x) ++ those) (held_is ∙ sym (from_further current taken x some))
+    ∙ all ∙ sym (all_first (whole_end (line_count newline x) ending - current) (text_from current x) (omega (arith, end, count, some)))
+
+-- What is written before the end, and with the lines that wait, is what is settled and the whole.
+record LastDraft (cutter : CutterState) (x : List ℕ) : Type 0 where
+  draft : Draft
+  writes : Writes cutter.writer draft
+  settled : draft_part cutter.writer.style draft ≡ settled_part cutter x
+  whole : ended_part cutter.writer.style (with_bytes cutter.window.held draft) ≡ whole_part cutter x
+
+live_draft : (cutter : CutterState) (x : List ℕ) → IsFit cutter → IsLive cutter x → LastDraft cutter x
+live_draft cutter x fit live = record {
+  draft = draft_by (all_lines x) live.at.steps (kept_by (state_in cutter).operands) live.at.written;
+  writes = live.at.writes;
+  settled = live_part cutter x live;
+  whole = ap (ended_part cutter.writer.style) (whole_draft_is (suppress_in cutter) cutter.operands x live.at.steps (state_in cutter) live.ends.ending (live.at.written ++ cutter.window.held)
+      (runs_to cutter x cutter.window.held live.at live.ends)
+      (all_written x live.at.written cutter.window.held cutter.progress.current live.at.taken live.ends.ending fit.fits.some live.live live.at.written_is live.at.left_is))
+      ∙ whole_part_is cutter.writer.style cutter.operands (all_lines x);
+}
+
+past_whole : (cutter : CutterState) (x : List ℕ) → IsPast cutter x → with_bytes cutter.window.held (settled_draft (suppress_in cutter) cutter.operands (all_lines x)) ≡ whole_draft (suppress_in cutter) cutter.operands (all_lines x)
+past_whole cutter x past =
+    let lines = all_lines x in
+    let p = plan (suppress_in cutter) cutter.operands (all_lines x) in
+    ap (λ bytes. draft_by (all_lines x) p.steps (is_last_kept p.ending) bytes)
+    (ap (λ held. bytes_of (lines_between p.last.current (settled_end (length lines) p.ending) lines) ++ held) past.none
+    ∙ append-nil (bytes_of (lines_between p.last.current (settled_end (length lines) p.ending) lines))
+    ∙ ap (λ end. bytes_of (lines_between p.last.current end lines)) (whole_past (length lines) p.ending past.past))
+
+past_draft : (cutter : CutterState) (x : List ℕ) → IsPast cutter x → LastDraft cutter x
+past_draft cutter x past = record {
+  draft = settled_draft (suppress_in cutter) cutter.operands (all_lines x);
+  writes = past.writes;
+  settled = settled_part_is cutter.writer.style cutter.operands (all_lines x);
+  whole = ap (ended_part cutter.writer.style) (past_whole cutter x past) ∙ whole_part_is cutter.writer.style cutter.operands (all_lines x);
+}
+
+last_draft : (cutter : CutterState) (x : List ℕ) → IsFit cutter → Stands cutter x → LastDraft cutter x
+last_draft cutter x fit (inl live) = live_draft cutter x fit live
+last_draft cutter x fit (inr past) = past_draft cutter x past
+
+-- how the plan ends
+
+final_aims : (ending : Ending) → is_final ending ≡ true → AimsAt Below ending
+final_aims used_up past = absurd (false≢true past)
+final_aims (missed operand repetition) past = absurd (false≢true past)
+final_aims (above operand repetition matched cut) past = absurd (false≢true past)
+final_aims (below operand repetition) past = tt
+
+judged_now : (cutter : CutterState) (x : List ℕ) → Stands cutter x → IsJudged cutter x
+judged_now cutter x (inl live) =
+    let is = plan_once (suppress_in cutter) cutter.operands (all_lines x) live.at.steps (state_in cutter) live.ends.ending (runs_to cutter x cutter.window.held live.at live.ends) in record {
+      last = sym (ap (λ (p : Plan). p.last) is);
+      aims = subst (λ (p : Plan). AimsAt cutter.aim p.ending) (sym is) live.ends.aims;
+    }
+judged_now cutter x (inr past) = record {
+  last = past.last;
+  aims = subst (λ aim. AimsAt aim (plan (suppress_in cutter) cutter.operands (all_lines x)).ending) (sym past.aim) (final_aims (plan (suppress_in cutter) cutter.operands (all_lines x)).ending past.past);
+}
+
+judged_later : (cutter : CutterState) (writer : WriterState) (window : Window) (x : List ℕ) → writer.style ≡ cutter.writer.style → Stands cutter x → IsJudged (record cutter { writer = writer; window = window }) x
+judged_later cutter writer window x same stands =
+    let judged = judged_now cutter x stands in record {
+      last = subst (λ (style : Style). state_in cutter ≡ (plan style.suppress cutter.operands (all_lines x)).last) (sym same) judged.last;
+      aims = subst (λ (style : Style). AimsAt cutter.aim (plan style.suppress cutter.operands (all_lines x)).ending) (sym same) judged.aims;
+    }
+
+-- What `end` does: the lines that wait are written, and then the section ends.
+
+end_ended : (told : Bool) (cutter : CutterState) (between next : WriterState) (window : Window) (old mid new : List Slot) → IsFit cutter → Went told cutter.writer (with_bytes cutter.window.held) old mid between → Ended told between mid new next
+    → EndedAll told cutter old new (record cutter { writer = next; window = window })
+end_ended told cutter between next window old mid new fit went ended = record {
+  same = record { operands = refl; style = ended.style ∙ went.style };
+  moves = λ x stands. let last = last_draft cutter x fit stands in
+      moves_as told _ _ _ _ old new (sym last.settled) (sym last.whole)
+      (moves_again told (draft_part cutter.writer.style last.draft) (draft_part cutter.writer.style (with_bytes cutter.window.held last.draft)) (ended_part cutter.writer.style (with_bytes cutter.window.held last.draft)) old mid new
+      (went.moves last.draft last.writes)
+      (subst (λ (style : Style). Moves told (draft_part style (with_bytes cutter.window.held last.draft)) (ended_part style (with_bytes cutter.window.held last.draft)) mid new) went.style
+      (ended.moves (with_bytes cutter.window.held last.draft) (went.writes last.draft last.writes))));
+  judged = λ x stands. judged_later cutter next window x (ended.style ∙ went.style) stands;
+  keeps = keeps_again old mid new went.keeps ended.keeps;
+  owns = owns_again cutter.writer between next old mid new went.owns ended.owns;
+  ready = ended.ready;
+}
+
+end_stopped : (told : Bool) (cutter : CutterState) (between next : WriterState) (window : Window) (old mid new : List Slot) (fault : Fault) → IsFit cutter → Went told cutter.writer (with_bytes cutter.window.held) old mid between
+    → EndedNot told between mid new next fault → EndedNone told cutter old new (record cutter { writer = next; window = window }) fault
+end_stopped told cutter between next window old mid new fault fit went stopped = record {
+  same = record { operands = refl; style = stopped.style ∙ went.style };
+  halts = λ x stands. let last = last_draft cutter x fit stands in
+      halts_as told _ _ _ _ old new fault (sym last.settled) (sym last.whole)
+      (halts_after told (draft_part cutter.writer.style last.draft) (draft_part cutter.writer.style (with_bytes cutter.window.held last.draft)) (ended_part cutter.writer.style (with_bytes cutter.window.held last.draft)) old mid new fault
+      (bytes_begin cutter.writer.style cutter.window.held last.draft) (went.moves last.draft last.writes)
+      (subst (λ (style : Style). Halts told (draft_part style (with_bytes cutter.window.held last.draft)) (ended_part style (with_bytes cutter.window.held last.draft)) mid new fault) went.style
+      (stopped.halts (with_bytes cutter.window.held last.draft) (went.writes last.draft last.writes))));
+  breaks = breaks_later cutter.writer.style old mid new fault went.keeps (subst (λ (style : Style). Breaks style mid new fault) went.style stopped.breaks);
+  owns = owns_again cutter.writer between next old mid new went.owns stopped.owns;
+}
+
+end_short : (told : Bool) (cutter : CutterState) (next : WriterState) (window : Window) (old new : List Slot) (fault : Fault) → IsFit cutter → Stopped told cutter.writer (with_bytes cutter.window.held) old new next fault
+    → EndedNone told cutter old new (record cutter { writer = next; window = window }) fault
+end_short told cutter next window old new fault fit stopped = record {
+  same = record { operands = refl; style = stopped.style };
+  halts = λ x stands. let last = last_draft cutter x fit stands in
+      halts_as told _ _ _ _ old new fault (sym last.settled) (sym last.whole)
+      (halts_wider told (draft_part cutter.writer.style last.draft) (draft_part cutter.writer.style (with_bytes cutter.window.held last.draft)) (ended_part cutter.writer.style (with_bytes cutter.window.held last.draft)) old new fault
+      (stopped.halts last.draft last.writes) (end_begins cutter.writer.style (with_bytes cutter.window.held last.draft)));
+  breaks = stopped.breaks;
+  owns = stopped.owns;
+}
+
+end_goes : (told : Bool) (cutter : CutterState) (between next : WriterState) (window : Window) (old mid new : List Slot) (result : Result (Unit {0}) Fault) → IsFit cutter → Went told cutter.writer (with_bytes cutter.window.held) old mid between
+    → Ends told between mid new next result → EndsAll told cutter old new (record cutter { writer = next; window = window }) result
+end_goes told cutter between next window old mid new (Ok done) fit went ended = end_ended told cutter between next window old mid new fit went ended
+end_goes told cutter between next window old mid new (Err fault) fit went stopped = end_stopped told cutter between next window old mid new fault fit went stopped
+
+-- The same of a cutter that is known by its fields.
+
+all_held : (cutter : CutterState) (n : ℕ) → n ≡ length cutter.window.held → take n cutter.window.held ≡ cutter.window.held
+all_held cutter n all = take_all n cutter.window.held (omega (arith, all))
+
+pub end_goes_at : (told : Bool) (cutter now : CutterState) (between next : WriterState) (window : Window) (old mid new : List Slot) (n : ℕ) (result : Result (Unit {0}) Fault) → cutter ≡ now → IsFit now → n ≡ length cutter.window.held
+    → Went told cutter.writer (with_bytes (take n cutter.window.held)) old mid between → Ends told between mid new next result → EndsAll told now old new (record cutter { writer = next; window = window }) result
+end_goes_at told cutter now between next window old mid new n result is fit all went ends =
+    subst (λ (those : CutterState). EndsAll told those old new (record cutter { writer = next; window = window }) result) is
+    (end_goes told cutter between next window old mid new result (subst IsFit (sym is) fit) (went_as told cutter.writer between (take n cutter.window.held) cutter.window.held old mid (all_held cutter n all) went) ends)
+
+pub end_short_at : (told : Bool) (cutter now : CutterState) (next : WriterState) (window : Window) (old new : List Slot) (n : ℕ) (fault : Fault) → cutter ≡ now → IsFit now → n ≡ length cutter.window.held
+    → Stopped told cutter.writer (with_bytes (take n cutter.window.held)) old new next fault → EndedNone told now old new (record cutter { writer = next; window = window }) fault
+end_short_at told cutter now next window old new n fault is fit all stopped =
+    subst (λ (those : CutterState). EndedNone told those old new (record cutter { writer = next; window = window }) fault) is
+    (end_short told cutter next window old new fault (subst IsFit (sym is) fit) (stopped_as told cutter.writer next (take n cutter.window.held) cutter.window.held old new fault (all_held cutter n all) stopped))

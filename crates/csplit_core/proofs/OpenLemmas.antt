@@ -1,0 +1,215 @@
+-- What opening the cutter leaves: the first section, with no line yet.
+use Rattle.std.proofs.Common.{◌≡◌, inl, inr, ℕ, ◌+◌, ◌-◌, ◌≤◌, max, Bool, true, false, List, [], ◌∷◌, Option, slice_get, refl, sym, ◌∙◌, ap, subst, arith}
+use Rattle.std.proofs.lemmas.Bool.{false≢true}
+use Rattle.bre_core.specs.Pattern.{Pattern}
+use Rattle.seg_core.specs.Window.{Window}
+use Rattle.ports_core.specs.Part.{Part, Begins, nothing}
+use Rattle.ports_core.specs.Slot.{Slot}
+use Rattle.ports_core.specs.declared.fault.Fault.{Fault}
+use Rattle.ports_core.specs.declared.fault.Fault.TheVariants.{Memory}
+use Rattle.ports_core.proofs.PartLemmas.{part_begins_itself}
+use Rattle.csplit_core.specs.Csplit.{settled_of}
+use Rattle.csplit_core.specs.Draft.{draft_part, first_draft}
+use Rattle.csplit_core.specs.Input.{newline}
+use Rattle.csplit_core.specs.Operand.{Operand, Line}
+use Rattle.csplit_core.specs.Output.{Style}
+use Rattle.csplit_core.specs.Plan.{State, start, Step, Ending, used_up, missed, above, below, Runs, is_used_up, misses, is_above, is_below, cuts}
+use Rattle.csplit_core.specs.Planned.{Plan, plan}
+use Rattle.csplit_core.specs.PlanLaws.{plan_runs, plan_once}
+use Rattle.csplit_core.specs.Progress.{state_of, AreSeen, Turns, MovesOn, AimsAt, EndsHere}
+use Rattle.csplit_core.specs.Section.{settled_end, is_final, most_waiting}
+use Rattle.csplit_core.specs.declared.progress.Progress.{Progress}
+use Rattle.csplit_core.specs.declared.progress.Turn.{Turn}
+use Rattle.csplit_core.specs.declared.progress.Turn.TheVariants.{UsedUp, Missed, Above, Below, Cuts}
+use Rattle.csplit_core.specs.Writer.{WriterState, Writes, Halts, Begun, BegunNot, size_of}
+use Rattle.csplit_core.specs.Cutter.{CutterState, most_next, pattern_next, kept_next, next_of, most_by, pattern_by, kept_by, settled_draft, IsFit, Stands, IsNoCut, Opened, OpenedNot}
+use Rattle.csplit_core.proofs.AdvanceLemmas.{advances}
+use Rattle.csplit_core.proofs.MoveLemmas.{repeated_anew}
+use Rattle.csplit_core.proofs.SettledLemmas.{settled_draft_is, settled_part_is}
+use Rattle.csplit_core.proofs.SlotSteps.{none_past}
+use Rattle.csplit_core.proofs.TryLemmas.{advance_ends, no_cut_aims}
+use Rattle.csplit_core.proofs.WriterLemmas.{moves_as, halts_as, halts_wider}
+
+-- Over no line a plan has no step.
+
+first_only : (suppress : Bool) (first : State) (steps : List Step) (last : State) (ending : Ending) → Runs suppress [] first steps last ending → 1 ≤ first.current → Runs suppress [] first [] first ending
+first_only suppress first steps last ending (is_used_up state none) some = is_used_up state none
+first_only suppress first steps last ending (misses state operand operands is none) some = misses state operand operands is none
+first_only suppress first steps last ending (is_above state operand operands matched cut is at far) some = is_above state operand operands matched cut is at far
+first_only suppress first steps last ending (is_below state operand operands matched cut is at within low) some = is_below state operand operands matched cut is at within low
+first_only suppress first steps last ending (cuts state operand operands matched cut steps' last' ending' is at from within rest) some = absurd (omega (arith, some, from, within))
+
+first_runs : (suppress : Bool) (operands : List Operand) → Runs suppress [] (start operands) [] (start operands) (plan suppress operands []).ending
+first_runs suppress operands = first_only suppress (start operands) (plan suppress operands []).steps (plan suppress operands []).last (plan suppress operands []).ending (plan_runs suppress operands []) (omega arith)
+
+none_settled : (ending : Ending) → 0 ≡ settled_end 0 ending - 1
+none_settled used_up = omega arith
+none_settled (missed operand repetition) = omega arith
+none_settled (above operand repetition matched cut) = omega arith
+none_settled (below operand repetition) = omega arith
+
+-- the first section, without a byte, is what is settled
+first_settled : (suppress : Bool) (operands : List Operand) → first_draft (kept_by operands) ≡ settled_draft suppress operands []
+first_settled suppress operands =
+    settled_draft_is suppress operands [] [] (start operands) (plan suppress operands []).ending 0 [] (first_runs suppress operands) (none_settled (plan suppress operands []).ending) refl
+
+first_part : (style : Style) (operands : List Operand) → draft_part style (first_draft (kept_by operands)) ≡ settled_of style operands []
+first_part style operands = ap (draft_part style) (first_settled style.suppress operands) ∙ settled_part_is style operands []
+
+-- The first turn, before any line came in.
+
+abbrev pub first_progress : Progress
+first_progress = record { done = 0; repetition = 0; current = 1; matched = 0 }
+
+seen_none : (suppress : Bool) (operands : List Operand) → AreSeen suppress [] 0 (start operands) false
+seen_none suppress operands = record {
+  count = refl;
+  last = λ operand rest are near. refl;
+  others = λ operand rest are other from less. absurd (omega (arith, less));
+}
+
+first_no_cut : (operands : List Operand) (turn : Turn) → MovesOn operands 0 first_progress turn → IsNoCut turn
+first_no_cut operands UsedUp moves = tt
+first_no_cut operands Missed moves = tt
+first_no_cut operands (Above matched line) moves = tt
+first_no_cut operands Below moves = tt
+first_no_cut operands (Cuts matched line) moves = absurd (omega (arith, moves.6, moves.7))
+
+abbrev SaysFirst : Bool → List Operand → Turn → Type 0
+SaysFirst suppress operands turn = (lines : List Line) → AreSeen suppress lines 0 (start operands) false → Turns suppress lines 0 (start operands) turn
+
+first_ends : (suppress : Bool) (operands : List Operand) (turn : Turn) → SaysFirst suppress operands turn → MovesOn operands 0 first_progress turn → EndsHere suppress [] (start operands) turn
+first_ends suppress operands turn says moves =
+    advance_ends suppress [] (start operands) turn (first_no_cut operands turn moves) (advances suppress [] 0 (start operands) turn refl (says [] (seen_none suppress operands)))
+
+final_below : (turn : Turn) (ending : Ending) → AimsAt turn ending → is_final ending ≡ true → turn ≡ Below
+final_below turn used_up aims past = absurd (false≢true past)
+final_below turn (missed operand repetition) aims past = absurd (false≢true past)
+final_below turn (above operand repetition matched cut) aims past = absurd (false≢true past)
+final_below UsedUp (below operand repetition) aims past = absurd aims
+final_below Missed (below operand repetition) aims past = absurd aims
+final_below (Above matched line) (below operand repetition) aims past = absurd aims
+final_below Below (below operand repetition) aims past = refl
+final_below (Cuts matched line) (below operand repetition) aims past = absurd aims
+
+-- The cutter that was opened
+
+abbrev pub opened : List Operand → WriterState → Progress → Turn → Window → Option Pattern → CutterState
+opened operands writer progress aim window sought = record { operands = operands; writer = writer; progress = progress; aim = aim; lines = 0; window = window; sought = sought }
+
+abbrev first_window : List Operand → Window
+first_window operands = record { most = most_by operands; delim = newline; held = [] }
+
+abbrev first_cutter : List Operand → WriterState → Turn → CutterState
+first_cutter operands writer aim = opened operands writer first_progress aim (first_window operands) (pattern_by operands)
+
+none_over : (n : ℕ) → 0 ≡ 0 + 1 - 1 - n
+none_over n = omega arith
+
+first_stands : (operands : List Operand) (writer : WriterState) (aim : Turn) → Writes writer (first_draft (kept_by operands)) → (ends : EndsHere writer.style.suppress [] (start operands) aim) → (final : Bool) → is_final ends.ending ≡ final → Stands (first_cutter operands writer aim) []
+first_stands operands writer aim writes ends false live = inl (record {
+  at = record {
+    steps = [];
+    leads = λ more last ending run. run;
+    counted = refl;
+    taken = 0;
+    written = [];
+    few = omega arith;
+    written_is = refl;
+    left_is = refl;
+    writes = writes;
+  };
+  ends = ends;
+  live = live;
+  settled = none_over (most_waiting ends.ending);
+})
+first_stands operands writer aim writes ends true past =
+    let is = plan_once writer.style.suppress operands [] [] (start operands) ends.ending ends.runs in inr (record {
+      aim = final_below aim ends.ending ends.aims past;
+      past = ap (λ (p : Plan). is_final p.ending) is ∙ past;
+      last = sym (ap (λ (p : Plan). p.last) is);
+      none = refl;
+      writes = subst (Writes writer) (first_settled writer.style.suppress operands) writes;
+    })
+
+first_fit : (operands : List Operand) (writer : WriterState) (aim : Turn) → IsFit (first_cutter operands writer aim)
+first_fit operands writer aim = record {
+  fits = record { some = omega arith; current = omega arith; matched = omega arith; repeated = repeated_anew 0 (start operands) operands refl };
+  most = refl;
+  delim = refl;
+  sought = refl;
+}
+
+first_opened : (told : Bool) (style : Style) (operands : List Operand) (old new : List Slot) (writer : WriterState) (aim : Turn) → Begun told style (kept_by operands) old new writer → SaysFirst style.suppress operands aim → MovesOn operands 0 first_progress aim
+    → Opened told style operands old new (first_cutter operands writer aim)
+first_opened told style operands old new writer aim begun says moves =
+    let ends = first_ends writer.style.suppress operands aim (subst (λ (s : Style). SaysFirst s.suppress operands aim) (sym begun.asked) says) moves in
+    let none : size_of writer.current + 0 ≡ 0 = (let size = begun.size in omega (arith, size)) in record {
+      asked = begun.asked;
+      operands_are = refl;
+      stands = first_stands operands writer aim begun.writes ends (is_final ends.ending) refl;
+      moves = moves_as told nothing nothing _ _ old new refl (sym (first_part style operands)) begun.moves;
+      owns = begun.owns;
+      ready = begun.ready;
+      sound = record { fit = first_fit operands writer aim; aim = no_cut_aims operands 0 first_progress aim (first_no_cut operands aim moves) moves };
+      size = ap (max 0) none;
+    }
+
+-- What `open` returns, where the next operand was looked up.
+
+next_seen : (operands : List Operand) → slice_get operands 0 ≡ next_of operands
+next_seen [] = refl
+next_seen (operand ∷ operands) = refl
+
+pub opened_at : (told : Bool) (style : Style) (suppress : Bool) (operands : List Operand) (next : Option Operand) (kept : Bool) (old new : List Slot) (writer : WriterState) (progress : Progress) (aim : Turn) (window : Window) (sought : Option Pattern)
+    → next ≡ slice_get operands 0 → window ≡ record { most = most_next next; delim = newline; held = [] } → sought ≡ pattern_next next → kept ≡ kept_next next → suppress ≡ style.suppress → Begun told style kept old new writer → progress ≡ first_progress
+    → ((lines : List Line) → AreSeen suppress lines 0 (state_of operands progress) false → Turns suppress lines 0 (state_of operands progress) aim) → (progress.matched ≤ 0 → MovesOn operands 0 progress aim)
+    → Opened told style operands old new (opened operands writer progress aim window sought)
+opened_at told style suppress operands next kept old new writer progress aim window sought next_is window_is sought_is kept_is suppress_is begun start_is says moves =
+    let first = next_is ∙ next_seen operands in
+    let window_first : first_window operands ≡ window = sym (window_is ∙ ap (λ (o : Option Operand). record { most = most_next o; delim = newline; held = [] }) first) in
+    let sought_first : pattern_by operands ≡ sought = sym (sought_is ∙ ap pattern_next first) in
+    let kept_first : kept ≡ kept_by operands = kept_is ∙ ap kept_next first in
+    let says_first : SaysFirst style.suppress operands aim = subst (λ s. SaysFirst s operands aim) suppress_is
+    (subst (λ (p : Progress). (lines : List Line) → AreSeen suppress lines 0 (state_of operands p) false → Turns suppress lines 0 (state_of operands p) aim) start_is says) in
+    let moves_first : MovesOn operands 0 first_progress aim = subst (λ (p : Progress). p.matched ≤ 0 → MovesOn operands 0 p aim) start_is moves (omega arith) in
+    subst (λ (p : Progress). Opened told style operands old new (opened operands writer p aim window sought)) (sym start_is)
+    (subst (λ w. Opened told style operands old new (opened operands writer first_progress aim w sought)) window_first
+    (subst (λ s. Opened told style operands old new (opened operands writer first_progress aim (first_window operands) s)) sought_first
+    (first_opened told style operands old new writer aim (subst (λ k. Begun told style k old new writer) kept_first begun) says_first moves_first)))
+
+pub opened_not : (told : Bool) (style : Style) (operands : List Operand) (next : Option Operand) (kept : Bool) (old new : List Slot) (fault : Fault) → next ≡ slice_get operands 0 → kept ≡ kept_next next → BegunNot told style kept old new fault
+    → OpenedNot told style operands old new fault
+opened_not told style operands next kept old new fault next_is kept_is begun =
+    let first = subst (λ k. BegunNot told style k old new fault) (kept_is ∙ ap kept_next (next_is ∙ next_seen operands)) begun in record {
+      halts = halts_as told nothing nothing _ _ old new fault refl (sym (first_part style operands)) first.halts;
+      breaks = first.breaks;
+      none = first.none;
+    }
+
+-- where there is no memory, nothing was done
+nothing_halts : (told : Bool) (slots : List Slot) → Halts told nothing nothing slots slots Memory
+nothing_halts told slots before at = record {
+  part = nothing;
+  above = part_begins_itself nothing;
+  below = part_begins_itself nothing;
+  place = 0;
+  turn = record { closed = tt; within = omega arith; last = omega arith };
+  reached = slots;
+  outputs = at;
+  marks = refl;
+  from = tt;
+}
+
+nothing_begins : (part : Part) → Begins nothing part
+nothing_begins part = record { out = (part.out, refl); files = tt }
+
+opened_none : (told : Bool) (style : Style) (operands : List Operand) (slots : List Slot) → OpenedNot told style operands slots slots Memory
+opened_none told style operands slots = record {
+  halts = halts_wider told nothing nothing (settled_of style operands []) slots slots Memory (nothing_halts told slots) (nothing_begins (settled_of style operands []));
+  breaks = tt;
+  none = λ place past. record { files = λ at above within. absurd (omega (arith, above, within)); none_after = λ at beyond. none_past slots at (omega (arith, past, beyond)) };
+}
+
+pub opened_lacks : (told : Bool) (style : Style) (operands : List Operand) (slots : List Slot) (fault : Fault) → fault ≡ Memory → OpenedNot told style operands slots slots fault
+opened_lacks told style operands slots fault lacks = subst (OpenedNot told style operands slots slots) (sym lacks) (opened_none told style operands slots)

@@ -1,0 +1,118 @@
+-- The fault with which the work ends, from where the cutter stands.
+use Rattle.std.proofs.Common.{◌≡◌, ℕ, suc, ◌+◌, ◌<◌, ◌≤◌, Bool, false, nat_lt, List, [], ◌∷◌, length, drop, get_or, Option, None, refl, sym, ◌∙◌, ap, subst, arith}
+use Rattle.std.proofs.lemmas.Bool.Decides.{nat_tests}
+use Rattle.std.proofs.lemmas.List.{drop_all}
+use Rattle.ports_core.specs.declared.fault.Fault.{Fault}
+use Rattle.csplit_core.specs.Csplit.{verdict_of}
+use Rattle.csplit_core.specs.Input.{all_lines}
+use Rattle.csplit_core.specs.Operand.{Operand, Line}
+use Rattle.csplit_core.specs.Plan.{State, start, Step, Ending, used_up, missed, above, below, state_after, Runs, is_used_up, misses, is_above, is_below, cuts}
+use Rattle.csplit_core.specs.Planned.{plan}
+use Rattle.csplit_core.specs.PlanLaws.{plan_runs}
+use Rattle.csplit_core.specs.Progress.{AimsAt}
+use Rattle.csplit_core.specs.SectionLaws.{front_of}
+use Rattle.csplit_core.specs.declared.progress.Turn.TheVariants.{Missed, Above, Below}
+use Rattle.csplit_core.specs.Cutter.{CutterState, suppress_in, state_in, IsJudged}
+use Rattle.csplit_core.proofs.TurnLemmas.{left_is}
+
+-- the ending is that of the next operand, which was performed as often
+abbrev pub IsNext : State → Operand → ℕ → Type 0
+IsNext state operand repetition = ((operands : List Operand) × (state.operands ≡ operand ∷ operands)) × (repetition ≡ state.repetition)
+
+abbrev pub IsOf : State → Ending → Type 0
+IsOf state used_up = Unit {0}
+IsOf state (missed operand repetition) = IsNext state operand repetition
+IsOf state (above operand repetition matched cut) = IsNext state operand repetition
+IsOf state (below operand repetition) = IsNext state operand repetition
+
+ends_of : (suppress : Bool) (lines : List Line) (first : State) (steps : List Step) (last : State) (ending : Ending) → Runs suppress lines first steps last ending → IsOf last ending
+ends_of suppress lines first steps last ending (is_used_up state none) = tt
+ends_of suppress lines first steps last ending (misses state operand operands is none) = ((operands, is), refl)
+ends_of suppress lines first steps last ending (is_above state operand operands matched cut is at far) = ((operands, is), refl)
+ends_of suppress lines first steps last ending (is_below state operand operands matched cut is at within low) = ((operands, is), refl)
+ends_of suppress lines first steps last ending (cuts state operand operands matched cut steps' last' ending' is at from within rest) =
+    ends_of suppress lines (state_after suppress operand operands state.repetition matched cut) steps' last' ending' rest
+
+-- how the plan ends, where its ending is known from the cutter
+abbrev ending_in : CutterState → List ℕ → Ending
+ending_in cutter x = (plan (suppress_in cutter) cutter.operands (all_lines x)).ending
+
+of_it : (cutter : CutterState) (x : List ℕ) → IsJudged cutter x → IsOf (state_in cutter) (ending_in cutter x)
+of_it cutter x judged =
+    subst (λ state. IsOf state (ending_in cutter x)) (sym judged.last)
+    (ends_of (suppress_in cutter) (all_lines x) (start cutter.operands) (plan (suppress_in cutter) cutter.operands (all_lines x)).steps (plan (suppress_in cutter) cutter.operands (all_lines x)).last (ending_in cutter x)
+    (plan_runs (suppress_in cutter) cutter.operands (all_lines x)))
+
+no_front : (operand : Operand) (operands those : List Operand) → those ≡ [] → those ≡ operand ∷ operands → ⊥
+no_front operand operands those none is = no_length (length operands) (ap length (sym none ∙ is)) where
+  no_length : (n : ℕ) → 0 ≡ suc n → ⊥
+  no_length n e = omega (arith, e)
+
+-- where no operand is left
+none_of : (state : State) (ending : Ending) → IsOf state ending → state.operands ≡ [] → None ≡ verdict_of ending
+none_of state used_up of none = refl
+none_of state (missed operand repetition) of none = absurd (no_front operand of.0.0 state.operands none of.0.1)
+none_of state (above operand repetition matched cut) of none = absurd (no_front operand of.0.0 state.operands none of.0.1)
+none_of state (below operand repetition) of none = absurd (no_front operand of.0.0 state.operands none of.0.1)
+
+-- the operand of an ending is the next one
+is_next : (state : State) (other operand : Operand) (operands : List Operand) (repetition : ℕ) → IsNext state other repetition → state.operands ≡ operand ∷ operands → operand ≡ other
+is_next state other operand operands repetition of are = sym (front_of other operand of.0.0 operands (sym of.0.1 ∙ are))
+
+missed_of : (state : State) (operand : Operand) (operands : List Operand) (ending : Ending) → IsOf state ending → state.operands ≡ operand ∷ operands → AimsAt Missed ending → verdict_of (missed operand state.repetition) ≡ verdict_of ending
+missed_of state operand operands used_up of are aims = absurd aims
+missed_of state operand operands (missed other repetition) of are aims =
+    ap (λ o. verdict_of (missed o state.repetition)) (is_next state other operand operands repetition of are) ∙ ap (λ n. verdict_of (missed other n)) (sym of.1)
+missed_of state operand operands (above other repetition matched cut) of are aims = absurd aims
+missed_of state operand operands (below other repetition) of are aims = absurd aims
+
+above_of : (state : State) (operand : Operand) (operands : List Operand) (matched line : ℕ) (ending : Ending) → IsOf state ending → state.operands ≡ operand ∷ operands → AimsAt (Above matched line) ending
+    → verdict_of (above operand state.repetition 0 0) ≡ verdict_of ending
+above_of state operand operands matched line used_up of are aims = absurd aims
+above_of state operand operands matched line (missed other repetition) of are aims = absurd aims
+above_of state operand operands matched line (above other repetition matched' cut) of are aims =
+    ap (λ o. verdict_of (above o state.repetition 0 0)) (is_next state other operand operands repetition of are) ∙ ap (λ n. verdict_of (above other n 0 0)) (sym of.1)
+above_of state operand operands matched line (below other repetition) of are aims = absurd aims
+
+below_of : (state : State) (operand : Operand) (operands : List Operand) (ending : Ending) → IsOf state ending → state.operands ≡ operand ∷ operands → AimsAt Below ending → verdict_of (below operand state.repetition) ≡ verdict_of ending
+below_of state operand operands used_up of are aims = absurd aims
+below_of state operand operands (missed other repetition) of are aims = absurd aims
+below_of state operand operands (above other repetition matched cut) of are aims = absurd aims
+below_of state operand operands (below other repetition) of are aims =
+    ap (λ o. verdict_of (below o state.repetition)) (is_next state other operand operands repetition of are) ∙ ap (λ n. verdict_of (below other n)) (sym of.1)
+
+-- What `verdict` returns: the cutter is known by its fields.
+
+pub judged_none : (cutter now : CutterState) (result : Option Fault) (x : List ℕ) → cutter ≡ now → false ≡ nat_lt cutter.progress.done (length cutter.operands) → result ≡ None → IsJudged now x
+    → result ≡ verdict_of (plan (suppress_in now) now.operands (all_lines x)).ending
+judged_none cutter now result x is over none judged =
+    let beyond : length cutter.operands ≤ cutter.progress.done = grind (arith, nat_tests, over) in
+    let left : (state_in now).operands ≡ [] = subst (λ (those : CutterState). (state_in those).operands ≡ []) is (drop_all cutter.progress.done cutter.operands beyond) in
+    none ∙ none_of (state_in now) (ending_in now x) (of_it now x judged) left
+
+-- the operand that was looked up is the next
+next_is : (cutter now : CutterState) (operand : Operand) → cutter ≡ now → cutter.progress.done < length cutter.operands → operand ≡ get_or cutter.operands cutter.progress.done operand
+    → (state_in now).operands ≡ operand ∷ drop (now.progress.done + 1) now.operands
+next_is cutter now operand is within here =
+    subst (λ (those : CutterState). (state_in those).operands ≡ operand ∷ drop (those.progress.done + 1) those.operands) is (left_is cutter.operands cutter.progress.done operand within here)
+
+pub judged_missed : (cutter now : CutterState) (operand : Operand) (result : Option Fault) (x : List ℕ) → cutter ≡ now → cutter.progress.done < length cutter.operands → operand ≡ get_or cutter.operands cutter.progress.done operand
+    → cutter.aim ≡ Missed → result ≡ verdict_of (missed operand cutter.progress.repetition) → IsJudged now x → result ≡ verdict_of (plan (suppress_in now) now.operands (all_lines x)).ending
+judged_missed cutter now operand result x is within here aim made judged =
+    let aims : AimsAt Missed (ending_in now x) = subst (λ a. AimsAt a (ending_in now x)) (sym (ap (λ (those : CutterState). those.aim) is) ∙ aim) judged.aims in
+    made ∙ ap (λ (those : CutterState). verdict_of (missed operand those.progress.repetition)) is
+    ∙ missed_of (state_in now) operand (drop (now.progress.done + 1) now.operands) (ending_in now x) (of_it now x judged) (next_is cutter now operand is within here) aims
+
+pub judged_above : (cutter now : CutterState) (operand : Operand) (matched line : ℕ) (result : Option Fault) (x : List ℕ) → cutter ≡ now → cutter.progress.done < length cutter.operands → operand ≡ get_or cutter.operands cutter.progress.done operand
+    → cutter.aim ≡ Above matched line → result ≡ verdict_of (above operand cutter.progress.repetition 0 0) → IsJudged now x → result ≡ verdict_of (plan (suppress_in now) now.operands (all_lines x)).ending
+judged_above cutter now operand matched line result x is within here aim made judged =
+    let aims : AimsAt (Above matched line) (ending_in now x) = subst (λ a. AimsAt a (ending_in now x)) (sym (ap (λ (those : CutterState). those.aim) is) ∙ aim) judged.aims in
+    made ∙ ap (λ (those : CutterState). verdict_of (above operand those.progress.repetition 0 0)) is
+    ∙ above_of (state_in now) operand (drop (now.progress.done + 1) now.operands) matched line (ending_in now x) (of_it now x judged) (next_is cutter now operand is within here) aims
+
+pub judged_below : (cutter now : CutterState) (operand : Operand) (result : Option Fault) (x : List ℕ) → cutter ≡ now → cutter.progress.done < length cutter.operands → operand ≡ get_or cutter.operands cutter.progress.done operand
+    → cutter.aim ≡ Below → result ≡ verdict_of (below operand cutter.progress.repetition) → IsJudged now x → result ≡ verdict_of (plan (suppress_in now) now.operands (all_lines x)).ending
+judged_below cutter now operand result x is within here aim made judged =
+    let aims : AimsAt Below (ending_in now x) = subst (λ a. AimsAt a (ending_in now x)) (sym (ap (λ (those : CutterState). those.aim) is) ∙ aim) judged.aims in
+    made ∙ ap (λ (those : CutterState). verdict_of (below operand those.progress.repetition)) is
+    ∙ below_of (state_in now) operand (drop (now.progress.done + 1) now.operands) (ending_in now x) (of_it now x judged) (next_is cutter now operand is within here) aims
