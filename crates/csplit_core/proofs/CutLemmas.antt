@@ -115,7 +115,7 @@ cut_begins cutter x left line before at cut place now fit will before_is =
 abbrev draft_at : (cutter : CutterState) (x left : List ℕ) → IsAt cutter x left → Draft
 draft_at cutter x left at = draft_by (all_lines x) at.steps (kept_by (state_in cutter).operands) at.written
 
-before_begins : (cutter : CutterState) (x left line before : List ℕ) (at : IsAt cutter x left) (cut : Cut) (place : ℕ) (now : CutsNow cutter x left line cut place at) → IsFit cutter → WillCut cutter cut → before ≡ first_lines newline (cut.line - place) left
+pub before_begins : (cutter : CutterState) (x left line before : List ℕ) (at : IsAt cutter x left) (cut : Cut) (place : ℕ) (now : CutsNow cutter x left line cut place at) → IsFit cutter → WillCut cutter cut → before ≡ first_lines newline (cut.line - place) left
     → Begins (draft_part cutter.writer.style (with_bytes before (draft_at cutter x left at))) (settled_part cutter x)
 before_begins cutter x left line before at cut place now fit will before_is =
     part_trans (draft_part cutter.writer.style (with_bytes before (draft_at cutter x left at))) _ (settled_part cutter x) (section_begins cutter.writer.style _ (with_bytes before (draft_at cutter x left at))) (cut_begins cutter x left line before at cut place now fit will before_is)

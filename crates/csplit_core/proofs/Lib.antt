@@ -38,3 +38,4 @@ pub mod TakeLemmas
 pub mod VerdictLemmas
 pub mod EndedLemmas
 pub mod OpenLemmas
+pub mod CutLineLemmas

@@ -1,28 +1,14 @@
-use Rattle.std.proofs.Common.{rules, ◌≡◌, ◌≢◌, ◌+◌, ◌-◌, ◌<◌, ◌≤◌, ◌^◌, ◌++◌, List, ℕ, [], length, drop, Some, IfOk, IfErr, IfSome, IfNone, OnOk, IsTrue, true, false, ◌*◌, ◌/◌, ◌%◌, Bool, nat_eq, nat_lt, ◌∷◌, slice_index_or, slice_set, bit_and, bit_or, w8, w32, w64, Bor, MutBor}
-use Rattle.seg_core.specs.Line.{delimiters}
-use Rattle.ports_core.specs.Slot.{is_writable}
-use Rattle.csplit_core.specs.Csplit.{verdict_of}
-use Rattle.csplit_core.specs.Plan.{above, missed}
-use Rattle.csplit_core.specs.Planned.{plan}
-use Rattle.ports_core.specs.Swept.{SweptFrom}
-use Rattle.csplit_core.specs.Cutter.{AimHolds, CutAt, CutNot, CutsAll, EndsAll, IsJudged, Opens, Holds, IsFit, IsFound, IsLine, IsNoCut, IsSound, IsWhole, PassesOn, PassesOver, Stretches, Takes, Tries, TriesNext, WillCut, load, most_by, pattern_by, state_in, suppress_in}
-use Rattle.csplit_core.specs.Input.{all_lines, newline}
-use Rattle.csplit_core.specs.Measure.{Fits}
-use Rattle.csplit_core.specs.Operand.{Line}
-use Rattle.csplit_core.specs.PlanLaws.{needed}
-use Rattle.csplit_core.specs.Progress.{AreSeen, MovesOn, Turns}
-use Rattle.csplit_core.specs.Writer.{IsReady, OwnsFiles, size_of}
-use Rattle.csplit_core.specs.declared.progress.Turn.TheVariants as turn_is
+use Rattle.std.proofs.Common.{refl, sym, ◌∙◌}
+use Rattle.ports_core.proofs.HandedOn.{result_is}
+use Rattle.csplit_core.specs.Cutter.{CutterState, CutsAll}
+use Rattle.csplit_core.proofs.CutLineLemmas.{none_there, cut_alone, cut_drained, cut_lacks, waiting_count, waiting_size}
 use Rattle.csplit_core.proofs.line_cutter.LineCutter.cut_line.Goals as goal
 
--- src/line_cutter.rt:387:13
 pub returns-then-is_empty : goal.returns-then-is_empty
-returns-then-is_empty g c = ?
+returns-then-is_empty g c = cut_alone _ c.args.self.now _ _ _ c.args.cut c.args.line.now _ _ c.cut_all-then-is_empty.result c.self.view_is c.cut_all.view_is (none_there c.self.inside.window.held c.is_empty.result c.is_empty.ensures c.if-is_empty.true) c.cut_all-then-is_empty.ensures
 
--- src/line_cutter.rt:389:23
 pub returns-in_err-waiting : goal.returns-in_err-waiting
-returns-in_err-waiting g c = ?
+returns-in_err-waiting g c = result_is (CutsAll _ _ _ _ _ _ _ _ _) _ _ c.from_residual.ensures.1 (cut_lacks _ c.args.self.now _ c.drain.new.window c.args.cut c.args.line.now _ _ c.self.view_is c.requires.fit c.requires.cuts c.in_err-waiting.ensures.err)
 
--- src/line_cutter.rt:378:5
 pub returns : goal.returns
-returns g c = ?
+returns g c = cut_drained _ c.args.self.now _ _ c.drain.new.window c.args.cut c.saturating_sub-place.result c.deref-2.result.now c.args.line.now _ _ c.cut_all-2.result c.self.view_is (c.deref-2.ensures.value ∙ c.in_ok-waiting.ensures.ok) (waiting_count c.self.inside.lines c.self.inside.window.held c.deref.result.now c.args.line.now _ _ c.count_delimiters-lines.result _ (c.deref.ensures.value ∙ c.in_ok-waiting.ensures.ok) (waiting_size c.self.inside.window.held c.args.line.now c.deref.result.now c.len.result (c.deref.ensures.value ∙ c.in_ok-waiting.ensures.ok) (c.len.ensures ∙ sym c.deref.ensures.len)) refl c.count_delimiters-lines.ensures c.saturating_sub-place.ensures) c.cut_all-2.ensures
