@@ -1,5 +1,5 @@
 -- Taking lines in.
-use Rattle.std.proofs.Common.{◌≡◌, ◌⊎◌, inl, inr, ℕ, suc, ◌+◌, ◌-◌, ◌<◌, ◌≤◌, max, Bool, true, false, Result, Ok, Err, OnOk, Option, Some, None, List, [], ◌∷◌, ◌++◌, length, take, refl, sym, ◌∙◌, ap, subst, arith, length-append}
+use Rattle.std.proofs.Common.{◌≡◌, ◌⊎◌, inl, inr, ℕ, suc, ◌+◌, ◌-◌, ◌<◌, ◌≤◌, max, Bool, true, false, Result, Ok, Err, OnOk, Option, Some, None, List, [], ◌∷◌, ◌++◌, length, map, take, drop, refl, sym, ◌∙◌, ap, subst, arith, length-append}
 use Rattle.std.proofs.lemmas.Bool.{false≢true, cases_lt}
 use Rattle.seg_core.specs.Line.{line_count, delimiters}
 use Rattle.seg_core.specs.Window.{Window}
@@ -11,22 +11,25 @@ use Rattle.ports_core.specs.declared.fault.Fault.{Fault}
 use Rattle.csplit_core.specs.Input.{newline, marked, all_lines}
 use Rattle.csplit_core.specs.Operand.{Target, Operand, Line, most_held}
 use Rattle.csplit_core.specs.Plan.{State, start, Step, Ending, used_up, missed, above, below, CutsAt, Misses, state_after, step_of, Runs, is_used_up, misses, is_above, is_below, cuts}
-use Rattle.csplit_core.specs.Planned.{plan_within}
-use Rattle.csplit_core.specs.PlanLaws.{cuts_still, needed, runs, line_some}
+use Rattle.csplit_core.specs.Draft.{draft_part}
+use Rattle.csplit_core.specs.Output.{contents_of}
+use Rattle.csplit_core.specs.Planned.{Plan, plan, plan_within}
+use Rattle.csplit_core.specs.PlanLaws.{cuts_still, needed, runs, line_some, plan_runs}
 use Rattle.seg_core.proofs.EndLines.{line_count-grows}
 use Rattle.csplit_core.specs.Progress.{EndsHere, GoesPast, AimsAt}
-use Rattle.csplit_core.specs.Section.{is_final, most_waiting, settled_end}
-use Rattle.csplit_core.specs.SectionLaws.{EndsAs, ends_as, front_of, none_there, missed_cut, cut_once}
-use Rattle.csplit_core.specs.Writer.{size_of}
+use Rattle.csplit_core.specs.Section.{section_of, lines_between, bytes_of, is_last_kept, is_final, most_waiting, settled_end}
+use Rattle.csplit_core.specs.SectionLaws.{EndsAs, ends_as, front_of, none_there, missed_cut, cut_once, are_within, closed_still}
+use Rattle.csplit_core.specs.Writer.{Writes, IsReady, size_of}
 use Rattle.csplit_core.specs.Writer.{Moves as Gets}
 use Rattle.csplit_core.specs.declared.line_cutter.Cut.{Cut}
 use Rattle.csplit_core.specs.declared.progress.Turn.{Turn}
 use Rattle.csplit_core.specs.declared.progress.Turn.TheVariants.{Below}
-use Rattle.csplit_core.specs.Cutter.{CutterState, suppress_in, state_in, settled_part, load, IsFit, IsSound, IsSame, IsWhole, IsLine, IsAt, part_at, IsLive, IsPast, Stands, EndsNow, Arrives, Held, HeldNot, Holds, CutsNow, CutAll, CutAllNot, CutsAll, WillCut, TriesNext, search_after, Took, TookNot, Takes}
+use Rattle.csplit_core.specs.Cutter.{CutterState, suppress_in, state_in, settled_part, settled_draft, draft_by, AimHolds, load, IsFit, IsSound, IsSame, IsWhole, IsLine, IsAt, part_at, IsLive, IsPast, Stands, EndsNow, Arrives, Held, HeldNot, Holds, CutsNow, CutAll, CutAllNot, CutsAll, WillCut, TriesNext, search_after, Took, TookNot, Takes}
 use Rattle.csplit_core.proofs.CutterLemmas.{runs_to, at_more, part_more, live_part}
 use Rattle.csplit_core.proofs.LineLemmas.{all_lines-append, all_lines-line, length-all_lines, count-line, count_from, whole_count, whole_from}
-use Rattle.csplit_core.proofs.SettledLemmas.{settled_count, most_is, aims_live}
-use Rattle.csplit_core.proofs.WriterLemmas.{moves_as, halts_as}
+use Rattle.csplit_core.proofs.SettledLemmas.{settled_count, settled_part_is, most_is, aims_past}
+use Rattle.csplit_core.proofs.WriterLemmas.{moves_as, moves_same, halts_as}
+use Rattle.csplit_core.proofs.StayLemmas.{StaysFor, stays}
 
 -- What is settled stands before each cut of the next operand.
 settled_before : (suppress : Bool) (a b : List Line) (state : State) (ending : Ending) (operand : Operand) (operands : List Operand) (matched cut : ℕ) → EndsAs suppress a state ending → is_final ending ≡ false → state.operands ≡ operand ∷ operands → CutsAt suppress (a ++ b) state operand operand.target matched cut
@@ -230,4 +233,92 @@ took_not_cut told cutter next lines aim line cut old new fault fit differs one m
       (all.halts (x ++ line) (at_more cutter lines aim x line cutter.window.held whole fit.fits.some live.at live.ends count) (cuts_there cutter lines aim x line cut live whole fit one count will.from (tries x whole live).0 (tries x whole live).1));
   breaks = all.breaks;
   owns = all.owns;
+}
+
+-- What `take_line` owes.
+
+line_some' : (line : List ℕ) → IsLine line → 1 ≤ length line
+line_some' line one = let l = line_count-le-length newline line in let e : line_count newline line ≡ 1 = ap length one in omega (arith, l, e)
+
+next_ends : (cutter : CutterState) (aim : Turn) (line : List ℕ) → IsLine line → TriesNext cutter line (more_lines cutter (cutter.lines + 1) aim) None
+    → (x : List ℕ) → IsWhole x → IsLive cutter x → (cutter.lines + 1 ≡ line_count newline (x ++ line)) × EndsNow (more_lines cutter (cutter.lines + 1) aim) (x ++ line)
+next_ends cutter aim line one tries x whole live = (ap (λ n. n + 1) live.at.counted ∙ sym (count-line x line whole one), tries x whole live)
+
+pub take_none : (told : Bool) (cutter mid next : CutterState) (line : List ℕ) (old new : List Slot) (result : Result (Unit {0}) Fault) → IsFit cutter → (cutter.aim ≡ Below → ⊥) → IsLine line → mid ≡ record cutter { lines = cutter.lines + 1; aim = mid.aim } → IsFit mid
+    → AimHolds mid.operands mid.lines mid.progress mid.aim → TriesNext cutter line mid None → Holds told mid (mid.window.held ++ line) old new next result → Takes told cutter line old new next result
+take_none told cutter mid next line old new (Ok done) fit differs one is fit' aim tries held =
+    took_held told cutter next (cutter.lines + 1) mid.aim line old new (subst IsSound is (record { fit = fit'; aim = aim })) fit differs (let l = line_some' line one in omega (arith, l))
+    (next_ends cutter mid.aim line one (subst (λ (m : CutterState). TriesNext cutter line m None) is tries)) (subst (λ (m : CutterState). Held told m (m.window.held ++ line) old new next) is held)
+take_none told cutter mid next line old new (Err fault) fit differs one is fit' aim tries held =
+    took_not_held told cutter next (cutter.lines + 1) mid.aim line old new fault fit differs
+    (next_ends cutter mid.aim line one (subst (λ (m : CutterState). TriesNext cutter line m None) is tries)) (subst (λ (m : CutterState). HeldNot told m (m.window.held ++ line) old new next fault) is held)
+
+pub take_some : (told : Bool) (cutter mid next : CutterState) (line : List ℕ) (cut : Cut) (old new : List Slot) (result : Result (Unit {0}) Fault) → IsFit cutter → (cutter.aim ≡ Below → ⊥) → IsLine line → mid ≡ record cutter { lines = cutter.lines + 1; aim = mid.aim }
+    → WillCut mid cut → TriesNext cutter line mid (Some cut) → CutsAll told mid cut (mid.lines - delimiters newline mid.window.held) (mid.window.held ++ line) line old new next result → Takes told cutter line old new next result
+take_some told cutter mid next line cut old new (Ok done) fit differs one is will tries all =
+    took_cut told cutter next (cutter.lines + 1) mid.aim line cut old new fit differs one refl (subst (λ (m : CutterState). WillCut m cut) is will) (subst (λ (m : CutterState). TriesNext cutter line m (Some cut)) is tries)
+    (subst (λ (m : CutterState). CutAll told m cut (m.lines - delimiters newline m.window.held) (m.window.held ++ line) line old new next) is all)
+take_some told cutter mid next line cut old new (Err fault) fit differs one is will tries all =
+    took_not_cut told cutter next (cutter.lines + 1) mid.aim line cut old new fault fit differs one refl (subst (λ (m : CutterState). WillCut m cut) is will) (subst (λ (m : CutterState). TriesNext cutter line m (Some cut)) is tries)
+    (subst (λ (m : CutterState). CutAllNot told m cut (m.lines - delimiters newline m.window.held) (m.window.held ++ line) line old new next fault) is all)
+
+-- Where the cut is below the current line, later lines go nowhere.
+
+past_not_live : (cutter : CutterState) (x : List ℕ) → cutter.aim ≡ Below → IsLive cutter x → ⊥
+past_not_live cutter x aim live = false≢true (sym live.live ∙ aims_past live.ends.ending (subst (λ a. AimsAt a live.ends.ending) aim live.ends.aims))
+
+final_stays : (b : List Line) (total : ℕ) (ending : Ending) → is_final ending ≡ true → StaysFor b total ending
+final_stays b total used_up past = absurd (false≢true past)
+final_stays b total (missed operand repetition) past = absurd (false≢true past)
+final_stays b total (above operand repetition matched cut) past = absurd (false≢true past)
+final_stays b total (below operand repetition) past = tt
+
+plan_past : (cutter : CutterState) (x t : List ℕ) → IsWhole x → IsPast cutter x → plan (suppress_in cutter) cutter.operands (all_lines (x ++ t)) ≡ plan (suppress_in cutter) cutter.operands (all_lines x)
+plan_past cutter x t whole past =
+    ap (plan (suppress_in cutter) cutter.operands) (all_lines-append x t whole) ∙ stays (suppress_in cutter) cutter.operands (all_lines x) (all_lines t) (final_stays (all_lines t) _ (plan (suppress_in cutter) cutter.operands (all_lines x)).ending past.past)
+
+none_taken : (lines : List Line) → take 0 lines ≡ []
+none_taken [] = refl
+none_taken (line ∷ lines) = refl
+
+none_between : (current total : ℕ) (ending : Ending) (lines : List Line) → is_final ending ≡ true → lines_between current (settled_end total ending) lines ≡ []
+none_between current total used_up lines past = absurd (false≢true past)
+none_between current total (missed operand repetition) lines past = absurd (false≢true past)
+none_between current total (above operand repetition matched cut) lines past = absurd (false≢true past)
+none_between current total (below operand repetition) lines past = ap (λ n. take n (drop (current - 1) lines)) (let e : 0 - current ≡ 0 = omega arith in e) ∙ none_taken (drop (current - 1) lines)
+
+past_draft_still : (cutter : CutterState) (x t : List ℕ) → IsWhole x → IsPast cutter x → settled_draft (suppress_in cutter) cutter.operands (all_lines (x ++ t)) ≡ settled_draft (suppress_in cutter) cutter.operands (all_lines x)
+past_draft_still cutter x t whole past =
+    let p = plan (suppress_in cutter) cutter.operands (all_lines x) in
+    let is = plan_past cutter x t whole past in
+    let within = (are_within (suppress_in cutter) (all_lines x) (start cutter.operands) p.steps p.last p.ending (plan_runs (suppress_in cutter) cutter.operands (all_lines x)) (omega arith)).0 in
+    ap (λ (q : Plan). draft_by (all_lines (x ++ t)) q.steps (is_last_kept q.ending) (bytes_of (lines_between q.last.current (settled_end (length (all_lines (x ++ t))) q.ending) (all_lines (x ++ t))))) is
+    ∙ ap (λ lines. draft_by (all_lines (x ++ t)) p.steps (is_last_kept p.ending) (bytes_of lines)) (none_between p.last.current (length (all_lines (x ++ t))) p.ending (all_lines (x ++ t)) past.past ∙ sym (none_between p.last.current (length (all_lines x)) p.ending (all_lines x) past.past))
+    ∙ ap (λ ended. record { ended = map contents_of ended; is_kept = is_last_kept p.ending; bytes = bytes_of (lines_between p.last.current (settled_end (length (all_lines x)) p.ending) (all_lines x)) })
+      (ap (λ lines. map (section_of lines) p.steps) (all_lines-append x t whole) ∙ closed_still (all_lines x) (all_lines t) p.steps within)
+
+still_past : (cutter : CutterState) (x t : List ℕ) → IsWhole x → IsPast cutter x → IsPast cutter (x ++ t)
+still_past cutter x t whole past =
+    let is = plan_past cutter x t whole past in record {
+      aim = past.aim;
+      past = ap (λ (q : Plan). is_final q.ending) is ∙ past.past;
+      last = past.last ∙ sym (ap (λ (q : Plan). q.last) is);
+      none = past.none;
+      writes = subst (Writes cutter.writer) (sym (past_draft_still cutter x t whole past)) past.writes;
+    }
+
+pub took_past : (told : Bool) (cutter : CutterState) (t : List ℕ) (slots : List Slot) → cutter.aim ≡ Below → IsSound cutter → IsReady cutter.writer slots → Took told cutter t slots slots cutter
+took_past told cutter t slots aim sound ready = record {
+  same = record { operands = refl; style = refl };
+  stands = λ x whole stands. elim stands [ | inl live ↦ absurd (past_not_live cutter x aim live) | inr past ↦ inr (still_past cutter x t whole past) ];
+  moves = λ x whole stands. elim stands [
+    | inl live ↦ absurd (past_not_live cutter x aim live)
+    | inr past ↦ moves_same told (settled_part cutter x) (settled_part cutter (x ++ t)) slots
+        (sym (settled_part_is cutter.writer.style cutter.operands (all_lines x)) ∙ ap (draft_part cutter.writer.style) (sym (past_draft_still cutter x t whole past)) ∙ settled_part_is cutter.writer.style cutter.operands (all_lines (x ++ t)))
+  ];
+  keeps = λ place sound. sound;
+  owns = λ first owns. owns;
+  ready = ready;
+  sound = sound;
+  size = omega arith;
 }
