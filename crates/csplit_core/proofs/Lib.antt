@@ -39,3 +39,4 @@ pub mod VerdictLemmas
 pub mod EndedLemmas
 pub mod OpenLemmas
 pub mod CutLineLemmas
+pub mod StretchLemmas

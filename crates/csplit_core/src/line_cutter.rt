@@ -170,9 +170,6 @@ impl<'o> LineCutter<'o> {
         requires ready { IsReady self.old.writer (O.slots outs.old) }
         ensures { Takes O.told self.old text.now (O.slots outs.old) (O.slots outs.new) self.new result }
     {
-        if self.is_past() {
-            return Ok(());
-        }
         let mut left = text;
         'stretches: while !left.is_empty() {
             let n = self.stretch(left, outs)?;
@@ -190,7 +187,7 @@ impl<'o> LineCutter<'o> {
     }
 
     /// Takes in a beginning of a text of complete lines, which isn't empty: a stretch that the next operand doesn't cut,
-    /// and the line after it. Returns how many bytes these are.
+    /// and the line after it. Returns how many bytes these are. Where lines go nowhere any more, that is all of it.
     fn stretch<O: Outs>(&mut self, text: &[u8], outs: &mut O) -> Result<usize, Fault>
         requires some { 0 < length text.now }
         requires whole { IsWhole text.now }
@@ -199,12 +196,16 @@ impl<'o> LineCutter<'o> {
         requires ready { IsReady self.old.writer (O.slots outs.old) }
         ensures { Stretches O.told self.old text.now (O.slots outs.old) (O.slots outs.new) self.new result }
     {
+        if self.is_past() {
+            return Ok(text.len());
+        }
         let n = self.pass_over(text);
         self.hold(&text[..n], outs)?;
         if n == text.len() {
             return Ok(n);
         }
-        let (line, _) = next_line(&text[n..], NEWLINE);
+        let (_, rest) = text.split_at(n);
+        let (line, _) = next_line(rest, NEWLINE);
         self.take_line(line, outs)?;
         Ok(n + line.len())
     }

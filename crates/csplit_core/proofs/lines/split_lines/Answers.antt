@@ -1,3 +1,4 @@
+use Rattle.csplit_core.proofs.StretchLemmas.{stretch_not_held}
 use Rattle.csplit_core.proofs.CutLineLemmas.{waiting_count}
 use Rattle.csplit_core.proofs.TakeLemmas.{took_not_cut}
 use Rattle.csplit_core.proofs.SpreadLemmas.{spread_held}

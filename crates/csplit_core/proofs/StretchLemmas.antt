@@ -1,0 +1,156 @@
+-- Taking a text of complete lines in, stretch by stretch.
+use Rattle.std.proofs.Common.{◌≡◌, ◌⊎◌, inl, inr, ℕ, suc, ◌+◌, ◌-◌, ◌<◌, ◌≤◌, Bool, true, false, Result, Ok, Err, List, [], ◌∷◌, ◌++◌, length, take, drop, refl, sym, ◌∙◌, ap, subst, arith, append_assoc, length-append}
+use Rattle.std.proofs.lemmas.Bool.{cases_lt}
+use Rattle.std.proofs.lemmas.List.{append-nil, take-append-drop, drop_all, drop_at, drop-drop, length-drop}
+use Rattle.std.proofs.Math.Seq.{take-add}
+use Rattle.seg_core.specs.Line.{lines_of, line_count, first_lines, joined, ends_with}
+use Rattle.seg_core.proofs.FirstLines.{lines_of-first_lines}
+use Rattle.seg_core.proofs.LineCounts.{ends_with-append}
+use Rattle.ports_core.specs.Part.{Part, Begins}
+use Rattle.ports_core.specs.Slot.{Slot}
+use Rattle.ports_core.specs.declared.fault.Fault.{Fault}
+use Rattle.ports_core.proofs.SlotSteps.{keeps_again}
+use Rattle.csplit_core.specs.Input.{newline, all_lines}
+use Rattle.csplit_core.specs.Output.{Style}
+use Rattle.csplit_core.specs.SectionLaws.{grows}
+use Rattle.csplit_core.specs.declared.progress.Turn.TheVariants.{Below}
+use Rattle.csplit_core.specs.Writer.{IsReady}
+use Rattle.csplit_core.specs.Cutter.{CutterState, settled_part, IsFit, IsSound, IsSame, IsWhole, IsLine, IsLive, EndsNow, Held, HeldNot, Holds, PassesOver, Took, TookNot, Takes}
+use Rattle.csplit_core.proofs.LineLemmas.{all_lines-append, whole-append}
+use Rattle.csplit_core.proofs.TakeLemmas.{took_held, took_not_held}
+use Rattle.csplit_core.proofs.WriterLemmas.{moves_again, moves_as, halts_after, halts_wider, halts_as, breaks_later, owns_again}
+
+settled_same : (cutter next : CutterState) (x : List ℕ) → IsSame cutter next → settled_part next x ≡ settled_part cutter x
+settled_same cutter next x same = ap (λ (s : Style). Rattle.csplit_core.specs.Csplit.settled_of s next.operands (all_lines x)) same.style ∙ ap (λ operands. Rattle.csplit_core.specs.Csplit.settled_of cutter.writer.style operands (all_lines x)) same.operands
+
+more_settled : (cutter : CutterState) (x t : List ℕ) → IsWhole x → Begins (settled_part cutter x) (settled_part cutter (x ++ t))
+more_settled cutter x t whole = subst (λ lines. Begins (settled_part cutter x) (Rattle.csplit_core.specs.Csplit.settled_of cutter.writer.style cutter.operands lines)) (sym (all_lines-append x t whole)) (grows cutter.writer.style cutter.operands (all_lines x) (all_lines t))
+
+-- one text after another
+
+pub took_again : (told : Bool) (one two three : CutterState) (a b : List ℕ) (old mid new : List Slot) → IsWhole a → Took told one a old mid two → Took told two b mid new three → Took told one (a ++ b) old new three
+took_again told one two three a b old mid new whole first second = record {
+  same = record { operands = second.same.operands ∙ first.same.operands; style = second.same.style ∙ first.same.style };
+  stands = λ x before stands. subst (Rattle.csplit_core.specs.Cutter.Stands three) (append_assoc x a b) (second.stands (x ++ a) (whole-append x a before whole) (first.stands x before stands));
+  moves = λ x before stands.
+      moves_again told (settled_part one x) (settled_part one (x ++ a)) (settled_part one (x ++ (a ++ b))) old mid new (first.moves x before stands)
+      (moves_as told _ _ _ _ mid new (sym (settled_same one two (x ++ a) first.same)) (ap (settled_part one) (sym (append_assoc x a b)) ∙ sym (settled_same one two ((x ++ a) ++ b) first.same))
+      (second.moves (x ++ a) (whole-append x a before whole) (first.stands x before stands)));
+  keeps = keeps_again old mid new first.keeps second.keeps;
+  owns = owns_again one.writer two.writer three.writer old mid new first.owns second.owns;
+  ready = second.ready;
+  sound = second.sound;
+  size = (let all : length (a ++ b) ≡ length a + length b = length-append a b in let s = first.size in let t = second.size in omega (arith, all, s, t));
+}
+
+pub took_then_not : (told : Bool) (one two three : CutterState) (a b : List ℕ) (old mid new : List Slot) (fault : Fault) → IsWhole a → Took told one a old mid two → TookNot told two b mid new three fault → TookNot told one (a ++ b) old new three fault
+took_then_not told one two three a b old mid new fault whole first second = record {
+  same = record { operands = second.same.operands ∙ first.same.operands; style = second.same.style ∙ first.same.style };
+  halts = λ x before stands.
+      halts_after told (settled_part one x) (settled_part one (x ++ a)) (settled_part one (x ++ (a ++ b))) old mid new fault (more_settled one x a before) (first.moves x before stands)
+      (halts_as told _ _ _ _ mid new fault (sym (settled_same one two (x ++ a) first.same)) (ap (settled_part one) (sym (append_assoc x a b)) ∙ sym (settled_same one two ((x ++ a) ++ b) first.same))
+      (second.halts (x ++ a) (whole-append x a before whole) (first.stands x before stands)));
+  breaks = breaks_later one.writer.style old mid new fault first.keeps (subst (λ (s : Style). Rattle.csplit_core.specs.Writer.Breaks s mid new fault) first.same.style second.breaks);
+  owns = owns_again one.writer two.writer three.writer old mid new first.owns second.owns;
+}
+
+pub not_wider : (told : Bool) (cutter next : CutterState) (a b : List ℕ) (old new : List Slot) (fault : Fault) → IsWhole a → TookNot told cutter a old new next fault → TookNot told cutter (a ++ b) old new next fault
+not_wider told cutter next a b old new fault whole not_taken = record {
+  same = not_taken.same;
+  halts = λ x before stands.
+      halts_wider told (settled_part cutter x) (settled_part cutter (x ++ a)) (settled_part cutter (x ++ (a ++ b))) old new fault (not_taken.halts x before stands)
+      (subst (λ those. Begins (settled_part cutter (x ++ a)) (settled_part cutter those)) (append_assoc x a b) (more_settled cutter (x ++ a) b (whole-append x a before whole)));
+  breaks = not_taken.breaks;
+  owns = not_taken.owns;
+}
+
+-- parts of a text of complete lines
+
+pub whole_drop : (n : ℕ) (text : List ℕ) → IsWhole text → IsWhole (drop n text)
+whole_drop n text (inl none) = inl (ap (drop n) none ∙ drop_all n [] (omega arith))
+whole_drop n text (inr ends) = elim (cases_lt n (length text)) [
+  | inl within ↦ inr (sym (ends_with-append newline (take n text) (drop n text) (let e : length (drop n text) ≡ length text - n = length-drop n text in omega (arith, e, within))) ∙ ap (ends_with newline) (take-append-drop n text) ∙ ends)
+  | inr past ↦ inl (drop_all n text past)
+]
+
+pub one_line : (text line rest : List ℕ) → lines_of newline text ≡ line ∷ lines_of newline rest → IsLine line
+one_line text line rest is =
+    let first : first_lines newline 1 text ≡ line = ap (λ those. joined (take 1 those)) is ∙ append-nil line in
+    ap (lines_of newline) (sym first) ∙ lines_of-first_lines newline 1 text ∙ ap (take 1) is
+
+-- a line after the first bytes
+pub take_more : (text line rest : List ℕ) (n : ℕ) → n ≤ length text → drop n text ≡ line ++ rest → take (n + length line) text ≡ take n text ++ line
+take_more text line rest n within is = take-add n (length line) text ∙ ap (λ those. take n text ++ take (length line) those) is ∙ ap (λ those. take n text ++ those) (Rattle.std.proofs.lemmas.List.take_at line rest (length line) refl)
+
+-- What `stretch` owes.
+
+stretch_ends : (cutter mid : CutterState) (text : List ℕ) (n : ℕ) → PassesOver cutter text mid n → (x : List ℕ) → IsWhole x → IsLive cutter x → (mid.lines ≡ line_count newline (x ++ take n text)) × EndsNow (record cutter { lines = mid.lines; aim = cutter.aim }) (x ++ take n text)
+stretch_ends cutter mid text n passes x whole live = let both = passes.ends x whole live in (both.0, subst (λ (c : CutterState). EndsNow c (x ++ take n text)) passes.same both.1)
+
+pub stretch_held : (told : Bool) (cutter mid next : CutterState) (text bytes : List ℕ) (n : ℕ) (old new : List Slot) → IsFit cutter → (cutter.aim ≡ Below → ⊥) → PassesOver cutter text mid n → bytes ≡ take n text → Held told mid (mid.window.held ++ bytes) old new next → Took told cutter (take n text) old new next
+stretch_held told cutter mid next text bytes n old new fit differs passes bytes_is held =
+    took_held told cutter next mid.lines cutter.aim (take n text) old new (subst IsSound passes.same passes.sound) fit differs
+    (let few = passes.few in let long : length (take n text) ≡ n = Rattle.std.proofs.lemmas.List.length-take-le n text passes.within in omega (arith, few, long)) (stretch_ends cutter mid text n passes)
+    (subst (λ (m : CutterState). Held told m (m.window.held ++ take n text) old new next) passes.same (subst (λ those. Held told mid (mid.window.held ++ those) old new next) bytes_is held))
+
+pub stretch_not_held : (told : Bool) (cutter mid next : CutterState) (text bytes : List ℕ) (n : ℕ) (old new : List Slot) (fault : Fault) → IsFit cutter → (cutter.aim ≡ Below → ⊥) → PassesOver cutter text mid n → bytes ≡ take n text → HeldNot told mid (mid.window.held ++ bytes) old new next fault
+    → TookNot told cutter text old new next fault
+stretch_not_held told cutter mid next text bytes n old new fault fit differs passes bytes_is held =
+    subst (λ those. TookNot told cutter those old new next fault) (take-append-drop n text)
+    (not_wider told cutter next (take n text) (drop n text) old new fault passes.whole
+    (took_not_held told cutter next mid.lines cutter.aim (take n text) old new fault fit differs (stretch_ends cutter mid text n passes)
+    (subst (λ (m : CutterState). HeldNot told m (m.window.held ++ take n text) old new next fault) passes.same (subst (λ those. HeldNot told mid (mid.window.held ++ those) old new next fault) bytes_is held))))
+
+pub rest_some : (n : ℕ) (text : List ℕ) → n < length text → 0 < length (drop n text)
+rest_some n text within = let e : length (drop n text) ≡ length text - n = length-drop n text in omega (arith, e, within)
+
+pub stretch_line : (n : ℕ) (text line rest : List ℕ) → n < length text → (0 < length (drop n text) → lines_of newline (drop n text) ≡ line ∷ lines_of newline rest) → IsLine line
+stretch_line n text line rest within first = one_line (drop n text) line rest (first (rest_some n text within))
+
+after_line : (n : ℕ) (text line rest : List ℕ) → drop n text ≡ line ++ rest → drop (n + length line) text ≡ rest
+after_line n text line rest is = sym (drop-drop (length line) n text) ∙ ap (drop (length line)) is ∙ drop_at line rest (length line) refl
+
+joined_within : (n : ℕ) (text line rest : List ℕ) → n ≤ length text → drop n text ≡ line ++ rest → n + length line ≤ length text
+joined_within n text line rest within is =
+    let e : length (drop n text) ≡ length text - n = length-drop n text in
+    let both : length (drop n text) ≡ length line + length rest = ap length is ∙ length-append line rest in omega (arith, e, both, within)
+
+pub stretch_done : (told : Bool) (cutter mid held next : CutterState) (text bytes line rest : List ℕ) (n : ℕ) (old between new : List Slot) → IsFit cutter → (cutter.aim ≡ Below → ⊥) → IsWhole text → PassesOver cutter text mid n → bytes ≡ take n text → Held told mid (mid.window.held ++ bytes) old between held
+    → n < length text → drop n text ≡ line ++ rest → (0 < length (drop n text) → 0 < length line) → Took told held line between new next
+    → (0 < n + length line) × (n + length line ≤ length text) × IsWhole (drop (n + length line) text) × Took told cutter (take (n + length line) text) old new next
+stretch_done told cutter mid held next text bytes line rest n old between new fit differs whole passes bytes_is first within is some second = (
+  (let s = some (rest_some n text within) in omega (arith, s)),
+  joined_within n text line rest (omega (arith, within)) is,
+  whole_drop (n + length line) text whole,
+  subst (λ those. Took told cutter those old new next) (sym (take_more text line rest n (omega (arith, within)) is))
+      (took_again told cutter held next (take n text) line old between new passes.whole (stretch_held told cutter mid held text bytes n old between fit differs passes bytes_is first) second),
+)
+
+pub stretch_line_stopped : (told : Bool) (cutter mid held next : CutterState) (text bytes line rest : List ℕ) (n : ℕ) (old between new : List Slot) (fault : Fault) → IsFit cutter → (cutter.aim ≡ Below → ⊥) → IsWhole text → PassesOver cutter text mid n → bytes ≡ take n text
+    → Held told mid (mid.window.held ++ bytes) old between held → drop n text ≡ line ++ rest → IsWhole (take n text ++ line) → TookNot told held line between new next fault → TookNot told cutter text old new next fault
+stretch_line_stopped told cutter mid held next text bytes line rest n old between new fault fit differs whole passes bytes_is first is whole_line second =
+    subst (λ those. TookNot told cutter those old new next fault) (append_assoc (take n text) line rest ∙ ap (λ those. take n text ++ those) (sym is) ∙ take-append-drop n text)
+    (not_wider told cutter next (take n text ++ line) rest old new fault whole_line
+    (took_then_not told cutter held next (take n text) line old between new fault passes.whole (stretch_held told cutter mid held text bytes n old between fit differs passes bytes_is first) second))
+
+-- a line of complete lines is complete
+pub line_whole : (n : ℕ) (text line rest : List ℕ) → IsWhole text → n ≤ length text → drop n text ≡ line ++ rest → (rest ≡ []) ⊎ (ends_with newline line ≡ true) → 0 < length line → IsWhole (take n text ++ line)
+line_whole n text line rest whole within is (inl none) some =
+    subst IsWhole (sym (take-append-drop n text) ∙ ap (λ those. take n text ++ those) (is ∙ ap (λ r. line ++ r) none ∙ append-nil line)) whole
+line_whole n text line rest whole within is (inr ends) some = inr (ends_with-append newline (take n text) line some ∙ ends)
+
+pub last_or_ends : (line rest : List ℕ) → (ends_with newline line ≡ false → rest ≡ []) → (rest ≡ []) ⊎ (ends_with newline line ≡ true)
+last_or_ends line rest last = by (ends_with newline line) refl where
+  by : (ends : Bool) → ends_with newline line ≡ ends → (rest ≡ []) ⊎ (ends_with newline line ≡ true)
+  by true is = inr is
+  by false is = inl (last is)
+
+pub take_whole : (text : List ℕ) → take (length text) text ≡ text
+take_whole text = Rattle.std.proofs.lemmas.List.take_all (length text) text (omega arith)
+
+-- what `next_line` says of what follows the first bytes
+pub first_there : (text all line rest : List ℕ) (n : ℕ) → all ≡ drop n text → (0 < length all → lines_of newline all ≡ line ∷ lines_of newline rest) → 0 < length (drop n text) → lines_of newline (drop n text) ≡ line ∷ lines_of newline rest
+first_there text all line rest n is first = subst (λ those. 0 < length those → lines_of newline those ≡ line ∷ lines_of newline rest) is first
+
+pub some_there : (text all line : List ℕ) (n : ℕ) → all ≡ drop n text → (0 < length all → 0 < length line) → 0 < length (drop n text) → 0 < length line
+some_there text all line n is some = subst (λ those. 0 < length those → 0 < length line) is some
