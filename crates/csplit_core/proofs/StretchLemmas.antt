@@ -1,5 +1,5 @@
 -- Taking a text of complete lines in, stretch by stretch.
-use Rattle.std.proofs.Common.{◌≡◌, ◌⊎◌, inl, inr, ℕ, suc, ◌+◌, ◌-◌, ◌<◌, ◌≤◌, Bool, true, false, Result, Ok, Err, List, [], ◌∷◌, ◌++◌, length, take, drop, refl, sym, ◌∙◌, ap, subst, arith, append_assoc, length-append}
+use Rattle.std.proofs.Common.{◌≡◌, ◌⊎◌, inl, inr, ℕ, suc, ◌+◌, ◌-◌, ◌<◌, ◌≤◌, eqb, Bool, true, false, Result, Ok, Err, List, [], ◌∷◌, ◌++◌, length, take, drop, refl, sym, ◌∙◌, ap, subst, arith, append_assoc, length-append}
 use Rattle.std.proofs.lemmas.Bool.{cases_lt}
 use Rattle.std.proofs.lemmas.List.{append-nil, take-append-drop, drop_all, drop_at, drop-drop, length-drop}
 use Rattle.std.proofs.Math.Seq.{take-add}
@@ -15,10 +15,10 @@ use Rattle.csplit_core.specs.Output.{Style}
 use Rattle.csplit_core.specs.SectionLaws.{grows}
 use Rattle.csplit_core.specs.declared.progress.Turn.TheVariants.{Below}
 use Rattle.csplit_core.specs.Writer.{IsReady}
-use Rattle.csplit_core.specs.Cutter.{CutterState, settled_part, IsFit, IsSound, IsSame, IsWhole, IsLine, IsLive, EndsNow, Held, HeldNot, Holds, PassesOver, Took, TookNot, Takes}
+use Rattle.csplit_core.specs.Cutter.{CutterState, load, settled_part, IsFit, IsSound, IsSame, IsWhole, IsLine, IsLive, EndsNow, Held, HeldNot, Holds, PassesOver, Took, TookNot, Takes}
 use Rattle.csplit_core.proofs.LineLemmas.{all_lines-append, whole-append}
 use Rattle.csplit_core.proofs.TakeLemmas.{took_held, took_not_held}
-use Rattle.csplit_core.proofs.WriterLemmas.{moves_again, moves_as, halts_after, halts_wider, halts_as, breaks_later, owns_again}
+use Rattle.csplit_core.proofs.WriterLemmas.{moves_again, moves_as, moves_same, halts_after, halts_wider, halts_as, breaks_later, owns_again}
 
 settled_same : (cutter next : CutterState) (x : List ℕ) → IsSame cutter next → settled_part next x ≡ settled_part cutter x
 settled_same cutter next x same = ap (λ (s : Style). Rattle.csplit_core.specs.Csplit.settled_of s next.operands (all_lines x)) same.style ∙ ap (λ operands. Rattle.csplit_core.specs.Csplit.settled_of cutter.writer.style operands (all_lines x)) same.operands
@@ -115,13 +115,19 @@ joined_within n text line rest within is =
     let e : length (drop n text) ≡ length text - n = length-drop n text in
     let both : length (drop n text) ≡ length line + length rest = ap length is ∙ length-append line rest in omega (arith, e, both, within)
 
+-- a line of complete lines is complete
+pub line_whole : (n : ℕ) (text line rest : List ℕ) → IsWhole text → n ≤ length text → drop n text ≡ line ++ rest → (rest ≡ []) ⊎ (ends_with newline line ≡ true) → 0 < length line → IsWhole (take n text ++ line)
+line_whole n text line rest whole within is (inl none) some =
+    subst IsWhole (sym (take-append-drop n text) ∙ ap (λ those. take n text ++ those) (is ∙ ap (λ r. line ++ r) none ∙ append-nil line)) whole
+line_whole n text line rest whole within is (inr ends) some = inr (ends_with-append newline (take n text) line some ∙ ends)
+
 pub stretch_done : (told : Bool) (cutter mid held next : CutterState) (text bytes line rest : List ℕ) (n : ℕ) (old between new : List Slot) → IsFit cutter → (cutter.aim ≡ Below → ⊥) → IsWhole text → PassesOver cutter text mid n → bytes ≡ take n text → Held told mid (mid.window.held ++ bytes) old between held
-    → n < length text → drop n text ≡ line ++ rest → (0 < length (drop n text) → 0 < length line) → Took told held line between new next
-    → (0 < n + length line) × (n + length line ≤ length text) × IsWhole (drop (n + length line) text) × Took told cutter (take (n + length line) text) old new next
-stretch_done told cutter mid held next text bytes line rest n old between new fit differs whole passes bytes_is first within is some second = (
+    → n < length text → drop n text ≡ line ++ rest → (0 < length (drop n text) → 0 < length line) → (rest ≡ []) ⊎ (ends_with newline line ≡ true) → Took told held line between new next
+    → (0 < n + length line) × (n + length line ≤ length text) × IsWhole (take (n + length line) text) × Took told cutter (take (n + length line) text) old new next
+stretch_done told cutter mid held next text bytes line rest n old between new fit differs whole passes bytes_is first within is some ending second = (
   (let s = some (rest_some n text within) in omega (arith, s)),
   joined_within n text line rest (omega (arith, within)) is,
-  whole_drop (n + length line) text whole,
+  subst IsWhole (sym (take_more text line rest n (omega (arith, within)) is)) (line_whole n text line rest whole (omega (arith, within)) is ending (some (rest_some n text within))),
   subst (λ those. Took told cutter those old new next) (sym (take_more text line rest n (omega (arith, within)) is))
       (took_again told cutter held next (take n text) line old between new passes.whole (stretch_held told cutter mid held text bytes n old between fit differs passes bytes_is first) second),
 )
@@ -132,12 +138,6 @@ stretch_line_stopped told cutter mid held next text bytes line rest n old betwee
     subst (λ those. TookNot told cutter those old new next fault) (append_assoc (take n text) line rest ∙ ap (λ those. take n text ++ those) (sym is) ∙ take-append-drop n text)
     (not_wider told cutter next (take n text ++ line) rest old new fault whole_line
     (took_then_not told cutter held next (take n text) line old between new fault passes.whole (stretch_held told cutter mid held text bytes n old between fit differs passes bytes_is first) second))
-
--- a line of complete lines is complete
-pub line_whole : (n : ℕ) (text line rest : List ℕ) → IsWhole text → n ≤ length text → drop n text ≡ line ++ rest → (rest ≡ []) ⊎ (ends_with newline line ≡ true) → 0 < length line → IsWhole (take n text ++ line)
-line_whole n text line rest whole within is (inl none) some =
-    subst IsWhole (sym (take-append-drop n text) ∙ ap (λ those. take n text ++ those) (is ∙ ap (λ r. line ++ r) none ∙ append-nil line)) whole
-line_whole n text line rest whole within is (inr ends) some = inr (ends_with-append newline (take n text) line some ∙ ends)
 
 pub last_or_ends : (line rest : List ℕ) → (ends_with newline line ≡ false → rest ≡ []) → (rest ≡ []) ⊎ (ends_with newline line ≡ true)
 last_or_ends line rest last = by (ends_with newline line) refl where
@@ -154,3 +154,61 @@ first_there text all line rest n is first = subst (λ those. 0 < length those �
 
 pub some_there : (text all line : List ℕ) (n : ℕ) → all ≡ drop n text → (0 < length all → 0 < length line) → 0 < length (drop n text) → 0 < length line
 some_there text all line n is some = subst (λ those. 0 < length those → 0 < length line) is some
+
+-- Stretch after stretch: of a text this is left.
+pub record Taking (told : Bool) (cutter now : CutterState) (text left : List ℕ) (old new : List Slot) : Type 0 where
+  pub front : List ℕ
+  pub whole : text ≡ front ++ left
+  pub complete : IsWhole front
+  pub rest : IsWhole left
+  pub took : Took told cutter front old new now
+
+took_nothing : (told : Bool) (cutter : CutterState) (slots : List Slot) → IsSound cutter → IsReady cutter.writer slots → Took told cutter [] slots slots cutter
+took_nothing told cutter slots sound ready = record {
+  same = record { operands = refl; style = refl };
+  stands = λ x whole stands. subst (Rattle.csplit_core.specs.Cutter.Stands cutter) (sym (append-nil x)) stands;
+  moves = λ x whole stands. moves_same told (settled_part cutter x) (settled_part cutter (x ++ [])) slots (ap (settled_part cutter) (sym (append-nil x)));
+  keeps = λ place sound. sound;
+  owns = λ first owns. owns;
+  ready = ready;
+  sound = sound;
+  size = omega arith;
+}
+
+pub takes_all : (told : Bool) (cutter : CutterState) (text : List ℕ) (slots : List Slot) → IsWhole text → IsSound cutter → IsReady cutter.writer slots → Taking told cutter cutter text text slots slots
+takes_all told cutter text slots whole sound ready = record { front = []; whole = refl; complete = inl refl; rest = whole; took = took_nothing told cutter slots sound ready }
+
+rest_all : (n : ℕ) (left : List ℕ) → take (length left - n) (drop n left) ≡ drop n left
+rest_all n left = Rattle.std.proofs.lemmas.List.take_all (length left - n) (drop n left) (let e : length (drop n left) ≡ length left - n = length-drop n left in omega (arith, e))
+
+pub takes_more : (told : Bool) (cutter now next : CutterState) (text left : List ℕ) (n : ℕ) (old mid new : List Slot) → Taking told cutter now text left old mid → (0 < n) × (n ≤ length left) × IsWhole (take n left) × Took told now (take n left) mid new next
+    → Taking told cutter next text (take (length left - n) (drop n left)) old new
+takes_more told cutter now next text left n old mid new so_far more = record {
+  front = so_far.front ++ take n left;
+  whole = so_far.whole ∙ ap (λ those. so_far.front ++ those) (sym (take-append-drop n left) ∙ ap (λ those. take n left ++ those) (sym (rest_all n left))) ∙ sym (append_assoc so_far.front (take n left) (take (length left - n) (drop n left)));
+  complete = whole-append so_far.front (take n left) so_far.complete more.2;
+  rest = subst IsWhole (sym (rest_all n left)) (whole_drop n left so_far.rest);
+  took = took_again told cutter now next so_far.front (take n left) old mid new so_far.complete so_far.took more.3;
+}
+
+pub takes_stopped : (told : Bool) (cutter now next : CutterState) (text left : List ℕ) (old mid new : List Slot) (fault : Fault) → Taking told cutter now text left old mid → TookNot told now left mid new next fault → TookNot told cutter text old new next fault
+takes_stopped told cutter now next text left old mid new fault so_far not_taken =
+    subst (λ those. TookNot told cutter those old new next fault) (sym so_far.whole) (took_then_not told cutter now next so_far.front left old mid new fault so_far.complete so_far.took not_taken)
+
+pub takes_end : (told : Bool) (cutter now : CutterState) (text left : List ℕ) (old new : List Slot) → Taking told cutter now text left old new → left ≡ [] → Took told cutter text old new now
+takes_end told cutter now text left old new so_far none =
+    subst (λ those. Took told cutter those old new now) (sym (so_far.whole ∙ ap (λ those. so_far.front ++ those) none ∙ append-nil so_far.front)) so_far.took
+
+pub takes_fit : (told : Bool) (cutter now : CutterState) (text left : List ℕ) (old new : List Slot) (most : ℕ) → Taking told cutter now text left old new → load cutter + length text < most → load now + length left < most
+takes_fit told cutter now text left old new most so_far fits =
+    let all : length text ≡ length so_far.front + length left = ap length so_far.whole ∙ length-append so_far.front left in let s = so_far.took.size in omega (arith, all, s, fits)
+
+pub takes_fewer : (n : ℕ) (left : List ℕ) → 0 < n → n ≤ length left → length (take (length left - n) (drop n left)) < length left
+takes_fewer n left some within = let e : length (take (length left - n) (drop n left)) ≡ length left - n = ap length (rest_all n left) ∙ length-drop n left in omega (arith, e, some, within)
+
+pub none_left : (left : List ℕ) (empty : Bool) → empty ≡ eqb (length left) 0 → empty ≡ true → left ≡ []
+none_left left empty is true_is = Rattle.csplit_core.proofs.CutLineLemmas.none_there left empty is true_is
+
+pub some_left : (left : List ℕ) (empty : Bool) → empty ≡ eqb (length left) 0 → empty ≡ false → 0 < length left
+some_left [] empty is false_is = absurd (Rattle.std.proofs.lemmas.Bool.false≢true (sym false_is ∙ is))
+some_left (byte ∷ left) empty is false_is = omega arith

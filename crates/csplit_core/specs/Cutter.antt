@@ -357,7 +357,7 @@ pub record PassesOver (cutter : CutterState) (text : List ℕ) (next : CutterSta
 
 -- A stretch of the text was taken in, or a fault came.
 abbrev pub Stretches : Bool → CutterState → List ℕ → List Slot → List Slot → CutterState → Result ℕ Fault → Type 0
-Stretches told cutter text old new next (Ok n) = (0 < n) × (n ≤ length text) × IsWhole (drop n text) × Took told cutter (take n text) old new next
+Stretches told cutter text old new next (Ok n) = (0 < n) × (n ≤ length text) × IsWhole (take n text) × Took told cutter (take n text) old new next
 Stretches told cutter text old new next (Err fault) = TookNot told cutter text old new next fault
 
 -- what is written where the input ends after these lines

@@ -1,13 +1,3 @@
-use Rattle.csplit_core.proofs.StretchLemmas.{stretch_not_held}
-use Rattle.csplit_core.proofs.CutLineLemmas.{waiting_count}
-use Rattle.csplit_core.proofs.TakeLemmas.{took_not_cut}
-use Rattle.csplit_core.proofs.SpreadLemmas.{spread_held}
-use Rattle.csplit_core.proofs.CutLemmas.{next_stopped}
-use Rattle.csplit_core.proofs.PassOnLemmas.{fewer_next}
-use Rattle.csplit_core.proofs.HeldLemmas.{hold_past}
-use Rattle.csplit_core.proofs.HoldLemmas.{went_as}
-use Rattle.csplit_core.proofs.CutterLemmas.{taken_all}
-use Rattle.csplit_core.proofs.SettledLemmas.{aims_past}
 use Rattle.std.proofs.Common.{◌≡◌, length, sym, ◌∙◌, arith}
 use Rattle.std.proofs.lemmas.List.{take_all, drop_all}
 use Rattle.csplit_core.proofs.LineLemmas.{rest_is, short_all, short_none}

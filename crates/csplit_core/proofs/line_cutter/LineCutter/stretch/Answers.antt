@@ -1,15 +1,15 @@
-use Rattle.std.proofs.Common.{length, take, refl, sym, ◌∙◌, arith}
+use Rattle.std.proofs.Common.{length, take, refl, sym, ◌∙◌, subst, arith}
 use Rattle.ports_core.proofs.HandedOn.{result_is}
-use Rattle.csplit_core.specs.Cutter.{Stretches}
+use Rattle.csplit_core.specs.Cutter.{IsWhole, Stretches}
 use Rattle.csplit_core.proofs.TakeLemmas.{took_past}
-use Rattle.csplit_core.proofs.StretchLemmas.{stretch_held, stretch_not_held, stretch_line, stretch_done, stretch_line_stopped, line_whole, last_or_ends, whole_drop, rest_some, first_there, some_there}
+use Rattle.csplit_core.proofs.StretchLemmas.{stretch_held, stretch_not_held, stretch_line, stretch_done, stretch_line_stopped, line_whole, last_or_ends, take_whole, rest_some, first_there, some_there}
 use Rattle.csplit_core.proofs.line_cutter.LineCutter.stretch.Goals as goal
 
 pub returns-then-is_past : goal.returns-then-is_past
 returns-then-is_past g c = (
   c.requires.some,
   omega arith,
-  whole_drop (length c.args.text.now) c.args.text.now c.requires.whole,
+  subst IsWhole (sym (take_whole c.args.text.now)) c.requires.whole,
   took_past _ c.args.self.now (take (length c.args.text.now) c.args.text.now) _ (c.is_past.ensures.past c.if-is_past.true) c.requires.sound c.requires.ready,
 )
 
@@ -21,7 +21,7 @@ pub returns-then-n-text : goal.returns-then-n-text
 returns-then-n-text g c = (
   (let some = c.requires.some in let all = c.if-n-text.true in omega (arith, some, all)),
   c.pass_over-n.ensures.within,
-  whole_drop c.pass_over-n.result c.args.text.now c.requires.whole,
+  c.pass_over-n.ensures.whole,
   stretch_held _ c.args.self.now c.pass_over-n.new.self _ c.args.text.now _ c.pass_over-n.result _ _ c.requires.sound.fit (c.is_past.ensures.live c.if-is_past.false) c.pass_over-n.ensures refl c.in_ok-hold.ensures,
 )
 
@@ -36,4 +36,4 @@ returns-in_err-take_line g c = result_is (Stretches _ _ _ _ _ _) _ _ c.from_resi
 
 pub returns : goal.returns
 returns g c = stretch_done _ c.args.self.now c.pass_over-n.new.self c.hold.new.self _ c.args.text.now _ c.next_line.result.0.now c.next_line.result.1.now c.pass_over-n.result _ _ _ c.requires.sound.fit (c.is_past.ensures.live c.if-is_past.false) c.requires.whole c.pass_over-n.ensures refl c.in_ok-hold.ensures
-    (let w = c.pass_over-n.ensures.within in omega (arith, w, c.if-n-text.false)) (sym c.split_at.ensures.back ∙ c.next_line.ensures.joined) (some_there c.args.text.now c.split_at.result.1.now c.next_line.result.0.now c.pass_over-n.result c.split_at.ensures.back c.next_line.ensures.some) c.in_ok-take_line.ensures
+    (let w = c.pass_over-n.ensures.within in omega (arith, w, c.if-n-text.false)) (sym c.split_at.ensures.back ∙ c.next_line.ensures.joined) (some_there c.args.text.now c.split_at.result.1.now c.next_line.result.0.now c.pass_over-n.result c.split_at.ensures.back c.next_line.ensures.some) (last_or_ends c.next_line.result.0.now c.next_line.result.1.now c.next_line.ensures.last) c.in_ok-take_line.ensures
