@@ -31,3 +31,6 @@ pub mod EndLemmas
 pub mod HoldLemmas
 pub mod HeldLemmas
 pub mod TryLemmas
+pub mod ByteLemmas
+pub mod StageLemmas
+pub mod StageSteps

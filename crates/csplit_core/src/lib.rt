@@ -2,6 +2,8 @@
 #![tactic(auto)]
 
 pub mod laws;
+mod csplit_stage;
+mod csplitter;
 mod holding;
 mod line_cutter;
 mod lines;
@@ -18,6 +20,7 @@ mod style;
 mod target;
 mod word;
 
+pub use csplitter::Csplitter;
 pub use operand::{Offset, Operand, Target, Times};
 pub use operand_fault::{OperandFault, OperandFaultKind};
 pub use operands::{Operands, read_operands};

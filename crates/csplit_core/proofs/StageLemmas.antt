@@ -1,0 +1,179 @@
+-- What the stage that takes in bytes does with the cutter of lines.
+use Rattle.std.proofs.Common.{◌≡◌, ◌⊎◌, inl, inr, ℕ, ◌+◌, ◌<◌, ◌≤◌, ◌^◌, Bool, true, false, List, [], ◌∷◌, ◌++◌, length, map, Result, Ok, Err, refl, sym, ◌∙◌, ap, subst, arith, append_assoc, length-append}
+use Rattle.std.proofs.lemmas.Bool.{false≢true}
+use Rattle.std.proofs.lemmas.List.{append-nil}
+use Rattle.seg_core.specs.Line.{line_count}
+use Rattle.ports_core.specs.Part.{Part, Begins}
+use Rattle.ports_core.specs.Slot.{Slot}
+use Rattle.ports_core.specs.declared.fault.Fault.{Fault}
+use Rattle.ports_core.specs.declared.fault.Fault.TheVariants.{Memory}
+use Rattle.csplit_core.specs.Csplit.{settled_of}
+use Rattle.csplit_core.specs.Draft.{draft_part, AreClosed}
+use Rattle.csplit_core.specs.Input.{newline, all_lines}
+use Rattle.csplit_core.specs.Operand.{Operand, Line}
+use Rattle.csplit_core.specs.Output.{Style, contents_of}
+use Rattle.csplit_core.specs.Plan.{State, Step, Ending, used_up, missed, above, below}
+use Rattle.csplit_core.specs.Planned.{Plan, plan}
+use Rattle.csplit_core.specs.PlanLaws.{plan_runs}
+use Rattle.csplit_core.specs.Section.{section_of, is_final}
+use Rattle.csplit_core.specs.SectionLaws.{grows}
+use Rattle.csplit_core.specs.Writer.{IsReady, Moves, Halts}
+use Rattle.csplit_core.specs.declared.progress.Turn.TheVariants.{Below}
+use Rattle.csplit_core.specs.Cutter.{CutterState, IsJudged, IsLive, IsPast, IsSame, IsSound, IsWhole, Stands, Took, TookNot, Takes, kept_by, load, settled_draft, settled_part, state_in, suppress_in, draft_by}
+use Rattle.csplit_core.proofs.HoldLemmas.{memory_halts}
+use Rattle.csplit_core.proofs.LineLemmas.{all_lines-append, whole-append}
+use Rattle.csplit_core.proofs.SettledLemmas.{settled_draft_is, settled_part_is, final_count, ended_still, aims_past}
+use Rattle.csplit_core.proofs.StayLemmas.{StaysFor, stays}
+use Rattle.csplit_core.proofs.WriterLemmas.{moves_again, moves_same, moves_as, halts_after, halts_as, halts_wider, keeps_again, breaks_later, owns_again}
+
+-- once lines go nowhere, more of them change nothing
+
+stays_final : (lines : List Line) (total : ℕ) (ending : Ending) → is_final ending ≡ true → StaysFor lines total ending
+stays_final lines total used_up final = absurd (false≢true final)
+stays_final lines total (missed operand repetition) final = absurd (false≢true final)
+stays_final lines total (above operand repetition matched cut) final = absurd (false≢true final)
+stays_final lines total (below operand repetition) final = tt
+
+past_plan : (suppress : Bool) (operands : List Operand) (x t : List ℕ) → IsWhole x → is_final (plan suppress operands (all_lines x)).ending ≡ true → plan suppress operands (all_lines (x ++ t)) ≡ plan suppress operands (all_lines x)
+past_plan suppress operands x t whole final = ap (plan suppress operands) (all_lines-append x t whole) ∙ stays suppress operands (all_lines x) (all_lines t) (stays_final (all_lines t) (length (all_lines x ++ all_lines t)) (plan suppress operands (all_lines x)).ending final)
+
+final_draft : (suppress : Bool) (operands : List Operand) (x : List ℕ) → is_final (plan suppress operands (all_lines x)).ending ≡ true
+    → draft_by (all_lines x) (plan suppress operands (all_lines x)).steps (kept_by (plan suppress operands (all_lines x)).last.operands) [] ≡ settled_draft suppress operands (all_lines x)
+final_draft suppress operands x final =
+    settled_draft_is suppress operands x _ _ _ 0 [] (plan_runs suppress operands (all_lines x)) (final_count (line_count newline x) _ (plan suppress operands (all_lines x)).ending final) refl
+
+past_draft : (style : Style) (operands : List Operand) (x t : List ℕ) → IsWhole x → is_final (plan style.suppress operands (all_lines x)).ending ≡ true
+    → settled_draft style.suppress operands (all_lines x) ≡ settled_draft style.suppress operands (all_lines (x ++ t))
+past_draft style operands x t whole final =
+    let same = past_plan style.suppress operands x t whole final in
+    sym (final_draft style.suppress operands x final)
+    ∙ ended_still style operands x t _ _ _ (kept_by (plan style.suppress operands (all_lines x)).last.operands) [] whole (plan_runs style.suppress operands (all_lines x))
+    ∙ ap (λ (p : Plan). draft_by (all_lines (x ++ t)) p.steps (kept_by p.last.operands) []) (sym same)
+    ∙ final_draft style.suppress operands (x ++ t) (ap (λ (p : Plan). is_final p.ending) same ∙ final)
+
+past_part : (cutter : CutterState) (x t : List ℕ) → IsWhole x → IsPast cutter x → settled_part cutter x ≡ settled_part cutter (x ++ t)
+past_part cutter x t whole past =
+    sym (settled_part_is cutter.writer.style cutter.operands (all_lines x))
+    ∙ ap (draft_part cutter.writer.style) (past_draft cutter.writer.style cutter.operands x t whole past.past)
+    ∙ settled_part_is cutter.writer.style cutter.operands (all_lines (x ++ t))
+
+past_stays : (cutter : CutterState) (x t : List ℕ) → IsWhole x → IsPast cutter x → IsPast cutter (x ++ t)
+past_stays cutter x t whole past =
+    let same = past_plan (suppress_in cutter) cutter.operands x t whole past.past in record {
+      aim = past.aim;
+      past = ap (λ (p : Plan). is_final p.ending) same ∙ past.past;
+      last = past.last ∙ sym (ap (λ (p : Plan). p.last) same);
+      none = past.none;
+      writes = subst (Rattle.csplit_core.specs.Writer.Writes cutter.writer) (past_draft cutter.writer.style cutter.operands x t whole past.past) past.writes;
+    }
+
+pub is_past : (cutter : CutterState) (x : List ℕ) → cutter.aim ≡ Below → Stands cutter x → IsPast cutter x
+is_past cutter x aim (inl live) = absurd (false≢true (sym live.live ∙ aims_past live.ends.ending (subst (λ turn. Rattle.csplit_core.specs.Progress.AimsAt turn live.ends.ending) aim live.ends.aims)))
+is_past cutter x aim (inr past) = past
+
+pub took_past : (told : Bool) (cutter : CutterState) (t : List ℕ) (slots : List Slot) → cutter.aim ≡ Below → IsReady cutter.writer slots → IsSound cutter → Took told cutter t slots slots cutter
+took_past told cutter t slots aim ready sound = record {
+  same = record { operands = refl; style = refl };
+  stands = λ x whole stands. inr (past_stays cutter x t whole (is_past cutter x aim stands));
+  moves = λ x whole stands. moves_same told _ _ slots (past_part cutter x t whole (is_past cutter x aim stands));
+  keeps = λ place sound. sound;
+  owns = λ first owns. owns;
+  ready = ready;
+  sound = sound;
+  size = omega arith;
+}
+
+-- the same lines, once more than where they go nowhere
+pub past_whole : (cutter : CutterState) (x t : List ℕ) → IsWhole x → cutter.aim ≡ Below → Stands cutter x → Stands cutter (x ++ t)
+past_whole cutter x t whole aim stands = inr (past_stays cutter x t whole (is_past cutter x aim stands))
+
+pub past_settled : (cutter : CutterState) (x t : List ℕ) → IsWhole x → cutter.aim ≡ Below → Stands cutter x → settled_part cutter x ≡ settled_part cutter (x ++ t)
+past_settled cutter x t whole aim stands = past_part cutter x t whole (is_past cutter x aim stands)
+
+-- nothing came in
+
+pub took_none : (told : Bool) (cutter : CutterState) (slots : List Slot) → IsReady cutter.writer slots → IsSound cutter → Took told cutter [] slots slots cutter
+took_none told cutter slots ready sound = record {
+  same = record { operands = refl; style = refl };
+  stands = λ x whole stands. subst (Stands cutter) (sym (append-nil x)) stands;
+  moves = λ x whole stands. moves_same told _ _ slots (ap (settled_part cutter) (sym (append-nil x)));
+  keeps = λ place sound. sound;
+  owns = λ first owns. owns;
+  ready = ready;
+  sound = sound;
+  size = omega arith;
+}
+
+-- what is settled grows
+
+pub settled_begins : (cutter : CutterState) (x t : List ℕ) → IsWhole x → Begins (settled_part cutter x) (settled_part cutter (x ++ t))
+settled_begins cutter x t whole = subst (λ lines. Begins (settled_part cutter x) (settled_of cutter.writer.style cutter.operands lines)) (sym (all_lines-append x t whole)) (grows cutter.writer.style cutter.operands (all_lines x) (all_lines t))
+
+same_part : (cutter next : CutterState) (x : List ℕ) → IsSame cutter next → settled_part next x ≡ settled_part cutter x
+same_part cutter next x same = ap (λ (style : Style). settled_of style next.operands (all_lines x)) same.style ∙ ap (λ operands. settled_of cutter.writer.style operands (all_lines x)) same.operands
+
+both_same : (one two three : CutterState) → IsSame one two → IsSame two three → IsSame one three
+both_same one two three first second = record { operands = second.operands ∙ first.operands; style = second.style ∙ first.style }
+
+-- One text after another
+
+pub took_more : (told : Bool) (one two three : CutterState) (a b : List ℕ) (old mid new : List Slot) → IsWhole a → Took told one a old mid two → Took told two b mid new three → Took told one (a ++ b) old new three
+took_more told one two three a b old mid new whole first second = record {
+  same = both_same one two three first.same second.same;
+  stands = λ x front stands. subst (Stands three) (append_assoc x a b) (second.stands (x ++ a) (whole-append x a front whole) (first.stands x front stands));
+  moves = λ x front stands. moves_again told _ _ _ old mid new (first.moves x front stands)
+      (moves_as told _ _ _ _ mid new (sym (same_part one two (x ++ a) first.same)) (ap (settled_part one) (sym (append_assoc x a b)) ∙ sym (same_part one two ((x ++ a) ++ b) first.same))
+      (second.moves (x ++ a) (whole-append x a front whole) (first.stands x front stands)));
+  keeps = keeps_again old mid new first.keeps second.keeps;
+  owns = owns_again one.writer two.writer three.writer old mid new first.owns second.owns;
+  ready = second.ready;
+  sound = second.sound;
+  size = (let all : length (a ++ b) ≡ length a + length b = length-append a b in let fewer : load two ≤ load one + length a = first.size in let also : load three ≤ load two + length b = second.size in omega (arith, all, fewer, also));
+}
+
+pub stopped_later : (told : Bool) (one two three : CutterState) (a b : List ℕ) (old mid new : List Slot) (fault : Fault) → IsWhole a → Took told one a old mid two → TookNot told two b mid new three fault → TookNot told one (a ++ b) old new three fault
+stopped_later told one two three a b old mid new fault whole first second = record {
+  same = both_same one two three first.same second.same;
+  halts = λ x front stands. halts_after told _ _ _ old mid new fault (subst (λ those. Begins (settled_part one x) those) refl (settled_begins one x a front)) (first.moves x front stands)
+      (halts_as told _ _ _ _ mid new fault (sym (same_part one two (x ++ a) first.same)) (ap (settled_part one) (sym (append_assoc x a b)) ∙ sym (same_part one two ((x ++ a) ++ b) first.same))
+      (second.halts (x ++ a) (whole-append x a front whole) (first.stands x front stands)));
+  breaks = breaks_later one.writer.style old mid new fault first.keeps (subst (λ (style : Style). Rattle.csplit_core.specs.Writer.Breaks style mid new fault) first.same.style second.breaks);
+  owns = owns_again one.writer two.writer three.writer old mid new first.owns second.owns;
+}
+
+pub stopped_before : (told : Bool) (one two : CutterState) (a b : List ℕ) (old new : List Slot) (fault : Fault) → IsWhole a → TookNot told one a old new two fault → TookNot told one (a ++ b) old new two fault
+stopped_before told one two a b old new fault whole first = record {
+  same = first.same;
+  halts = λ x front stands. halts_wider told _ _ _ old new fault (first.halts x front stands)
+      (subst (λ those. Begins (settled_part one (x ++ a)) (settled_part one those)) (append_assoc x a b) (settled_begins one (x ++ a) b (whole-append x a front whole)));
+  breaks = first.breaks;
+  owns = first.owns;
+}
+
+-- Want of memory
+
+closed_steps : (lines : List Line) (steps : List Step) → AreClosed (map contents_of (map (section_of lines) steps))
+closed_steps lines [] = tt
+closed_steps lines (step ∷ steps) = (refl, closed_steps lines steps)
+
+settled_lacks : (told : Bool) (cutter : CutterState) (x : List ℕ) (slots : List Slot) → Halts told (settled_part cutter x) (settled_part cutter x) slots slots Memory
+settled_lacks told cutter x slots =
+    let is = sym (settled_part_is cutter.writer.style cutter.operands (all_lines x)) in
+    halts_as told _ _ _ _ slots slots Memory is is (memory_halts told cutter.writer.style (settled_draft (suppress_in cutter) cutter.operands (all_lines x)) slots (closed_steps (all_lines x) (plan (suppress_in cutter) cutter.operands (all_lines x)).steps))
+
+-- before the lines came in, or after them
+pub lacks_first : (told : Bool) (cutter : CutterState) (t : List ℕ) (slots : List Slot) → TookNot told cutter t slots slots cutter Memory
+lacks_first told cutter t slots = record {
+  same = record { operands = refl; style = refl };
+  halts = λ x whole stands. halts_wider told _ _ _ slots slots Memory (settled_lacks told cutter x slots) (settled_begins cutter x t whole);
+  breaks = tt;
+  owns = λ first owns. owns;
+}
+
+pub lacks_then : (told : Bool) (cutter next : CutterState) (t : List ℕ) (old new : List Slot) → Took told cutter t old new next → TookNot told cutter t old new next Memory
+lacks_then told cutter next t old new took = record {
+  same = took.same;
+  halts = λ x whole stands. halts_after told _ _ _ old new new Memory (settled_begins cutter x t whole) (took.moves x whole stands) (settled_lacks told cutter (x ++ t) new);
+  breaks = tt;
+  owns = took.owns;
+}
