@@ -71,7 +71,7 @@ open_more x y = ap open_line (parted x y) ∙ rest_is (whole_lines x ++ whole_li
 
 -- a piece without a newline
 
-no_newline : (rest piece : List ℕ) → delimiters newline rest ≡ 0 → delimiters newline piece ≡ 0 → delimiters newline (rest ++ piece) ≡ 0
+pub no_newline : (rest piece : List ℕ) → delimiters newline rest ≡ 0 → delimiters newline piece ≡ 0 → delimiters newline (rest ++ piece) ≡ 0
 no_newline rest piece none also = let sum : delimiters newline (rest ++ piece) ≡ delimiters newline rest + delimiters newline piece = delimiters-append newline rest piece in omega (arith, sum, none, also)
 
 pub none_lines : (rest piece : List ℕ) → delimiters newline rest ≡ 0 → delimiters newline piece ≡ 0 → whole_lines (rest ++ piece) ≡ []

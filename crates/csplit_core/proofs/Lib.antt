@@ -34,3 +34,4 @@ pub mod TryLemmas
 pub mod ByteLemmas
 pub mod StageLemmas
 pub mod StageSteps
+pub mod StageClauses

@@ -1,5 +1,5 @@
 -- What the stage that takes in bytes does with the cutter of lines.
-use Rattle.std.proofs.Common.{◌≡◌, ◌⊎◌, inl, inr, ℕ, ◌+◌, ◌<◌, ◌≤◌, ◌^◌, Bool, true, false, List, [], ◌∷◌, ◌++◌, length, map, Result, Ok, Err, refl, sym, ◌∙◌, ap, subst, arith, append_assoc, length-append}
+use Rattle.std.proofs.Common.{◌≡◌, ◌⊎◌, inl, inr, ℕ, ◌+◌, ◌-◌, ◌<◌, ◌≤◌, ◌^◌, Bool, true, false, List, [], ◌∷◌, ◌++◌, length, map, Result, Ok, Err, refl, sym, ◌∙◌, ap, subst, arith, append_assoc, length-append}
 use Rattle.std.proofs.lemmas.Bool.{false≢true}
 use Rattle.std.proofs.lemmas.List.{append-nil}
 use Rattle.seg_core.specs.Line.{line_count}
@@ -7,19 +7,20 @@ use Rattle.ports_core.specs.Part.{Part, Begins}
 use Rattle.ports_core.specs.Slot.{Slot}
 use Rattle.ports_core.specs.declared.fault.Fault.{Fault}
 use Rattle.ports_core.specs.declared.fault.Fault.TheVariants.{Memory}
-use Rattle.csplit_core.specs.Csplit.{settled_of}
+use Rattle.csplit_core.specs.Csplit.{settled_of, whole_of, verdict_of}
 use Rattle.csplit_core.specs.Draft.{draft_part, AreClosed}
 use Rattle.csplit_core.specs.Input.{newline, all_lines}
 use Rattle.csplit_core.specs.Operand.{Operand, Line}
-use Rattle.csplit_core.specs.Output.{Style, contents_of}
-use Rattle.csplit_core.specs.Plan.{State, Step, Ending, used_up, missed, above, below}
+use Rattle.csplit_core.specs.Output.{Style, contents_of, part_of}
+use Rattle.csplit_core.specs.Plan.{State, start, Step, Ending, used_up, missed, above, below}
 use Rattle.csplit_core.specs.Planned.{Plan, plan}
 use Rattle.csplit_core.specs.PlanLaws.{plan_runs}
-use Rattle.csplit_core.specs.Section.{section_of, is_final}
-use Rattle.csplit_core.specs.SectionLaws.{grows}
+use Rattle.csplit_core.specs.Section.{section, section_of, lines_between, is_last_kept, whole_end, is_final, whole_sections}
+use Rattle.csplit_core.specs.SectionLaws.{AreWithin, are_within, closed_still, grows, ends_with}
 use Rattle.csplit_core.specs.Writer.{IsReady, Moves, Halts}
 use Rattle.csplit_core.specs.declared.progress.Turn.TheVariants.{Below}
-use Rattle.csplit_core.specs.Cutter.{CutterState, IsJudged, IsLive, IsPast, IsSame, IsSound, IsWhole, Stands, Took, TookNot, Takes, kept_by, load, settled_draft, settled_part, state_in, suppress_in, draft_by}
+use Rattle.csplit_core.specs.Cutter.{CutterState, EndedAll, EndedNone, IsJudged, IsLive, IsPast, IsSame, IsSound, IsWhole, Stands, Took, TookNot, Takes, kept_by, load, settled_draft, settled_part, state_in, suppress_in, draft_by, whole_part}
+use Rattle.csplit_core.specs.CsplitState.{CsplitState, Closed, ClosedNot}
 use Rattle.csplit_core.proofs.HoldLemmas.{memory_halts}
 use Rattle.csplit_core.proofs.LineLemmas.{all_lines-append, whole-append}
 use Rattle.csplit_core.proofs.SettledLemmas.{settled_draft_is, settled_part_is, final_count, ended_still, aims_past}
@@ -177,3 +178,74 @@ lacks_then told cutter next t old new took = record {
   breaks = tt;
   owns = took.owns;
 }
+
+-- The end
+
+pub whole_begins : (cutter : CutterState) (x : List ℕ) → Begins (settled_part cutter x) (whole_part cutter x)
+whole_begins cutter x = subst (λ lines. Begins (settled_part cutter x) (whole_of cutter.writer.style cutter.operands lines)) (append-nil (all_lines x)) (ends_with cutter.writer.style cutter.operands (all_lines x) [])
+
+same_whole : (cutter next : CutterState) (x : List ℕ) → IsSame cutter next → whole_part next x ≡ whole_part cutter x
+same_whole cutter next x same = ap (λ (style : Style). whole_of style next.operands (all_lines x)) same.style ∙ ap (λ operands. whole_of cutter.writer.style operands (all_lines x)) same.operands
+
+pub closes_after : (told : Bool) (one two three : CutterState) (t : List ℕ) (old mid new : List Slot) → Took told one t old mid two → EndedAll told two mid new three
+    → ((x : List ℕ) → IsWhole x → Stands one x → Moves told (settled_part one x) (whole_part one (x ++ t)) old new)
+closes_after told one two three t old mid new first second x front stands =
+    moves_again told _ _ _ old mid new (first.moves x front stands)
+    (moves_as told _ _ _ _ mid new (sym (same_part one two (x ++ t) first.same)) (sym (same_whole one two (x ++ t) first.same)) (second.moves (x ++ t) (first.stands x front stands)))
+
+pub ends_later : (told : Bool) (one two three : CutterState) (t : List ℕ) (old mid new : List Slot) (fault : Fault) → Took told one t old mid two → EndedNone told two mid new three fault
+    → ((x : List ℕ) → IsWhole x → Stands one x → Halts told (settled_part one x) (whole_part one (x ++ t)) old new fault)
+ends_later told one two three t old mid new fault first second x front stands =
+    halts_after told _ _ _ old mid new fault (settled_begins one x t front) (first.moves x front stands)
+    (halts_as told _ _ _ _ mid new fault (sym (same_part one two (x ++ t) first.same)) (sym (same_whole one two (x ++ t) first.same)) (second.halts (x ++ t) (first.stands x front stands)))
+
+pub closed_by : (told : Bool) (stage next : CsplitState) (two : CutterState) (old mid new : List Slot) → Took told stage.cutter stage.rest old mid two → EndedAll told two mid new next.cutter → Closed told stage old new next
+closed_by told stage next two old mid new first second = record {
+  same = both_same stage.cutter two next.cutter first.same second.same;
+  moves = closes_after told stage.cutter two next.cutter stage.rest old mid new first second;
+  judged = λ x front stands. second.judged (x ++ stage.rest) (first.stands x front stands);
+  keeps = keeps_again old mid new first.keeps second.keeps;
+  owns = owns_again stage.cutter.writer two.writer next.cutter.writer old mid new first.owns second.owns;
+  ready = second.ready;
+}
+
+pub closed_not : (told : Bool) (stage next : CsplitState) (two : CutterState) (old mid new : List Slot) (fault : Fault) → Took told stage.cutter stage.rest old mid two → EndedNone told two mid new next.cutter fault → ClosedNot told stage old new next fault
+closed_not told stage next two old mid new fault first second = record {
+  same = both_same stage.cutter two next.cutter first.same second.same;
+  halts = ends_later told stage.cutter two next.cutter stage.rest old mid new fault first second;
+  breaks = breaks_later stage.cutter.writer.style old mid new fault first.keeps (subst (λ (style : Style). Rattle.csplit_core.specs.Writer.Breaks style mid new fault) first.same.style second.breaks);
+  owns = owns_again stage.cutter.writer two.writer next.cutter.writer old mid new first.owns second.owns;
+}
+
+-- the open line could not be taken in
+pub closed_short : (told : Bool) (stage next : CsplitState) (old new : List Slot) (fault : Fault) → TookNot told stage.cutter stage.rest old new next.cutter fault → ClosedNot told stage old new next fault
+closed_short told stage next old new fault stopped = record {
+  same = stopped.same;
+  halts = λ x front stands. halts_wider told _ _ _ old new fault (stopped.halts x front stands) (whole_begins stage.cutter (x ++ stage.rest));
+  breaks = stopped.breaks;
+  owns = stopped.owns;
+}
+
+-- Where later input goes nowhere, it changes nothing of the end either.
+
+no_lines : (current total : ℕ) (ending : Ending) (lines : List Line) → is_final ending ≡ true → lines_between current (whole_end total ending) lines ≡ []
+no_lines current total used_up lines final = absurd (false≢true final)
+no_lines current total (missed operand repetition) lines final = absurd (false≢true final)
+no_lines current total (above operand repetition matched cut) lines final = absurd (false≢true final)
+no_lines current total (below operand repetition) lines final = ap (λ n. Rattle.std.proofs.Common.take n (Rattle.std.proofs.Common.drop (current - 1) lines)) (let none : 0 - current ≡ 0 = omega arith in none)
+
+final_sections : (a b : List Line) (p : Plan) → AreWithin (length a) p.steps → is_final p.ending ≡ true → whole_sections (a ++ b) p ≡ whole_sections a p
+final_sections a b p within final =
+    ap (λ sections. sections ++ section (is_last_kept p.ending) true (lines_between p.last.current (whole_end (length (a ++ b)) p.ending) (a ++ b)) ∷ []) (closed_still a b p.steps within)
+    ∙ ap (λ lines. map (section_of a) p.steps ++ section (is_last_kept p.ending) true lines ∷ []) (no_lines p.last.current (length (a ++ b)) p.ending (a ++ b) final ∙ sym (no_lines p.last.current (length a) p.ending a final))
+
+pub past_end : (cutter : CutterState) (x t : List ℕ) → IsWhole x → IsPast cutter x → whole_part cutter (x ++ t) ≡ whole_part cutter x
+past_end cutter x t whole past =
+    let same = past_plan (suppress_in cutter) cutter.operands x t whole past.past in
+    ap (λ (p : Plan). part_of cutter.writer.style (whole_sections (all_lines (x ++ t)) p)) same
+    ∙ ap (λ lines. part_of cutter.writer.style (whole_sections lines (plan (suppress_in cutter) cutter.operands (all_lines x)))) (all_lines-append x t whole)
+    ∙ ap (part_of cutter.writer.style) (final_sections (all_lines x) (all_lines t) (plan (suppress_in cutter) cutter.operands (all_lines x))
+    (are_within (suppress_in cutter) (all_lines x) (start cutter.operands) _ _ _ (plan_runs (suppress_in cutter) cutter.operands (all_lines x)) (omega arith)).0 past.past)
+
+pub past_verdict : (cutter : CutterState) (x t : List ℕ) → IsWhole x → IsPast cutter x → verdict_of (plan (suppress_in cutter) cutter.operands (all_lines (x ++ t))).ending ≡ verdict_of (plan (suppress_in cutter) cutter.operands (all_lines x)).ending
+past_verdict cutter x t whole past = ap (λ (p : Plan). verdict_of p.ending) (past_plan (suppress_in cutter) cutter.operands x t whole past.past)

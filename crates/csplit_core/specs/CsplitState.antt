@@ -52,6 +52,7 @@ pub record Passed (told : Bool) (stage : CsplitState) (piece : List ℕ) (old ne
   pub took : Took told stage.cutter (whole_lines (stage.rest ++ piece)) old new next.cutter
   pub live : next.cutter.aim ≢ Below → next.rest ≡ open_line (stage.rest ++ piece)
   pub past : next.cutter.aim ≡ Below → (stage.cutter.aim ≡ Below → stage.rest ≡ []) → next.rest ≡ []
+  pub still : stage.cutter.aim ≡ Below → next.cutter ≡ stage.cutter
   pub unbroken : delimiters newline next.rest ≡ 0
   pub size : load next.cutter + length next.rest ≤ load stage.cutter + length stage.rest + length piece
 

@@ -137,10 +137,10 @@ impl<'o> CsplitStage<'o> {
         ensures live { OnOk result (self.old.cutter.aim ≢ turn_is.Below → self.new.rest ≡ self.old.rest ++ bytes.now) }
         ensures err { IfErr result (λ fault. fault ≡ Fault.Memory) }
     {
-        if !self.cutter.is_past() {
-            self.rest.extend_from_slice(bytes)?;
+        if self.cutter.is_past() {
+            return Ok(());
         }
-        Ok(())
+        Ok(self.rest.extend_from_slice(bytes)?)
     }
 
     /// Takes in the open line, if there is one, and ends the last section.
@@ -152,10 +152,23 @@ impl<'o> CsplitStage<'o> {
         ensures taken { self.new.taken ≡ self.old.taken }
         ensures closes { Closes O.told self.old (O.slots outs.old) (O.slots outs.new) self.new result }
     {
-        if !self.rest.is_empty() {
-            self.cutter.take_line(&self.rest, outs)?;
-        }
+        self.take_last(outs)?;
         self.cutter.end(outs)
+    }
+
+    /// Takes in the open line as it is, if there is one: it is the last.
+    fn take_last<O: Outs>(&mut self, outs: &mut O) -> Result<(), Fault>
+        requires fits { load self.old.cutter + length self.old.rest < 2 ^ 63 }
+        requires sound { IsSound self.old.cutter }
+        requires open { delimiters newline self.old.rest ≡ 0 }
+        requires ready { CanWrite self.old.cutter.writer (O.slots outs.old) }
+        ensures taken { self.new.taken ≡ self.old.taken }
+        ensures takes { Takes O.told self.old.cutter self.old.rest (O.slots outs.old) (O.slots outs.new) self.new.cutter result }
+    {
+        if self.rest.is_empty() {
+            return Ok(());
+        }
+        self.cutter.take_line(&self.rest, outs)
     }
 }
 
