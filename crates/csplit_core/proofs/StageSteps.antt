@@ -1,6 +1,6 @@
 -- The steps of the stage that takes in bytes. A stage is known by its fields and by its value.
-use Rattle.std.proofs.Common.{◌≡◌, ◌⊎◌, inl, inr, ℕ, ◌+◌, ◌-◌, ◌<◌, ◌≤◌, ◌^◌, Bool, true, false, List, [], ◌∷◌, ◌++◌, length, Result, Ok, Err, OnOk, IfErr, take, drop, append_assoc, length-drop, refl, sym, ◌∙◌, ap, subst, arith, length-append}
-use Rattle.std.proofs.lemmas.Bool.{false≢true}
+use Rattle.std.proofs.Common.{◌≡◌, ◌⊎◌, inl, inr, ℕ, suc, eqb, ◌+◌, ◌-◌, ◌<◌, ◌≤◌, ◌^◌, Bool, true, false, List, [], ◌∷◌, ◌++◌, length, Result, Ok, Err, OnOk, IfErr, take, drop, append_assoc, length-drop, refl, sym, ◌∙◌, ap, subst, arith, length-append}
+use Rattle.std.proofs.lemmas.Bool.{false≢true, eqb-true}
 use Rattle.std.proofs.lemmas.List.{take-append-drop}
 use Rattle.seg_core.specs.Line.{delimiters, ends_with, LastEndsAt}
 use Rattle.ports_core.specs.Slot.{Slot}
@@ -8,13 +8,13 @@ use Rattle.ports_core.specs.declared.fault.Fault.{Fault}
 use Rattle.ports_core.specs.declared.fault.Fault.TheVariants.{Memory}
 use Rattle.ports_core.proofs.PartLemmas.{take_all}
 use Rattle.csplit_core.specs.Input.{newline, open_line}
-use Rattle.csplit_core.specs.Cutter.{CutterState, IsLine, IsSound, IsWhole, Took, TookNot, Takes, load}
-use Rattle.csplit_core.specs.CsplitState.{CsplitState, Passed, Passes, whole_lines}
+use Rattle.csplit_core.specs.Cutter.{CutterState, EndsAll, IsLine, IsSound, IsWhole, Took, TookNot, Takes, load}
+use Rattle.csplit_core.specs.CsplitState.{CsplitState, Closes, Passed, Passes, whole_lines}
 use Rattle.csplit_core.specs.Writer.{IsReady}
 use Rattle.csplit_core.specs.declared.progress.Turn.{Turn}
 use Rattle.csplit_core.specs.declared.progress.Turn.TheVariants.{UsedUp, Missed, Above, Below, Cuts}
-use Rattle.csplit_core.proofs.ByteLemmas.{joined_line, open_complete, first_complete, none_lines, none_open, no_newline, piece_lines, piece_open}
-use Rattle.csplit_core.proofs.StageLemmas.{lacks_first, lacks_then, took_more, took_none, took_past, stopped_before, stopped_later}
+use Rattle.csplit_core.proofs.ByteLemmas.{joined_line, open_is_line, open_complete, first_complete, none_lines, none_open, no_newline, piece_lines, piece_open}
+use Rattle.csplit_core.proofs.StageLemmas.{closed_by, closed_not, lacks_first, lacks_then, took_more, took_none, took_past, stopped_before, stopped_later}
 
 -- the open line and its end
 
@@ -138,3 +138,25 @@ some_passes told stage mid next piece lines text end old new (Err fault) differs
 pub some_stop : (told : Bool) (stage : CsplitState) (two : CutterState) (piece lines : List ℕ) (end : ℕ) (old new : List Slot) (fault : Fault) → LastEndsAt newline piece end → lines ≡ take end piece → TookNot told stage.cutter (stage.rest ++ lines) old new two fault
     → TookNot told stage.cutter (whole_lines (stage.rest ++ piece)) old new two fault
 some_stop told stage two piece lines end old new fault last lines_is stopped = subst (λ those. TookNot told stage.cutter those old new two fault) (ap (λ those. stage.rest ++ those) lines_is ∙ sym (piece_lines stage.rest piece end last)) stopped
+
+-- The last line
+
+pub empty_by : (items : List ℕ) → eqb (length items) 0 ≡ true → items ≡ []
+empty_by [] is = refl
+empty_by (byte ∷ items) is = absurd (let e : suc (length items) ≡ 0 = eqb-true (suc (length items)) 0 is in omega (arith, e))
+
+some_by : (items : List ℕ) → eqb (length items) 0 ≡ false → 0 < length items
+some_by [] is = absurd (false≢true (sym is))
+some_by (byte ∷ items) is = omega arith
+
+pub last_none : (told : Bool) (before stage : CsplitState) (slots : List Slot) → before ≡ stage → eqb (length before.rest) 0 ≡ true → IsReady stage.cutter.writer slots → IsSound stage.cutter → Took told stage.cutter stage.rest slots slots stage.cutter
+last_none told before stage slots is empty ready sound =
+    subst (λ text. Took told stage.cutter text slots slots stage.cutter) (sym (ap (λ (s : CsplitState). s.rest) (sym is) ∙ empty_by before.rest empty)) (took_none told stage.cutter slots ready sound)
+
+pub last_line : (before stage : CsplitState) (text : List ℕ) → before ≡ stage → text ≡ before.rest → eqb (length before.rest) 0 ≡ false → delimiters newline stage.rest ≡ 0 → IsLine text
+last_line before stage text is text_is some unbroken = subst IsLine (sym text_is) (open_is_line before.rest (some_by before.rest some) (ap (λ (s : CsplitState). delimiters newline s.rest) is ∙ unbroken))
+
+-- and the end after it
+pub closes_by : (told : Bool) (stage view mid next : CsplitState) (old between new : List Slot) (result : Result (Unit {0}) Fault) → view ≡ mid → Took told stage.cutter stage.rest old between mid.cutter → EndsAll told view.cutter between new next.cutter result → Closes told stage old new next result
+closes_by told stage view mid next old between new (Ok done) is first second = closed_by told stage next view.cutter old between new (subst (λ (s : CsplitState). Took told stage.cutter stage.rest old between s.cutter) (sym is) first) second
+closes_by told stage view mid next old between new (Err fault) is first second = closed_not told stage next view.cutter old between new fault (subst (λ (s : CsplitState). Took told stage.cutter stage.rest old between s.cutter) (sym is) first) second

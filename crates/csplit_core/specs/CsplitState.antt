@@ -1,5 +1,5 @@
 -- What contracts see of the stage that takes in bytes, and what its calls do.
-use Rattle.std.specs.Prelude.{◌≡◌, ◌≢◌, ◌⊎◌, ℕ, ◌+◌, ◌<◌, ◌≤◌, ◌^◌, Bool, List, [], ◌++◌, length, Result, Ok, Err}
+use Rattle.std.specs.Prelude.{◌≡◌, ◌≢◌, ◌⊎◌, ℕ, ◌+◌, ◌<◌, ◌≤◌, ◌^◌, Bool, List, [], ◌++◌, length, Option, Result, Ok, Err}
 use Rattle.seg_core.specs.Line.{delimiters, first_lines}
 use Rattle.ports_core.specs.Part.{OutputsAt, nothing}
 use Rattle.ports_core.specs.Slot.{Slot, Rose}
@@ -7,11 +7,12 @@ use Rattle.ports_core.specs.Swept.{AreMade}
 use Rattle.ports_core.specs.Work.{Work}
 use Rattle.ports_core.specs.declared.fault.Fault.{Fault}
 use Rattle.ports_core.specs.declared.fault.Fault.TheVariants.{Memory, Open}
-use Rattle.csplit_core.specs.Csplit.{csplit_work, settled_of}
-use Rattle.csplit_core.specs.Cutter.{CutterState, IsJudged, IsSame, IsSound, IsWhole, Stands, Took, TookNot, load, settled_part, whole_part}
-use Rattle.csplit_core.specs.Input.{newline, open_line}
+use Rattle.csplit_core.specs.Csplit.{csplit_work, settled_of, verdict_of}
+use Rattle.csplit_core.specs.Cutter.{CutterState, IsJudged, IsSame, IsSound, IsWhole, Stands, Took, TookNot, load, settled_part, suppress_in, whole_part}
+use Rattle.csplit_core.specs.Input.{newline, all_lines, open_line}
 use Rattle.csplit_core.specs.Operand.{Operand}
 use Rattle.csplit_core.specs.Output.{Style}
+use Rattle.csplit_core.specs.Planned.{plan}
 use Rattle.csplit_core.specs.Writer.{Breaks, Halts, KeepsBroken, KeepsFiles, OwnsFiles, size_of}
 use Rattle.csplit_core.specs.Writer.{IsReady as CanWrite, Moves as Gets}
 use Rattle.csplit_core.specs.declared.progress.Turn.TheVariants.{Below}
@@ -102,3 +103,7 @@ Begins told style operands old new (Err fault) = BegunNot told style operands ol
 -- why the first section can't begin: there was no memory, or its file could not be opened
 abbrev pub CannotOpen : List Slot → List Slot → Fault → Type 0
 CannotOpen old new fault = (fault ≡ Memory) ⊎ ((slot : ℕ) × (fault ≡ Open slot) × Rose slot old new)
+
+-- what the cutter says of the fault, once the last section ended, is where the plan over all lines ends
+abbrev pub Judges : CutterState → Option Fault → Type 0
+Judges cutter verdict = (x : List ℕ) → IsJudged cutter x → verdict ≡ verdict_of (plan (suppress_in cutter) cutter.operands (all_lines x)).ending

@@ -1,9 +1,9 @@
 //! From bytes to lines: the cutter of lines as a stage, to which pieces of any length come.
-ghost use Rattle.std.specs.Prelude.{◌≡◌, ◌≢◌, ◌+◌, ◌^◌, ◌<◌, ◌≤◌, ◌++◌, ℕ, [], length, min, true, IsTrue, IfErr, IfOk, OnOk};
+ghost use Rattle.std.specs.Prelude.{◌≡◌, ◌≢◌, ◌+◌, ◌^◌, ◌<◌, ◌≤◌, ◌++◌, ℕ, [], length, min, true, IsTrue, IfErr, IfSome, OnOk};
 ghost use Rattle.seg_core.specs.Line.{delimiters, ends_with};
+ghost use Rattle.ports_core.specs.Engine.{is_verdict};
 ghost use Rattle.ports_core.specs.Slot.{is_writable};
-ghost use Rattle.ports_core.specs.Swept.{Swept};
-ghost use Rattle.csplit_core.specs.CsplitState.{Begins, Closes, Holds, IsReady, Owns, Passes, work};
+ghost use Rattle.csplit_core.specs.CsplitState.{Begins, Closes, Holds, IsReady, Judges, Owns, Passes, work};
 ghost use Rattle.csplit_core.specs.Cutter.{IsLine, IsSound, Takes, load};
 ghost use Rattle.csplit_core.specs.Input.{newline};
 ghost use Rattle.csplit_core.specs.InputLaws.{lawful};
@@ -156,6 +156,14 @@ impl<'o> CsplitStage<'o> {
         self.cutter.end(outs)
     }
 
+    /// The fault with which the work itself ends, if it ends with one.
+    fn verdict(&self) -> Option<Fault>
+        ensures judges { Judges self.now.cutter result }
+        ensures kind { IfSome result (λ fault. is_verdict fault ≡ true) }
+    {
+        self.cutter.verdict()
+    }
+
     /// Takes in the open line as it is, if there is one: it is the last.
     fn take_last<O: Outs>(&mut self, outs: &mut O) -> Result<(), Fault>
         requires fits { load self.old.cutter + length self.old.rest < 2 ^ 63 }
@@ -192,7 +200,7 @@ impl<'o> Stage for CsplitStage<'o> {
 
     fn finish<O: Outs>(&mut self, outs: &mut O) -> Result<(), Fault> {
         self.end(outs)?;
-        match self.cutter.verdict() {
+        match self.verdict() {
             None => Ok(()),
             Some(fault) => {
                 self.clear(outs);
