@@ -141,7 +141,7 @@ some_stop told stage two piece lines end old new fault last lines_is stopped = s
 
 -- The last line
 
-pub empty_by : (items : List ℕ) → eqb (length items) 0 ≡ true → items ≡ []
+empty_by : (items : List ℕ) → eqb (length items) 0 ≡ true → items ≡ []
 empty_by [] is = refl
 empty_by (byte ∷ items) is = absurd (let e : suc (length items) ≡ 0 = eqb-true (suc (length items)) 0 is in omega (arith, e))
 
@@ -149,12 +149,12 @@ some_by : (items : List ℕ) → eqb (length items) 0 ≡ false → 0 < length i
 some_by [] is = absurd (false≢true (sym is))
 some_by (byte ∷ items) is = omega arith
 
-pub last_none : (told : Bool) (before stage : CsplitState) (slots : List Slot) → before ≡ stage → eqb (length before.rest) 0 ≡ true → IsReady stage.cutter.writer slots → IsSound stage.cutter → Took told stage.cutter stage.rest slots slots stage.cutter
-last_none told before stage slots is empty ready sound =
-    subst (λ text. Took told stage.cutter text slots slots stage.cutter) (sym (ap (λ (s : CsplitState). s.rest) (sym is) ∙ empty_by before.rest empty)) (took_none told stage.cutter slots ready sound)
+pub last_none : (told : Bool) (before stage : CsplitState) (n : ℕ) (slots : List Slot) → before ≡ stage → n ≡ length before.rest → eqb n 0 ≡ true → IsReady stage.cutter.writer slots → IsSound stage.cutter → Took told stage.cutter stage.rest slots slots stage.cutter
+last_none told before stage n slots is size empty ready sound =
+    subst (λ text. Took told stage.cutter text slots slots stage.cutter) (sym (ap (λ (s : CsplitState). s.rest) (sym is) ∙ empty_by before.rest (ap (λ k. eqb k 0) (sym size) ∙ empty))) (took_none told stage.cutter slots ready sound)
 
-pub last_line : (before stage : CsplitState) (text : List ℕ) → before ≡ stage → text ≡ before.rest → eqb (length before.rest) 0 ≡ false → delimiters newline stage.rest ≡ 0 → IsLine text
-last_line before stage text is text_is some unbroken = subst IsLine (sym text_is) (open_is_line before.rest (some_by before.rest some) (ap (λ (s : CsplitState). delimiters newline s.rest) is ∙ unbroken))
+pub last_line : (before stage : CsplitState) (n : ℕ) (text : List ℕ) → before ≡ stage → text ≡ before.rest → n ≡ length before.rest → eqb n 0 ≡ false → delimiters newline stage.rest ≡ 0 → IsLine text
+last_line before stage n text is text_is size some unbroken = subst IsLine (sym text_is) (open_is_line before.rest (some_by before.rest (ap (λ k. eqb k 0) (sym size) ∙ some)) (ap (λ (s : CsplitState). delimiters newline s.rest) is ∙ unbroken))
 
 -- and the end after it
 pub closes_by : (told : Bool) (stage view mid next : CsplitState) (old between new : List Slot) (result : Result (Unit {0}) Fault) → view ≡ mid → Took told stage.cutter stage.rest old between mid.cutter → EndsAll told view.cutter between new next.cutter result → Closes told stage old new next result

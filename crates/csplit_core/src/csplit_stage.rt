@@ -1,5 +1,5 @@
 //! From bytes to lines: the cutter of lines as a stage, to which pieces of any length come.
-ghost use Rattle.std.specs.Prelude.{◌≡◌, ◌≢◌, ◌+◌, ◌^◌, ◌<◌, ◌≤◌, ◌++◌, ℕ, [], length, min, true, IsTrue, IfErr, IfSome, OnOk};
+ghost use Rattle.std.specs.Prelude.{◌≡◌, ◌≢◌, ◌+◌, ◌-◌, ◌^◌, ◌<◌, ◌≤◌, ◌++◌, ℕ, [], length, min, true, IsTrue, IfErr, IfSome, OnOk};
 ghost use Rattle.seg_core.specs.Line.{delimiters, ends_with};
 ghost use Rattle.ports_core.specs.Engine.{is_verdict};
 ghost use Rattle.ports_core.specs.Slot.{is_writable};

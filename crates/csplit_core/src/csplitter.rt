@@ -1,5 +1,7 @@
 //! The engine of `csplit`.
 ghost use Rattle.std.specs.Prelude.{◌≡◌, ◌^◌, ◌<◌, ◌≤◌, [], List, ℕ, false, true, length, IfErr, IfOk, IsTrue, OnOk};
+ghost use Rattle.std.specs.Coded.{codes};
+ghost use Rattle.bre_core.specs.Code.{pattern_code};
 ghost use Rattle.ports_core.specs.Guard.{GuardState, HoldsIn};
 ghost use Rattle.ports_core.specs.Part.{OutputsAt, StoppedBetween, nothing};
 ghost use Rattle.ports_core.specs.Slot.{Slot, is_writable};
@@ -23,9 +25,6 @@ pub struct Csplitter<'o> {
 }
 
 impl<'o> Model for Csplitter<'o> {
-    ghost use Rattle.bre_core.specs.Code.{pattern_code};
-    ghost use Rattle.std.specs.Coded.{codes};
-
     ghost Value = { GuardState CsplitState };
 
     ghost coded = { Prim.hlevel (codes, pattern_code) };
