@@ -35,3 +35,4 @@ pub mod ByteLemmas
 pub mod StageLemmas
 pub mod StageSteps
 pub mod StageClauses
+pub mod WaitingBytes

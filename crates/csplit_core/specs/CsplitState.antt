@@ -1,12 +1,11 @@
 -- What contracts see of the stage that takes in bytes, and what its calls do.
-use Rattle.std.specs.Prelude.{◌≡◌, ◌≢◌, ◌⊎◌, ℕ, ◌+◌, ◌<◌, ◌≤◌, ◌^◌, Bool, List, [], ◌++◌, length, Option, Result, Ok, Err}
+use Rattle.std.specs.Prelude.{◌≡◌, ◌≢◌, ℕ, ◌+◌, ◌<◌, ◌≤◌, ◌^◌, Bool, List, [], ◌++◌, length, Option, Result, Ok, Err}
 use Rattle.seg_core.specs.Line.{delimiters, first_lines}
 use Rattle.ports_core.specs.Part.{OutputsAt, nothing}
-use Rattle.ports_core.specs.Slot.{Slot, Rose}
+use Rattle.ports_core.specs.Slot.{Slot}
 use Rattle.ports_core.specs.Swept.{AreMade}
 use Rattle.ports_core.specs.Work.{Work}
 use Rattle.ports_core.specs.declared.fault.Fault.{Fault}
-use Rattle.ports_core.specs.declared.fault.Fault.TheVariants.{Memory, Open}
 use Rattle.csplit_core.specs.Csplit.{csplit_work, settled_of, verdict_of}
 use Rattle.csplit_core.specs.Cutter.{CutterState, IsJudged, IsSame, IsSound, IsWhole, Stands, Took, TookNot, load, settled_part, suppress_in, whole_part}
 use Rattle.csplit_core.specs.Input.{newline, all_lines, open_line}
@@ -99,10 +98,6 @@ pub record BegunNot (told : Bool) (style : Style) (operands : List Operand) (old
 abbrev pub Begins : Bool → Style → List Operand → List Slot → List Slot → Result CsplitState Fault → Type 0
 Begins told style operands old new (Ok stage) = Begun told style operands old new stage
 Begins told style operands old new (Err fault) = BegunNot told style operands old new fault
-
--- why the first section can't begin: there was no memory, or its file could not be opened
-abbrev pub CannotOpen : List Slot → List Slot → Fault → Type 0
-CannotOpen old new fault = (fault ≡ Memory) ⊎ ((slot : ℕ) × (fault ≡ Open slot) × Rose slot old new)
 
 -- what the cutter says of the fault, once the last section ended, is where the plan over all lines ends
 abbrev pub Judges : CutterState → Option Fault → Type 0

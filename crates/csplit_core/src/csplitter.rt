@@ -7,8 +7,9 @@ ghost use Rattle.ports_core.specs.Part.{OutputsAt, StoppedBetween, nothing};
 ghost use Rattle.ports_core.specs.Slot.{Slot, is_writable};
 ghost use Rattle.ports_core.specs.Swept.{AreMade};
 ghost use Rattle.csplit_core.specs.Csplit.{csplit_work, settled_by, waiting};
-ghost use Rattle.csplit_core.specs.CsplitState.{CannotOpen, CsplitState, Holds, IsReady, Owns, work};
+ghost use Rattle.csplit_core.specs.CsplitState.{CsplitState, Holds, IsReady, Owns, work};
 ghost use Rattle.csplit_core.specs.InputLaws.{lawful};
+ghost use Rattle.csplit_core.specs.Writer.{Breaks};
 
 use crate::csplit_stage::CsplitStage;
 use crate::{Operands, Style};
@@ -54,7 +55,7 @@ impl<'o> Csplitter<'o> {
         ensures owns { IfOk result (λ engine. Owns engine.stage (length (O.slots outs.old)) (O.slots outs.new)) }
         ensures outputs { OnOk result ((before : List Slot) → OutputsAt O.told before nothing (O.slots outs.old) → OutputsAt O.told before (settled_by style operands.now []) (O.slots outs.new)) }
         ensures cut { IfErr result (λ fault. (before : List Slot) → OutputsAt O.told before nothing (O.slots outs.old) → StoppedBetween O.told before nothing (settled_by style operands.now []) fault (O.slots outs.new)) }
-        ensures refused { IfErr result (CannotOpen (O.slots outs.old) (O.slots outs.new)) }
+        ensures refused { IfErr result (Breaks style (O.slots outs.old) (O.slots outs.new)) }
         ensures none { IfErr result (λ fault. (place : ℕ) → length (O.slots outs.old) ≤ place → AreMade place 0 (O.slots outs.new)) }
     {
         let stage = CsplitStage::open(alloc, operands.as_slice(), style, outs)?;
