@@ -3,7 +3,7 @@ use Rattle.std.proofs.Common.{◌≡◌, ◌⊎◌, inl, inr, ℕ, ◌+◌, ◌<
 use Rattle.std.proofs.lemmas.Bool.{false≢true}
 use Rattle.ports_core.specs.Swept.{Swept}
 use Rattle.ports_core.specs.Slot.{Slot, Rose}
-use Rattle.ports_core.specs.Part.{OutputsAt, StoppedBetween}
+use Rattle.ports_core.specs.Part.{OutputsAt, StoppedBetween, nothing}
 use Rattle.ports_core.specs.Engine.{TakesIn, PutsOut, CutsOff, EndsShort, EndsWith, EndsThere, Finishes, StandsAt, IsMet, KeepsOwn, is_verdict}
 use Rattle.ports_core.specs.Engine as engine
 use Rattle.ports_core.specs.declared.fault.Fault.{Fault}
@@ -17,7 +17,7 @@ use Rattle.csplit_core.specs.Planned.{plan}
 use Rattle.csplit_core.specs.Cutter.{CutterState, IsJudged, IsSame, Stands, TookNot, load, settled_part, suppress_in, whole_part}
 use Rattle.csplit_core.specs.Writer.{Breaks}
 use Rattle.csplit_core.specs.declared.progress.Turn.TheVariants.{Below}
-use Rattle.csplit_core.specs.CsplitState.{CsplitState, Closed, ClosedNot, Holds, IsReady, Judges, Owns, Passed, Passes, whole_lines, work}
+use Rattle.csplit_core.specs.CsplitState.{BegunNot, CsplitState, Closed, ClosedNot, Holds, IsReady, Judges, Owns, Passed, Passes, whole_lines, work}
 use Rattle.csplit_core.proofs.ByteLemmas.{all_complete, lines_whole, lines_more, lines_then_open, open_more}
 use Rattle.csplit_core.proofs.StageLemmas.{is_past, past_end, past_settled, past_verdict, past_whole}
 use Rattle.csplit_core.proofs.StageSteps.{below_or_not}
@@ -171,3 +171,8 @@ module _ (told : Bool) (stage next : CsplitState) (old new : List Slot) where
 
 pub never_unjudged : {P : Type 0} (fault : Fault) → is_verdict fault ≡ true → is_verdict fault ≡ false → P
 never_unjudged fault kind other = absurd (false≢true (sym other ∙ kind))
+
+-- the first section could not begin
+pub cannot_begin : (told : Bool) (style : Style) (operands : List Operand) (old new : List Slot) (fault : Fault) → BegunNot told style operands old new fault
+    → (before : List Slot) → OutputsAt told before nothing old → StoppedBetween told before nothing (settled_by style operands []) fault new
+cannot_begin told style operands old new fault stopped before at = stopped_in_turn told before nothing (settled_by style operands []) fault new (stopped.halts before at)
