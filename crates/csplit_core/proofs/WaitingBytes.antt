@@ -26,7 +26,7 @@ after_bytes first n x some =
     ∙ ap (λ those. joined (drop n those)) (sym (lines_of-after_lines newline (first - 1) x))
     ∙ from_further first n x some
 
-waiting_live : (cutter : CutterState) (x : List ℕ) (live : IsLive cutter x) → bytes_of (waiting_lines (all_lines x) (plan (suppress_in cutter) cutter.operands (all_lines x))) ≡ cutter.window.held
+pub waiting_live : (cutter : CutterState) (x : List ℕ) (live : IsLive cutter x) → bytes_of (waiting_lines (all_lines x) (plan (suppress_in cutter) cutter.operands (all_lines x))) ≡ cutter.window.held
 waiting_live cutter x live =
     let runs = runs_to cutter x cutter.window.held live.at live.ends in
     let some : 1 ≤ cutter.progress.current = (are_within (suppress_in cutter) (all_lines x) (start cutter.operands) live.at.steps (state_in cutter) live.ends.ending runs (omega arith)).1 in
