@@ -1,10 +1,10 @@
 //! The tool that cuts an input where its lines match: `csplit`.
 #![tactic(auto)]
 
-pub mod laws;
 mod csplit_stage;
 mod csplitter;
 mod holding;
+pub mod laws;
 mod line_cutter;
 mod lines;
 mod matcher;
