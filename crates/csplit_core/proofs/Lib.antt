@@ -40,3 +40,8 @@ pub mod EndedLemmas
 pub mod OpenLemmas
 pub mod CutLineLemmas
 pub mod StretchLemmas
+pub mod ByteLemmas
+pub mod StageLemmas
+pub mod StageSteps
+pub mod StageClauses
+pub mod WaitingBytes

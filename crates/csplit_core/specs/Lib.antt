@@ -23,3 +23,4 @@ pub mod Draft
 pub mod Writer
 pub mod Cutter
 pub mod WriterSteps
+pub mod CsplitState

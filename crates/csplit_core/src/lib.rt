@@ -1,8 +1,10 @@
 //! The tool that cuts an input where its lines match: `csplit`.
 #![tactic(auto)]
 
-pub mod laws;
+mod csplit_stage;
+mod csplitter;
 mod holding;
+pub mod laws;
 mod line_cutter;
 mod lines;
 mod matcher;
@@ -20,6 +22,7 @@ mod word;
 #[cfg(test)]
 mod writer_tests;
 
+pub use csplitter::Csplitter;
 pub use operand::{Offset, Operand, Target, Times};
 pub use operand_fault::{OperandFault, OperandFaultKind};
 pub use operands::{Operands, read_operands};

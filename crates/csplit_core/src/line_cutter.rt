@@ -1,6 +1,7 @@
 //! Cutting lines into sections as they come in: what is settled of them goes to the sections, and the others wait.
 ghost use Rattle.std.specs.Prelude.{◌≡◌, ◌≢◌, ◌+◌, ◌-◌, ◌<◌, ◌≤◌, ◌^◌, ◌++◌, List, ℕ, [], length, drop, Some, IfOk, IfErr, IfSome, IfNone, OnOk, IsTrue, true, false};
 ghost use Rattle.seg_core.specs.Line.{delimiters};
+ghost use Rattle.ports_core.specs.Engine.{is_verdict};
 ghost use Rattle.ports_core.specs.Slot.{is_writable};
 ghost use Rattle.csplit_core.specs.Csplit.{verdict_of};
 ghost use Rattle.csplit_core.specs.Plan.{above, missed};
@@ -136,7 +137,8 @@ impl<'o> LineCutter<'o> {
 
     /// The fault with which the work itself ends where the input ends here, if it ends with one.
     pub(crate) fn verdict(&self) -> Option<Fault>
-        ensures { (x : List ℕ) → IsJudged self.now x → result ≡ verdict_of (plan (suppress_in self.now) self.now.operands (all_lines x)).ending }
+        ensures judges { (x : List ℕ) → IsJudged self.now x → result ≡ verdict_of (plan (suppress_in self.now) self.now.operands (all_lines x)).ending }
+        ensures kind { IfSome result (λ fault. is_verdict fault ≡ true) }
     {
         let operand = self.operands.get(self.progress.done)?;
         let repetition = self.progress.repetition;

@@ -1,0 +1,251 @@
+-- What the stage that takes in bytes does with the cutter of lines.
+use Rattle.std.proofs.Common.{◌≡◌, ◌⊎◌, inl, inr, ℕ, ◌+◌, ◌-◌, ◌<◌, ◌≤◌, ◌^◌, Bool, true, false, List, [], ◌∷◌, ◌++◌, length, map, Result, Ok, Err, refl, sym, ◌∙◌, ap, subst, arith, append_assoc, length-append}
+use Rattle.std.proofs.lemmas.Bool.{false≢true}
+use Rattle.std.proofs.lemmas.List.{append-nil}
+use Rattle.seg_core.specs.Line.{line_count}
+use Rattle.ports_core.specs.Part.{Part, Begins}
+use Rattle.ports_core.specs.Slot.{Slot}
+use Rattle.ports_core.specs.declared.fault.Fault.{Fault}
+use Rattle.ports_core.specs.declared.fault.Fault.TheVariants.{Memory}
+use Rattle.csplit_core.specs.Csplit.{settled_of, whole_of, verdict_of}
+use Rattle.csplit_core.specs.Draft.{draft_part, AreClosed}
+use Rattle.csplit_core.specs.Input.{newline, all_lines}
+use Rattle.csplit_core.specs.Operand.{Operand, Line}
+use Rattle.csplit_core.specs.Output.{Style, contents_of, part_of}
+use Rattle.csplit_core.specs.Plan.{State, start, Step, Ending, used_up, missed, above, below}
+use Rattle.csplit_core.specs.Planned.{Plan, plan}
+use Rattle.csplit_core.specs.PlanLaws.{plan_runs}
+use Rattle.csplit_core.specs.Section.{section, section_of, lines_between, is_last_kept, whole_end, is_final, whole_sections}
+use Rattle.csplit_core.specs.SectionLaws.{AreWithin, are_within, closed_still, grows, ends_with}
+use Rattle.csplit_core.specs.Writer.{IsReady, Moves, Halts}
+use Rattle.csplit_core.specs.declared.progress.Turn.TheVariants.{Below}
+use Rattle.csplit_core.specs.Cutter.{CutterState, EndedAll, EndedNone, IsJudged, IsLive, IsPast, IsSame, IsSound, IsWhole, Stands, Took, TookNot, Takes, kept_by, load, settled_draft, settled_part, state_in, suppress_in, draft_by, whole_part}
+use Rattle.csplit_core.specs.CsplitState.{CsplitState, Closed, ClosedNot}
+use Rattle.csplit_core.proofs.HoldLemmas.{memory_halts}
+use Rattle.csplit_core.proofs.LineLemmas.{all_lines-append, whole-append}
+use Rattle.csplit_core.proofs.SettledLemmas.{settled_draft_is, settled_part_is, final_count, ended_still, aims_past}
+use Rattle.csplit_core.proofs.StayLemmas.{StaysFor, stays}
+use Rattle.csplit_core.proofs.WriterLemmas.{moves_again, moves_same, moves_as, halts_after, halts_as, halts_wider, keeps_again, breaks_later, owns_again}
+
+-- once lines go nowhere, more of them change nothing
+
+stays_final : (lines : List Line) (total : ℕ) (ending : Ending) → is_final ending ≡ true → StaysFor lines total ending
+stays_final lines total used_up final = absurd (false≢true final)
+stays_final lines total (missed operand repetition) final = absurd (false≢true final)
+stays_final lines total (above operand repetition matched cut) final = absurd (false≢true final)
+stays_final lines total (below operand repetition) final = tt
+
+past_plan : (suppress : Bool) (operands : List Operand) (x t : List ℕ) → IsWhole x → is_final (plan suppress operands (all_lines x)).ending ≡ true → plan suppress operands (all_lines (x ++ t)) ≡ plan suppress operands (all_lines x)
+past_plan suppress operands x t whole final = ap (plan suppress operands) (all_lines-append x t whole) ∙ stays suppress operands (all_lines x) (all_lines t) (stays_final (all_lines t) (length (all_lines x ++ all_lines t)) (plan suppress operands (all_lines x)).ending final)
+
+final_draft : (suppress : Bool) (operands : List Operand) (x : List ℕ) → is_final (plan suppress operands (all_lines x)).ending ≡ true
+    → draft_by (all_lines x) (plan suppress operands (all_lines x)).steps (kept_by (plan suppress operands (all_lines x)).last.operands) [] ≡ settled_draft suppress operands (all_lines x)
+final_draft suppress operands x final =
+    settled_draft_is suppress operands x _ _ _ 0 [] (plan_runs suppress operands (all_lines x)) (final_count (line_count newline x) _ (plan suppress operands (all_lines x)).ending final) refl
+
+past_draft : (style : Style) (operands : List Operand) (x t : List ℕ) → IsWhole x → is_final (plan style.suppress operands (all_lines x)).ending ≡ true
+    → settled_draft style.suppress operands (all_lines x) ≡ settled_draft style.suppress operands (all_lines (x ++ t))
+past_draft style operands x t whole final =
+    let same = past_plan style.suppress operands x t whole final in
+    sym (final_draft style.suppress operands x final)
+    ∙ ended_still style operands x t _ _ _ (kept_by (plan style.suppress operands (all_lines x)).last.operands) [] whole (plan_runs style.suppress operands (all_lines x))
+    ∙ ap (λ (p : Plan). draft_by (all_lines (x ++ t)) p.steps (kept_by p.last.operands) []) (sym same)
+    ∙ final_draft style.suppress operands (x ++ t) (ap (λ (p : Plan). is_final p.ending) same ∙ final)
+
+past_part : (cutter : CutterState) (x t : List ℕ) → IsWhole x → IsPast cutter x → settled_part cutter x ≡ settled_part cutter (x ++ t)
+past_part cutter x t whole past =
+    sym (settled_part_is cutter.writer.style cutter.operands (all_lines x))
+    ∙ ap (draft_part cutter.writer.style) (past_draft cutter.writer.style cutter.operands x t whole past.past)
+    ∙ settled_part_is cutter.writer.style cutter.operands (all_lines (x ++ t))
+
+past_stays : (cutter : CutterState) (x t : List ℕ) → IsWhole x → IsPast cutter x → IsPast cutter (x ++ t)
+past_stays cutter x t whole past =
+    let same = past_plan (suppress_in cutter) cutter.operands x t whole past.past in record {
+      aim = past.aim;
+      past = ap (λ (p : Plan). is_final p.ending) same ∙ past.past;
+      last = past.last ∙ sym (ap (λ (p : Plan). p.last) same);
+      none = past.none;
+      writes = subst (Rattle.csplit_core.specs.Writer.Writes cutter.writer) (past_draft cutter.writer.style cutter.operands x t whole past.past) past.writes;
+    }
+
+pub is_past : (cutter : CutterState) (x : List ℕ) → cutter.aim ≡ Below → Stands cutter x → IsPast cutter x
+is_past cutter x aim (inl live) = absurd (false≢true (sym live.live ∙ aims_past live.ends.ending (subst (λ turn. Rattle.csplit_core.specs.Progress.AimsAt turn live.ends.ending) aim live.ends.aims)))
+is_past cutter x aim (inr past) = past
+
+pub took_past : (told : Bool) (cutter : CutterState) (t : List ℕ) (slots : List Slot) → cutter.aim ≡ Below → IsReady cutter.writer slots → IsSound cutter → Took told cutter t slots slots cutter
+took_past told cutter t slots aim ready sound = record {
+  same = record { operands = refl; style = refl };
+  stands = λ x whole stands. inr (past_stays cutter x t whole (is_past cutter x aim stands));
+  moves = λ x whole stands. moves_same told _ _ slots (past_part cutter x t whole (is_past cutter x aim stands));
+  keeps = λ place sound. sound;
+  owns = λ first owns. owns;
+  ready = ready;
+  sound = sound;
+  size = omega arith;
+}
+
+-- the same lines, once more than where they go nowhere
+pub past_whole : (cutter : CutterState) (x t : List ℕ) → IsWhole x → cutter.aim ≡ Below → Stands cutter x → Stands cutter (x ++ t)
+past_whole cutter x t whole aim stands = inr (past_stays cutter x t whole (is_past cutter x aim stands))
+
+pub past_settled : (cutter : CutterState) (x t : List ℕ) → IsWhole x → cutter.aim ≡ Below → Stands cutter x → settled_part cutter x ≡ settled_part cutter (x ++ t)
+past_settled cutter x t whole aim stands = past_part cutter x t whole (is_past cutter x aim stands)
+
+-- nothing came in
+
+pub took_none : (told : Bool) (cutter : CutterState) (slots : List Slot) → IsReady cutter.writer slots → IsSound cutter → Took told cutter [] slots slots cutter
+took_none told cutter slots ready sound = record {
+  same = record { operands = refl; style = refl };
+  stands = λ x whole stands. subst (Stands cutter) (sym (append-nil x)) stands;
+  moves = λ x whole stands. moves_same told _ _ slots (ap (settled_part cutter) (sym (append-nil x)));
+  keeps = λ place sound. sound;
+  owns = λ first owns. owns;
+  ready = ready;
+  sound = sound;
+  size = omega arith;
+}
+
+-- what is settled grows
+
+pub settled_begins : (cutter : CutterState) (x t : List ℕ) → IsWhole x → Begins (settled_part cutter x) (settled_part cutter (x ++ t))
+settled_begins cutter x t whole = subst (λ lines. Begins (settled_part cutter x) (settled_of cutter.writer.style cutter.operands lines)) (sym (all_lines-append x t whole)) (grows cutter.writer.style cutter.operands (all_lines x) (all_lines t))
+
+same_part : (cutter next : CutterState) (x : List ℕ) → IsSame cutter next → settled_part next x ≡ settled_part cutter x
+same_part cutter next x same = ap (λ (style : Style). settled_of style next.operands (all_lines x)) same.style ∙ ap (λ operands. settled_of cutter.writer.style operands (all_lines x)) same.operands
+
+both_same : (one two three : CutterState) → IsSame one two → IsSame two three → IsSame one three
+both_same one two three first second = record { operands = second.operands ∙ first.operands; style = second.style ∙ first.style }
+
+-- One text after another
+
+pub took_more : (told : Bool) (one two three : CutterState) (a b : List ℕ) (old mid new : List Slot) → IsWhole a → Took told one a old mid two → Took told two b mid new three → Took told one (a ++ b) old new three
+took_more told one two three a b old mid new whole first second = record {
+  same = both_same one two three first.same second.same;
+  stands = λ x front stands. subst (Stands three) (append_assoc x a b) (second.stands (x ++ a) (whole-append x a front whole) (first.stands x front stands));
+  moves = λ x front stands. moves_again told _ _ _ old mid new (first.moves x front stands)
+      (moves_as told _ _ _ _ mid new (sym (same_part one two (x ++ a) first.same)) (ap (settled_part one) (sym (append_assoc x a b)) ∙ sym (same_part one two ((x ++ a) ++ b) first.same))
+      (second.moves (x ++ a) (whole-append x a front whole) (first.stands x front stands)));
+  keeps = keeps_again old mid new first.keeps second.keeps;
+  owns = owns_again one.writer two.writer three.writer old mid new first.owns second.owns;
+  ready = second.ready;
+  sound = second.sound;
+  size = (let all : length (a ++ b) ≡ length a + length b = length-append a b in let fewer : load two ≤ load one + length a = first.size in let also : load three ≤ load two + length b = second.size in omega (arith, all, fewer, also));
+}
+
+pub stopped_later : (told : Bool) (one two three : CutterState) (a b : List ℕ) (old mid new : List Slot) (fault : Fault) → IsWhole a → Took told one a old mid two → TookNot told two b mid new three fault → TookNot told one (a ++ b) old new three fault
+stopped_later told one two three a b old mid new fault whole first second = record {
+  same = both_same one two three first.same second.same;
+  halts = λ x front stands. halts_after told _ _ _ old mid new fault (subst (λ those. Begins (settled_part one x) those) refl (settled_begins one x a front)) (first.moves x front stands)
+      (halts_as told _ _ _ _ mid new fault (sym (same_part one two (x ++ a) first.same)) (ap (settled_part one) (sym (append_assoc x a b)) ∙ sym (same_part one two ((x ++ a) ++ b) first.same))
+      (second.halts (x ++ a) (whole-append x a front whole) (first.stands x front stands)));
+  breaks = breaks_later one.writer.style old mid new fault first.keeps (subst (λ (style : Style). Rattle.csplit_core.specs.Writer.Breaks style mid new fault) first.same.style second.breaks);
+  owns = owns_again one.writer two.writer three.writer old mid new first.owns second.owns;
+}
+
+pub stopped_before : (told : Bool) (one two : CutterState) (a b : List ℕ) (old new : List Slot) (fault : Fault) → IsWhole a → TookNot told one a old new two fault → TookNot told one (a ++ b) old new two fault
+stopped_before told one two a b old new fault whole first = record {
+  same = first.same;
+  halts = λ x front stands. halts_wider told _ _ _ old new fault (first.halts x front stands)
+      (subst (λ those. Begins (settled_part one (x ++ a)) (settled_part one those)) (append_assoc x a b) (settled_begins one (x ++ a) b (whole-append x a front whole)));
+  breaks = first.breaks;
+  owns = first.owns;
+}
+
+-- Want of memory
+
+closed_steps : (lines : List Line) (steps : List Step) → AreClosed (map contents_of (map (section_of lines) steps))
+closed_steps lines [] = tt
+closed_steps lines (step ∷ steps) = (refl, closed_steps lines steps)
+
+settled_lacks : (told : Bool) (cutter : CutterState) (x : List ℕ) (slots : List Slot) → Halts told (settled_part cutter x) (settled_part cutter x) slots slots Memory
+settled_lacks told cutter x slots =
+    let is = sym (settled_part_is cutter.writer.style cutter.operands (all_lines x)) in
+    halts_as told _ _ _ _ slots slots Memory is is (memory_halts told cutter.writer.style (settled_draft (suppress_in cutter) cutter.operands (all_lines x)) slots (closed_steps (all_lines x) (plan (suppress_in cutter) cutter.operands (all_lines x)).steps))
+
+-- before the lines came in, or after them
+pub lacks_first : (told : Bool) (cutter : CutterState) (t : List ℕ) (slots : List Slot) → TookNot told cutter t slots slots cutter Memory
+lacks_first told cutter t slots = record {
+  same = record { operands = refl; style = refl };
+  halts = λ x whole stands. halts_wider told _ _ _ slots slots Memory (settled_lacks told cutter x slots) (settled_begins cutter x t whole);
+  breaks = tt;
+  owns = λ first owns. owns;
+}
+
+pub lacks_then : (told : Bool) (cutter next : CutterState) (t : List ℕ) (old new : List Slot) → Took told cutter t old new next → TookNot told cutter t old new next Memory
+lacks_then told cutter next t old new took = record {
+  same = took.same;
+  halts = λ x whole stands. halts_after told _ _ _ old new new Memory (settled_begins cutter x t whole) (took.moves x whole stands) (settled_lacks told cutter (x ++ t) new);
+  breaks = tt;
+  owns = took.owns;
+}
+
+-- The end
+
+pub whole_begins : (cutter : CutterState) (x : List ℕ) → Begins (settled_part cutter x) (whole_part cutter x)
+whole_begins cutter x = subst (λ lines. Begins (settled_part cutter x) (whole_of cutter.writer.style cutter.operands lines)) (append-nil (all_lines x)) (ends_with cutter.writer.style cutter.operands (all_lines x) [])
+
+same_whole : (cutter next : CutterState) (x : List ℕ) → IsSame cutter next → whole_part next x ≡ whole_part cutter x
+same_whole cutter next x same = ap (λ (style : Style). whole_of style next.operands (all_lines x)) same.style ∙ ap (λ operands. whole_of cutter.writer.style operands (all_lines x)) same.operands
+
+pub closes_after : (told : Bool) (one two three : CutterState) (t : List ℕ) (old mid new : List Slot) → Took told one t old mid two → EndedAll told two mid new three
+    → ((x : List ℕ) → IsWhole x → Stands one x → Moves told (settled_part one x) (whole_part one (x ++ t)) old new)
+closes_after told one two three t old mid new first second x front stands =
+    moves_again told _ _ _ old mid new (first.moves x front stands)
+    (moves_as told _ _ _ _ mid new (sym (same_part one two (x ++ t) first.same)) (sym (same_whole one two (x ++ t) first.same)) (second.moves (x ++ t) (first.stands x front stands)))
+
+pub ends_later : (told : Bool) (one two three : CutterState) (t : List ℕ) (old mid new : List Slot) (fault : Fault) → Took told one t old mid two → EndedNone told two mid new three fault
+    → ((x : List ℕ) → IsWhole x → Stands one x → Halts told (settled_part one x) (whole_part one (x ++ t)) old new fault)
+ends_later told one two three t old mid new fault first second x front stands =
+    halts_after told _ _ _ old mid new fault (settled_begins one x t front) (first.moves x front stands)
+    (halts_as told _ _ _ _ mid new fault (sym (same_part one two (x ++ t) first.same)) (sym (same_whole one two (x ++ t) first.same)) (second.halts (x ++ t) (first.stands x front stands)))
+
+pub closed_by : (told : Bool) (stage next : CsplitState) (two : CutterState) (old mid new : List Slot) → Took told stage.cutter stage.rest old mid two → EndedAll told two mid new next.cutter → Closed told stage old new next
+closed_by told stage next two old mid new first second = record {
+  same = both_same stage.cutter two next.cutter first.same second.same;
+  moves = closes_after told stage.cutter two next.cutter stage.rest old mid new first second;
+  judged = λ x front stands. second.judged (x ++ stage.rest) (first.stands x front stands);
+  keeps = keeps_again old mid new first.keeps second.keeps;
+  owns = owns_again stage.cutter.writer two.writer next.cutter.writer old mid new first.owns second.owns;
+  ready = second.ready;
+}
+
+pub closed_not : (told : Bool) (stage next : CsplitState) (two : CutterState) (old mid new : List Slot) (fault : Fault) → Took told stage.cutter stage.rest old mid two → EndedNone told two mid new next.cutter fault → ClosedNot told stage old new next fault
+closed_not told stage next two old mid new fault first second = record {
+  same = both_same stage.cutter two next.cutter first.same second.same;
+  halts = ends_later told stage.cutter two next.cutter stage.rest old mid new fault first second;
+  breaks = breaks_later stage.cutter.writer.style old mid new fault first.keeps (subst (λ (style : Style). Rattle.csplit_core.specs.Writer.Breaks style mid new fault) first.same.style second.breaks);
+  owns = owns_again stage.cutter.writer two.writer next.cutter.writer old mid new first.owns second.owns;
+}
+
+-- the open line could not be taken in
+pub closed_short : (told : Bool) (stage next : CsplitState) (old new : List Slot) (fault : Fault) → TookNot told stage.cutter stage.rest old new next.cutter fault → ClosedNot told stage old new next fault
+closed_short told stage next old new fault stopped = record {
+  same = stopped.same;
+  halts = λ x front stands. halts_wider told _ _ _ old new fault (stopped.halts x front stands) (whole_begins stage.cutter (x ++ stage.rest));
+  breaks = stopped.breaks;
+  owns = stopped.owns;
+}
+
+-- Where later input goes nowhere, it changes nothing of the end either.
+
+no_lines : (current total : ℕ) (ending : Ending) (lines : List Line) → is_final ending ≡ true → lines_between current (whole_end total ending) lines ≡ []
+no_lines current total used_up lines final = absurd (false≢true final)
+no_lines current total (missed operand repetition) lines final = absurd (false≢true final)
+no_lines current total (above operand repetition matched cut) lines final = absurd (false≢true final)
+no_lines current total (below operand repetition) lines final = ap (λ n. Rattle.std.proofs.Common.take n (Rattle.std.proofs.Common.drop (current - 1) lines)) (let none : 0 - current ≡ 0 = omega arith in none)
+
+final_sections : (a b : List Line) (p : Plan) → AreWithin (length a) p.steps → is_final p.ending ≡ true → whole_sections (a ++ b) p ≡ whole_sections a p
+final_sections a b p within final =
+    ap (λ sections. sections ++ section (is_last_kept p.ending) true (lines_between p.last.current (whole_end (length (a ++ b)) p.ending) (a ++ b)) ∷ []) (closed_still a b p.steps within)
+    ∙ ap (λ lines. map (section_of a) p.steps ++ section (is_last_kept p.ending) true lines ∷ []) (no_lines p.last.current (length (a ++ b)) p.ending (a ++ b) final ∙ sym (no_lines p.last.current (length a) p.ending a final))
+
+pub past_end : (cutter : CutterState) (x t : List ℕ) → IsWhole x → IsPast cutter x → whole_part cutter (x ++ t) ≡ whole_part cutter x
+past_end cutter x t whole past =
+    let same = past_plan (suppress_in cutter) cutter.operands x t whole past.past in
+    ap (λ (p : Plan). part_of cutter.writer.style (whole_sections (all_lines (x ++ t)) p)) same
+    ∙ ap (λ lines. part_of cutter.writer.style (whole_sections lines (plan (suppress_in cutter) cutter.operands (all_lines x)))) (all_lines-append x t whole)
+    ∙ ap (part_of cutter.writer.style) (final_sections (all_lines x) (all_lines t) (plan (suppress_in cutter) cutter.operands (all_lines x))
+    (are_within (suppress_in cutter) (all_lines x) (start cutter.operands) _ _ _ (plan_runs (suppress_in cutter) cutter.operands (all_lines x)) (omega arith)).0 past.past)
+
+pub past_verdict : (cutter : CutterState) (x t : List ℕ) → IsWhole x → IsPast cutter x → verdict_of (plan (suppress_in cutter) cutter.operands (all_lines (x ++ t))).ending ≡ verdict_of (plan (suppress_in cutter) cutter.operands (all_lines x)).ending
+past_verdict cutter x t whole past = ap (λ (p : Plan). verdict_of p.ending) (past_plan (suppress_in cutter) cutter.operands x t whole past.past)

@@ -1,0 +1,162 @@
+-- The steps of the stage that takes in bytes. A stage is known by its fields and by its value.
+use Rattle.std.proofs.Common.{◌≡◌, ◌⊎◌, inl, inr, ℕ, suc, eqb, ◌+◌, ◌-◌, ◌<◌, ◌≤◌, ◌^◌, Bool, true, false, List, [], ◌∷◌, ◌++◌, length, Result, Ok, Err, OnOk, IfErr, take, drop, append_assoc, length-drop, refl, sym, ◌∙◌, ap, subst, arith, length-append}
+use Rattle.std.proofs.lemmas.Bool.{false≢true, eqb-true}
+use Rattle.std.proofs.lemmas.List.{take-append-drop}
+use Rattle.seg_core.specs.Line.{delimiters, ends_with, LastEndsAt}
+use Rattle.ports_core.specs.Slot.{Slot}
+use Rattle.ports_core.specs.declared.fault.Fault.{Fault}
+use Rattle.ports_core.specs.declared.fault.Fault.TheVariants.{Memory}
+use Rattle.ports_core.proofs.PartLemmas.{take_all}
+use Rattle.csplit_core.specs.Input.{newline, open_line}
+use Rattle.csplit_core.specs.Cutter.{CutterState, EndsAll, IsLine, IsSound, IsWhole, Took, TookNot, Takes, load}
+use Rattle.csplit_core.specs.CsplitState.{CsplitState, Closes, Passed, Passes, whole_lines}
+use Rattle.csplit_core.specs.Writer.{IsReady}
+use Rattle.csplit_core.specs.declared.progress.Turn.{Turn}
+use Rattle.csplit_core.specs.declared.progress.Turn.TheVariants.{UsedUp, Missed, Above, Below, Cuts}
+use Rattle.csplit_core.proofs.ByteLemmas.{joined_line, open_is_line, open_complete, first_complete, none_lines, none_open, no_newline, piece_lines, piece_open}
+use Rattle.csplit_core.proofs.StageLemmas.{closed_by, closed_not, lacks_first, lacks_then, took_more, took_none, took_past, stopped_before, stopped_later}
+
+-- the open line and its end
+
+pub line_at : (before stage : CsplitState) (text end : List ℕ) → before ≡ stage → text ≡ before.rest ++ end → delimiters newline stage.rest ≡ 0 → IsLine end → IsLine text
+line_at before stage text end is text_is none line = subst IsLine (sym text_is) (joined_line before.rest end (ap (λ (s : CsplitState). delimiters newline s.rest) is ∙ none) line)
+
+pub lacks_at : (told : Bool) (before stage : CsplitState) (t : List ℕ) (slots : List Slot) → before ≡ stage → TookNot told stage.cutter t slots slots before.cutter Memory
+lacks_at told before stage t slots is = subst (λ (s : CsplitState). TookNot told s.cutter t slots slots before.cutter Memory) is (lacks_first told before.cutter t slots)
+
+-- the first of the lines was taken in, and then the others
+
+rest_of_lines : (rest lines end others : List ℕ) → lines ≡ end ++ others → (rest ++ end) ++ others ≡ rest ++ lines
+rest_of_lines rest lines end others is = append_assoc rest end others ∙ ap (λ those. rest ++ those) (sym is)
+
+pub lines_stop : (told : Bool) (one two : CutterState) (rest lines end others : List ℕ) (old new : List Slot) (fault : Fault) → lines ≡ end ++ others → (ends_with newline end ≡ false → others ≡ []) → ends_with newline lines ≡ true
+    → TookNot told one (rest ++ end) old new two fault → TookNot told one (rest ++ lines) old new two fault
+lines_stop told one two rest lines end others old new fault is last whole stopped =
+    subst (λ text. TookNot told one text old new two fault) (rest_of_lines rest lines end others is)
+    (stopped_before told one two (rest ++ end) others old new fault (open_complete rest end (first_complete lines end others last is whole)) stopped)
+
+lines_by : (told : Bool) (one two three : CutterState) (a b : List ℕ) (old mid new : List Slot) (result : Result (Unit {0}) Fault) → IsWhole a → Took told one a old mid two → Takes told two b mid new three result → Takes told one (a ++ b) old new three result
+lines_by told one two three a b old mid new (Ok done) whole first second = took_more told one two three a b old mid new whole first second
+lines_by told one two three a b old mid new (Err fault) whole first second = stopped_later told one two three a b old mid new fault whole first second
+
+pub lines_after : (told : Bool) (one three : CutterState) (before mid : CsplitState) (rest lines end others : List ℕ) (old between new : List Slot) (result : Result (Unit {0}) Fault) → before ≡ mid → lines ≡ end ++ others → (ends_with newline end ≡ false → others ≡ []) → ends_with newline lines ≡ true
+    → Took told one (rest ++ end) old between mid.cutter → Takes told before.cutter others between new three result → Takes told one (rest ++ lines) old new three result
+lines_after told one three before mid rest lines end others old between new result same is last whole first second =
+    subst (λ text. Takes told one text old new three result) (rest_of_lines rest lines end others is)
+    (lines_by told one before.cutter three (rest ++ end) others old between new result (open_complete rest end (first_complete lines end others last is whole))
+    (subst (λ (s : CsplitState). Took told one (rest ++ end) old between s.cutter) (sym same) first) second)
+
+-- A piece
+
+pub past_passes : (told : Bool) (before stage : CsplitState) (piece : List ℕ) (slots : List Slot) → before ≡ stage → before.cutter.aim ≡ Below → IsReady stage.cutter.writer slots → IsSound stage.cutter → delimiters newline stage.rest ≡ 0 → Passed told stage piece slots slots stage
+past_passes told before stage piece slots is aim ready sound unbroken =
+    let aimed : stage.cutter.aim ≡ Below = ap (λ (s : CsplitState). s.cutter.aim) (sym is) ∙ aim in record {
+      took = took_past told stage.cutter (whole_lines (stage.rest ++ piece)) slots aimed ready sound;
+      live = λ differs. absurd (differs aimed);
+      past = λ below was. was below;
+      still = λ below. refl;
+      unbroken = unbroken;
+      size = omega arith;
+    }
+
+-- the cutter's aim, known by the fields
+pub aims_other : (before stage : CsplitState) → before ≡ stage → (before.cutter.aim ≡ Below → ⊥) → stage.cutter.aim ≡ Below → ⊥
+aims_other before stage is differs below = differs (ap (λ (s : CsplitState). s.cutter.aim) is ∙ below)
+
+abbrev is_below : Turn → Bool
+is_below UsedUp = false
+is_below Missed = false
+is_below (Above matched line) = false
+is_below Below = true
+is_below (Cuts matched line) = false
+
+other_aim : (turn : Turn) → is_below turn ≡ false → turn ≡ Below → ⊥
+other_aim turn other is = false≢true (sym other ∙ ap is_below is)
+
+pub below_or_not : (turn : Turn) → (turn ≡ Below) ⊎ (turn ≡ Below → ⊥)
+below_or_not UsedUp = inr (other_aim UsedUp refl)
+below_or_not Missed = inr (other_aim Missed refl)
+below_or_not (Above matched line) = inr (other_aim (Above matched line) refl)
+below_or_not Below = inl refl
+below_or_not (Cuts matched line) = inr (other_aim (Cuts matched line) refl)
+
+-- no newline came: the piece is more of the open line
+
+pub none_passes : (told : Bool) (stage next : CsplitState) (piece : List ℕ) (slots : List Slot) (result : Result (Unit {0}) Fault) → (stage.cutter.aim ≡ Below → ⊥) → delimiters newline piece ≡ 0 → IsReady stage.cutter.writer slots → IsSound stage.cutter → delimiters newline stage.rest ≡ 0
+    → next.cutter ≡ stage.cutter → OnOk result ((stage.cutter.aim ≡ Below → ⊥) → next.rest ≡ stage.rest ++ piece) → IfErr result (λ fault. fault ≡ Memory) → Passes told stage piece slots slots next result
+none_passes told stage next piece slots (Ok done) differs none ready sound unbroken cutter rest lacks = record {
+  took = subst (λ (c : CutterState). Took told stage.cutter (whole_lines (stage.rest ++ piece)) slots slots c) (sym cutter) (subst (λ text. Took told stage.cutter text slots slots stage.cutter) (sym (none_lines stage.rest piece unbroken none)) (took_none told stage.cutter slots ready sound));
+  live = λ also. rest differs ∙ sym (none_open stage.rest piece unbroken none);
+  past = λ below was. absurd (differs (ap (λ (c : CutterState). c.aim) (sym cutter) ∙ below));
+  still = λ below. absurd (differs below);
+  unbroken = ap (delimiters newline) (rest differs) ∙ no_newline stage.rest piece unbroken none;
+  size = (let all : length next.rest ≡ length stage.rest + length piece = ap length (rest differs) ∙ length-append stage.rest piece in let same : load next.cutter ≡ load stage.cutter = ap load cutter in omega (arith, all, same));
+}
+none_passes told stage next piece slots (Err fault) differs none ready sound unbroken cutter rest lacks =
+    subst (λ (c : CutterState). TookNot told stage.cutter (whole_lines (stage.rest ++ piece)) slots slots c fault) (sym cutter)
+    (subst (λ why. TookNot told stage.cutter (whole_lines (stage.rest ++ piece)) slots slots stage.cutter why) (sym lacks) (lacks_first told stage.cutter (whole_lines (stage.rest ++ piece)) slots))
+
+-- the lines of the piece were taken in, and what follows them is the open line
+
+pub all_after : (n : ℕ) (x : List ℕ) → take (length x - n) (drop n x) ≡ drop n x
+all_after n x = ap (λ k. take k (drop n x)) (sym (length-drop n x)) ∙ take_all (drop n x)
+
+drop_size : (n : ℕ) (x : List ℕ) → n ≤ length x → length (take n x) + length (drop n x) ≡ length x
+drop_size n x within = sym (length-append (take n x) (drop n x)) ∙ ap length (take-append-drop n x)
+
+some_unbroken : (aim : Turn) (mid next : CsplitState) (text : List ℕ) → mid.rest ≡ [] → delimiters newline text ≡ 0 → (mid.cutter.aim ≡ Below) ⊎ (mid.cutter.aim ≡ Below → ⊥) → (mid.cutter.aim ≡ Below → next.rest ≡ mid.rest) → ((mid.cutter.aim ≡ Below → ⊥) → next.rest ≡ mid.rest ++ text)
+    → (delimiters newline next.rest ≡ 0) × (length next.rest ≤ length text)
+some_unbroken aim mid next text empty none (inl below) past live = (ap (delimiters newline) (past below ∙ empty), (let e : length next.rest ≡ 0 = ap length (past below ∙ empty) in omega (arith, e)))
+some_unbroken aim mid next text empty none (inr differs) past live =
+    let is : next.rest ≡ text = live differs ∙ ap (λ those. those ++ text) empty in (ap (delimiters newline) is ∙ none, (let e : length next.rest ≡ length text = ap length is in omega (arith, e)))
+
+pub some_passes : (told : Bool) (stage mid next : CsplitState) (piece lines text : List ℕ) (end : ℕ) (old new : List Slot) (result : Result (Unit {0}) Fault) → (stage.cutter.aim ≡ Below → ⊥) → LastEndsAt newline piece end → lines ≡ take end piece → text ≡ drop end piece → delimiters newline stage.rest ≡ 0
+    → Took told stage.cutter (stage.rest ++ lines) old new mid.cutter → mid.rest ≡ [] → next.cutter ≡ mid.cutter
+    → OnOk result (mid.cutter.aim ≡ Below → next.rest ≡ mid.rest) → OnOk result ((mid.cutter.aim ≡ Below → ⊥) → next.rest ≡ mid.rest ++ text) → IfErr result (λ fault. fault ≡ Memory) → Passes told stage piece old new next result
+some_passes told stage mid next piece lines text end old new (Ok done) differs last lines_is text_is unbroken took empty cutter past live lacks =
+    let none : delimiters newline text ≡ 0 = ap (delimiters newline) text_is ∙ last.none_after in
+    let rest = some_unbroken mid.cutter.aim mid next text empty none (below_or_not mid.cutter.aim) past live in record {
+      took = subst (λ (c : CutterState). Took told stage.cutter (whole_lines (stage.rest ++ piece)) old new c) (sym cutter) (subst (λ those. Took told stage.cutter those old new mid.cutter) (ap (λ those. stage.rest ++ those) lines_is ∙ sym (piece_lines stage.rest piece end last)) took);
+      live = λ other. live (λ below. other (ap (λ (c : CutterState). c.aim) cutter ∙ below)) ∙ ap (λ those. those ++ text) empty ∙ text_is ∙ sym (piece_open stage.rest piece end last);
+      past = λ below was. past (ap (λ (c : CutterState). c.aim) (sym cutter) ∙ below) ∙ empty;
+      still = λ below. absurd (differs below);
+      unbroken = rest.0;
+      size = (let fewer : load mid.cutter ≤ load stage.cutter + length (stage.rest ++ lines) = took.size in
+          let all : length (stage.rest ++ lines) ≡ length stage.rest + length lines = length-append stage.rest lines in
+          let parts : length (take end piece) + length (drop end piece) ≡ length piece = drop_size end piece last.within in
+          let first : length lines ≡ length (take end piece) = ap length lines_is in
+          let last_part : length text ≡ length (drop end piece) = ap length text_is in
+          let same : load next.cutter ≡ load mid.cutter = ap load cutter in
+          let few : length next.rest ≤ length text = rest.1 in omega (arith, fewer, all, parts, first, last_part, same, few));
+    }
+some_passes told stage mid next piece lines text end old new (Err fault) differs last lines_is text_is unbroken took empty cutter past live lacks =
+    subst (λ (c : CutterState). TookNot told stage.cutter (whole_lines (stage.rest ++ piece)) old new c fault) (sym cutter)
+    (subst (λ why. TookNot told stage.cutter (whole_lines (stage.rest ++ piece)) old new mid.cutter why) (sym lacks)
+    (lacks_then told stage.cutter mid.cutter (whole_lines (stage.rest ++ piece)) old new
+    (subst (λ those. Took told stage.cutter those old new mid.cutter) (ap (λ those. stage.rest ++ those) lines_is ∙ sym (piece_lines stage.rest piece end last)) took)))
+
+pub some_stop : (told : Bool) (stage : CsplitState) (two : CutterState) (piece lines : List ℕ) (end : ℕ) (old new : List Slot) (fault : Fault) → LastEndsAt newline piece end → lines ≡ take end piece → TookNot told stage.cutter (stage.rest ++ lines) old new two fault
+    → TookNot told stage.cutter (whole_lines (stage.rest ++ piece)) old new two fault
+some_stop told stage two piece lines end old new fault last lines_is stopped = subst (λ those. TookNot told stage.cutter those old new two fault) (ap (λ those. stage.rest ++ those) lines_is ∙ sym (piece_lines stage.rest piece end last)) stopped
+
+-- The last line
+
+empty_by : (items : List ℕ) → eqb (length items) 0 ≡ true → items ≡ []
+empty_by [] is = refl
+empty_by (byte ∷ items) is = absurd (let e : suc (length items) ≡ 0 = eqb-true (suc (length items)) 0 is in omega (arith, e))
+
+some_by : (items : List ℕ) → eqb (length items) 0 ≡ false → 0 < length items
+some_by [] is = absurd (false≢true (sym is))
+some_by (byte ∷ items) is = omega arith
+
+pub last_none : (told : Bool) (before stage : CsplitState) (n : ℕ) (slots : List Slot) → before ≡ stage → n ≡ length before.rest → eqb n 0 ≡ true → IsReady stage.cutter.writer slots → IsSound stage.cutter → Took told stage.cutter stage.rest slots slots stage.cutter
+last_none told before stage n slots is size empty ready sound =
+    subst (λ text. Took told stage.cutter text slots slots stage.cutter) (sym (ap (λ (s : CsplitState). s.rest) (sym is) ∙ empty_by before.rest (ap (λ k. eqb k 0) (sym size) ∙ empty))) (took_none told stage.cutter slots ready sound)
+
+pub last_line : (before stage : CsplitState) (n : ℕ) (text : List ℕ) → before ≡ stage → text ≡ before.rest → n ≡ length before.rest → eqb n 0 ≡ false → delimiters newline stage.rest ≡ 0 → IsLine text
+last_line before stage n text is text_is size some unbroken = subst IsLine (sym text_is) (open_is_line before.rest (some_by before.rest (ap (λ k. eqb k 0) (sym size) ∙ some)) (ap (λ (s : CsplitState). delimiters newline s.rest) is ∙ unbroken))
+
+-- and the end after it
+pub closes_by : (told : Bool) (stage view mid next : CsplitState) (old between new : List Slot) (result : Result (Unit {0}) Fault) → view ≡ mid → Took told stage.cutter stage.rest old between mid.cutter → EndsAll told view.cutter between new next.cutter result → Closes told stage old new next result
+closes_by told stage view mid next old between new (Ok done) is first second = closed_by told stage next view.cutter old between new (subst (λ (s : CsplitState). Took told stage.cutter stage.rest old between s.cutter) (sym is) first) second
+closes_by told stage view mid next old between new (Err fault) is first second = closed_not told stage next view.cutter old between new fault (subst (λ (s : CsplitState). Took told stage.cutter stage.rest old between s.cutter) (sym is) first) second
