@@ -8,6 +8,7 @@ use Rattle.seg_core.proofs.LinesOf.{joined-lines_of}
 use Rattle.seg_core.proofs.FirstLines.{first_lines_then_rest}
 use Rattle.ports_core.specs.Slot.{Slot}
 use Rattle.ports_core.specs.declared.fault.Fault.{Fault}
+use Rattle.ports_core.proofs.SlotSteps.{keeps_again}
 use Rattle.csplit_core.specs.Csplit.{whole_of}
 use Rattle.csplit_core.specs.Draft.{Draft, draft_part, ended_part, with_bytes}
 use Rattle.csplit_core.specs.Input.{newline, all_lines}
@@ -26,7 +27,7 @@ use Rattle.csplit_core.proofs.LineLemmas.{length-all_lines, bytes_between, count
 use Rattle.csplit_core.proofs.SettledLemmas.{last_kept, settled_part_is}
 use Rattle.csplit_core.proofs.CutterLemmas.{runs_to, live_part}
 use Rattle.csplit_core.proofs.HoldLemmas.{went_as, stopped_as}
-use Rattle.csplit_core.proofs.WriterLemmas.{moves_again, moves_as, halts_after, halts_as, halts_wider, bytes_begin, end_begins, breaks_later, keeps_again, owns_again}
+use Rattle.csplit_core.proofs.WriterLemmas.{moves_again, moves_as, halts_after, halts_as, halts_wider, bytes_begin, end_begins, breaks_later, owns_again}
 
 -- the whole of lines, where they end
 abbrev pub whole_draft : Bool → List Operand → List Line → Draft

@@ -45,3 +45,4 @@ pub mod StageLemmas
 pub mod StageSteps
 pub mod StageClauses
 pub mod WaitingBytes
+pub mod HeldBytes

@@ -26,7 +26,7 @@ use Rattle.csplit_core.specs.Cutter.{CutterState, most_next, pattern_next, kept_
 use Rattle.csplit_core.proofs.AdvanceLemmas.{advances}
 use Rattle.csplit_core.proofs.MoveLemmas.{repeated_anew}
 use Rattle.csplit_core.proofs.SettledLemmas.{settled_draft_is, settled_part_is}
-use Rattle.csplit_core.proofs.SlotSteps.{none_past}
+use Rattle.ports_core.proofs.SlotSteps.{none_past}
 use Rattle.csplit_core.proofs.TryLemmas.{advance_ends, no_cut_aims}
 use Rattle.csplit_core.proofs.WriterLemmas.{moves_as, halts_as, halts_wider}
 

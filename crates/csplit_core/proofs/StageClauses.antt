@@ -176,3 +176,8 @@ never_unjudged fault kind other = absurd (false≢true (sym other ∙ kind))
 pub cannot_begin : (told : Bool) (style : Style) (operands : List Operand) (old new : List Slot) (fault : Fault) → BegunNot told style operands old new fault
     → (before : List Slot) → OutputsAt told before nothing old → StoppedBetween told before nothing (settled_by style operands []) fault new
 cannot_begin told style operands old new fault stopped before at = stopped_in_turn told before nothing (settled_by style operands []) fault new (stopped.halts before at)
+
+-- the same with the operands as they are handed over
+pub cannot_begin_at : (told : Bool) (style : Style) (given operands : List Operand) (old new : List Slot) (fault : Fault) → given ≡ operands → BegunNot told style given old new fault
+    → (before : List Slot) → OutputsAt told before nothing old → StoppedBetween told before nothing (settled_by style operands []) fault new
+cannot_begin_at told style given operands old new fault same stopped = cannot_begin told style operands old new fault (subst (λ those. BegunNot told style those old new fault) same stopped)

@@ -7,6 +7,7 @@ use Rattle.ports_core.specs.Part.{Part, Begins}
 use Rattle.ports_core.specs.Slot.{Slot}
 use Rattle.ports_core.specs.declared.fault.Fault.{Fault}
 use Rattle.ports_core.specs.declared.fault.Fault.TheVariants.{Memory}
+use Rattle.ports_core.proofs.SlotSteps.{keeps_again}
 use Rattle.csplit_core.specs.Csplit.{settled_of, whole_of, verdict_of}
 use Rattle.csplit_core.specs.Draft.{draft_part, AreClosed}
 use Rattle.csplit_core.specs.Input.{newline, all_lines}
@@ -25,7 +26,7 @@ use Rattle.csplit_core.proofs.HoldLemmas.{memory_halts}
 use Rattle.csplit_core.proofs.LineLemmas.{all_lines-append, whole-append}
 use Rattle.csplit_core.proofs.SettledLemmas.{settled_draft_is, settled_part_is, final_count, ended_still, aims_past}
 use Rattle.csplit_core.proofs.StayLemmas.{StaysFor, stays}
-use Rattle.csplit_core.proofs.WriterLemmas.{moves_again, moves_same, moves_as, halts_after, halts_as, halts_wider, keeps_again, breaks_later, owns_again}
+use Rattle.csplit_core.proofs.WriterLemmas.{moves_again, moves_same, moves_as, halts_after, halts_as, halts_wider, breaks_later, owns_again}
 
 -- once lines go nowhere, more of them change nothing
 

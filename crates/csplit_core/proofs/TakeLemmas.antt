@@ -264,7 +264,7 @@ take_some told cutter mid next line cut old new (Err fault) fit differs one is w
 
 -- Where the cut is below the current line, later lines go nowhere.
 
-past_not_live : (cutter : CutterState) (x : List ℕ) → cutter.aim ≡ Below → IsLive cutter x → ⊥
+pub past_not_live : (cutter : CutterState) (x : List ℕ) → cutter.aim ≡ Below → IsLive cutter x → ⊥
 past_not_live cutter x aim live = false≢true (sym live.live ∙ aims_past live.ends.ending (subst (λ a. AimsAt a live.ends.ending) aim live.ends.aims))
 
 final_stays : (b : List Line) (total : ℕ) (ending : Ending) → is_final ending ≡ true → StaysFor b total ending

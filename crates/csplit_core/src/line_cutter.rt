@@ -501,7 +501,8 @@ impl<'o> LineCutter<'o> {
 impl Operand {
     /// The fault where its pattern matches no line, if that is one.
     fn fault_of_miss(&self, repetition: u64) -> Option<Fault>
-        ensures { result ≡ verdict_of (missed self.now repetition) }
+        ensures judges { result ≡ verdict_of (missed self.now repetition) }
+        ensures kind { IfSome result (λ fault. is_verdict fault ≡ true) }
     {
         match self.times {
             Times::Endless => None,
@@ -511,7 +512,8 @@ impl Operand {
 
     /// The fault where its cut is above the last line, if that is one.
     fn fault_of_range(&self, repetition: u64) -> Option<Fault>
-        ensures { (matched cut : ℕ) → result ≡ verdict_of (above self.now repetition matched cut) }
+        ensures judges { (matched cut : ℕ) → result ≡ verdict_of (above self.now repetition matched cut) }
+        ensures kind { IfSome result (λ fault. is_verdict fault ≡ true) }
     {
         match (&self.times, &self.target) {
             (Times::Endless, Target::Number(_)) => None,

@@ -36,9 +36,10 @@ impl<S: Stage> Guarded<S> {
         }
     }
 
-    /// The stage: what is the tool's own.
+    /// The stage: what is the tool's own. At most 2^63-1 bytes came in.
     pub fn stage(&self) -> &S
-        ensures { result.now ≡ self.now.stage }
+        ensures same { result.now ≡ self.now.stage }
+        ensures few { self.now.fed < 2 ^ 63 }
     {
         &self.stage
     }
