@@ -8,6 +8,7 @@ ghost use Rattle.tee_core.specs.TeeState.{TeeState};
 use ports_core::{Fault, Mode, Outs, write_whole};
 use std::alloc::Global;
 use std::marker::Model;
+use std::mem::replace;
 
 /// The number of standard output.
 const STANDARD_OUTPUT: usize = 0;
@@ -98,10 +99,9 @@ impl Tee {
         ensures is_over { self.new ≡ record self.old { is_over = true } }
         ensures over { self.old.is_over ≡ true → (result ≡ 0) × (O.slots outs.new ≡ O.slots outs.old) }
     {
-        if self.is_over {
+        if replace(&mut self.is_over, true) {
             return 0;
         }
-        self.is_over = true;
         self.close_files(outs)
     }
 
