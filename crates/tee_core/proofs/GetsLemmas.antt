@@ -14,7 +14,7 @@ use Rattle.tee_core.proofs.ChangeLemmas.{InTurn, Turned, is_between, is_place, n
 -- one output
 
 -- bytes and then more bytes
-written_twice : (told : Bool) (x y : List ℕ) (slot : Slot) → adds (told_of told y) (adds (told_of told x) slot) ≡ adds (told_of told (x ++ y)) slot
+pub written_twice : (told : Bool) (x y : List ℕ) (slot : Slot) → adds (told_of told y) (adds (told_of told x) slot) ≡ adds (told_of told (x ++ y)) slot
 written_twice told x y slot = ap (λ written. record slot { written = written }) (append_assoc slot.written (told_of told x) (told_of told y) ∙ ap (λ more. slot.written ++ more) (sym (told_of-append told x y)))
 
 pub gets_more : (told : Bool) (x y : List ℕ) (old mid new : Slot) → Gets told x old mid → Gets told y mid new → Gets told (x ++ y) old new
@@ -32,12 +32,12 @@ gets_more told x y old _ _ (gets_none broken) (gets_all again) = absurd (false�
 gets_more told x y old _ _ (gets_none broken) (breaks_off again m less) = absurd (false≢true (sym again ∙ broken))
 gets_more told x y old _ _ (gets_none broken) (gets_none again) = gets_none broken
 
-still_broken : (told : Bool) (bytes : List ℕ) (old new : Slot) → Gets told bytes old new → old.is_broken ≡ true → new.is_broken ≡ true
+pub still_broken : (told : Bool) (bytes : List ℕ) (old new : Slot) → Gets told bytes old new → old.is_broken ≡ true → new.is_broken ≡ true
 still_broken told bytes old _ (gets_all sound) broken = broken
 still_broken told bytes old _ (breaks_off sound n within) broken = refl
 still_broken told bytes old _ (gets_none was) broken = broken
 
-closed_broken : (old new : Slot) → Closes old new → old.is_broken ≡ true → new.is_broken ≡ true
+pub closed_broken : (old new : Slot) → Closes old new → old.is_broken ≡ true → new.is_broken ≡ true
 closed_broken old _ (is_closed sound) broken = broken
 closed_broken old _ (fails_to_close sound) broken = refl
 closed_broken old _ (was_broken was) broken = broken
