@@ -3,6 +3,8 @@
 
 mod run;
 mod tee;
+#[cfg(test)]
+mod tests;
 
 pub use run::run_tee;
 pub use tee::Tee;
