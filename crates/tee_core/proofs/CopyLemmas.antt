@@ -1,7 +1,8 @@
 -- Lemmas on copying a piece: what the outputs have after it, and what is said of it.
-use Rattle.std.proofs.Common.{◌≡◌, ℕ, ◌+◌, ◌<◌, ◌≤◌, zero, suc, eqb, List, [], ◌∷◌, ◌++◌, length, map, take, Bool, true, false, not, ◌&&◌, if◌then◌else◌, Option, Some, None, ◌⊎◌, inl, inr, refl, sym, ◌∙◌, ap, subst, arith, length-append}
-use Rattle.std.proofs.Math.Seq.{take-append-add}
-use Rattle.std.proofs.lemmas.List.{append-nil, take-append-le}
+use Rattle.std.proofs.Common.{append_assoc, ◌≡◌, ℕ, ◌+◌, ◌<◌, ◌≤◌, zero, suc, eqb, List, [], ◌∷◌, ◌++◌, length, map, take, Bool, true, false, not, ◌&&◌, if◌then◌else◌, Option, Some, None, ◌⊎◌, inl, inr, refl, sym, ◌∙◌, ap, subst, arith, length-append}
+use Rattle.std.specs.List.{concat}
+use Rattle.std.proofs.lemmas.List.Folds.{concat-append}
+use Rattle.std.proofs.lemmas.List.{append-nil}
 use Rattle.std.proofs.lemmas.Bool.{false≢true, eq-eqb, eqb-true}
 use Rattle.ports_core.specs.Slot.{Slot, slot_at, changed_at, is_open, opened, adds, breaks, told_of}
 use Rattle.ports_core.specs.Message.{SaysAll}
@@ -70,63 +71,67 @@ all_older call (suc end) names befores afters known broken past marked =
 
 -- one output
 
-begun_longer : (told : Bool) (x piece : List ℕ) (n : ℕ) (start : Slot) → n < length x → breaks (adds (told_of told (take n x)) start) ≡ breaks (adds (told_of told (take n (x ++ piece))) start)
-begun_longer told x piece n start within = ap (λ bytes. breaks (adds (told_of told bytes) start)) (sym (take-append-le n x piece (omega (arith, within))))
+pub joined_more : (pieces : List (List ℕ)) (piece : List ℕ) → concat pieces ++ piece ≡ concat (pieces ++ piece ∷ [])
+joined_more pieces piece = sym (concat-append pieces (piece ∷ []) ∙ ap (λ bytes. concat pieces ++ bytes) (append-nil piece))
 
-begun_now : (told : Bool) (x piece : List ℕ) (n : ℕ) (start : Slot) → breaks (adds (told_of told (take n piece)) (adds (told_of told x) start)) ≡ breaks (adds (told_of told (take (length x + n) (x ++ piece))) start)
-begun_now told x piece n start = ap breaks (written_twice told x (take n piece) start) ∙ ap (λ bytes. breaks (adds (told_of told bytes) start)) (sym (take-append-add x piece n))
+whole_now : (told : Bool) (pieces : List (List ℕ)) (piece : List ℕ) (start : Slot) → adds (told_of told piece) (adds (told_of told (concat pieces)) start) ≡ adds (told_of told (concat (pieces ++ piece ∷ []))) start
+whole_now told pieces piece start = written_twice told (concat pieces) piece start ∙ ap (λ bytes. adds (told_of told bytes) start) (joined_more pieces piece)
 
-longer : (x piece : List ℕ) (n : ℕ) → n < length x → n < length (x ++ piece)
-longer x piece n within = omega (arith, within, length-append x piece)
+begun_now : (told : Bool) (pieces : List (List ℕ)) (piece : List ℕ) (n : ℕ) (start : Slot) → breaks (adds (told_of told (take n piece)) (adds (told_of told (concat pieces)) start)) ≡ breaks (adds (told_of told (concat pieces ++ take n piece)) start)
+begun_now told pieces piece n start = ap breaks (written_twice told (concat pieces) (take n piece) start)
 
-later : (x piece : List ℕ) (n : ℕ) → n < length piece → length x + n < length (x ++ piece)
-later x piece n within = omega (arith, within, length-append x piece)
+still_there : (pieces before after : List (List ℕ)) (piece more : List ℕ) → pieces ≡ before ++ piece ∷ after → pieces ++ more ∷ [] ≡ before ++ piece ∷ (after ++ more ∷ [])
+still_there pieces before after piece more is = ap (λ those. those ++ more ∷ []) is ∙ append_assoc before (piece ∷ after) (more ∷ [])
 
-abbrev pub OutputMore : Bool → List ℕ → List ℕ → ℕ → Option ℕ → Slot → Slot → Type 0
-OutputMore told x piece pieces first old new = (after : Option ℕ) × OutputLeft told (x ++ piece) (suc pieces) after new × Marked (suc pieces) first after old.is_broken new.is_broken
+-- a piece was fed in a call before those that follow
+pub call_before : (pieces before after : List (List ℕ)) (piece : List ℕ) → pieces ≡ before ++ piece ∷ after → suc (length before) < suc (length pieces)
+call_before pieces before after piece is = let size : length (before ++ piece ∷ after) ≡ length before + length (piece ∷ after) = length-append before (piece ∷ after) in omega (arith, ap length is, size)
 
-output_more : (told : Bool) (x piece : List ℕ) (pieces : ℕ) (first : Option ℕ) (old new : Slot) → OutputLeft told x pieces first old → Gets told piece old new → OutputMore told x piece pieces first old new
-output_more told x piece pieces _ _ _ output_whole (gets_all sound) =
-    (None, subst (OutputLeft told (x ++ piece) (suc pieces) None) (sym (written_twice told x piece standard_output)) output_whole, marked_none (suc pieces))
-output_more told x piece pieces _ _ _ output_whole (breaks_off sound n within) =
-    (Some (suc pieces), subst (OutputLeft told (x ++ piece) (suc pieces) (Some (suc pieces))) (sym (begun_now told x piece n standard_output)) (output_cut pieces (length x + n) (omega arith) (later x piece n within)), marked_now (suc pieces))
-output_more told x piece pieces _ _ _ output_whole (gets_none broken) = absurd (false≢true broken)
-output_more told x piece pieces _ _ _ (output_cut call n before within) (gets_all again) = absurd (false≢true (sym again))
-output_more told x piece pieces _ _ _ (output_cut call n before within) (breaks_off again m less) = absurd (false≢true (sym again))
-output_more told x piece pieces _ _ _ (output_cut call n before within) (gets_none broken) =
-    (Some (suc call), subst (OutputLeft told (x ++ piece) (suc pieces) (Some (suc call))) (sym (begun_longer told x piece n standard_output within)) (output_cut call n (omega arith) (longer x piece n within)), marked_before (suc pieces) (suc call) (omega arith))
+abbrev pub OutputMore : Bool → List (List ℕ) → List ℕ → Option ℕ → Slot → Slot → Type 0
+OutputMore told pieces piece first old new = (after : Option ℕ) × OutputLeft told (pieces ++ piece ∷ []) after new × Marked (suc (length pieces)) first after old.is_broken new.is_broken
 
-abbrev pub FileMore : Bool → Mode → List ℕ → List ℕ → ℕ → List ℕ → Option ℕ → Slot → Slot → Type 0
-FileMore told mode x piece pieces name first old new = (after : Option ℕ) × FileHas told mode (x ++ piece) (suc pieces) name after new × Marked (suc pieces) first after old.is_broken new.is_broken
+output_more : (told : Bool) (pieces : List (List ℕ)) (piece : List ℕ) (first : Option ℕ) (old new : Slot) → OutputLeft told pieces first old → Gets told piece old new → OutputMore told pieces piece first old new
+output_more told pieces piece _ _ _ output_whole (gets_all sound) =
+    (None, subst (OutputLeft told (pieces ++ piece ∷ []) None) (sym (whole_now told pieces piece standard_output)) output_whole, marked_none (suc (length pieces)))
+output_more told pieces piece _ _ _ output_whole (breaks_off sound n within) =
+    (Some (suc (length pieces)), subst (OutputLeft told (pieces ++ piece ∷ []) (Some (suc (length pieces)))) (sym (begun_now told pieces piece n standard_output)) (output_cut pieces piece [] n refl within), marked_now (suc (length pieces)))
+output_more told pieces piece _ _ _ output_whole (gets_none broken) = absurd (false≢true broken)
+output_more told pieces piece _ _ _ (output_cut before that after n is within) (gets_all again) = absurd (false≢true (sym again))
+output_more told pieces piece _ _ _ (output_cut before that after n is within) (breaks_off again m less) = absurd (false≢true (sym again))
+output_more told pieces piece _ _ _ (output_cut before that after n is within) (gets_none broken) =
+    (Some (suc (length before)), output_cut before that (after ++ piece ∷ []) n (still_there pieces before after that piece is) within, marked_before (suc (length pieces)) (suc (length before)) (call_before pieces before after that is))
 
-file_more : (told : Bool) (mode : Mode) (x piece : List ℕ) (pieces : ℕ) (name : List ℕ) (first : Option ℕ) (old new : Slot) → FileHas told mode x pieces name first old → Gets told piece old new → FileMore told mode x piece pieces name first old new
-file_more told mode x piece pieces name _ _ _ has_all (gets_all sound) =
-    (None, subst (FileHas told mode (x ++ piece) (suc pieces) name None) (sym (written_twice told x piece (opened name mode))) has_all, marked_none (suc pieces))
-file_more told mode x piece pieces name _ _ _ has_all (breaks_off sound n within) =
-    (Some (suc pieces), subst (FileHas told mode (x ++ piece) (suc pieces) name (Some (suc pieces))) (sym (begun_now told x piece n (opened name mode))) (has_begun pieces (length x + n) (omega arith) (later x piece n within)), marked_now (suc pieces))
-file_more told mode x piece pieces name _ _ _ has_all (gets_none broken) = absurd (false≢true broken)
-file_more told mode x piece pieces name _ _ _ (has_none kept named) (gets_all again) = absurd (false≢true (sym again))
-file_more told mode x piece pieces name _ _ _ (has_none kept named) (breaks_off again m less) = absurd (false≢true (sym again))
-file_more told mode x piece pieces name _ _ _ (has_none kept named) (gets_none broken) = (Some 0, has_none kept named, marked_before (suc pieces) 0 (omega arith))
-file_more told mode x piece pieces name _ _ _ (has_begun call n before within) (gets_all again) = absurd (false≢true (sym again))
-file_more told mode x piece pieces name _ _ _ (has_begun call n before within) (breaks_off again m less) = absurd (false≢true (sym again))
-file_more told mode x piece pieces name _ _ _ (has_begun call n before within) (gets_none broken) =
-    (Some (suc call), subst (FileHas told mode (x ++ piece) (suc pieces) name (Some (suc call))) (sym (begun_longer told x piece n (opened name mode) within)) (has_begun call n (omega arith) (longer x piece n within)), marked_before (suc pieces) (suc call) (omega arith))
+abbrev pub FileMore : Bool → Mode → List (List ℕ) → List ℕ → List ℕ → Option ℕ → Slot → Slot → Type 0
+FileMore told mode pieces piece name first old new = (after : Option ℕ) × FileHas told mode (pieces ++ piece ∷ []) name after new × Marked (suc (length pieces)) first after old.is_broken new.is_broken
+
+file_more : (told : Bool) (mode : Mode) (pieces : List (List ℕ)) (piece : List ℕ) (name : List ℕ) (first : Option ℕ) (old new : Slot) → FileHas told mode pieces name first old → Gets told piece old new → FileMore told mode pieces piece name first old new
+file_more told mode pieces piece name _ _ _ has_all (gets_all sound) =
+    (None, subst (FileHas told mode (pieces ++ piece ∷ []) name None) (sym (whole_now told pieces piece (opened name mode))) has_all, marked_none (suc (length pieces)))
+file_more told mode pieces piece name _ _ _ has_all (breaks_off sound n within) =
+    (Some (suc (length pieces)), subst (FileHas told mode (pieces ++ piece ∷ []) name (Some (suc (length pieces)))) (sym (begun_now told pieces piece n (opened name mode))) (has_begun pieces piece [] n refl within), marked_now (suc (length pieces)))
+file_more told mode pieces piece name _ _ _ has_all (gets_none broken) = absurd (false≢true broken)
+file_more told mode pieces piece name _ _ _ (has_none kept named) (gets_all again) = absurd (false≢true (sym again))
+file_more told mode pieces piece name _ _ _ (has_none kept named) (breaks_off again m less) = absurd (false≢true (sym again))
+file_more told mode pieces piece name _ _ _ (has_none kept named) (gets_none broken) = (Some 0, has_none kept named, marked_before (suc (length pieces)) 0 (omega arith))
+file_more told mode pieces piece name _ _ _ (has_begun before that after n is within) (gets_all again) = absurd (false≢true (sym again))
+file_more told mode pieces piece name _ _ _ (has_begun before that after n is within) (breaks_off again m less) = absurd (false≢true (sym again))
+file_more told mode pieces piece name _ _ _ (has_begun before that after n is within) (gets_none broken) =
+    (Some (suc (length before)), has_begun before that (after ++ piece ∷ []) n (still_there pieces before after that piece is) within, marked_before (suc (length pieces)) (suc (length before)) (call_before pieces before after that is))
 
 -- the files
 
-abbrev pub FilesMore : Bool → Mode → List ℕ → List ℕ → ℕ → List (List ℕ) → List (Option ℕ) → List Slot → List Slot → Type 0
-FilesMore told mode x piece pieces names broke olds news =
-    (after : List (Option ℕ)) × FilesHave told mode (x ++ piece) (suc pieces) names after news × AllMarked (suc pieces) broke after (map (λ (file : Slot). file.is_broken) olds) (map (λ (file : Slot). file.is_broken) news)
+abbrev pub FilesMore : Bool → Mode → List (List ℕ) → List ℕ → List (List ℕ) → List (Option ℕ) → List Slot → List Slot → Type 0
+FilesMore told mode pieces piece names broke olds news =
+    (after : List (Option ℕ)) × FilesHave told mode (pieces ++ piece ∷ []) names after news × AllMarked (suc (length pieces)) broke after (map (λ (file : Slot). file.is_broken) olds) (map (λ (file : Slot). file.is_broken) news)
 
-files_more : (told : Bool) (mode : Mode) (x piece : List ℕ) (pieces : ℕ) (names : List (List ℕ)) (broke : List (Option ℕ)) (olds news : List Slot) → length news ≡ length olds → ((n : ℕ) → n < length olds → Gets told piece (slot_at olds n) (slot_at news n))
-    → FilesHave told mode x pieces names broke olds → FilesMore told mode x piece pieces names broke olds news
-files_more told mode x piece pieces _ _ _ [] many gets no_more = ([], no_more, none_marked)
-files_more told mode x piece pieces _ _ _ (new ∷ news) many gets no_more = absurd (omega (arith, many))
-files_more told mode x piece pieces _ _ _ [] many gets (one_more name names first broke old olds one rest) = absurd (omega (arith, many))
-files_more told mode x piece pieces _ _ _ (new ∷ news) many gets (one_more name names first broke old olds one rest) =
-    let here = file_more told mode x piece pieces name first old new one (gets 0 (omega arith)) in
-    let there = files_more told mode x piece pieces names broke olds news (omega (arith, many)) (λ n within. gets (suc n) (omega arith)) rest in
+files_more : (told : Bool) (mode : Mode) (pieces : List (List ℕ)) (piece : List ℕ) (names : List (List ℕ)) (broke : List (Option ℕ)) (olds news : List Slot) → length news ≡ length olds → ((n : ℕ) → n < length olds → Gets told piece (slot_at olds n) (slot_at news n))
+    → FilesHave told mode pieces names broke olds → FilesMore told mode pieces piece names broke olds news
+files_more told mode pieces piece _ _ _ [] many gets no_more = ([], no_more, none_marked)
+files_more told mode pieces piece _ _ _ (new ∷ news) many gets no_more = absurd (omega (arith, many))
+files_more told mode pieces piece _ _ _ [] many gets (one_more name names first broke old olds one rest) = absurd (omega (arith, many))
+files_more told mode pieces piece _ _ _ (new ∷ news) many gets (one_more name names first broke old olds one rest) =
+    let here = file_more told mode pieces piece name first old new one (gets 0 (omega arith)) in
+    let there = files_more told mode pieces piece names broke olds news (omega (arith, many)) (λ n within. gets (suc n) (omega arith)) rest in
     (here.0 ∷ there.0, one_more name names here.0 there.0 new news here.1 there.1, all_marked first here.0 old.is_broken new.is_broken broke there.0 _ _ here.2 there.2)
 
 -- where nothing broke, nothing is said
@@ -181,23 +186,23 @@ is_output tee place = elim (is_place 0 place) [
 
 -- the outputs of a run
 
-pub length-files : (told : Bool) (mode : Mode) (x : List ℕ) (pieces : ℕ) (names : List (List ℕ)) (broke : List (Option ℕ)) (files : List Slot) → FilesHave told mode x pieces names broke files → length files ≡ length names
-length-files told mode x pieces _ _ _ no_more = refl
-length-files told mode x pieces _ _ _ (one_more name names first broke file files one rest) = ap suc (length-files told mode x pieces names broke files rest)
+pub length-files : (told : Bool) (mode : Mode) (pieces : List (List ℕ)) (names : List (List ℕ)) (broke : List (Option ℕ)) (files : List Slot) → FilesHave told mode pieces names broke files → length files ≡ length names
+length-files told mode pieces _ _ _ no_more = refl
+length-files told mode pieces _ _ _ (one_more name names first broke file files one rest) = ap suc (length-files told mode pieces names broke files rest)
 
-output_usable : (told : Bool) (x : List ℕ) (pieces : ℕ) (first : Option ℕ) (output : Slot) → OutputLeft told x pieces first output → IsUsable output
-output_usable told x pieces _ _ output_whole = λ sound. refl
-output_usable told x pieces _ _ (output_cut call n before within) = λ sound. refl
+output_usable : (told : Bool) (pieces : List (List ℕ)) (first : Option ℕ) (output : Slot) → OutputLeft told pieces first output → IsUsable output
+output_usable told pieces _ _ output_whole = λ sound. refl
+output_usable told pieces _ _ (output_cut before that after n is within) = λ sound. refl
 
-file_usable : (told : Bool) (mode : Mode) (x : List ℕ) (pieces : ℕ) (name : List ℕ) (first : Option ℕ) (file : Slot) → FileHas told mode x pieces name first file → IsUsable file
-file_usable told mode x pieces name _ _ has_all = λ sound. refl
-file_usable told mode x pieces name _ _ (has_none kept named) = λ sound. absurd (false≢true (sym sound))
-file_usable told mode x pieces name _ _ (has_begun call n before within) = λ sound. refl
+file_usable : (told : Bool) (mode : Mode) (pieces : List (List ℕ)) (name : List ℕ) (first : Option ℕ) (file : Slot) → FileHas told mode pieces name first file → IsUsable file
+file_usable told mode pieces name _ _ has_all = λ sound. refl
+file_usable told mode pieces name _ _ (has_none kept named) = λ sound. absurd (false≢true (sym sound))
+file_usable told mode pieces name _ _ (has_begun before that after n is within) = λ sound. refl
 
-files_usable : (told : Bool) (mode : Mode) (x : List ℕ) (pieces : ℕ) (names : List (List ℕ)) (broke : List (Option ℕ)) (files : List Slot) (n : ℕ) → n < length files → FilesHave told mode x pieces names broke files → IsUsable (slot_at files n)
-files_usable told mode x pieces _ _ _ n within no_more = absurd (omega arith)
-files_usable told mode x pieces _ _ _ zero within (one_more name names first broke file files one rest) = file_usable told mode x pieces name first file one
-files_usable told mode x pieces _ _ _ (suc n) within (one_more name names first broke file files one rest) = files_usable told mode x pieces names broke files n (omega arith) rest
+files_usable : (told : Bool) (mode : Mode) (pieces : List (List ℕ)) (names : List (List ℕ)) (broke : List (Option ℕ)) (files : List Slot) (n : ℕ) → n < length files → FilesHave told mode pieces names broke files → IsUsable (slot_at files n)
+files_usable told mode pieces _ _ _ n within no_more = absurd (omega arith)
+files_usable told mode pieces _ _ _ zero within (one_more name names first broke file files one rest) = file_usable told mode pieces name first file one
+files_usable told mode pieces _ _ _ (suc n) within (one_more name names first broke file files one rest) = files_usable told mode pieces names broke files n (omega arith) rest
 
 -- a file's place, counted from the first file
 pub file_place : (names : List (List ℕ)) (tee : TeeState) (place : ℕ) → IsTeeOf names tee → IsFile tee place → (n : ℕ) × (place ≡ suc (suc n)) × (n < length names)
@@ -213,37 +218,37 @@ error_no_output names tee is (inl here) = omega (arith, here)
 error_no_output names tee is (inr file) = let there = file_place names tee 1 is file in omega (arith, there.1)
 
 module _ (told : Bool) (mode : Mode) (names : List (List ℕ)) where
-  pub copies_ready : (x : List ℕ) (pieces : ℕ) (messages : List (List ℕ)) (slots : List Slot) (known : List Bool) (tee : TeeState) → IsTeeOf names tee → Copies told mode names x pieces messages slots known → IsReady tee slots
-  copies_ready x pieces messages slots known tee is copies place output = subst (λ those. IsUsable (slot_at those place)) (sym copies.are) (by output) where
+  pub copies_ready : (pieces : List (List ℕ)) (messages : List (List ℕ)) (slots : List Slot) (known : List Bool) (tee : TeeState) → IsTeeOf names tee → Copies told mode names pieces messages slots known → IsReady tee slots
+  copies_ready pieces messages slots known tee is copies place output = subst (λ those. IsUsable (slot_at those place)) (sym copies.are) (by output) where
     by : IsOutput tee place → IsUsable (slot_at (copies.output ∷ copies.error ∷ copies.files) place)
-    by (inl here) = subst (λ at. IsUsable (slot_at (copies.output ∷ copies.error ∷ copies.files) at)) (sym here) (output_usable told x pieces copies.first copies.output copies.output_has)
+    by (inl here) = subst (λ at. IsUsable (slot_at (copies.output ∷ copies.error ∷ copies.files) at)) (sym here) (output_usable told pieces copies.first copies.output copies.output_has)
     by (inr file) =
         let there = file_place names tee place is file in
         subst (λ at. IsUsable (slot_at (copies.output ∷ copies.error ∷ copies.files) at)) (sym there.1)
-        (files_usable told mode x pieces names copies.broke copies.files there.0 (omega (arith, there.2, length-files told mode x pieces names copies.broke copies.files copies.files_have)) copies.files_have)
+        (files_usable told mode pieces names copies.broke copies.files there.0 (omega (arith, there.2, length-files told mode pieces names copies.broke copies.files copies.files_have)) copies.files_have)
 
   -- the outputs once a piece was fed, before anything is said of it
-  pub record Next (x piece : List ℕ) (pieces : ℕ) (messages : List (List ℕ)) (old mid : List Slot) (known : List Bool) (copies : Copies told mode names x pieces messages old known) : Type 0 where
+  pub record Next (pieces : List (List ℕ)) (piece : List ℕ) (messages : List (List ℕ)) (old mid : List Slot) (known : List Bool) (copies : Copies told mode names pieces messages old known) : Type 0 where
     pub output : Slot
     pub files : List Slot
     pub first : Option ℕ
     pub broke : List (Option ℕ)
     pub are : mid ≡ output ∷ copies.error ∷ files
-    pub output_has : OutputLeft told (x ++ piece) (suc pieces) first output
-    pub files_have : FilesHave told mode (x ++ piece) (suc pieces) names broke files
-    pub marked : AllMarked (suc pieces) (copies.first ∷ copies.broke) (first ∷ broke) (broken_of old) (broken_of mid)
+    pub output_has : OutputLeft told (pieces ++ piece ∷ []) first output
+    pub files_have : FilesHave told mode (pieces ++ piece ∷ []) names broke files
+    pub marked : AllMarked (suc (length pieces)) (copies.first ∷ copies.broke) (first ∷ broke) (broken_of old) (broken_of mid)
 
-  pub fed_next : (x piece : List ℕ) (pieces : ℕ) (messages : List (List ℕ)) (old mid : List Slot) (known : List Bool) (tee : TeeState) → IsTeeOf names tee → (copies : Copies told mode names x pieces messages old known) → ChangesEach (Gets told piece) (IsOutput tee) old mid → Next x piece pieces messages old mid known copies
-  fed_next x piece pieces messages old mid known tee is copies gets = by mid refl where
-    by : (those : List Slot) → mid ≡ those → Next x piece pieces messages old mid known copies
+  pub fed_next : (pieces : List (List ℕ)) (piece : List ℕ) (messages : List (List ℕ)) (old mid : List Slot) (known : List Bool) (tee : TeeState) → IsTeeOf names tee → (copies : Copies told mode names pieces messages old known) → ChangesEach (Gets told piece) (IsOutput tee) old mid → Next pieces piece messages old mid known copies
+  fed_next pieces piece messages old mid known tee is copies gets = by mid refl where
+    by : (those : List Slot) → mid ≡ those → Next pieces piece messages old mid known copies
     by [] short = absurd (omega (arith, ap length short, gets.count, ap length copies.are))
     by (output ∷ []) short = absurd (omega (arith, ap length short, gets.count, ap length copies.are))
     by (output ∷ error ∷ files) are =
         let here : Gets told piece copies.output output = subst (λ slot. Gets told piece copies.output slot) (ap (λ those. slot_at those 0) are) (subst (λ slot. Gets told piece slot (slot_at mid 0)) (ap (λ those. slot_at those 0) copies.are) (gets.each 0 (inl refl))) in
         let same : error ≡ copies.error = sym (ap (λ those. slot_at those 1) are) ∙ gets.others 1 (error_no_output names tee is) ∙ ap (λ those. slot_at those 1) copies.are in
-        let one = output_more told x piece pieces copies.first copies.output output copies.output_has here in
-        let many : length copies.files ≡ length names = length-files told mode x pieces names copies.broke copies.files copies.files_have in
-        let rest = files_more told mode x piece pieces names copies.broke copies.files files (omega (arith, ap length are, gets.count, ap length copies.are))
+        let one = output_more told pieces piece copies.first copies.output output copies.output_has here in
+        let many : length copies.files ≡ length names = length-files told mode pieces names copies.broke copies.files copies.files_have in
+        let rest = files_more told mode pieces piece names copies.broke copies.files files (omega (arith, ap length are, gets.count, ap length copies.are))
         (λ n within. subst (λ slot. Gets told piece (slot_at copies.files n) slot) (ap (λ those. slot_at those (suc (suc n))) are) (subst (λ slot. Gets told piece slot (slot_at mid (suc (suc n)))) (ap (λ those. slot_at those (suc (suc n))) copies.are) (gets.each (suc (suc n)) (inr (place_file names tee n is (omega (arith, within, many))))))) copies.files_have in
         record {
           output = output;
@@ -253,15 +258,15 @@ module _ (told : Bool) (mode : Mode) (names : List (List ℕ)) where
           are = are ∙ ap (λ slot. output ∷ slot ∷ files) same;
           output_has = one.1;
           files_have = rest.1;
-          marked = subst (λ those. AllMarked (suc pieces) (copies.first ∷ copies.broke) (one.0 ∷ rest.0) those (broken_of mid)) (sym (ap broken_of copies.are))
-              (subst (λ those. AllMarked (suc pieces) (copies.first ∷ copies.broke) (one.0 ∷ rest.0) (broken_of (copies.output ∷ copies.error ∷ copies.files)) those) (sym (ap broken_of are))
+          marked = subst (λ those. AllMarked (suc (length pieces)) (copies.first ∷ copies.broke) (one.0 ∷ rest.0) those (broken_of mid)) (sym (ap broken_of copies.are))
+              (subst (λ those. AllMarked (suc (length pieces)) (copies.first ∷ copies.broke) (one.0 ∷ rest.0) (broken_of (copies.output ∷ copies.error ∷ copies.files)) those) (sym (ap broken_of are))
               (all_marked copies.first one.0 copies.output.is_broken output.is_broken copies.broke rest.0 _ _ one.2 rest.2));
         }
 
   -- the message for it was said
-  pub piece_said : (x piece : List ℕ) (pieces : ℕ) (old mid new : List Slot) (known now : List Bool) (copies : Copies told mode names x pieces [] old known) → Next x piece pieces [] old mid known copies → SaysTo told (said_since (fault_in (suc pieces)) (output_names names) known (broken_of mid)) mid new → now ≡ broken_of mid
-      → Copies told mode names (x ++ piece) (suc pieces) [] new now
-  piece_said x piece pieces old mid new known now copies next says flags = record {
+  pub piece_said : (pieces : List (List ℕ)) (piece : List ℕ) (old mid new : List Slot) (known now : List Bool) (copies : Copies told mode names pieces [] old known) → Next pieces piece [] old mid known copies → SaysTo told (said_since (fault_in (suc (length pieces))) (output_names names) known (broken_of mid)) mid new → now ≡ broken_of mid
+      → Copies told mode names (pieces ++ piece ∷ []) [] new now
+  piece_said pieces piece old mid new known now copies next says flags = record {
     output = next.output;
     error = says.0;
     files = next.files;
@@ -271,44 +276,44 @@ module _ (told : Bool) (mode : Mode) (names : List (List ℕ)) where
     output_has = next.output_has;
     files_have = next.files_have;
     said = subst (λ texts. SaysAll told Tee texts standard_error says.0) messages
-        (says_behind told Tee (said_before (suc pieces) (output_names names) (copies.first ∷ copies.broke) ++ []) _ standard_error copies.error says.0 copies.said (subst (λ slot. SaysAll told Tee (said_since (fault_in (suc pieces)) (output_names names) known (broken_of mid)) slot says.0) (ap (λ those. slot_at those 1) next.are) says.1));
+        (says_behind told Tee (said_before (suc (length pieces)) (output_names names) (copies.first ∷ copies.broke) ++ []) _ standard_error copies.error says.0 copies.said (subst (λ slot. SaysAll told Tee (said_since (fault_in (suc (length pieces))) (output_names names) known (broken_of mid)) slot says.0) (ap (λ those. slot_at those 1) next.are) says.1));
     known_are = flags ∙ ap broken_of next.are ∙ sym (ap broken_of new_is);
   } where
     new_is : new ≡ next.output ∷ says.0 ∷ next.files
     new_is = says.2 ∙ ap (changed_at 1 (λ _. says.0)) next.are
 
-    messages : (said_before (suc pieces) (output_names names) (copies.first ∷ copies.broke) ++ []) ++ said_since (fault_in (suc pieces)) (output_names names) known (broken_of mid) ≡ said_before (suc (suc pieces)) (output_names names) (next.first ∷ next.broke) ++ []
-    messages = ap (λ texts. texts ++ said_since (fault_in (suc pieces)) (output_names names) known (broken_of mid)) (append-nil _)
-        ∙ ap (λ texts. said_before (suc pieces) (output_names names) (copies.first ∷ copies.broke) ++ texts)
-        (ap (λ flags. said_since (fault_in (suc pieces)) (output_names names) flags (broken_of mid)) copies.known_are ∙ sym (said_marked (suc pieces) (output_names names) _ _ _ _ next.marked))
-        ∙ ap (λ texts. texts ++ said_in (suc pieces) (output_names names) (next.first ∷ next.broke)) (sym (all_older (suc pieces) (suc pieces) (output_names names) _ _ _ _ (omega arith) next.marked))
-        ∙ sym (append-nil _)
+    messages : (said_before (suc (length pieces)) (output_names names) (copies.first ∷ copies.broke) ++ []) ++ said_since (fault_in (suc (length pieces))) (output_names names) known (broken_of mid) ≡ said_before (suc (length (pieces ++ piece ∷ []))) (output_names names) (next.first ∷ next.broke) ++ []
+    messages = ap (λ texts. texts ++ said_since (fault_in (suc (length pieces))) (output_names names) known (broken_of mid)) (append-nil _)
+        ∙ ap (λ texts. said_before (suc (length pieces)) (output_names names) (copies.first ∷ copies.broke) ++ texts)
+        (ap (λ flags. said_since (fault_in (suc (length pieces))) (output_names names) flags (broken_of mid)) copies.known_are ∙ sym (said_marked (suc (length pieces)) (output_names names) _ _ _ _ next.marked))
+        ∙ ap (λ texts. texts ++ said_in (suc (length pieces)) (output_names names) (next.first ∷ next.broke)) (sym (all_older (suc (length pieces)) (suc (length pieces)) (output_names names) _ _ _ _ (omega arith) next.marked))
+        ∙ sym (append-nil _) ∙ ap (λ call. said_before (suc call) (output_names names) (next.first ∷ next.broke) ++ []) (let e : suc (length pieces) ≡ length (pieces ++ piece ∷ []) = omega (arith, length-append pieces (piece ∷ [])) in e)
 
   -- nothing broke, and nothing has to be said
-  pub piece_quiet : (x piece : List ℕ) (pieces : ℕ) (old mid : List Slot) (known : List Bool) (tee : TeeState) → IsTeeOf names tee → Copies told mode names x pieces [] old known → ChangesEach (Gets told piece) (IsOutput tee) old mid → newly_broken old mid ≡ 0 → Copies told mode names (x ++ piece) (suc pieces) [] mid known
-  piece_quiet x piece pieces old mid known tee is copies gets few =
+  pub piece_quiet : (pieces : List (List ℕ)) (piece : List ℕ) (old mid : List Slot) (known : List Bool) (tee : TeeState) → IsTeeOf names tee → Copies told mode names pieces [] old known → ChangesEach (Gets told piece) (IsOutput tee) old mid → newly_broken old mid ≡ 0 → Copies told mode names (pieces ++ piece ∷ []) [] mid known
+  piece_quiet pieces piece old mid known tee is copies gets few =
       let same : known ≡ broken_of mid = copies.known_are ∙ same_broken old mid gets.count (stay_broken old mid (still_broken told piece) (is_output tee) gets) few in
-      piece_said x piece pieces old mid mid known known copies (fed_next x piece pieces [] old mid known tee is copies gets)
-      (subst (λ texts. SaysTo told texts mid mid) (sym (ap (λ flags. said_since (fault_in (suc pieces)) (output_names names) flags (broken_of mid)) same ∙ said_none (fault_in (suc pieces)) (output_names names) (broken_of mid))) (says_nothing told mid)) same
+      piece_said pieces piece old mid mid known known copies (fed_next pieces piece [] old mid known tee is copies gets)
+      (subst (λ texts. SaysTo told texts mid mid) (sym (ap (λ flags. said_since (fault_in (suc (length pieces))) (output_names names) flags (broken_of mid)) same ∙ said_none (fault_in (suc (length pieces))) (output_names names) (broken_of mid))) (says_nothing told mid)) same
 
-  pub next_streams : (x piece : List ℕ) (pieces : ℕ) (messages : List (List ℕ)) (old mid : List Slot) (known : List Bool) (tee : TeeState) → IsTeeOf names tee → Copies told mode names x pieces messages old known → ChangesEach (Gets told piece) (IsOutput tee) old mid → HasStreams mid (length names)
-  next_streams x piece pieces messages old mid known tee is copies gets =
-      let next = fed_next x piece pieces messages old mid known tee is copies gets in record {
+  pub next_streams : (pieces : List (List ℕ)) (piece : List ℕ) (messages : List (List ℕ)) (old mid : List Slot) (known : List Bool) (tee : TeeState) → IsTeeOf names tee → Copies told mode names pieces messages old known → ChangesEach (Gets told piece) (IsOutput tee) old mid → HasStreams mid (length names)
+  next_streams pieces piece messages old mid known tee is copies gets =
+      let next = fed_next pieces piece messages old mid known tee is copies gets in record {
         output = next.output;
         error = copies.error;
         files = next.files;
         are = next.are;
         opened = ap is_open (all_said_state told Tee _ standard_error copies.error copies.said);
-        files_are = length-files told mode (x ++ piece) (suc pieces) names next.broke next.files next.files_have;
+        files_are = length-files told mode (pieces ++ piece ∷ []) names next.broke next.files next.files_have;
       }
 
-  pub known_many : (x : List ℕ) (pieces : ℕ) (messages : List (List ℕ)) (slots : List Slot) (known : List Bool) → Copies told mode names x pieces messages slots known → length known ≡ length names + 1
-  known_many x pieces messages slots known copies =
+  pub known_many : (pieces : List (List ℕ)) (messages : List (List ℕ)) (slots : List Slot) (known : List Bool) → Copies told mode names pieces messages slots known → length known ≡ length names + 1
+  known_many pieces messages slots known copies =
       ap length copies.known_are ∙ count_broken slots (length names) (record {
         output = copies.output;
         error = copies.error;
         files = copies.files;
         are = copies.are;
         opened = ap is_open (all_said_state told Tee _ standard_error copies.error copies.said);
-        files_are = length-files told mode x pieces names copies.broke copies.files copies.files_have;
+        files_are = length-files told mode pieces names copies.broke copies.files copies.files_have;
       })

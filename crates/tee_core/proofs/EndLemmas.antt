@@ -1,5 +1,6 @@
 -- Lemmas on how a run ends.
-use Rattle.std.proofs.Common.{◌≡◌, ℕ, zero, suc, List, [], ◌∷◌, ◌++◌, map, Bool, true, false, not, ◌&&◌, ◌||◌, if◌then◌else◌, Option, Some, None, refl, sym, ◌∙◌, ap, subst, arith}
+use Rattle.std.proofs.Common.{length, ◌≡◌, ℕ, zero, suc, List, [], ◌∷◌, ◌++◌, map, Bool, true, false, not, ◌&&◌, ◌||◌, if◌then◌else◌, Option, Some, None, refl, sym, ◌∙◌, ap, subst, arith}
+use Rattle.std.specs.List.{concat}
 use Rattle.std.proofs.lemmas.Bool.{false≢true}
 use Rattle.ports_core.specs.Slot.{Slot, slot_at, is_open, adds, closes, opened, streams, told_of}
 use Rattle.ports_core.specs.Source.{Content, Source, source_at}
@@ -38,7 +39,7 @@ status_is broke fault failed known failing is =
 
 pub ends_copied : (told_in told : Bool) (mode : Mode) (names : List (List ℕ)) (content : Content) (source : Source) (new : List Slot) (failed : Bool) (status : ℕ) → status ≡ (if failed then 1 else 0) → CopiesInput told_in told mode names content source new failed → EndsAs told_in told mode names content source new status
 ends_copied told_in told mode names content source new failed status is copies =
-    copied copies.bytes copies.fault copies.pieces copies.copied.first copies.copied.broke copies.copied.output copies.copied.error copies.copied.files copies.read copies.copied.output_left copies.copied.files_left copies.copied.said copies.copied.are
+    copied copies.pieces copies.fault copies.copied.first copies.copied.broke copies.copied.output copies.copied.error copies.copied.files copies.read copies.copied.output_left copies.copied.files_left copies.copied.said copies.copied.are
     (is ∙ status_is (copies.copied.first ∷ copies.copied.broke) copies.fault failed copies.known copies.failed_is copies.copied.known_are)
 
 pub of_content_too : (told : Bool) (there : Content) (P Q : Content → Type 0) → ((content : Content) → P content → Q content) → OfContent told there P → OfContent told there Q
@@ -78,18 +79,18 @@ nothing_before : (call : ℕ) (names : List (List ℕ)) (broke : List (Option �
 nothing_before zero names broke sound = refl
 nothing_before (suc call) names broke sound = ap (λ texts. texts ++ said_in call names broke) (nothing_before call names broke sound) ∙ nothing_in call names broke sound
 
-whole_output : (told : Bool) (x : List ℕ) (pieces : ℕ) (first : Option ℕ) (output : Slot) → first ≡ None → OutputLeft told x pieces first output → output ≡ adds (told_of told x) standard_output
-whole_output told x pieces _ _ is output_whole = refl
-whole_output told x pieces _ _ is (output_cut call n before within) = absurd (some_none is) where
+whole_output : (told : Bool) (pieces : List (List ℕ)) (first : Option ℕ) (output : Slot) → first ≡ None → OutputLeft told pieces first output → output ≡ adds (told_of told (concat pieces)) standard_output
+whole_output told pieces _ _ is output_whole = refl
+whole_output told pieces _ _ is (output_cut before that after n is_there within) = absurd (some_none is) where
   some_none : {a : ℕ} → Some a ≡ None → ⊥
   some_none is = false≢true (ap is_sound is)
 
-whole_files : (told : Bool) (mode : Mode) (x : List ℕ) (pieces : ℕ) (names : List (List ℕ)) (broke : List (Option ℕ)) (files : List Slot) → are_sound broke ≡ true → FilesLeft told mode x pieces names broke files → files ≡ map (λ name. closes (adds (told_of told x) (opened name mode))) names
-whole_files told mode x pieces _ _ _ sound no_file = refl
-whole_files told mode x pieces _ _ _ sound (one_file name names _ broke _ files file_whole rest) = ap (λ those. closes (adds (told_of told x) (opened name mode)) ∷ those) (whole_files told mode x pieces names broke files sound rest)
-whole_files told mode x pieces _ _ _ sound (one_file name names _ broke _ files (file_unopened kept named) rest) = absurd (false≢true sound)
-whole_files told mode x pieces _ _ _ sound (one_file name names _ broke _ files (file_cut call n before within) rest) = absurd (false≢true sound)
-whole_files told mode x pieces _ _ _ sound (one_file name names _ broke _ files file_unclosed rest) = absurd (false≢true sound)
+whole_files : (told : Bool) (mode : Mode) (pieces : List (List ℕ)) (names : List (List ℕ)) (broke : List (Option ℕ)) (files : List Slot) → are_sound broke ≡ true → FilesLeft told mode pieces names broke files → files ≡ map (λ name. closes (adds (told_of told (concat pieces)) (opened name mode))) names
+whole_files told mode pieces _ _ _ sound no_file = refl
+whole_files told mode pieces _ _ _ sound (one_file name names _ broke _ files file_whole rest) = ap (λ those. closes (adds (told_of told (concat pieces)) (opened name mode)) ∷ those) (whole_files told mode pieces names broke files sound rest)
+whole_files told mode pieces _ _ _ sound (one_file name names _ broke _ files (file_unopened kept named) rest) = absurd (false≢true sound)
+whole_files told mode pieces _ _ _ sound (one_file name names _ broke _ files (file_cut before that after n is within) rest) = absurd (false≢true sound)
+whole_files told mode pieces _ _ _ sound (one_file name names _ broke _ files file_unclosed rest) = absurd (false≢true sound)
 
 status_zero : (sound whole : Bool) → ◌≡◌ {A = ℕ} (if whole && sound then 0 else 1) 0 → (whole ≡ true) × (sound ≡ true)
 status_zero true true is = (refl, refl)
@@ -104,14 +105,14 @@ read_whole content Leaves _ _ sound (to_limit x piece rest is many left) = absur
 
 pub whole_if : (told_in told : Bool) (mode : Mode) (names : List (List ℕ)) (content : Content) (source : Source) (new : List Slot) (status : ℕ) → status ≡ 0 → EndsAs told_in told mode names content source new status → new ≡ all_copied told mode names content.bytes
 whole_if told_in told mode names content source new status zero_is (no_room error said left at one) = absurd (omega (arith, zero_is, one))
-whole_if told_in told mode names content source new status zero_is (copied x fault pieces first broke output error files read output_left files_left said at is) =
+whole_if told_in told mode names content source new status zero_is (copied pieces fault first broke output error files read output_left files_left said at is) =
     let good = status_zero (is_sound fault) (are_sound (first ∷ broke)) (sym is ∙ zero_is) in
     let sounds = sound_first first (are_sound broke) good.0 in
-    let silent : messages_of names (first ∷ broke) pieces fault ≡ [] = quiet fault pieces (first ∷ broke) good.1 good.0 in
-    at ∙ ap (λ slot. slot ∷ error ∷ files) (whole_output told x pieces first output sounds.0 output_left)
-    ∙ ap (λ slot. adds (told_of told x) standard_output ∷ slot ∷ files) (subst (λ texts. SaysAll told Tee texts standard_error error) silent said)
-    ∙ ap (λ those. adds (told_of told x) standard_output ∷ standard_error ∷ those) (whole_files told mode x pieces names broke files sounds.1 files_left)
-    ∙ ap (all_copied told mode names) (sym (read_whole content _ x fault good.1 read)) where
+    let silent : messages_of names (first ∷ broke) (length pieces) fault ≡ [] = quiet fault (length pieces) (first ∷ broke) good.1 good.0 in
+    at ∙ ap (λ slot. slot ∷ error ∷ files) (whole_output told pieces first output sounds.0 output_left)
+    ∙ ap (λ slot. adds (told_of told (concat pieces)) standard_output ∷ slot ∷ files) (subst (λ texts. SaysAll told Tee texts standard_error error) silent said)
+    ∙ ap (λ those. adds (told_of told (concat pieces)) standard_output ∷ standard_error ∷ those) (whole_files told mode pieces names broke files sounds.1 files_left)
+    ∙ ap (all_copied told mode names) (sym (read_whole content _ (concat pieces) fault good.1 read)) where
       quiet : (fault : Option Fault) (pieces : ℕ) (broke : List (Option ℕ)) → is_sound fault ≡ true → are_sound broke ≡ true → messages_of names broke pieces fault ≡ []
       quiet None pieces broke ended sound =
           ap (λ texts. (texts ++ []) ++ said_in (suc pieces) (output_names names) broke) (nothing_before (suc pieces) (output_names names) broke sound) ∙ nothing_in (suc pieces) (output_names names) broke sound

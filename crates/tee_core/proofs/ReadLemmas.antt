@@ -1,13 +1,16 @@
 -- Lemmas on what a run reads of its input.
-use Rattle.std.proofs.Common.{◌≡◌, ℕ, ◌+◌, ◌<◌, ◌≤◌, ◌^◌, List, [], ◌∷◌, ◌++◌, length, take, Bool, true, false, Some, None, IsTrue, refl, sym, ◌∙◌, ap, subst, arith, length-append, length-take}
+use Rattle.std.proofs.Common.{◌≡◌, ℕ, ◌+◌, ◌<◌, ◌≤◌, ◌^◌, List, [], ◌∷◌, ◌++◌, length, take, Bool, true, false, Option, Some, None, IsTrue, refl, sym, ◌∙◌, ap, subst, arith, length-append, length-take}
 use Rattle.std.proofs.lemmas.List.{append-nil}
+use Rattle.std.specs.List.{concat}
 use Rattle.std.proofs.lemmas.Bool.{false≢true}
-use Rattle.ports_core.specs.Slot.{changed_at}
+use Rattle.ports_core.specs.Slot.{Slot, changed_at}
 use Rattle.ports_core.specs.Source.{Content, Source, source_at, is_readable, fails, gives, BrokeOff, Gave}
 use Rattle.ports_core.specs.declared.fault.Fault.{Fault}
 use Rattle.ports_core.specs.declared.fault.Fault.TheVariants.{Read, TooLong}
+use Rattle.ports_core.specs.declared.slot.Mode.{Mode}
 use Rattle.run_core.proofs.FeedingLemmas.{HasRead, read_broken, read_failed, read_more, read_none_more, read_to_end}
 use Rattle.tee_core.specs.Run.{IsRead, LeavesOf, to_end, to_break, to_limit}
+use Rattle.tee_core.specs.Steps.{Copies, CopiesRead}
 
 nothing_more : (x rest : List ℕ) → x ≡ x ++ rest → rest ≡ []
 nothing_more x [] is = refl
@@ -51,3 +54,7 @@ long_untold told x buffer fed n source tells counted within many = to_limit x (t
 
 pub counted_more : (x buffer : List ℕ) (fed n sum : ℕ) → fed ≡ length x → n ≤ length buffer → sum ≡ fed + n → sum ≡ length (x ++ take n buffer)
 counted_more x buffer fed n sum counted within is = omega (arith, counted, within, is, length-append x (take n buffer), length-take n buffer)
+
+pub reads_copied : (told_in told : Bool) (mode : Mode) (names : List (List ℕ)) (content : Content) (source : Source) (slots : List Slot) (known : List Bool) (fault : Option Fault) (came : List ℕ) (pieces : List (List ℕ)) → came ≡ concat pieces → IsRead content (LeavesOf told_in source) came fault → Copies told mode names pieces [] slots known
+    → CopiesRead told_in told mode names content source slots known fault
+reads_copied told_in told mode names content source slots known fault came pieces joined read copies = record { pieces = pieces; read = subst (λ bytes. IsRead content (LeavesOf told_in source) bytes fault) joined read; copies = copies }

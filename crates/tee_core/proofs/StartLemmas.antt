@@ -20,15 +20,15 @@ nothing_added : (told : Bool) (name : List ℕ) (mode : Mode) → adds (told_of 
 nothing_added told name mode = ap (λ (bytes : List ℕ). record (opened name mode) { written = bytes }) (told_of-nil told)
 
 abbrev FileStarts : Bool → Mode → List ℕ → Slot → Type 0
-FileStarts told mode name file = (first : Option ℕ) × FileHas told mode [] 0 name first file × Marked 0 None first false file.is_broken
+FileStarts told mode name file = (first : Option ℕ) × FileHas told mode [] name first file × Marked 0 None first false file.is_broken
 
 file_starts : (told : Bool) (mode : Mode) (name : List ℕ) (file : Slot) → OpensAs mode name file → FileStarts told mode name file
-file_starts told mode name _ is_opened = (None, subst (FileHas told mode [] 0 name None) (nothing_added told name mode) has_all, marked_none 0)
+file_starts told mode name _ is_opened = (None, subst (FileHas told mode [] name None) (nothing_added told name mode) has_all, marked_none 0)
 file_starts told mode name _ (is_unopened kept named) = (Some 0, has_none kept named, marked_now 0)
 
 abbrev FilesStart : Bool → Mode → List (List ℕ) → List Slot → Type 0
 FilesStart told mode names files =
-    (broke : List (Option ℕ)) × FilesHave told mode [] 0 names broke files × AllMarked 0 (replicate (length names) None) broke (replicate (length names) false) (map (λ (file : Slot). file.is_broken) files)
+    (broke : List (Option ℕ)) × FilesHave told mode [] names broke files × AllMarked 0 (replicate (length names) None) broke (replicate (length names) false) (map (λ (file : Slot). file.is_broken) files)
 
 files_start : (told : Bool) (mode : Mode) (names : List (List ℕ)) (files : List Slot) → OpensEach mode names files → FilesStart told mode names files
 files_start told mode _ _ no_more = ([], steps.no_more, none_marked)
@@ -50,7 +50,7 @@ opened_streams mode names slots opens = record {
 none_known : (names : List (List ℕ)) → replicate (length names + 1) false ≡ false ∷ replicate (length names) false
 none_known names = ap (λ n. replicate n false) (let e : length names + 1 ≡ suc (length names) = omega arith in e)
 
-pub starts : (told : Bool) (mode : Mode) (names : List (List ℕ)) (old new : List Slot) (known now : List Bool) → Opens mode names streams old → known ≡ replicate (length names + 1) false → SaysTo told (said_since (fault_in 0) (output_names names) known (broken_of old)) old new → now ≡ broken_of old → Copies told mode names [] 0 [] new now
+pub starts : (told : Bool) (mode : Mode) (names : List (List ℕ)) (old new : List Slot) (known now : List Bool) → Opens mode names streams old → known ≡ replicate (length names + 1) false → SaysTo told (said_since (fault_in 0) (output_names names) known (broken_of old)) old new → now ≡ broken_of old → Copies told mode names [] [] new now
 starts told mode names old new known now opens unknown says flags =
     let files = files_start told mode names opens.since opens.each in
     let new_is : new ≡ standard_output ∷ says.0 ∷ opens.since = says.2 ∙ ap (changed_at 1 (λ _. says.0)) opens.slots in
@@ -62,7 +62,7 @@ starts told mode names old new known now opens unknown says flags =
       first = None;
       broke = files.0;
       are = new_is;
-      output_has = subst (OutputLeft told [] 0 None) (ap (λ (bytes : List ℕ). record standard_output { written = bytes }) (told_of-nil told)) output_whole;
+      output_has = subst (OutputLeft told [] None) (ap (λ (bytes : List ℕ). record standard_output { written = bytes }) (told_of-nil told)) output_whole;
       files_have = files.1;
       said = subst (λ texts. SaysAll told Tee texts standard_error says.0)
           (ap (λ flags. said_since (fault_in 0) (output_names names) flags (broken_of old)) (unknown ∙ none_known names) ∙ ap (λ those. said_since (fault_in 0) (output_names names) (false ∷ replicate (length names) false) (broken_of those)) opens.slots

@@ -1,5 +1,6 @@
 -- What a run of `tee` leaves, of its input and of what broke when.
 use Rattle.std.specs.Prelude.{◌≡◌, ℕ, ◌≤◌, ◌<◌, ◌^◌, zero, suc, ◌==◌, ◌&&◌, Bool, true, false, List, [], ◌∷◌, ◌++◌, length, map, take, Option, Some, None, ◌⊎◌, codes, if◌then◌else◌}
+use Rattle.std.specs.List.{concat}
 use Rattle.ports_core.specs.Slot.{Slot, opened, unopened, adds, breaks, closes, told_of}
 use Rattle.ports_core.specs.Source.{Content, Source}
 use Rattle.ports_core.specs.Text.{message_of}
@@ -71,30 +72,32 @@ abbrev pub LeavesOf : Bool → Source → List ℕ → Type 0
 LeavesOf told source rest = told ≡ true → source.left.bytes ≡ rest
 
 -- Standard output: it has all that was copied; or it broke in a piece, and has a beginning.
-pub data OutputLeft (told : Bool) (x : List ℕ) (pieces : ℕ) : Option ℕ → Slot → Type 0 where
-  output_whole : OutputLeft told x pieces None (adds (told_of told x) standard_output)
-  output_cut : (piece n : ℕ) → piece < pieces → n < length x → OutputLeft told x pieces (Some (suc piece)) (breaks (adds (told_of told (take n x)) standard_output))
+pub data OutputLeft (told : Bool) (pieces : List (List ℕ)) : Option ℕ → Slot → Type 0 where
+  output_whole : OutputLeft told pieces None (adds (told_of told (concat pieces)) standard_output)
+  output_cut : (before : List (List ℕ)) (piece : List ℕ) (after : List (List ℕ)) (n : ℕ) → pieces ≡ before ++ piece ∷ after → n < length piece
+      → OutputLeft told pieces (Some (suc (length before))) (breaks (adds (told_of told (concat before ++ take n piece)) standard_output))
 
 -- A file: it has all that was copied, and was closed; or it couldn't be opened, and its name is lost where there was no memory to
 -- keep it; or it broke in a piece, and has a beginning; or it has all, and broke as it was closed.
-pub data FileLeft (told : Bool) (mode : Mode) (x : List ℕ) (pieces : ℕ) (name : List ℕ) : Option ℕ → Slot → Type 0 where
-  file_whole : FileLeft told mode x pieces name None (closes (adds (told_of told x) (opened name mode)))
-  file_unopened : (kept : List ℕ) → (kept ≡ name) ⊎ (kept ≡ []) → FileLeft told mode x pieces name (Some 0) (unopened kept)
-  file_cut : (piece n : ℕ) → piece < pieces → n < length x → FileLeft told mode x pieces name (Some (suc piece)) (breaks (adds (told_of told (take n x)) (opened name mode)))
-  file_unclosed : FileLeft told mode x pieces name (Some (suc pieces)) (breaks (closes (adds (told_of told x) (opened name mode))))
+pub data FileLeft (told : Bool) (mode : Mode) (pieces : List (List ℕ)) (name : List ℕ) : Option ℕ → Slot → Type 0 where
+  file_whole : FileLeft told mode pieces name None (closes (adds (told_of told (concat pieces)) (opened name mode)))
+  file_unopened : (kept : List ℕ) → (kept ≡ name) ⊎ (kept ≡ []) → FileLeft told mode pieces name (Some 0) (unopened kept)
+  file_cut : (before : List (List ℕ)) (piece : List ℕ) (after : List (List ℕ)) (n : ℕ) → pieces ≡ before ++ piece ∷ after → n < length piece
+      → FileLeft told mode pieces name (Some (suc (length before))) (breaks (adds (told_of told (concat before ++ take n piece)) (opened name mode)))
+  file_unclosed : FileLeft told mode pieces name (Some (suc (length pieces))) (breaks (closes (adds (told_of told (concat pieces)) (opened name mode))))
 
 -- the files, each in one of these ways, whatever became of the others
-pub data FilesLeft (told : Bool) (mode : Mode) (x : List ℕ) (pieces : ℕ) : List (List ℕ) → List (Option ℕ) → List Slot → Type 0 where
-  no_file : FilesLeft told mode x pieces [] [] []
+pub data FilesLeft (told : Bool) (mode : Mode) (pieces : List (List ℕ)) : List (List ℕ) → List (Option ℕ) → List Slot → Type 0 where
+  no_file : FilesLeft told mode pieces [] [] []
   one_file : (name : List ℕ) (names : List (List ℕ)) (first : Option ℕ) (broke : List (Option ℕ)) (file : Slot) (files : List Slot)
-      → FileLeft told mode x pieces name first file → FilesLeft told mode x pieces names broke files → FilesLeft told mode x pieces (name ∷ names) (first ∷ broke) (file ∷ files)
+      → FileLeft told mode pieces name first file → FilesLeft told mode pieces names broke files → FilesLeft told mode pieces (name ∷ names) (first ∷ broke) (file ∷ files)
 
 -- A run ended so: standard output and each file were left as they must be by what broke when, the messages for that were said, and the
 -- status tells whether anything went wrong; or there was no memory for the run at all, and nothing was opened or read.
 pub data EndsAs (told_in told : Bool) (mode : Mode) (names : List (List ℕ)) (content : Content) (source : Source) (new : List Slot) (status : ℕ) : Type 0 where
-  copied : (x : List ℕ) (fault : Option Fault) (pieces : ℕ) (first : Option ℕ) (broke : List (Option ℕ)) (output error : Slot) (files : List Slot)
-      → IsRead content (LeavesOf told_in source) x fault → OutputLeft told x pieces first output → FilesLeft told mode x pieces names broke files
-      → SaysAll told Tee (messages_of names (first ∷ broke) pieces fault) standard_error error
+  copied : (pieces : List (List ℕ)) (fault : Option Fault) (first : Option ℕ) (broke : List (Option ℕ)) (output error : Slot) (files : List Slot)
+      → IsRead content (LeavesOf told_in source) (concat pieces) fault → OutputLeft told pieces first output → FilesLeft told mode pieces names broke files
+      → SaysAll told Tee (messages_of names (first ∷ broke) (length pieces) fault) standard_error error
       → new ≡ output ∷ error ∷ files → status ≡ status_of (first ∷ broke) fault
       → EndsAs told_in told mode names content source new status
   no_room : (error : Slot) → SaysAll told Tee (message_of Tee Memory [] ∷ []) standard_error error

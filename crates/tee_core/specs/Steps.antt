@@ -1,5 +1,6 @@
 -- What each step of a run leaves.
 use Rattle.std.specs.Prelude.{◌≡◌, ℕ, ◌<◌, zero, suc, not, ◌&&◌, ◌||◌, Bool, true, false, List, [], ◌∷◌, ◌++◌, length, map, take, Option, Some, None, ◌⊎◌, if◌then◌else◌}
+use Rattle.std.specs.List.{concat}
 use Rattle.ports_core.specs.Slot.{Slot, slot_at, changed_at, is_open, opened, unopened, adds, breaks, told_of}
 use Rattle.ports_core.specs.Source.{Content, Source}
 use Rattle.ports_core.specs.Text.{message_of}
@@ -53,55 +54,54 @@ pub record IsTeeOf (names : List (List ℕ)) (tee : TeeState) : Type 0 where
   pub first : 0 < tee.count → tee.first ≡ 2
 
 -- a file before it is closed
-pub data FileHas (told : Bool) (mode : Mode) (x : List ℕ) (pieces : ℕ) (name : List ℕ) : Option ℕ → Slot → Type 0 where
-  has_all : FileHas told mode x pieces name None (adds (told_of told x) (opened name mode))
-  has_none : (kept : List ℕ) → (kept ≡ name) ⊎ (kept ≡ []) → FileHas told mode x pieces name (Some 0) (unopened kept)
-  has_begun : (piece n : ℕ) → piece < pieces → n < length x → FileHas told mode x pieces name (Some (suc piece)) (breaks (adds (told_of told (take n x)) (opened name mode)))
+pub data FileHas (told : Bool) (mode : Mode) (pieces : List (List ℕ)) (name : List ℕ) : Option ℕ → Slot → Type 0 where
+  has_all : FileHas told mode pieces name None (adds (told_of told (concat pieces)) (opened name mode))
+  has_none : (kept : List ℕ) → (kept ≡ name) ⊎ (kept ≡ []) → FileHas told mode pieces name (Some 0) (unopened kept)
+  has_begun : (before : List (List ℕ)) (piece : List ℕ) (after : List (List ℕ)) (n : ℕ) → pieces ≡ before ++ piece ∷ after → n < length piece
+      → FileHas told mode pieces name (Some (suc (length before))) (breaks (adds (told_of told (concat before ++ take n piece)) (opened name mode)))
 
-pub data FilesHave (told : Bool) (mode : Mode) (x : List ℕ) (pieces : ℕ) : List (List ℕ) → List (Option ℕ) → List Slot → Type 0 where
-  no_more : FilesHave told mode x pieces [] [] []
+pub data FilesHave (told : Bool) (mode : Mode) (pieces : List (List ℕ)) : List (List ℕ) → List (Option ℕ) → List Slot → Type 0 where
+  no_more : FilesHave told mode pieces [] [] []
   one_more : (name : List ℕ) (names : List (List ℕ)) (first : Option ℕ) (broke : List (Option ℕ)) (file : Slot) (files : List Slot)
-      → FileHas told mode x pieces name first file → FilesHave told mode x pieces names broke files → FilesHave told mode x pieces (name ∷ names) (first ∷ broke) (file ∷ files)
+      → FileHas told mode pieces name first file → FilesHave told mode pieces names broke files → FilesHave told mode pieces (name ∷ names) (first ∷ broke) (file ∷ files)
 
--- so many pieces were copied, x in all, before the files are closed
-pub record Copies (told : Bool) (mode : Mode) (names : List (List ℕ)) (x : List ℕ) (pieces : ℕ) (messages : List (List ℕ)) (slots : List Slot) (known : List Bool) : Type 0 where
+-- these pieces were copied, before the files are closed
+pub record Copies (told : Bool) (mode : Mode) (names : List (List ℕ)) (pieces : List (List ℕ)) (messages : List (List ℕ)) (slots : List Slot) (known : List Bool) : Type 0 where
   pub output : Slot
   pub error : Slot
   pub files : List Slot
   pub first : Option ℕ
   pub broke : List (Option ℕ)
   pub are : slots ≡ output ∷ error ∷ files
-  pub output_has : OutputLeft told x pieces first output
-  pub files_have : FilesHave told mode x pieces names broke files
-  pub said : SaysAll told Tee (said_before (suc pieces) (output_names names) (first ∷ broke) ++ messages) standard_error error
+  pub output_has : OutputLeft told pieces first output
+  pub files_have : FilesHave told mode pieces names broke files
+  pub said : SaysAll told Tee (said_before (suc (length pieces)) (output_names names) (first ∷ broke) ++ messages) standard_error error
   pub known_are : known ≡ broken_of slots
 
 -- an input was read so, and all that came of it was copied
 pub record CopiesRead (told_in told : Bool) (mode : Mode) (names : List (List ℕ)) (content : Content) (source : Source) (slots : List Slot) (known : List Bool) (fault : Option Fault) : Type 0 where
-  pub bytes : List ℕ
-  pub pieces : ℕ
-  pub read : IsRead content (LeavesOf told_in source) bytes fault
-  pub copies : Copies told mode names bytes pieces [] slots known
+  pub pieces : List (List ℕ)
+  pub read : IsRead content (LeavesOf told_in source) (concat pieces) fault
+  pub copies : Copies told mode names pieces [] slots known
 
 -- how a run leaves its outputs, once the files are closed
-pub record Copied (told : Bool) (mode : Mode) (names : List (List ℕ)) (x : List ℕ) (pieces : ℕ) (fault : Option Fault) (slots : List Slot) (known : List Bool) : Type 0 where
+pub record Copied (told : Bool) (mode : Mode) (names : List (List ℕ)) (pieces : List (List ℕ)) (fault : Option Fault) (slots : List Slot) (known : List Bool) : Type 0 where
   pub output : Slot
   pub error : Slot
   pub files : List Slot
   pub first : Option ℕ
   pub broke : List (Option ℕ)
   pub are : slots ≡ output ∷ error ∷ files
-  pub output_left : OutputLeft told x pieces first output
-  pub files_left : FilesLeft told mode x pieces names broke files
-  pub said : SaysAll told Tee (messages_of names (first ∷ broke) pieces fault) standard_error error
+  pub output_left : OutputLeft told pieces first output
+  pub files_left : FilesLeft told mode pieces names broke files
+  pub said : SaysAll told Tee (messages_of names (first ∷ broke) (length pieces) fault) standard_error error
   pub known_are : known ≡ map (λ when. not (is_sound when)) (first ∷ broke)
 
 -- the whole input was copied, and this tells whether a fault was met
 pub record CopiesInput (told_in told : Bool) (mode : Mode) (names : List (List ℕ)) (content : Content) (source : Source) (slots : List Slot) (failed : Bool) : Type 0 where
-  pub bytes : List ℕ
+  pub pieces : List (List ℕ)
   pub fault : Option Fault
-  pub pieces : ℕ
   pub known : List Bool
-  pub read : IsRead content (LeavesOf told_in source) bytes fault
-  pub copied : Copied told mode names bytes pieces fault slots known
+  pub read : IsRead content (LeavesOf told_in source) (concat pieces) fault
+  pub copied : Copied told mode names pieces fault slots known
   pub failed_is : failed ≡ (not (is_sound fault) || any_of known)

@@ -1,5 +1,5 @@
 //! A whole run of `tee`.
-ghost use Rattle.std.specs.Prelude.{◌≡◌, ◌+◌, ◌-◌, ◌^◌, ◌<◌, ◌≤◌, not, ◌&&◌, ◌||◌, replicate, suc, ◌++◌, ℕ, List, Option, Bool, [], true, false, map, length, get_or, IfOk, IfErr, IsTrue};
+ghost use Rattle.std.specs.Prelude.{◌≡◌, ◌∷◌, ◌+◌, ◌-◌, ◌^◌, ◌<◌, ◌≤◌, not, ◌&&◌, ◌||◌, replicate, suc, ◌++◌, ℕ, List, Option, Bool, [], true, false, map, length, get_or, IfOk, IfErr, IsTrue};
 ghost use Rattle.ports_core.specs.declared.fault.Fault.{Fault};
 ghost use Rattle.ports_core.specs.declared.slot.Mode.{Mode};
 ghost use Rattle.ports_core.specs.Slot.{Slot, is_open, slot_at, streams};
@@ -124,9 +124,9 @@ fn copy_pieces<I: Inputs, O: Outs>(
     requires room { 0 < length buffer.old }
     requires input { IsTrue (is_readable (I.sources inputs.old) 0) }
     requires tee { IsTeeOf (map (λ name. name.now) names.now) tee.old }
-    requires copies { (mode : Mode) × Copies O.told mode (map (λ name. name.now) names.now) [] 0 [] (O.slots outs.old) known.old }
+    requires copies { (mode : Mode) × Copies O.told mode (map (λ name. name.now) names.now) [] [] (O.slots outs.old) known.old }
     ensures same { tee.new ≡ tee.old }
-    ensures copies { (mode : Mode) → Copies O.told mode (map (λ name. name.now) names.now) [] 0 [] (O.slots outs.old) known.old
+    ensures copies { (mode : Mode) → Copies O.told mode (map (λ name. name.now) names.now) [] [] (O.slots outs.old) known.old
         → OfContent I.told (source_at (I.sources inputs.old) 0).left (λ content. CopiesRead I.told O.told mode (map (λ name. name.now) names.now) content (source_at (I.sources inputs.new) 0) (O.slots outs.new) known.new result
         × BreaksOnly I.told content (source_at (I.sources inputs.new) 0)) }
     ensures others { KeepsOthers 0 (I.sources inputs.old) (I.sources inputs.new) }
@@ -159,9 +159,9 @@ fn copy_piece<O: Outs>(
     outs: &mut O,
 )
     requires tee { IsTeeOf (map (λ name. name.now) names.now) tee.old }
-    requires copies { (mode : Mode) × (x : List ℕ) × (pieces : ℕ) × Copies O.told mode (map (λ name. name.now) names.now) x pieces [] (O.slots outs.old) known.old }
+    requires copies { (mode : Mode) × (pieces : List (List ℕ)) × Copies O.told mode (map (λ name. name.now) names.now) pieces [] (O.slots outs.old) known.old }
     ensures same { tee.new ≡ tee.old }
-    ensures copies { (mode : Mode) (x : List ℕ) (pieces : ℕ) → Copies O.told mode (map (λ name. name.now) names.now) x pieces [] (O.slots outs.old) known.old → Copies O.told mode (map (λ name. name.now) names.now) (x ++ piece.now) (suc pieces) [] (O.slots outs.new) known.new }
+    ensures copies { (mode : Mode) (pieces : List (List ℕ)) → Copies O.told mode (map (λ name. name.now) names.now) pieces [] (O.slots outs.old) known.old → Copies O.told mode (map (λ name. name.now) names.now) (pieces ++ piece.now ∷ []) [] (O.slots outs.new) known.new }
 {
     if tee.feed(piece, outs) == 0 {
         return;
@@ -178,8 +178,8 @@ fn close_all<O: Outs>(
     outs: &mut O,
 )
     requires tee { IsTeeOf (map (λ name. name.now) names.now) tee.old }
-    requires copies { (mode : Mode) × (x : List ℕ) × (pieces : ℕ) × (messages : List (List ℕ)) × Copies O.told mode (map (λ name. name.now) names.now) x pieces messages (O.slots outs.old) known.old }
-    ensures { (mode : Mode) (x : List ℕ) (pieces : ℕ) (fault : Option Fault) → Copies O.told mode (map (λ name. name.now) names.now) x pieces (said_of_input fault) (O.slots outs.old) known.old → Copied O.told mode (map (λ name. name.now) names.now) x pieces fault (O.slots outs.new) known.new }
+    requires copies { (mode : Mode) × (pieces : List (List ℕ)) × (messages : List (List ℕ)) × Copies O.told mode (map (λ name. name.now) names.now) pieces messages (O.slots outs.old) known.old }
+    ensures { (mode : Mode) (pieces : List (List ℕ)) (fault : Option Fault) → Copies O.told mode (map (λ name. name.now) names.now) pieces (said_of_input fault) (O.slots outs.old) known.old → Copied O.told mode (map (λ name. name.now) names.now) pieces fault (O.slots outs.new) known.new }
 {
     if tee.close(outs) == 0 {
         return;

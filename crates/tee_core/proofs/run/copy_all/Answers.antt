@@ -16,13 +16,13 @@ pub tell_input-requires : goal.tell_input-requires
 tell_input-requires g c =
     let (mode, opens) = c.requires.opened in
     let copied = c.copy_pieces-fault.ensures.copies mode (starts _ mode _ _ _ _ _ opens (length-names c.args.names.now _ c.requires.unknown) c.tell_broken.ensures.said c.tell_broken.ensures.known) in
-    (_, copies_streams _ mode _ copied.2.0.bytes copied.2.0.pieces _ _ _ copied.2.0.copies)
+    (_, copies_streams _ mode _ copied.2.0.pieces _ _ _ copied.2.0.copies)
 
 pub close_all-requires-clause-copies : goal.close_all-requires-clause-copies
 close_all-requires-clause-copies g c =
     let (mode, opens) = c.requires.opened in
     let copied = c.copy_pieces-fault.ensures.copies mode (starts _ mode _ _ _ _ _ opens (length-names c.args.names.now _ c.requires.unknown) c.tell_broken.ensures.said c.tell_broken.ensures.known) in
-    (mode, copied.2.0.bytes, copied.2.0.pieces, said_of_input c.copy_pieces-fault.result, copies_said _ mode _ copied.2.0.bytes copied.2.0.pieces _ _ _ _ copied.2.0.copies c.tell_input.ensures)
+    (mode, copied.2.0.pieces, said_of_input c.copy_pieces-fault.result, copies_said _ mode _ copied.2.0.pieces _ _ _ _ copied.2.0.copies c.tell_input.ensures)
 
 pub returns-clause-copied : goal.returns-clause-copied
 returns-clause-copied g c mode opens =
@@ -31,12 +31,11 @@ returns-clause-copied g c mode opens =
       copied.1,
       (
         record {
-          bytes = copied.2.0.bytes;
           fault = c.copy_pieces-fault.result;
           pieces = copied.2.0.pieces;
           known = c.close_all.new.known;
           read = copied.2.0.read;
-          copied = c.close_all.ensures mode copied.2.0.bytes copied.2.0.pieces c.copy_pieces-fault.result (copies_said _ mode _ copied.2.0.bytes copied.2.0.pieces _ _ _ _ copied.2.0.copies c.tell_input.ensures);
+          copied = c.close_all.ensures mode copied.2.0.pieces c.copy_pieces-fault.result (copies_said _ mode _ copied.2.0.pieces _ _ _ _ copied.2.0.copies c.tell_input.ensures);
           failed_is = c.has_failed.ensures;
         },
         copied.2.1,

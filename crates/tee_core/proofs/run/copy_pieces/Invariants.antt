@@ -1,4 +1,5 @@
 use Rattle.std.proofs.Common.{◌≡◌, ◌≤◌, ◌<◌, ◌-◌, ◌^◌, ℕ, List, [], length, map, true, IsTrue}
+use Rattle.std.specs.List.{concat}
 use Rattle.ports_core.specs.Source.{source_at, is_readable}
 use Rattle.ports_core.specs.declared.slot.Mode.{Mode}
 use Rattle.run_core.specs.Feeding.{KeepsOthers}
@@ -9,9 +10,10 @@ use Rattle.tee_core.proofs.run.copy_pieces.Given as goal
 abbrev pub invariant-pieces : goal.invariant-pieces
 invariant-pieces g l = record {
   came : List ℕ;
-  pieces : ℕ;
-  copies : (mode : Mode) → Copies g.O.Outs.told mode (map (λ name. name.now) l.names) [] 0 [] (g.O.Outs.slots l.fn.outs) l.fn.known
-      → Copies g.O.Outs.told mode (map (λ name. name.now) l.names) came pieces [] (g.O.Outs.slots l.outs) l.known;
+  pieces : List (List ℕ);
+  joined : came ≡ concat pieces;
+  copies : (mode : Mode) → Copies g.O.Outs.told mode (map (λ name. name.now) l.names) [] [] (g.O.Outs.slots l.fn.outs) l.fn.known
+      → Copies g.O.Outs.told mode (map (λ name. name.now) l.names) pieces [] (g.O.Outs.slots l.outs) l.known;
   same : l.tee ≡ l.fn.tee;
   counted : l.fed ≡ length came;
   small : l.fed < 2 ^ 63;
