@@ -47,6 +47,12 @@ still_usable told bytes old _ (gets_all sound) usable = usable
 still_usable told bytes old _ (breaks_off sound n within) usable = λ sound. absurd (false≢true (sym sound))
 still_usable told bytes old _ (gets_none was) usable = usable
 
+-- an output that is sound after it got all
+pub sound_gets : (told : Bool) (bytes : List ℕ) (old new : Slot) → Gets told bytes old new → new.is_broken ≡ false → new ≡ adds (told_of told bytes) old
+sound_gets told bytes old _ (gets_all sound) still = refl
+sound_gets told bytes old _ (breaks_off sound n within) still = absurd (false≢true (sym still))
+sound_gets told bytes old _ (gets_none broken) still = absurd (false≢true (sym still ∙ broken))
+
 -- the outputs of a tee
 
 pub all_get_more : {IsOne : ℕ → Type 0} (told : Bool) (x y : List ℕ) (old mid new : List Slot) → ChangesEach (Gets told x) IsOne old mid → ChangesEach (Gets told y) IsOne mid new → ChangesEach (Gets told (x ++ y)) IsOne old new

@@ -21,7 +21,12 @@ use std::alloc::Global;
 const PIECE: usize = 65_536;
 
 /// A whole run of `tee`: copies standard input to standard output and to the files of these names, which begin empty or are
-/// appended to (POSIX.1-2017, XCU tee). Its status is 1 where a fault was met.
+/// appended to (POSIX.1-2017, XCU tee). A file named `-` is a file. Its status is 1 where a fault was met, and else 0.
+///
+/// An output that can't be opened, written or closed is told on standard error, after the call in which it broke, and the
+/// others go on; the input is read to its end also where no output is left. Where the input breaks off, or has more than
+/// 2^63-1 bytes, that is told too, and the files are closed. It takes memory for one buffer of 65,536 bytes and a byte for
+/// each output, before anything is opened, and for its messages.
 pub fn run_tee<I: Inputs, O: Outs>(
     alloc: Global,
     names: &[&str],

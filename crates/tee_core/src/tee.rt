@@ -1,6 +1,6 @@
 //! An input's copies.
 ghost use Rattle.std.specs.Prelude.{◌≡◌, ◌++◌, ◌∷◌, [], ◌+◌, ◌≤◌, ◌<◌, ◌^◌, ◌-◌, ℕ, List, true, false, length, map, IfOk, IfErr, OnOk};
-ghost use Rattle.ports_core.specs.Slot.{Slot, slot_at, is_open};
+ghost use Rattle.ports_core.specs.Slot.{Slot, adds, is_open, slot_at, told_of};
 ghost use Rattle.tee_core.specs.Opening.{Opens, OpensOne, OpensSome};
 ghost use Rattle.tee_core.specs.Outputs.{ChangesEach, Closes, Gets, IsFile, IsOutput, IsReady, IsUsable, newly_broken};
 ghost use Rattle.tee_core.specs.TeeState.{TeeState};
@@ -35,7 +35,8 @@ impl Model for Tee {
 }
 
 impl Tee {
-    /// Opens the files, in order; there may be none. One that can't be opened is a broken output, and is left out.
+    /// Opens the files, in order; there may be none. One that can't be opened is a broken output, and is left out. A tee
+    /// itself takes no memory: outputs are told by their numbers, and those of the files follow one another.
     ///
     /// # Errors
     ///
@@ -72,12 +73,14 @@ impl Tee {
         })
     }
 
-    /// Writes the piece to standard output, and then to each file in order, and returns how many of them broke. After `close`
-    /// it writes nothing and returns 0.
+    /// Writes the piece to standard output, and then to each file in order, and returns how many of them broke. An output that
+    /// breaks keeps a beginning of the piece, and the others get all of it. After `close` it writes nothing and returns 0.
+    /// It takes no memory.
     pub fn feed<O: Outs>(&mut self, piece: &[u8], outs: &mut O) -> u64
         requires { self.old.is_over ≡ false → IsReady self.old (O.slots outs.old) }
         ensures same { self.new ≡ self.old }
         ensures gets { self.old.is_over ≡ false → ChangesEach (Gets O.told piece.now) (IsOutput self.old) (O.slots outs.old) (O.slots outs.new) }
+        ensures sound { self.old.is_over ≡ false → (place : ℕ) → IsOutput self.old place → (slot_at (O.slots outs.new) place).is_broken ≡ false → slot_at (O.slots outs.new) place ≡ adds (told_of O.told piece.now) (slot_at (O.slots outs.old) place) }
         ensures so_far { self.old.is_over ≡ false → (start : List Slot) (x : List ℕ) → ChangesEach (Gets O.told x) (IsOutput self.old) start (O.slots outs.old) → ChangesEach (Gets O.told (x ++ piece.now)) (IsOutput self.old) start (O.slots outs.new) }
         ensures broke { result ≡ newly_broken (O.slots outs.old) (O.slots outs.new) }
         ensures ready { self.old.is_over ≡ false → IsReady self.old (O.slots outs.new) }
@@ -90,8 +93,8 @@ impl Tee {
         broke + self.write_files(piece, outs)
     }
 
-    /// Closes the files in order, and returns how many of them broke. After that it does nothing and returns 0. Standard
-    /// output stays open.
+    /// Closes the files in order, and returns how many of them broke. Standard output stays open. After that it does nothing
+    /// and returns 0. It takes no memory.
     pub fn close<O: Outs>(&mut self, outs: &mut O) -> u64
         requires { self.old.is_over ≡ false → IsReady self.old (O.slots outs.old) }
         ensures closes { self.old.is_over ≡ false → ChangesEach Closes (IsFile self.old) (O.slots outs.old) (O.slots outs.new) }
