@@ -346,3 +346,30 @@ fn counts_what_broke(rt: HostRuntime) -> Result<(), Fail> {
     assert_eq!(&rt; outs.bytes(3), b"abcdefg".as_slice());
     Ok(())
 }
+
+/// Whether nothing was opened, since there was no memory for the run.
+fn is_unopened(outs: &MemOut) -> bool {
+    outs.name(2).is_empty() && !outs.broken(2)
+}
+
+/// It passes too where one allocation is refused, as `rt try --test --fail-alloc N` does.
+#[test]
+fn want_of_memory_harms_no_sound_output(rt: HostRuntime) -> Result<(), Fail> {
+    let alloc = rt.alloc();
+    let (Ok(mut inputs), Ok(mut outs)) = (inputs_of(alloc, INPUT, 1), outs_of(alloc, &[])) else {
+        return Ok(());
+    };
+    let status = run_tee(alloc, &["s", "t"], Mode::Fresh, &mut inputs, &mut outs);
+    if is_unopened(&outs) {
+        assert_eq!(&rt; outs.bytes(0), b"".as_slice());
+        assert_eq!(&rt; status, 1);
+        return Ok(());
+    }
+    for slot in [0, 2, 3] {
+        assert!(&rt; INPUT.starts_with(outs.bytes(slot)));
+        assert!(&rt; outs.broken(slot) || outs.bytes(slot) == INPUT);
+    }
+    let broken = outs.broken(0) || outs.broken(2) || outs.broken(3);
+    assert_eq!(&rt; status, u8::from(broken));
+    Ok(())
+}

@@ -1,4 +1,4 @@
-use Rattle.std.proofs.Common.{map, subst}
+use Rattle.std.proofs.Common.{◌∙◌, map, subst}
 use Rattle.run_core.proofs.ReadingLemmas.{fresh_asks}
 use Rattle.tee_core.specs.Opening.{Opens}
 use Rattle.tee_core.proofs.StartLemmas.{is_tee_of}
@@ -12,3 +12,6 @@ copy_all-requires-clause-tee g c = is_tee_of c.args.names.now _ _ c.requires.out
 
 pub returns-clause-copied : goal.returns-clause-copied
 returns-clause-copied g c = c.copy_all.ensures.copied c.args.mode (subst (λ slots. Opens c.args.mode (map (λ name. name.now) c.args.names.now) slots (g.O.Outs.slots c.open.new.outs)) c.requires.outputs c.in_ok-tee.ensures.opens)
+
+pub copy_all-requires-clause-room : goal.copy_all-requires-clause-room
+copy_all-requires-clause-room g c = c.deref_mut.ensures.len ∙ c.in_ok-buffer.ensures.len
