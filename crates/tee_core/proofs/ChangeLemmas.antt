@@ -118,17 +118,17 @@ newly_in_two (o ∷ olds) (m ∷ mids) (n ∷ news) count_mid count_new first se
     omega (arith, here, rest)
 
 -- some outputs were changed, and so many of them broke
-pub record Turned (Change : Slot → Slot → Type 0) (IsOne : ℕ → Type 0) (old new : List Slot) (broke : ℕ) : Type 0 where
+pub record Turns (Change : Slot → Slot → Type 0) (IsOne : ℕ → Type 0) (old new : List Slot) (broke : ℕ) : Type 0 where
   pub changes : ChangesEach Change IsOne old new
   pub broke_are : broke ≡ newly_broken old new
 
-pub turned_none : {Change : Slot → Slot → Type 0} {IsOne : ℕ → Type 0} (slots : List Slot) → ((place : ℕ) → IsOne place → ⊥) → Turned Change IsOne slots slots 0
+pub turned_none : {Change : Slot → Slot → Type 0} {IsOne : ℕ → Type 0} (slots : List Slot) → ((place : ℕ) → IsOne place → ⊥) → Turns Change IsOne slots slots 0
 turned_none slots none = record { changes = changes_none slots none; broke_are = sym (newly_none slots) }
 
-pub turned_same : {Change : Slot → Slot → Type 0} (place : ℕ) (slots : List Slot) → Change (slot_at slots place) (slot_at slots place) → Turned Change (λ other. other ≡ place) slots slots 0
+pub turned_same : {Change : Slot → Slot → Type 0} (place : ℕ) (slots : List Slot) → Change (slot_at slots place) (slot_at slots place) → Turns Change (λ other. other ≡ place) slots slots 0
 turned_same place slots changes = record { changes = leaves_one place slots changes; broke_are = sym (newly_none slots) }
 
-pub turned_one : {Change : Slot → Slot → Type 0} (place : ℕ) (change : Slot → Slot) (flag : Bool) (old new : List Slot) → place < length old → (slot_at old place).is_broken ≡ false → (change (slot_at old place)).is_broken ≡ flag → Change (slot_at old place) (change (slot_at old place)) → new ≡ changed_at place change old → Turned Change (λ other. other ≡ place) old new (if flag then 1 else 0)
+pub turned_one : {Change : Slot → Slot → Type 0} (place : ℕ) (change : Slot → Slot) (flag : Bool) (old new : List Slot) → place < length old → (slot_at old place).is_broken ≡ false → (change (slot_at old place)).is_broken ≡ flag → Change (slot_at old place) (change (slot_at old place)) → new ≡ changed_at place change old → Turns Change (λ other. other ≡ place) old new (if flag then 1 else 0)
 turned_one place change flag old new within sound breaks changes is = record {
   changes = changes_one place change old new within changes is;
   broke_are = sym (ap (newly_broken old) is ∙ newly_one place change old flag within sound breaks);
@@ -136,7 +136,7 @@ turned_one place change flag old new within sound breaks changes is = record {
 
 pub turned_both : {Change : Slot → Slot → Type 0} {IsOne IsOther IsEither : ℕ → Type 0} (old mid new : List Slot) (broke more : ℕ) → ((before after : Slot) → Change before after → before.is_broken ≡ true → after.is_broken ≡ true) → ((place : ℕ) → IsOne place ⊎ (IsOne place → ⊥)) → ((place : ℕ) → IsOther place ⊎ (IsOther place → ⊥))
     → ((place : ℕ) → IsOne place → IsOther place → ⊥) → ((place : ℕ) → IsOne place ⊎ IsOther place → IsEither place) → ((place : ℕ) → IsEither place → IsOne place ⊎ IsOther place)
-    → Turned Change IsOne old mid broke → Turned Change IsOther mid new more → Turned Change IsEither old new (broke + more)
+    → Turns Change IsOne old mid broke → Turns Change IsOther mid new more → Turns Change IsEither old new (broke + more)
 turned_both old mid new broke more stays first_is second_is apart to from first second = record {
   changes = changes_as old new to from (changes_both old mid new apart first.changes second.changes);
   broke_are = sym (newly_in_two old mid new first.changes.count second.changes.count (stay_broken old mid stays first_is first.changes) (stay_broken mid new stays second_is second.changes)
@@ -146,7 +146,7 @@ turned_both old mid new broke more stays first_is second_is apart to from first 
 -- the loops go over the files from the first on
 
 pub record InTurn (Change : Slot → Slot → Type 0) (first n : ℕ) (old now : List Slot) (broke : ℕ) : Type 0 where
-  pub turned : Turned Change (λ place. (first ≤ place) × (place < first + n)) old now broke
+  pub turned : Turns Change (λ place. (first ≤ place) × (place < first + n)) old now broke
   pub few : broke ≤ n
 
 pub none_in_turn : {Change : Slot → Slot → Type 0} (first : ℕ) (slots : List Slot) → InTurn Change first 0 slots slots 0
@@ -173,5 +173,5 @@ next_in_turn first n broke more old now new stays so_far changes are one = recor
   ]
 
 -- all were reached
-pub all_in_turn : {Change : Slot → Slot → Type 0} (first n count broke : ℕ) (old now : List Slot) → InTurn Change first n old now broke → n ≡ count → Turned Change (λ place. (first ≤ place) × (place < first + count)) old now broke
-all_in_turn {Change} first n count broke old now so_far all = subst (λ k. Turned Change (λ place. (first ≤ place) × (place < first + k)) old now broke) all so_far.turned
+pub all_in_turn : {Change : Slot → Slot → Type 0} (first n count broke : ℕ) (old now : List Slot) → InTurn Change first n old now broke → n ≡ count → Turns Change (λ place. (first ≤ place) × (place < first + count)) old now broke
+all_in_turn {Change} first n count broke old now so_far all = subst (λ k. Turns Change (λ place. (first ≤ place) × (place < first + k)) old now broke) all so_far.turned

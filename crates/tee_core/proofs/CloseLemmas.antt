@@ -11,21 +11,21 @@ use Rattle.ports_core.proofs.MessageLemmas.{all_said_state, says_behind}
 use Rattle.run_core.specs.RunEnds.{standard_error}
 use Rattle.tee_core.specs.Outputs.{ChangesEach, Closes, is_closed, fails_to_close, was_broken, IsFile, newly_broken}
 use Rattle.tee_core.specs.Run.{OutputLeft, output_whole, output_cut, FileLeft, file_whole, file_unopened, file_cut, file_unclosed, FilesLeft, no_file, one_file, fault_in, is_sound, messages_of, output_names, said_before, said_of_input}
-use Rattle.tee_core.specs.Steps.{Copied, Copies, FileHas, has_all, has_none, has_begun, FilesHave, no_more, one_more, HasStreams, IsTeeOf, SaysTo, broken_of, said_since}
+use Rattle.tee_core.specs.Steps.{HasCopied, Copies, FileHas, has_all, has_none, has_begun, FilesHave, no_more, one_more, HasStreams, IsTeeOf, SaysTo, broken_of, said_since}
 use Rattle.tee_core.specs.TeeState.{TeeState}
 use Rattle.tee_core.proofs.ChangeLemmas.{is_between, stay_broken}
 use Rattle.tee_core.proofs.GetsLemmas.{closed_broken}
-use Rattle.tee_core.proofs.CopyLemmas.{AllMarked, Marked, all_marked, all_older, call_before, error_no_output, length-files, marked_before, marked_none, marked_now, none_marked, place_file, file_place, said_marked, said_none, same_broken}
+use Rattle.tee_core.proofs.CopyLemmas.{AllMark, Marks, all_marked, all_older, call_before, error_no_output, length-files, marked_before, marked_none, marked_now, none_marked, place_file, file_place, said_marked, said_none, same_broken}
 use Rattle.tee_core.proofs.TellLemmas.{says_nothing}
 
 -- an output that isn't closed
-output_kept : (told : Bool) (pieces : List (List ℕ)) (first : Option ℕ) (output : Slot) → OutputLeft told pieces first output → Marked (suc (length pieces)) first first output.is_broken output.is_broken
+output_kept : (told : Bool) (pieces : List (List ℕ)) (first : Option ℕ) (output : Slot) → OutputLeft told pieces first output → Marks (suc (length pieces)) first first output.is_broken output.is_broken
 output_kept told pieces _ _ output_whole = marked_none (suc (length pieces))
 output_kept told pieces _ _ (output_cut before that after n is within) = marked_before (suc (length pieces)) (suc (length before)) (call_before pieces before after that is)
 
 -- a file that is
 abbrev FileEnds : Bool → Mode → List (List ℕ) → List ℕ → Option ℕ → Slot → Slot → Type 0
-FileEnds told mode pieces name first old new = (after : Option ℕ) × FileLeft told mode pieces name after new × Marked (suc (length pieces)) first after old.is_broken new.is_broken
+FileEnds told mode pieces name first old new = (after : Option ℕ) × FileLeft told mode pieces name after new × Marks (suc (length pieces)) first after old.is_broken new.is_broken
 
 file_ends : (told : Bool) (mode : Mode) (pieces : List (List ℕ)) (name : List ℕ) (first : Option ℕ) (old new : Slot) → FileHas told mode pieces name first old → Closes old new → FileEnds told mode pieces name first old new
 file_ends told mode pieces name _ _ _ has_all (is_closed sound) = (None, file_whole, marked_none (suc (length pieces)))
@@ -40,7 +40,7 @@ file_ends told mode pieces name _ _ _ (has_begun before that after n is within) 
 
 abbrev FilesEnd : Bool → Mode → List (List ℕ) → List (List ℕ) → List (Option ℕ) → List Slot → List Slot → Type 0
 FilesEnd told mode pieces names broke olds news =
-    (after : List (Option ℕ)) × FilesLeft told mode pieces names after news × AllMarked (suc (length pieces)) broke after (map (λ (file : Slot). file.is_broken) olds) (map (λ (file : Slot). file.is_broken) news)
+    (after : List (Option ℕ)) × FilesLeft told mode pieces names after news × AllMark (suc (length pieces)) broke after (map (λ (file : Slot). file.is_broken) olds) (map (λ (file : Slot). file.is_broken) news)
 
 files_end : (told : Bool) (mode : Mode) (pieces : List (List ℕ)) (names : List (List ℕ)) (broke : List (Option ℕ)) (olds news : List Slot) → length news ≡ length olds → ((n : ℕ) → n < length olds → Closes (slot_at olds n) (slot_at news n))
     → FilesHave told mode pieces names broke olds → FilesEnd told mode pieces names broke olds news
@@ -109,7 +109,7 @@ module _ (told : Bool) (mode : Mode) (names : List (List ℕ)) where
     pub broke : List (Option ℕ)
     pub are : mid ≡ copies.output ∷ copies.error ∷ files
     pub files_left : FilesLeft told mode pieces names broke files
-    pub marked : AllMarked (suc (length pieces)) (copies.first ∷ copies.broke) (copies.first ∷ broke) (broken_of old) (broken_of mid)
+    pub marked : AllMark (suc (length pieces)) (copies.first ∷ copies.broke) (copies.first ∷ broke) (broken_of old) (broken_of mid)
 
   pub closed_next : (pieces : List (List ℕ)) (messages : List (List ℕ)) (old mid : List Slot) (known : List Bool) (tee : TeeState) → IsTeeOf names tee → (copies : Copies told mode names pieces messages old known) → ChangesEach Closes (IsFile tee) old mid → Ending pieces messages old mid known copies
   closed_next pieces messages old mid known tee is copies closes = by mid refl where
@@ -128,13 +128,13 @@ module _ (told : Bool) (mode : Mode) (names : List (List ℕ)) where
           broke = rest.0;
           are = mid_is;
           files_left = rest.1;
-          marked = subst (λ those. AllMarked (suc (length pieces)) (copies.first ∷ copies.broke) (copies.first ∷ rest.0) those (broken_of mid)) (sym (ap broken_of copies.are))
-              (subst (λ those. AllMarked (suc (length pieces)) (copies.first ∷ copies.broke) (copies.first ∷ rest.0) (broken_of (copies.output ∷ copies.error ∷ copies.files)) those) (sym (ap broken_of mid_is))
+          marked = subst (λ those. AllMark (suc (length pieces)) (copies.first ∷ copies.broke) (copies.first ∷ rest.0) those (broken_of mid)) (sym (ap broken_of copies.are))
+              (subst (λ those. AllMark (suc (length pieces)) (copies.first ∷ copies.broke) (copies.first ∷ rest.0) (broken_of (copies.output ∷ copies.error ∷ copies.files)) those) (sym (ap broken_of mid_is))
               (all_marked copies.first copies.first copies.output.is_broken copies.output.is_broken copies.broke rest.0 _ _ (output_kept told pieces copies.first copies.output copies.output_has) rest.2));
         }
 
   pub closing_said : (pieces : List (List ℕ)) (fault : Option Fault) (old mid new : List Slot) (known now : List Bool) (copies : Copies told mode names pieces (said_of_input fault) old known) → Ending pieces (said_of_input fault) old mid known copies → SaysTo told (said_since (fault_in (suc (length pieces))) (output_names names) known (broken_of mid)) mid new → now ≡ broken_of mid
-      → Copied told mode names pieces fault new now
+      → HasCopied told mode names pieces fault new now
   closing_said pieces fault old mid new known now copies next says flags = record {
     output = copies.output;
     error = says.0;
@@ -154,7 +154,7 @@ module _ (told : Bool) (mode : Mode) (names : List (List ℕ)) where
         ∙ ap (λ texts. (said_before (suc (length pieces)) (output_names names) (copies.first ∷ next.broke) ++ said_of_input fault) ++ texts)
         (ap (λ flags. said_since (fault_in (suc (length pieces))) (output_names names) flags (broken_of mid)) copies.known_are ∙ sym (said_marked (suc (length pieces)) (output_names names) _ _ _ _ next.marked))
 
-  pub closing_quiet : (pieces : List (List ℕ)) (fault : Option Fault) (old mid : List Slot) (known : List Bool) (tee : TeeState) → IsTeeOf names tee → Copies told mode names pieces (said_of_input fault) old known → ChangesEach Closes (IsFile tee) old mid → newly_broken old mid ≡ 0 → Copied told mode names pieces fault mid known
+  pub closing_quiet : (pieces : List (List ℕ)) (fault : Option Fault) (old mid : List Slot) (known : List Bool) (tee : TeeState) → IsTeeOf names tee → Copies told mode names pieces (said_of_input fault) old known → ChangesEach Closes (IsFile tee) old mid → newly_broken old mid ≡ 0 → HasCopied told mode names pieces fault mid known
   closing_quiet pieces fault old mid known tee is copies closes few =
       let same : known ≡ broken_of mid = copies.known_are ∙ same_broken old mid closes.count (stay_broken old mid closed_broken (is_between tee.first (tee.first + tee.count)) closes) few in
       closing_said pieces fault old mid mid known known copies (closed_next pieces (said_of_input fault) old mid known tee is copies closes)

@@ -32,38 +32,38 @@ other_call call other differs = by (eqb other call) refl where
   by false is = is
 
 -- What a call added to what broke when: it is said where the flag rose, and what broke in the calls before stays.
-pub record Marked (call : ℕ) (before after : Option ℕ) (was now : Bool) : Type 0 where
+pub record Marks (call : ℕ) (before after : Option ℕ) (was now : Bool) : Type 0 where
   pub said : broke_in call after ≡ (not was && now)
   pub older : (other : ℕ) → other < call → broke_in other after ≡ broke_in other before
 
-pub marked_none : (call : ℕ) → Marked call None None false false
+pub marked_none : (call : ℕ) → Marks call None None false false
 marked_none call = record { said = refl; older = λ other less. refl }
 
-pub marked_now : (call : ℕ) → Marked call None (Some call) false true
+pub marked_now : (call : ℕ) → Marks call None (Some call) false true
 marked_now call = record { said = same_call call; older = λ other less. other_call other call (λ is. omega (arith, is, less)) }
 
-pub marked_before : (call earlier : ℕ) → earlier < call → Marked call (Some earlier) (Some earlier) true true
+pub marked_before : (call earlier : ℕ) → earlier < call → Marks call (Some earlier) (Some earlier) true true
 marked_before call earlier less = record { said = other_call call earlier (λ is. omega (arith, is, less)); older = λ other before. refl }
 
-pub data AllMarked (call : ℕ) : List (Option ℕ) → List (Option ℕ) → List Bool → List Bool → Type 0 where
-  none_marked : AllMarked call [] [] [] []
-  all_marked : (before after : Option ℕ) (was now : Bool) (befores afters : List (Option ℕ)) (known broken : List Bool) → Marked call before after was now → AllMarked call befores afters known broken → AllMarked call (before ∷ befores) (after ∷ afters) (was ∷ known) (now ∷ broken)
+pub data AllMark (call : ℕ) : List (Option ℕ) → List (Option ℕ) → List Bool → List Bool → Type 0 where
+  none_marked : AllMark call [] [] [] []
+  all_marked : (before after : Option ℕ) (was now : Bool) (befores afters : List (Option ℕ)) (known broken : List Bool) → Marks call before after was now → AllMark call befores afters known broken → AllMark call (before ∷ befores) (after ∷ afters) (was ∷ known) (now ∷ broken)
 
-pub said_marked : (call : ℕ) (names : List (List ℕ)) (befores afters : List (Option ℕ)) (known broken : List Bool) → AllMarked call befores afters known broken → said_in call names afters ≡ said_since (fault_in call) names known broken
+pub said_marked : (call : ℕ) (names : List (List ℕ)) (befores afters : List (Option ℕ)) (known broken : List Bool) → AllMark call befores afters known broken → said_in call names afters ≡ said_since (fault_in call) names known broken
 said_marked call [] _ _ _ _ marked = refl
 said_marked call (name ∷ names) _ _ _ _ none_marked = refl
 said_marked call (name ∷ names) _ _ _ _ (all_marked before after was now befores afters known broken one rest) =
     ap (λ (flag : Bool). if flag then message_of Tee (fault_in call) name ∷ said_in call names afters else said_in call names afters) one.said
     ∙ ap (λ texts. if not was && now then message_of Tee (fault_in call) name ∷ texts else texts) (said_marked call names befores afters known broken rest)
 
-said_older : (call other : ℕ) (names : List (List ℕ)) (befores afters : List (Option ℕ)) (known broken : List Bool) → other < call → AllMarked call befores afters known broken → said_in other names afters ≡ said_in other names befores
+said_older : (call other : ℕ) (names : List (List ℕ)) (befores afters : List (Option ℕ)) (known broken : List Bool) → other < call → AllMark call befores afters known broken → said_in other names afters ≡ said_in other names befores
 said_older call other [] _ _ _ _ less marked = refl
 said_older call other (name ∷ names) _ _ _ _ less none_marked = refl
 said_older call other (name ∷ names) _ _ _ _ less (all_marked before after was now befores afters known broken one rest) =
     ap (λ (flag : Bool). if flag then message_of Tee (fault_in other) name ∷ said_in other names afters else said_in other names afters) (one.older other less)
     ∙ ap (λ texts. if broke_in other before then message_of Tee (fault_in other) name ∷ texts else texts) (said_older call other names befores afters known broken less rest)
 
-pub all_older : (call end : ℕ) (names : List (List ℕ)) (befores afters : List (Option ℕ)) (known broken : List Bool) → end ≤ call → AllMarked call befores afters known broken → said_before end names afters ≡ said_before end names befores
+pub all_older : (call end : ℕ) (names : List (List ℕ)) (befores afters : List (Option ℕ)) (known broken : List Bool) → end ≤ call → AllMark call befores afters known broken → said_before end names afters ≡ said_before end names befores
 all_older call zero names befores afters known broken past marked = refl
 all_older call (suc end) names befores afters known broken past marked =
     ap (λ texts. texts ++ said_in end names afters) (all_older call end names befores afters known broken (omega arith) marked)
@@ -88,7 +88,7 @@ pub call_before : (pieces before after : List (List ℕ)) (piece : List ℕ) →
 call_before pieces before after piece is = let size : length (before ++ piece ∷ after) ≡ length before + length (piece ∷ after) = length-append before (piece ∷ after) in omega (arith, ap length is, size)
 
 abbrev pub OutputMore : Bool → List (List ℕ) → List ℕ → Option ℕ → Slot → Slot → Type 0
-OutputMore told pieces piece first old new = (after : Option ℕ) × OutputLeft told (pieces ++ piece ∷ []) after new × Marked (suc (length pieces)) first after old.is_broken new.is_broken
+OutputMore told pieces piece first old new = (after : Option ℕ) × OutputLeft told (pieces ++ piece ∷ []) after new × Marks (suc (length pieces)) first after old.is_broken new.is_broken
 
 output_more : (told : Bool) (pieces : List (List ℕ)) (piece : List ℕ) (first : Option ℕ) (old new : Slot) → OutputLeft told pieces first old → Gets told piece old new → OutputMore told pieces piece first old new
 output_more told pieces piece _ _ _ output_whole (gets_all sound) =
@@ -102,7 +102,7 @@ output_more told pieces piece _ _ _ (output_cut before that after n is within) (
     (Some (suc (length before)), output_cut before that (after ++ piece ∷ []) n (still_there pieces before after that piece is) within, marked_before (suc (length pieces)) (suc (length before)) (call_before pieces before after that is))
 
 abbrev pub FileMore : Bool → Mode → List (List ℕ) → List ℕ → List ℕ → Option ℕ → Slot → Slot → Type 0
-FileMore told mode pieces piece name first old new = (after : Option ℕ) × FileHas told mode (pieces ++ piece ∷ []) name after new × Marked (suc (length pieces)) first after old.is_broken new.is_broken
+FileMore told mode pieces piece name first old new = (after : Option ℕ) × FileHas told mode (pieces ++ piece ∷ []) name after new × Marks (suc (length pieces)) first after old.is_broken new.is_broken
 
 file_more : (told : Bool) (mode : Mode) (pieces : List (List ℕ)) (piece : List ℕ) (name : List ℕ) (first : Option ℕ) (old new : Slot) → FileHas told mode pieces name first old → Gets told piece old new → FileMore told mode pieces piece name first old new
 file_more told mode pieces piece name _ _ _ has_all (gets_all sound) =
@@ -122,7 +122,7 @@ file_more told mode pieces piece name _ _ _ (has_begun before that after n is wi
 
 abbrev pub FilesMore : Bool → Mode → List (List ℕ) → List ℕ → List (List ℕ) → List (Option ℕ) → List Slot → List Slot → Type 0
 FilesMore told mode pieces piece names broke olds news =
-    (after : List (Option ℕ)) × FilesHave told mode (pieces ++ piece ∷ []) names after news × AllMarked (suc (length pieces)) broke after (map (λ (file : Slot). file.is_broken) olds) (map (λ (file : Slot). file.is_broken) news)
+    (after : List (Option ℕ)) × FilesHave told mode (pieces ++ piece ∷ []) names after news × AllMark (suc (length pieces)) broke after (map (λ (file : Slot). file.is_broken) olds) (map (λ (file : Slot). file.is_broken) news)
 
 files_more : (told : Bool) (mode : Mode) (pieces : List (List ℕ)) (piece : List ℕ) (names : List (List ℕ)) (broke : List (Option ℕ)) (olds news : List Slot) → length news ≡ length olds → ((n : ℕ) → n < length olds → Gets told piece (slot_at olds n) (slot_at news n))
     → FilesHave told mode pieces names broke olds → FilesMore told mode pieces piece names broke olds news
@@ -236,7 +236,7 @@ module _ (told : Bool) (mode : Mode) (names : List (List ℕ)) where
     pub are : mid ≡ output ∷ copies.error ∷ files
     pub output_has : OutputLeft told (pieces ++ piece ∷ []) first output
     pub files_have : FilesHave told mode (pieces ++ piece ∷ []) names broke files
-    pub marked : AllMarked (suc (length pieces)) (copies.first ∷ copies.broke) (first ∷ broke) (broken_of old) (broken_of mid)
+    pub marked : AllMark (suc (length pieces)) (copies.first ∷ copies.broke) (first ∷ broke) (broken_of old) (broken_of mid)
 
   pub fed_next : (pieces : List (List ℕ)) (piece : List ℕ) (messages : List (List ℕ)) (old mid : List Slot) (known : List Bool) (tee : TeeState) → IsTeeOf names tee → (copies : Copies told mode names pieces messages old known) → ChangesEach (Gets told piece) (IsOutput tee) old mid → Next pieces piece messages old mid known copies
   fed_next pieces piece messages old mid known tee is copies gets = by mid refl where
@@ -258,8 +258,8 @@ module _ (told : Bool) (mode : Mode) (names : List (List ℕ)) where
           are = are ∙ ap (λ slot. output ∷ slot ∷ files) same;
           output_has = one.1;
           files_have = rest.1;
-          marked = subst (λ those. AllMarked (suc (length pieces)) (copies.first ∷ copies.broke) (one.0 ∷ rest.0) those (broken_of mid)) (sym (ap broken_of copies.are))
-              (subst (λ those. AllMarked (suc (length pieces)) (copies.first ∷ copies.broke) (one.0 ∷ rest.0) (broken_of (copies.output ∷ copies.error ∷ copies.files)) those) (sym (ap broken_of are))
+          marked = subst (λ those. AllMark (suc (length pieces)) (copies.first ∷ copies.broke) (one.0 ∷ rest.0) those (broken_of mid)) (sym (ap broken_of copies.are))
+              (subst (λ those. AllMark (suc (length pieces)) (copies.first ∷ copies.broke) (one.0 ∷ rest.0) (broken_of (copies.output ∷ copies.error ∷ copies.files)) those) (sym (ap broken_of are))
               (all_marked copies.first one.0 copies.output.is_broken output.is_broken copies.broke rest.0 _ _ one.2 rest.2));
         }
 

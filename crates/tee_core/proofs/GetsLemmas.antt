@@ -9,7 +9,7 @@ use Rattle.ports_core.proofs.SlotLemmas.{changed_at-again}
 use Rattle.ports_core.proofs.WriteLemmas.{told_of-append}
 use Rattle.tee_core.specs.Outputs.{ChangesEach, Closes, Gets, gets_all, breaks_off, gets_none, is_closed, fails_to_close, was_broken, IsFile, IsOutput, IsUsable, newly_broken}
 use Rattle.tee_core.specs.TeeState.{TeeState}
-use Rattle.tee_core.proofs.ChangeLemmas.{InTurn, Turned, is_between, is_place, next_in_turn, open_within, turned_both, turned_one, turned_same}
+use Rattle.tee_core.proofs.ChangeLemmas.{InTurn, Turns, is_between, is_place, next_in_turn, open_within, turned_both, turned_one, turned_same}
 
 -- one output
 
@@ -67,25 +67,25 @@ all_still_usable told bytes old new gets usable place is = still_usable told byt
 
 -- one output's turn
 
-pub left_out : (told : Bool) (piece : List ℕ) (place : ℕ) (slots : List Slot) → (slot_at slots place).is_broken ≡ true → Turned (Gets told piece) (λ other. other ≡ place) slots slots 0
+pub left_out : (told : Bool) (piece : List ℕ) (place : ℕ) (slots : List Slot) → (slot_at slots place).is_broken ≡ true → Turns (Gets told piece) (λ other. other ≡ place) slots slots 0
 left_out told piece place slots broken = turned_same place slots (gets_none broken)
 
-pub written_whole : (told : Bool) (piece : List ℕ) (place : ℕ) (old new : List Slot) → IsUsable (slot_at old place) → (slot_at old place).is_broken ≡ false → new ≡ with_written place (told_of told piece) old → Turned (Gets told piece) (λ other. other ≡ place) old new 0
+pub written_whole : (told : Bool) (piece : List ℕ) (place : ℕ) (old new : List Slot) → IsUsable (slot_at old place) → (slot_at old place).is_broken ≡ false → new ≡ with_written place (told_of told piece) old → Turns (Gets told piece) (λ other. other ≡ place) old new 0
 written_whole told piece place old new usable sound is =
     turned_one place (adds (told_of told piece)) false old new (open_within old place (usable sound)) sound sound (gets_all sound) is
 
-pub written_short : (told : Bool) (piece : List ℕ) (place n : ℕ) (old new : List Slot) → IsUsable (slot_at old place) → (slot_at old place).is_broken ≡ false → BrokeAfter told old new place piece n → Turned (Gets told piece) (λ other. other ≡ place) old new 1
+pub written_short : (told : Bool) (piece : List ℕ) (place n : ℕ) (old new : List Slot) → IsUsable (slot_at old place) → (slot_at old place).is_broken ≡ false → BrokeAfter told old new place piece n → Turns (Gets told piece) (λ other. other ≡ place) old new 1
 written_short told piece place n old new usable sound broke =
     turned_one place (λ slot. breaks (adds (told_of told (take n piece)) slot)) true old new (open_within old place (usable sound)) sound refl (breaks_off sound n broke.within)
     (broke.slots ∙ changed_at-again place (adds (told_of told (take n piece))) breaks old)
 
-pub not_closed : (place : ℕ) (slots : List Slot) → (slot_at slots place).is_broken ≡ true → Turned Closes (λ other. other ≡ place) slots slots 0
+pub not_closed : (place : ℕ) (slots : List Slot) → (slot_at slots place).is_broken ≡ true → Turns Closes (λ other. other ≡ place) slots slots 0
 not_closed place slots broken = turned_same place slots (was_broken broken)
 
-pub closed_whole : (place : ℕ) (old new : List Slot) → IsUsable (slot_at old place) → (slot_at old place).is_broken ≡ false → new ≡ changed_at place closes old → Turned Closes (λ other. other ≡ place) old new 0
+pub closed_whole : (place : ℕ) (old new : List Slot) → IsUsable (slot_at old place) → (slot_at old place).is_broken ≡ false → new ≡ changed_at place closes old → Turns Closes (λ other. other ≡ place) old new 0
 closed_whole place old new usable sound is = turned_one place closes false old new (open_within old place (usable sound)) sound sound (is_closed sound) is
 
-pub closed_short : (place : ℕ) (old new : List Slot) → IsUsable (slot_at old place) → (slot_at old place).is_broken ≡ false → new ≡ with_broken place (changed_at place closes old) → Turned Closes (λ other. other ≡ place) old new 1
+pub closed_short : (place : ℕ) (old new : List Slot) → IsUsable (slot_at old place) → (slot_at old place).is_broken ≡ false → new ≡ with_broken place (changed_at place closes old) → Turns Closes (λ other. other ≡ place) old new 1
 closed_short place old new usable sound is =
     turned_one place (λ slot. breaks (closes slot)) true old new (open_within old place (usable sound)) sound refl (fails_to_close sound) (is ∙ changed_at-again place closes breaks old)
 
@@ -98,7 +98,7 @@ pub closes_next : (first n broke more : ℕ) (old now new : List Slot) → InTur
 closes_next first n broke more old now new so_far closes are one = next_in_turn first n broke more old now new closed_broken so_far closes are one
 
 -- standard output, and then the files
-pub fed : (told : Bool) (piece : List ℕ) (tee : TeeState) (broke more : ℕ) (old mid new : List Slot) → (0 < tee.count → 2 ≤ tee.first) → ChangesEach (Gets told piece) (λ place. place ≡ 0) old mid → broke ≡ newly_broken old mid → ChangesEach (Gets told piece) (IsFile tee) mid new → more ≡ newly_broken mid new → Turned (Gets told piece) (IsOutput tee) old new (broke + more)
+pub fed : (told : Bool) (piece : List ℕ) (tee : TeeState) (broke more : ℕ) (old mid new : List Slot) → (0 < tee.count → 2 ≤ tee.first) → ChangesEach (Gets told piece) (λ place. place ≡ 0) old mid → broke ≡ newly_broken old mid → ChangesEach (Gets told piece) (IsFile tee) mid new → more ≡ newly_broken mid new → Turns (Gets told piece) (IsOutput tee) old new (broke + more)
 fed told piece tee broke more old mid new streams first are second more_are =
     turned_both old mid new broke more (still_broken told piece) (is_place 0) (is_between tee.first (tee.first + tee.count))
     (λ place is file. let past : 2 ≤ tee.first = streams (omega (arith, file.0, file.1)) in omega (arith, is, past, file.0))

@@ -13,14 +13,14 @@ use Rattle.tee_core.specs.Run.{OutputLeft, output_whole, fault_in, output_names}
 use Rattle.tee_core.specs.Steps.{Copies, FileHas, has_all, has_none, FilesHave, HasStreams, IsTeeOf, SaysTo, broken_of, said_since}
 use Rattle.tee_core.specs.Steps as steps
 use Rattle.tee_core.specs.TeeState.{TeeState}
-use Rattle.tee_core.proofs.CopyLemmas.{AllMarked, Marked, all_marked, marked_none, marked_now, none_marked, said_marked}
+use Rattle.tee_core.proofs.CopyLemmas.{AllMark, Marks, all_marked, marked_none, marked_now, none_marked, said_marked}
 use Rattle.tee_core.proofs.OpeningLemmas.{length-since}
 
 nothing_added : (told : Bool) (name : List ℕ) (mode : Mode) → adds (told_of told []) (opened name mode) ≡ opened name mode
 nothing_added told name mode = ap (λ (bytes : List ℕ). record (opened name mode) { written = bytes }) (told_of-nil told)
 
 abbrev FileStarts : Bool → Mode → List ℕ → Slot → Type 0
-FileStarts told mode name file = (first : Option ℕ) × FileHas told mode [] name first file × Marked 0 None first false file.is_broken
+FileStarts told mode name file = (first : Option ℕ) × FileHas told mode [] name first file × Marks 0 None first false file.is_broken
 
 file_starts : (told : Bool) (mode : Mode) (name : List ℕ) (file : Slot) → OpensAs mode name file → FileStarts told mode name file
 file_starts told mode name _ is_opened = (None, subst (FileHas told mode [] name None) (nothing_added told name mode) has_all, marked_none 0)
@@ -28,7 +28,7 @@ file_starts told mode name _ (is_unopened kept named) = (Some 0, has_none kept n
 
 abbrev FilesStart : Bool → Mode → List (List ℕ) → List Slot → Type 0
 FilesStart told mode names files =
-    (broke : List (Option ℕ)) × FilesHave told mode [] names broke files × AllMarked 0 (replicate (length names) None) broke (replicate (length names) false) (map (λ (file : Slot). file.is_broken) files)
+    (broke : List (Option ℕ)) × FilesHave told mode [] names broke files × AllMark 0 (replicate (length names) None) broke (replicate (length names) false) (map (λ (file : Slot). file.is_broken) files)
 
 files_start : (told : Bool) (mode : Mode) (names : List (List ℕ)) (files : List Slot) → OpensEach mode names files → FilesStart told mode names files
 files_start told mode _ _ no_more = ([], steps.no_more, none_marked)
@@ -54,7 +54,7 @@ pub starts : (told : Bool) (mode : Mode) (names : List (List ℕ)) (old new : Li
 starts told mode names old new known now opens unknown says flags =
     let files = files_start told mode names opens.since opens.each in
     let new_is : new ≡ standard_output ∷ says.0 ∷ opens.since = says.2 ∙ ap (changed_at 1 (λ _. says.0)) opens.slots in
-    let marked : AllMarked 0 (None ∷ replicate (length names) None) (None ∷ files.0) (false ∷ replicate (length names) false) (broken_of (standard_output ∷ standard_error ∷ opens.since)) = all_marked None None false false _ files.0 _ _ (marked_none 0) files.2 in
+    let marked : AllMark 0 (None ∷ replicate (length names) None) (None ∷ files.0) (false ∷ replicate (length names) false) (broken_of (standard_output ∷ standard_error ∷ opens.since)) = all_marked None None false false _ files.0 _ _ (marked_none 0) files.2 in
     record {
       output = standard_output;
       error = says.0;

@@ -60,7 +60,7 @@ are_sound (first ∷ broke) = is_sound first && are_sound broke
 abbrev pub status_of : List (Option ℕ) → Option Fault → ℕ
 status_of broke fault = if are_sound broke && is_sound fault then 0 else 1
 
--- How an input is read: to its end; or until it breaks off; or up to a piece with which it has more bytes than any tool takes. Copied
+-- How an input is read: to its end; or until it breaks off; or up to a piece with which it has more bytes than any tool takes. HasCopied
 -- is all that came before, and `Leaves` says what is left unread.
 pub data IsRead (content : Content) (Leaves : List ℕ → Type 0) : List ℕ → Option Fault → Type 0 where
   to_end : (x : List ℕ) → content.bytes ≡ x → content.breaks_off ≡ false → Leaves [] → IsRead content Leaves x None

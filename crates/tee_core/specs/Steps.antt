@@ -85,7 +85,7 @@ pub record CopiesRead (told_in told : Bool) (mode : Mode) (names : List (List �
   pub copies : Copies told mode names pieces [] slots known
 
 -- how a run leaves its outputs, once the files are closed
-pub record Copied (told : Bool) (mode : Mode) (names : List (List ℕ)) (pieces : List (List ℕ)) (fault : Option Fault) (slots : List Slot) (known : List Bool) : Type 0 where
+pub record HasCopied (told : Bool) (mode : Mode) (names : List (List ℕ)) (pieces : List (List ℕ)) (fault : Option Fault) (slots : List Slot) (known : List Bool) : Type 0 where
   pub output : Slot
   pub error : Slot
   pub files : List Slot
@@ -103,5 +103,5 @@ pub record CopiesInput (told_in told : Bool) (mode : Mode) (names : List (List �
   pub fault : Option Fault
   pub known : List Bool
   pub read : IsRead content (LeavesOf told_in source) (concat pieces) fault
-  pub copied : Copied told mode names pieces fault slots known
+  pub copied : HasCopied told mode names pieces fault slots known
   pub failed_is : failed ≡ (not (is_sound fault) || any_of known)

@@ -11,7 +11,7 @@ ghost use Rattle.run_core.specs.Reading.{AsksAtMost};
 ghost use Rattle.run_core.specs.RunEnds.{largest_piece};
 ghost use Rattle.tee_core.specs.Opening.{Opens};
 ghost use Rattle.tee_core.specs.Run.{EndsAs, all_copied, is_sound, output_names, said_of_input};
-ghost use Rattle.tee_core.specs.Steps.{Copied, Copies, CopiesInput, CopiesRead, HasStreams, IsTeeOf, SaysTo, any_of, broken_of, output_slot, said_since};
+ghost use Rattle.tee_core.specs.Steps.{HasCopied, Copies, CopiesInput, CopiesRead, HasStreams, IsTeeOf, SaysTo, any_of, broken_of, output_slot, said_since};
 
 use crate::tee::Tee;
 use ports_core::{Fault, Inputs, Mode, Outs, Tool, fed_with, say, tell};
@@ -184,7 +184,7 @@ fn close_all<O: Outs>(
 )
     requires tee { IsTeeOf (map (λ name. name.now) names.now) tee.old }
     requires copies { (mode : Mode) × (pieces : List (List ℕ)) × (messages : List (List ℕ)) × Copies O.told mode (map (λ name. name.now) names.now) pieces messages (O.slots outs.old) known.old }
-    ensures { (mode : Mode) (pieces : List (List ℕ)) (fault : Option Fault) → Copies O.told mode (map (λ name. name.now) names.now) pieces (said_of_input fault) (O.slots outs.old) known.old → Copied O.told mode (map (λ name. name.now) names.now) pieces fault (O.slots outs.new) known.new }
+    ensures { (mode : Mode) (pieces : List (List ℕ)) (fault : Option Fault) → Copies O.told mode (map (λ name. name.now) names.now) pieces (said_of_input fault) (O.slots outs.old) known.old → HasCopied O.told mode (map (λ name. name.now) names.now) pieces fault (O.slots outs.new) known.new }
 {
     if tee.close(outs) == 0 {
         return;
