@@ -7,7 +7,7 @@ use Rattle.ports_core.specs.declared.fault.Fault.TheVariants.{Usage}
 use Rattle.ports_core.specs.declared.fault.UsageKind.TheVariants.{TwoWays}
 use Rattle.split_core.specs.declared.cut.Cut.{Cut}
 use Rattle.words_core.specs.declared.table.Choice.{Choice}
-use Rattle.words_core.specs.declared.table.Choice.TheVariants.{Lines, Bytes, LineBytes, Files, Quiet, Verbose, SuffixLength, NumericSuffixes, HexSuffixes, ElideEmptyFiles, ZeroTerminated, Separator, AdditionalSuffix}
+use Rattle.words_core.specs.declared.table.Choice.TheVariants.{Lines, Bytes, LineBytes, Files, Quiet, Verbose, SuffixLength, NumericSuffixes, HexSuffixes, ElideEmptyFiles}
 use Rattle.words_core.specs.declared.ends_words.EndsOptions.{EndsOptions}
 use Rattle.words_core.specs.declared.split_words.SplitOptions.{SplitOptions}
 use Rattle.words_core.specs.Value.{Meant, Counted, Width}
@@ -132,11 +132,7 @@ spells-keeps asked next SuffixLength value word differs is = ap (λ (those : Spl
 spells-keeps asked next NumericSuffixes value word differs is = absurd (cc)
 spells-keeps asked next HexSuffixes value word differs is = absurd (cc)
 spells-keeps asked next ElideEmptyFiles value word differs is = ap (λ (those : SplitOptions). those.alphabet) (sym (ok_is (record asked { elide = true }) next is))
-spells-keeps asked next Quiet value word differs is = ap (λ (those : SplitOptions). those.alphabet) (sym (ok_is asked next is))
-spells-keeps asked next Verbose value word differs is = ap (λ (those : SplitOptions). those.alphabet) (sym (ok_is asked next is))
-spells-keeps asked next ZeroTerminated value word differs is = ap (λ (those : SplitOptions). those.alphabet) (sym (ok_is asked next is))
-spells-keeps asked next Separator value word differs is = ap (λ (those : SplitOptions). those.alphabet) (sym (ok_is asked next is))
-spells-keeps asked next AdditionalSuffix value word differs is = ap (λ (those : SplitOptions). those.alphabet) (sym (ok_is asked next is))
+spells-keeps asked next choice value word differs is = ap (λ (those : SplitOptions). those.alphabet) (sym (ok_is asked next is))
 
 same_inside : {C : Type 0} (part : SplitOptions → C) (one other next alone : SplitOptions) → part one ≡ part other → ok one ≡ ok next → ok other ≡ ok alone → part next ≡ part alone
 same_inside part one other next alone same is alone_is = ap part (sym (ok_is one next is)) ∙ same ∙ ap part (ok_is other alone alone_is)
@@ -156,11 +152,7 @@ widens-keeps asked next SuffixLength value word differs is = ap (λ (those : Spl
 widens-keeps asked next NumericSuffixes value word differs is = same_inside (λ those. those.width) _ asked next asked refl is refl
 widens-keeps asked next HexSuffixes value word differs is = same_inside (λ those. those.width) _ asked next asked refl is refl
 widens-keeps asked next ElideEmptyFiles value word differs is = same_inside (λ those. those.width) _ asked next asked refl is refl
-widens-keeps asked next Quiet value word differs is = ap (λ (those : SplitOptions). those.width) (sym (ok_is asked next is))
-widens-keeps asked next Verbose value word differs is = ap (λ (those : SplitOptions). those.width) (sym (ok_is asked next is))
-widens-keeps asked next ZeroTerminated value word differs is = ap (λ (those : SplitOptions). those.width) (sym (ok_is asked next is))
-widens-keeps asked next Separator value word differs is = ap (λ (those : SplitOptions). those.width) (sym (ok_is asked next is))
-widens-keeps asked next AdditionalSuffix value word differs is = ap (λ (those : SplitOptions). those.width) (sym (ok_is asked next is))
+widens-keeps asked next choice value word differs is = ap (λ (those : SplitOptions). those.width) (sym (ok_is asked next is))
 
 widens-same : (asked next other alone : SplitOptions) (choice : Choice) (value : Meant) (word : ℕ) → widens choice value ≡ true → split_by asked choice value word ≡ Ok next → split_by other choice value word ≡ Ok alone → next.width ≡ alone.width
 widens-same asked next other alone SuffixLength (Width width) word equal is alone_is = same_inside (λ those. those.width) _ _ next alone refl is alone_is
@@ -197,12 +189,11 @@ other_by asked SuffixLength value word is = (asked, refl, refl)
 other_by asked NumericSuffixes value word is = (_, refl, refl)
 other_by asked HexSuffixes value word is = (_, refl, refl)
 other_by asked ElideEmptyFiles value word is = (_, refl, refl)
-other_by asked Quiet value word is = (asked, refl, refl)
-other_by asked Verbose value word is = (asked, refl, refl)
-other_by asked ZeroTerminated value word is = (asked, refl, refl)
-other_by asked Separator value word is = (asked, refl, refl)
-other_by asked AdditionalSuffix value word is = (asked, refl, refl)
-other_by asked choice value word is = absurd (cc)
+other_by asked Lines value word is = absurd (cc)
+other_by asked Bytes value word is = absurd (cc)
+other_by asked LineBytes value word is = absurd (cc)
+other_by asked Files value word is = absurd (cc)
+other_by asked choice value word is = (asked, refl, refl)
 
 then_on : (first : Result SplitOptions Fault) (asked : SplitOptions) (next : SplitOptions → Result SplitOptions Fault) → first ≡ Ok asked → then_check first next ≡ next asked
 then_on first asked next is = ap (λ those. then_check those next) is

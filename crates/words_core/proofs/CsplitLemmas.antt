@@ -1,0 +1,32 @@
+-- Lemmas on what options and operands ask of `csplit`.
+use Rattle.std.proofs.Common.{◌≡◌, ◌-◌, ◌≤◌, arith, get_or, take, drop, length, map, List, [], ◌∷◌, Result, Ok, Err, IfOk, sym, ◌∙◌, ap}
+use Rattle.std.proofs.lemmas.List.{take_rest}
+use Rattle.csplit_core.specs.Output.{Style}
+use Rattle.ports_core.specs.declared.fault.Fault.{Fault}
+use Rattle.words_core.specs.declared.spelled.Chosen.{Chosen}
+use Rattle.words_core.specs.declared.spelled.Operand.{Operand}
+use Rattle.words_core.specs.CsplitAsked.{CsplitAsked}
+use Rattle.words_core.specs.CsplitWords.{asked_of, asked_with, csplit_asked, style_of}
+use Rattle.words_core.specs.Given.{Given, operand_seen, option_seen}
+
+-- the first operand is the file
+file_first : (style : Style) (none : Operand) (all : List Operand) → 1 ≤ length all → 1 ≤ length (take (length all - 1) (drop 1 all))
+    → asked_of style (map operand_seen all) ≡ Ok (asked_with style (get_or all 0 none).text.now (map operand_seen (take (length all - 1) (drop 1 all))))
+file_first style none [] some more = absurd (omega arith)
+file_first style none (file ∷ []) some more = absurd (omega arith)
+file_first style none (file ∷ operand ∷ operands) some more = ap (λ rest. Ok (asked_with style file.text.now (map operand_seen rest))) (sym (take_rest (file ∷ operand ∷ operands) 1))
+
+as_meant : (meant : Result CsplitAsked Fault) (one : CsplitAsked) (result : Result CsplitAsked Fault) → meant ≡ Ok one → IfOk result (λ settings. settings ≡ one) → IfOk result (λ settings. meant ≡ Ok settings)
+as_meant meant one (Ok settings) is equal = is ∙ ap (λ asked. Ok asked) (sym equal)
+as_meant meant one (Err fault) is equal = tt
+
+-- what a call returns for the style of these options and for these operands is what is asked
+pub settled : (given : Given) (options : List Chosen) (none : Operand) (all : List Operand) (style : Style) (result : Result CsplitAsked Fault)
+    → map option_seen options ≡ given.options → map operand_seen all ≡ given.operands → style ≡ style_of (map option_seen options) → 1 ≤ length all → 1 ≤ length (take (length all - 1) (drop 1 all))
+    → IfOk result (λ settings. settings ≡ asked_with style (get_or all 0 none).text.now (map operand_seen (take (length all - 1) (drop 1 all))))
+    → IfOk result (λ settings. csplit_asked given ≡ Ok settings)
+settled given options none all style result are these is some more =
+    as_meant (csplit_asked given) _ result
+    (ap (λ operands. asked_of (style_of given.options) operands) (sym these)
+    ∙ ap (λ style. asked_of style (map operand_seen all)) (ap style_of (sym are) ∙ sym is)
+    ∙ file_first style none all some more)
