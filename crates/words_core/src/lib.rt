@@ -2,6 +2,8 @@
 #![tactic(auto)]
 
 mod csplit_settings;
+#[cfg(test)]
+mod csplit_tests;
 mod csplit_words;
 mod ends_words;
 mod laws;
@@ -14,6 +16,8 @@ mod spelling_tests;
 mod split_tests;
 mod split_words;
 mod table;
+#[cfg(test)]
+mod tee_tests;
 mod tee_words;
 mod value;
 mod words;
