@@ -22,21 +22,21 @@ neither true b is = absurd (cc)
 
 -- options that ask for one thing, and a part of what is asked for that only they change
 
-kept : {C : Type 0} (part : EndsOptions → C) (test : GivenOption → Bool)
-    → ((asked : EndsOptions) (option : GivenOption) → test option ≡ false → part (ends_after asked option) ≡ part asked)
-    → (options : List GivenOption) (asked : EndsOptions) → list_any test options ≡ false → part (fold ends_after asked options) ≡ part asked
-kept part test keeps [] asked none = refl
-kept part test keeps (option ∷ options) asked none =
+pub kept : {A C : Type 0} (after : A → GivenOption → A) (part : A → C) (test : GivenOption → Bool)
+    → ((asked : A) (option : GivenOption) → test option ≡ false → part (after asked option) ≡ part asked)
+    → (options : List GivenOption) (asked : A) → list_any test options ≡ false → part (fold after asked options) ≡ part asked
+kept after part test keeps [] asked none = refl
+kept after part test keeps (option ∷ options) asked none =
     let both = neither (test option) (list_any test options) none in
-    kept part test keeps options (ends_after asked option) both.1 ∙ keeps asked option both.0
+    kept after part test keeps options (after asked option) both.1 ∙ keeps asked option both.0
 
-decided : {C : Type 0} (part : EndsOptions → C) (test : GivenOption → Bool)
-    → ((asked : EndsOptions) (option : GivenOption) → test option ≡ false → part (ends_after asked option) ≡ part asked)
-    → ((asked other : EndsOptions) (option : GivenOption) → test option ≡ true → part (ends_after asked option) ≡ part (ends_after other option))
-    → (before after : List GivenOption) (option : GivenOption) (asked other : EndsOptions) → test option ≡ true → list_any test after ≡ false
-    → part (fold ends_after asked (before ++ option ∷ after)) ≡ part (ends_after other option)
-decided part test keeps same [] after option asked other is none = kept part test keeps after (ends_after asked option) none ∙ same asked other option is
-decided part test keeps same (first ∷ before) after option asked other is none = decided part test keeps same before after option (ends_after asked first) other is none
+pub decided : {A C : Type 0} (by : A → GivenOption → A) (part : A → C) (test : GivenOption → Bool)
+    → ((asked : A) (option : GivenOption) → test option ≡ false → part (by asked option) ≡ part asked)
+    → ((asked other : A) (option : GivenOption) → test option ≡ true → part (by asked option) ≡ part (by other option))
+    → (before after : List GivenOption) (option : GivenOption) (asked other : A) → test option ≡ true → list_any test after ≡ false
+    → part (fold by asked (before ++ option ∷ after)) ≡ part (by other option)
+decided by part test keeps same [] after option asked other is none = kept by part test keeps after (by asked option) none ∙ same asked other option is
+decided by part test keeps same (first ∷ before) after option asked other is none = decided by part test keeps same before after option (by asked first) other is none
 
 counts-keeps : (asked : EndsOptions) (choice : Choice) (value : Meant) → counts choice value ≡ false → amount_of (ends_by asked choice value) ≡ amount_of asked
 counts-keeps asked Lines (Counted count) is = absurd (cc)
@@ -62,17 +62,17 @@ heads-same asked other choice value is = absurd (cc)
 
 pub last_count : (before after : List GivenOption) (option : GivenOption) → is_count option ≡ true → list_any is_count after ≡ false → amount_of (ends_of (before ++ option ∷ after)) ≡ amount_of (ends_of (option ∷ []))
 last_count before after option is none =
-    decided amount_of is_count (λ asked option. counts-keeps asked option.choice option.value) (λ asked other option. counts-same asked other option.choice option.value) before after option ten_lines ten_lines is none
+    decided ends_after amount_of is_count (λ asked option. counts-keeps asked option.choice option.value) (λ asked other option. counts-same asked other option.choice option.value) before after option ten_lines ten_lines is none
 
 pub no_count : (options : List GivenOption) → list_any is_count options ≡ false → amount_of (ends_of options) ≡ amount_of (ends_of [])
-no_count options none = kept amount_of is_count (λ asked option. counts-keeps asked option.choice option.value) options ten_lines none
+no_count options none = kept ends_after amount_of is_count (λ asked option. counts-keeps asked option.choice option.value) options ten_lines none
 
 pub last_headers : (before after : List GivenOption) (option : GivenOption) → is_headers option ≡ true → list_any is_headers after ≡ false → (ends_of (before ++ option ∷ after)).headers ≡ (ends_of (option ∷ [])).headers
 last_headers before after option is none =
-    decided (λ asked. asked.headers) is_headers (λ asked option. heads-keeps asked option.choice option.value) (λ asked other option. heads-same asked other option.choice option.value) before after option ten_lines ten_lines is none
+    decided ends_after (λ asked. asked.headers) is_headers (λ asked option. heads-keeps asked option.choice option.value) (λ asked other option. heads-same asked other option.choice option.value) before after option ten_lines ten_lines is none
 
 pub no_headers : (options : List GivenOption) → list_any is_headers options ≡ false → (ends_of options).headers ≡ (ends_of []).headers
-no_headers options none = kept (λ asked. asked.headers) is_headers (λ asked option. heads-keeps asked option.choice option.value) options ten_lines none
+no_headers options none = kept ends_after (λ asked. asked.headers) is_headers (λ asked option. heads-keeps asked option.choice option.value) options ten_lines none
 
 -- the same of options that may be refused
 
