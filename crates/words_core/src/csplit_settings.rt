@@ -35,35 +35,6 @@ impl<'a> Model for CsplitSettings<'a> {
 }
 
 impl<'a> CsplitSettings<'a> {
-    /// Reads the operands. It takes memory for each pattern, and a fixed amount for each operand.
-    ///
-    /// # Errors
-    ///
-    /// `Usage` with `BadOperand`, `BadPattern` or `PatternTooLarge`, and the place of the word: the first operand that is
-    /// wrong. `Memory` where there is no room.
-    pub fn read(
-        alloc: Global,
-        style: Style,
-        input: &'a str,
-        operands: &[Operand<'a>],
-    ) -> Result<Self, Fault>
-        ensures ok { IfOk result (λ settings. settings ≡ asked_with style input.now (map operand_seen operands.now)) }
-        ensures err { IfErr result (IsRefused HasBadOperand (Ok (asked_with style input.now (map operand_seen operands.now)))) }
-    {
-        let words = texts_of(alloc, operands)?;
-        let places = places_of(alloc, operands)?;
-        match read_operands(alloc, &words) {
-            Ok(operands) => Ok(CsplitSettings {
-                style,
-                input,
-                words,
-                places,
-                operands,
-            }),
-            Err(fault) => Err(operand_fault(&places, &fault)),
-        }
-    }
-
     /// The operands, with their patterns compiled.
     pub fn operands(&self) -> &Operands
         ensures { Asks self.now.operands result.now }
@@ -76,6 +47,35 @@ impl<'a> CsplitSettings<'a> {
         ensures { result.now ≡ slice_index_or self.now.operands index [] }
     {
         self.words.get(index).copied().unwrap_or("")
+    }
+}
+
+/// Reads the operands of `csplit`. It takes memory for each pattern, and a fixed amount for each operand.
+///
+/// # Errors
+///
+/// `Usage` with `BadOperand`, `BadPattern` or `PatternTooLarge`, and the place of the word: the first operand that is wrong.
+/// `Memory` where there is no room.
+pub fn read_settings<'a>(
+    alloc: Global,
+    style: Style,
+    input: &'a str,
+    operands: &[Operand<'a>],
+) -> Result<CsplitSettings<'a>, Fault>
+    ensures ok { IfOk result (λ settings. settings ≡ asked_with style input.now (map operand_seen operands.now)) }
+    ensures err { IfErr result (IsRefused HasBadOperand (Ok (asked_with style input.now (map operand_seen operands.now)))) }
+{
+    let words = texts_of(alloc, operands)?;
+    let places = places_of(alloc, operands)?;
+    match read_operands(alloc, &words) {
+        Ok(operands) => Ok(CsplitSettings {
+            style,
+            input,
+            words,
+            places,
+            operands,
+        }),
+        Err(fault) => Err(operand_fault(&places, &fault)),
     }
 }
 

@@ -4,7 +4,7 @@ ghost use Rattle.words_core.specs.CsplitWords.{HasBadOperand, IsRefused, csplit_
 ghost use Rattle.words_core.specs.Given.{option_seen};
 ghost use Rattle.words_core.specs.Value.{seen};
 
-use crate::csplit_settings::CsplitSettings;
+use crate::csplit_settings::{CsplitSettings, read_settings};
 use crate::spelled::{Chosen, Spelled};
 use crate::table::Choice;
 use crate::value::Value;
@@ -90,7 +90,7 @@ pub fn settle_csplit<'a>(alloc: Global, spelled: &Spelled<'a>) -> Result<CsplitS
         return Err(Fault::Usage(UsageKind::MissingOperand, 0));
     }
     let style = choose_style(alloc, &spelled.options)?;
-    CsplitSettings::read(alloc, style, file.text, operands)
+    read_settings(alloc, style, file.text, operands)
 }
 
 /// How files are made, as all options ask for it.

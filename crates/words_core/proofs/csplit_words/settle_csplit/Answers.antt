@@ -6,7 +6,7 @@ use Rattle.words_core.proofs.csplit_words.settle_csplit.Goals as goal
 
 pub returns-clause-ok : goal.returns-clause-ok
 returns-clause-ok c =
-    settled c.args.spelled.now c.deref.result.now _ c.as_slice.result.now c.in_ok-style.style c.read.result
+    settled c.args.spelled.now c.deref.result.now _ c.as_slice.result.now c.in_ok-style.style c.read_settings.result
     (ap (map option_seen) c.deref.ensures.value ∙ ap (λ (given : Given). given.options) c.spelled.view_is)
     (ap (map operand_seen) c.as_slice.ensures.value ∙ ap (λ (given : Given). given.operands) c.spelled.view_is)
-    c.in_ok-style.ensures.ok c.in-len1-up.len_at_least (grind (arith, nat_tests)) c.read.ensures.ok
+    c.in_ok-style.ensures.ok c.in-len1-up.len_at_least (grind (arith, nat_tests)) c.read_settings.ensures.ok
