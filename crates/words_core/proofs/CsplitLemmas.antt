@@ -13,7 +13,7 @@ use Rattle.words_core.specs.declared.spelled.Operand.{Operand}
 use Rattle.words_core.specs.declared.table.Choice.{Choice}
 use Rattle.words_core.specs.declared.table.Choice.TheVariants.{Prefix, Digits, Append}
 use Rattle.words_core.specs.CsplitAsked.{CsplitAsked}
-use Rattle.words_core.specs.CsplitWords.{asked_of, asked_with, csplit_after, csplit_asked, csplit_by, prefixed, style_of, two_digits, with_prefix}
+use Rattle.words_core.specs.CsplitWords.{asked_of, asked_with, csplit_after, csplit_asked, csplit_by, prefix_by, style_of, two_digits, with_prefix}
 use Rattle.words_core.specs.Given.{Given, GivenOption, operand_seen, option_seen}
 use Rattle.words_core.specs.Laws.{appends, counts_digits, drops_sizes, elides_files, has, is_digits, is_prefix, keeps_files, leaves_lines_out, names_prefix}
 use Rattle.words_core.specs.TeeWords.{mode_after, mode_by, tee_asked}
@@ -44,11 +44,11 @@ settled given options none all style result are these is some more =
 
 -- of several options for one thing the last decides
 
-prefix-keeps : (prefix : List ℕ) (choice : Choice) (value : Meant) → names_prefix choice value ≡ false → prefixed prefix choice value ≡ prefix
+prefix-keeps : (prefix : List ℕ) (choice : Choice) (value : Meant) → names_prefix choice value ≡ false → prefix_by prefix choice value ≡ prefix
 prefix-keeps prefix Prefix (Text text) differs = absurd (cc)
 prefix-keeps prefix choice value differs = refl
 
-prefix-same : (one other : List ℕ) (choice : Choice) (value : Meant) → names_prefix choice value ≡ true → prefixed one choice value ≡ prefixed other choice value
+prefix-same : (one other : List ℕ) (choice : Choice) (value : Meant) → names_prefix choice value ≡ true → prefix_by one choice value ≡ prefix_by other choice value
 prefix-same one other Prefix (Text text) is = refl
 prefix-same one other choice value is = absurd (cc)
 

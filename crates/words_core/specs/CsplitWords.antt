@@ -1,5 +1,5 @@
 -- What options and operands ask of `csplit`, or what is wrong with them.
-use Rattle.std.specs.Prelude.{◌≡◌, ℕ, false, true, List, [], ◌∷◌, fold, codes, slice_index_or, ◌⊎◌, Option, Some, None, Result, Ok, Err}
+use Rattle.std.specs.Prelude.{◌≡◌, ℕ, false, true, List, [], ◌∷◌, fold, codes, slice_index_or, Option, Some, None, Result, Ok, Err}
 use Rattle.bre_core.specs.Fault.{number_of, offset_of}
 use Rattle.csplit_core.specs.Fault.{number_of_kind}
 use Rattle.csplit_core.specs.Output.{Style}
@@ -39,20 +39,18 @@ csplit_by asked choice value = asked
 abbrev pub csplit_after : CsplitOptions → GivenOption → CsplitOptions
 csplit_after asked option = csplit_by asked option.choice option.value
 
-abbrev pub prefixed : List ℕ → Choice → Meant → List ℕ
-prefixed prefix choice.Prefix (Text text) = text
-prefixed prefix choice value = prefix
+abbrev pub prefix_by : List ℕ → Choice → Meant → List ℕ
+prefix_by prefix choice.Prefix (Text text) = text
+prefix_by prefix choice value = prefix
 
 abbrev pub with_prefix : List ℕ → GivenOption → List ℕ
-with_prefix prefix option = prefixed prefix option.choice option.value
+with_prefix prefix option = prefix_by prefix option.choice option.value
 
 -- how files are made; without an option names begin with `xx`
-
-abbrev pub styled : List ℕ → CsplitOptions → Style
-styled prefix asked = record { prefix = prefix; digits = asked.digits; keep = asked.keep; quiet = asked.quiet; elide = asked.elide; suppress = asked.suppress }
-
 abbrev pub style_of : List GivenOption → Style
-style_of options = styled (fold with_prefix (codes "xx") options) (fold csplit_after two_digits options)
+style_of options =
+    let asked = fold csplit_after two_digits options in
+    record { prefix = fold with_prefix (codes "xx") options; digits = asked.digits; keep = asked.keep; quiet = asked.quiet; elide = asked.elide; suppress = asked.suppress }
 
 abbrev pub asked_with : Style → List ℕ → List GivenOperand → CsplitAsked
 asked_with style input operands = record { style = style; input = input; operands = texts_of operands; places = places_of operands }
@@ -82,10 +80,6 @@ fault_in word kind = Usage (BadOperand (number_of_kind kind)) word
 abbrev pub operand_fault : List ℕ → OperandFault → Fault
 operand_fault places fault = fault_in (slice_index_or places fault.index 0) fault.kind
 
--- the words of the operands spell none, and this fault tells the first that is wrong
+-- The operands can't be read, and this fault tells the first that is wrong. It may also be want of memory.
 abbrev pub HasBadOperand : CsplitAsked → Fault → Type 0
 HasBadOperand asked fault = (found : OperandFault) × IsFault asked.operands found × (fault ≡ operand_fault asked.places found)
-
--- With this fault what was meant is not done: memory was refused, or the words are wrong, or those of the operands are.
-abbrev pub IsRefused : {A : Type 0} → (HasBad : A → Fault → Type 0) → Result A Fault → Fault → Type 0
-IsRefused {A = A} HasBad meant fault = (fault ≡ Memory) ⊎ ((meant ≡ Err fault) ⊎ ((asked : A) × (meant ≡ Ok asked) × HasBad asked fault))

@@ -1,6 +1,6 @@
 //! The words of the command line, from the tool's name on (POSIX.1-2017, XBD 12.2).
 ghost use Rattle.std.specs.Prelude.{◌≡◌, map, IfOk, IfErr};
-ghost use Rattle.words_core.specs.CsplitWords.{IsRefused};
+ghost use Rattle.words_core.specs.Spelling.{IsRefused};
 ghost use Rattle.words_core.specs.Words.{CanRun, HasBadOperands, settings_for, settings_of, tool_named};
 
 use crate::csplit_words::settle_csplit;
