@@ -1,5 +1,5 @@
 //! What `csplit` is asked for: POSIX.1-2017, XCU csplit; `-z` and `--suppress-matched` are GNU's.
-ghost use Rattle.std.specs.Prelude.{◌≡◌, codes, fold, map, string_bytes, IfOk, IfErr};
+ghost use Rattle.std.specs.Prelude.{◌≡◌, codes, fold, map, IfOk, IfErr};
 ghost use Rattle.words_core.specs.CsplitWords.{HasBadOperand, csplit_after, csplit_asked, style_of, two_digits, with_digits, with_prefix};
 ghost use Rattle.words_core.specs.Given.{option_seen};
 ghost use Rattle.words_core.specs.Spelling.{IsRefused};
