@@ -1,6 +1,6 @@
 -- What each tool does with its inputs, where words ask for it: POSIX.1-2017, XCU head, tail, split and csplit; several files for tail,
 -- headers and their options, bytes, and all but the last are GNU's, and so is what split does where an input breaks off.
-use Rattle.std.specs.Prelude.{ℕ, nat_lt, Bool, true, false, not, List, [], ◌∷◌, length, slice_index_or}
+use Rattle.std.specs.Prelude.{ℕ, nat_lt, Bool, true, false, not, List, [], ◌∷◌, length, slice_index_or, codes}
 use Rattle.ports_core.specs.Name.{Naming}
 use Rattle.ports_core.specs.declared.fault.Fault.{Fault}
 use Rattle.ports_core.specs.declared.fault.Fault.TheVariants.{NoMatch, Range}
@@ -16,7 +16,7 @@ use Rattle.run_core.specs.Task.{Task}
 use Rattle.words_core.specs.declared.settings.Headers.{Headers}
 use Rattle.words_core.specs.declared.settings.Headers.TheVariants.{ForSeveral, Never, Always}
 use Rattle.words_core.specs.declared.settings.Settings.{Settings}
-use Rattle.words_core.specs.declared.settings.Settings.TheVariants.{Head, Tail, Split}
+use Rattle.words_core.specs.declared.settings.Settings.TheVariants.{Head, Tail, Split, Csplit, Tee}
 use Rattle.words_core.specs.CsplitAsked.{CsplitAsked}
 use Rattle.words_core.specs.EndsAsked.{EndsAsked}
 use Rattle.words_core.specs.SplitAsked.{SplitAsked}
@@ -101,14 +101,10 @@ csplit_task asked operands = record {
   with_header = false;
 }
 
--- what a tool does with each of its inputs
-abbrev pub task_of : Settings → Task
-task_of (Head asked) = head_task asked
-task_of (Tail asked) = tail_task asked
-task_of (Split asked) = split_task asked
-
--- the names of its inputs
+-- The names of its inputs. `tee` reads standard input alone, whatever its files are called; `csplit`, which is refused, reads nothing.
 abbrev pub names_of : Settings → List (List ℕ)
 names_of (Head asked) = asked.names
 names_of (Tail asked) = asked.names
 names_of (Split asked) = asked.input ∷ []
+names_of (Csplit asked) = []
+names_of (Tee asked) = codes "-" ∷ []
