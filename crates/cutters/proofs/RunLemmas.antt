@@ -4,7 +4,7 @@ use Rattle.std.proofs.lemmas.Bool.{false≢true}
 use Rattle.ports_core.specs.Slot.{Slot, streams}
 use Rattle.ports_core.specs.Source.{Content, Source, source_at, IsFresh}
 use Rattle.ports_core.specs.Text.{message_of}
-use Rattle.ports_core.specs.Message.{Says, SaysAll, SaysOn}
+use Rattle.ports_core.specs.Message.{Says, SaysOn}
 use Rattle.ports_core.specs.declared.fault.Fault.{Fault}
 use Rattle.ports_core.specs.declared.fault.Fault.TheVariants.{Memory}
 use Rattle.ports_core.specs.declared.slot.Mode.{Mode}
