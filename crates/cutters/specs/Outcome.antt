@@ -1,18 +1,23 @@
 -- What a whole run does, by its words.
-use Rattle.std.specs.Prelude.{◌≡◌, ℕ, Bool, List, [], ◌∷◌, Option, Some, None, Result, Ok, Err, slice_index_or}
+use Rattle.std.specs.Prelude.{◌≡◌, ℕ, Bool, List, [], ◌∷◌, Option, Some, None, Result, Ok, Err, ◌⊎◌, codes, slice_index_or}
 use Rattle.ports_core.specs.Slot.{Slot}
-use Rattle.ports_core.specs.Source.{Source}
+use Rattle.ports_core.specs.Source.{Content, Source, source_at}
 use Rattle.ports_core.specs.Text.{message_of}
 use Rattle.ports_core.specs.Message.{Says}
 use Rattle.ports_core.specs.declared.tool.Tool.{Tool}
 use Rattle.ports_core.specs.declared.tool.Tool.TheVariants as tool
 use Rattle.ports_core.specs.declared.fault.Fault.{Fault}
 use Rattle.ports_core.specs.declared.fault.Fault.TheVariants.{Memory, Write, Read, Open, Suffixes, NoMatch, Range, Usage, Failed, TooLong}
-use Rattle.run_core.specs.Input.{Input}
+use Rattle.ports_core.specs.declared.fault.UsageKind.TheVariants.{UnknownTool}
+use Rattle.run_core.specs.Feeding.{BreaksOnly}
+use Rattle.run_core.specs.Input.{Input, standard_input}
 use Rattle.run_core.specs.RunEnds.{EndsAs, standard_error, streams_with}
+use Rattle.tee_core.specs.Run.{EndsAs as TeeCopies}
 use Rattle.words_core.specs.declared.settings.Settings.{Settings}
-use Rattle.words_core.specs.Words.{tool_named, settings_of}
-use Rattle.cutters.specs.Tasks.{task_of, names_of}
+use Rattle.words_core.specs.declared.settings.Settings.TheVariants.{Head, Tail, Split, Csplit, Tee}
+use Rattle.words_core.specs.TeeAsked.{TeeAsked}
+use Rattle.words_core.specs.Words.{HasBadOperands, tool_named, settings_of}
+use Rattle.cutters.specs.Tasks.{head_task, tail_task, split_task, names_of}
 
 -- who refuses words: their tool, or the program where they name none
 abbrev pub or_cutters : Option Tool → Tool
@@ -43,9 +48,34 @@ pub record Refuses (told : Bool) (tool : Tool) (text : List ℕ) (new : List Slo
   pub slots : new ≡ streams_with error
   pub failed : status ≡ 1
 
+-- There is no `csplit` yet: a run that asks for it is refused as one of an unknown tool is; or for want of memory for its words.
+pub data IsUnknown (told : Bool) (new : List Slot) (status : ℕ) : Type 0 where
+  unknown_tool : Refuses told tool.Cutters (message_of tool.Cutters (Usage UnknownTool 0) (codes "csplit")) new status → IsUnknown told new status
+  no_room : Refuses told tool.Csplit (message_of tool.Csplit Memory []) new status → IsUnknown told new status
+
+-- `tee` over its inputs, which are standard input alone
+pub record TeeEndsAs (told_in told : Bool) (asked : TeeAsked) (inputs : List Input) (sources : List Source) (new : List Slot) (status : ℕ) : Type 0 where
+  pub content : Content
+  pub input : inputs ≡ standard_input content ∷ []
+  pub ends : TeeCopies told_in told asked.mode asked.names content (source_at sources 0) new status
+  pub breaks : BreaksOnly told_in content (source_at sources 0)
+
+-- a run that does what these settings ask for ended so
+abbrev pub DoesAsked : Bool → Bool → Settings → List Input → List Source → List Slot → ℕ → Type 0
+DoesAsked told_in told (Head asked) inputs sources new status = EndsAs told_in told (head_task asked) inputs sources new status
+DoesAsked told_in told (Tail asked) inputs sources new status = EndsAs told_in told (tail_task asked) inputs sources new status
+DoesAsked told_in told (Split asked) inputs sources new status = EndsAs told_in told (split_task asked) inputs sources new status
+DoesAsked told_in told (Csplit asked) inputs sources new status = IsUnknown told new status
+DoesAsked told_in told (Tee asked) inputs sources new status = TeeEndsAs told_in told asked inputs sources new status
+
+-- the words are refused for this fault, with the word that it speaks of
+abbrev pub RefusesFor : Bool → List (List ℕ) → Fault → List Slot → ℕ → Type 0
+RefusesFor told words fault new status = Refuses told (speaker words) (message_of (speaker words) fault (word_of words fault)) new status
+
+-- a run did what was asked for, or refused operands that can't be read; or it refused the words
 abbrev pub RunEndsAt : Bool → Bool → List (List ℕ) → List Input → List Source → List Slot → ℕ → Result Settings Fault → Type 0
-RunEndsAt told_in told words inputs sources new status (Ok settings) = EndsAs told_in told (task_of settings) inputs sources new status
-RunEndsAt told_in told words inputs sources new status (Err fault) = Refuses told (speaker words) (message_of (speaker words) fault (word_of words fault)) new status
+RunEndsAt told_in told words inputs sources new status (Ok settings) = DoesAsked told_in told settings inputs sources new status ⊎ ((fault : Fault) × HasBadOperands settings fault × RefusesFor told words fault new status)
+RunEndsAt told_in told words inputs sources new status (Err fault) = RefusesFor told words fault new status
 
 -- a run of these words on these inputs left inputs and outputs so, and returned this status; words that are refused leave the inputs
 -- as they were, which stands on `run`

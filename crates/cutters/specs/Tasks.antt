@@ -1,19 +1,23 @@
--- What each tool does with its inputs, where words ask for it: POSIX.1-2017, XCU head, tail and split; several files for tail, headers
--- and their options, bytes, and all but the last are GNU's, and so is what split does where an input breaks off.
-use Rattle.std.specs.Prelude.{ℕ, nat_lt, Bool, true, false, not, List, [], ◌∷◌, length}
+-- What each tool does with its inputs, where words ask for it: POSIX.1-2017, XCU head, tail, split and csplit; several files for tail,
+-- headers and their options, bytes, and all but the last are GNU's, and so is what split does where an input breaks off.
+use Rattle.std.specs.Prelude.{ℕ, nat_lt, Bool, true, false, not, List, [], ◌∷◌, length, slice_index_or, codes}
 use Rattle.ports_core.specs.Name.{Naming}
 use Rattle.ports_core.specs.declared.fault.Fault.{Fault}
+use Rattle.ports_core.specs.declared.fault.Fault.TheVariants.{NoMatch, Range}
 use Rattle.ports_core.specs.declared.tool.Tool.TheVariants as tool
 use Rattle.seg_core.specs.declared.count.Sign.{Sign}
 use Rattle.seg_core.specs.declared.count.Sign.TheVariants.{Plain, Minus, Plus}
 use Rattle.ends_core.specs.Head.{head_work}
 use Rattle.ends_core.specs.Tail.{tail_work}
 use Rattle.split_core.specs.Split.{Plan, split_work}
+use Rattle.csplit_core.specs.Csplit.{csplit_work}
+use Rattle.csplit_core.specs.declared.operand.Operand.{Operand}
 use Rattle.run_core.specs.Task.{Task}
 use Rattle.words_core.specs.declared.settings.Headers.{Headers}
 use Rattle.words_core.specs.declared.settings.Headers.TheVariants.{ForSeveral, Never, Always}
 use Rattle.words_core.specs.declared.settings.Settings.{Settings}
-use Rattle.words_core.specs.declared.settings.Settings.TheVariants.{Head, Tail, Split}
+use Rattle.words_core.specs.declared.settings.Settings.TheVariants.{Head, Tail, Split, Csplit, Tee}
+use Rattle.words_core.specs.CsplitAsked.{CsplitAsked}
 use Rattle.words_core.specs.EndsAsked.{EndsAsked}
 use Rattle.words_core.specs.SplitAsked.{SplitAsked}
 
@@ -81,14 +85,26 @@ split_task asked = record {
   with_header = false;
 }
 
--- what a tool does with each of its inputs
-abbrev pub task_of : Settings → Task
-task_of (Head asked) = head_task asked
-task_of (Tail asked) = tail_task asked
-task_of (Split asked) = split_task asked
+-- the word of the operand with which the work of `csplit` ends
+abbrev pub operand_of : List (List ℕ) → Fault → List ℕ
+operand_of operands (NoMatch operand repetition) = slice_index_or operands operand []
+operand_of operands (Range operand repetition) = slice_index_or operands operand []
+operand_of operands fault = []
 
--- the names of its inputs
+-- `csplit`: the input cut into files where these operands, which its words ask for, find lines
+abbrev pub csplit_task : CsplitAsked → List Operand → Task
+csplit_task asked operands = record {
+  tool = tool.Csplit;
+  work = csplit_work asked.style operands;
+  opening = record { memory = true; files = true };
+  subject = operand_of asked.operands;
+  with_header = false;
+}
+
+-- The names of its inputs. `tee` reads standard input alone, whatever its files are called; `csplit`, which is refused, reads nothing.
 abbrev pub names_of : Settings → List (List ℕ)
 names_of (Head asked) = asked.names
 names_of (Tail asked) = asked.names
 names_of (Split asked) = asked.input ∷ []
+names_of (Csplit asked) = []
+names_of (Tee asked) = codes "-" ∷ []

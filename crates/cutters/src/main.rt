@@ -10,6 +10,8 @@ mod split;
 #[cfg(test)]
 mod split_run_tests;
 #[cfg(test)]
+mod tee_tests;
+#[cfg(test)]
 mod tests;
 
 ghost use Rattle.std.specs.Prelude.{◌≡◌};

@@ -4,17 +4,18 @@ ghost use Rattle.ports_core.specs.Slot.{streams};
 ghost use Rattle.ports_core.specs.Source.{source_at, IsFresh};
 ghost use Rattle.run_core.specs.Input.{has_dash};
 ghost use Rattle.run_core.specs.Reading.{AsksAtMost, count_after};
-ghost use Rattle.run_core.specs.RunEnds.{EndsAs, RunsOver, largest_piece};
+ghost use Rattle.run_core.specs.RunEnds.{RunsOver, largest_piece};
 ghost use Rattle.run_core.specs.RunSteps.{world_of};
-ghost use Rattle.cutters.specs.Outcome.{AreNone, RunEnds, names_read, speaker, word_of};
-ghost use Rattle.cutters.specs.Tasks.{names_of, task_of};
+ghost use Rattle.cutters.specs.Outcome.{AreNone, DoesAsked, IsUnknown, RunEnds, names_read, speaker, word_of};
+ghost use Rattle.cutters.specs.Tasks.{names_of};
 ghost use Rattle.words_core.specs.Words.{CanRun};
 
 use crate::ends::{HeadAdapter, TailAdapter};
 use crate::split::SplitAdapter;
-use ports_core::{Fault, Inputs, Outs, Tool, say};
+use ports_core::{Fault, Inputs, Outs, Tool, UsageKind, say};
 use run_core::run_inputs;
 use std::alloc::Global;
+use tee_core::run_tee;
 use words_core::{Settings, find_tool, read_words};
 
 /// Runs the tool that the words name, the first being the tool's name. It reads the inputs that they name, writes
@@ -50,7 +51,7 @@ fn run_tool<I: Inputs, O: Outs>(
     requires outputs { O.slots outs.old ≡ streams }
     requires can { CanRun settings.now }
     ensures ends { RunsOver I.told (world_of (I.laid inputs.old) (I.sources inputs.old)) (names_of settings.now)
-        (λ found. EndsAs I.told O.told (task_of settings.now) found (I.sources inputs.new) (O.slots outs.new) result) }
+        (λ found. DoesAsked I.told O.told settings.now found (I.sources inputs.new) (O.slots outs.new) result) }
     ensures opened { length (I.sources inputs.new) ≤ count_after 1 (names_of settings.now) }
     ensures asked { AsksAtMost largest_piece (I.sources inputs.new) }
     ensures untouched { has_dash (names_of settings.now) ≡ false → source_at (I.sources inputs.new) 0 ≡ source_at (I.sources inputs.old) 0 }
@@ -77,7 +78,19 @@ fn run_tool<I: Inputs, O: Outs>(
             inputs,
             outs,
         ),
+        Settings::Csplit(_) => refuse_csplit(alloc, outs),
+        Settings::Tee(settings) => run_tee(alloc, &settings.names, settings.mode, inputs, outs),
     }
+}
+
+/// There is no `csplit` yet: it is refused as an unknown tool is. Returns the status.
+fn refuse_csplit<O: Outs>(alloc: Global, outs: &mut O) -> u8
+    requires { O.slots outs.old ≡ streams }
+    ensures { IsUnknown O.told (O.slots outs.new) result }
+{
+    let fault = Fault::Usage(UsageKind::UnknownTool, 0);
+    say(alloc, Tool::Cutters, &fault, "csplit", outs);
+    1
 }
 
 /// Who refuses words: the tool that they name, or the program where they name none.

@@ -188,12 +188,11 @@ fn puts_out_the_last_lines(rt: HostRuntime) -> Result<(), Fail> {
 
 #[test]
 fn refuses_words(rt: HostRuntime) -> Result<(), Fail> {
-    let rows: [(&[&str], &[u8]); 12] = [
+    let rows: [(&[&str], &[u8]); 19] = [
         (&[], b"cutters: missing tool\n"),
         (&["cat"], b"cutters: unknown tool 'cat'\n"),
         (&[""], b"cutters: unknown tool ''\n"),
         (&["heads"], b"cutters: unknown tool 'heads'\n"),
-        (&["csplit"], b"cutters: unknown tool 'csplit'\n"),
         (&["head", "-x"], b"head: unknown option '-x'\n"),
         (&["tail", "-x"], b"tail: unknown option '-x'\n"),
         (&["tail", "-n", "1", "-x"], b"tail: unknown option '-x'\n"),
@@ -201,6 +200,23 @@ fn refuses_words(rt: HostRuntime) -> Result<(), Fail> {
         (&["head", "-n"], b"head: missing value for '-n'\n"),
         (&["head", "-n", "x"], b"head: invalid number 'x'\n"),
         (&["tail", "-n", ""], b"tail: invalid number ''\n"),
+        (&["csplit", "-", "3"], b"cutters: unknown tool 'csplit'\n"),
+        (&["csplit"], b"csplit: missing operand\n"),
+        (&["csplit", "f"], b"csplit: missing operand\n"),
+        (&["csplit", "-3", "f"], b"csplit: unknown option '-3'\n"),
+        (
+            &["csplit", "-", "3", "2"],
+            b"csplit: invalid operand '2' (8)\n",
+        ),
+        (
+            &["csplit", "-", "{2}"],
+            b"csplit: invalid operand '{2}' (5)\n",
+        ),
+        (
+            &["csplit", "-", "/[/"],
+            b"csplit: invalid pattern '/[/' (7 at 0)\n",
+        ),
+        (&["tee", "-i"], b"tee: unknown option '-i'\n"),
     ];
     for row in rows {
         refuses(&rt, rt.alloc(), row.0, row.1)?;

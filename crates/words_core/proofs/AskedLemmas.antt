@@ -5,23 +5,24 @@ use Rattle.seg_core.specs.declared.count.Count.{Count}
 use Rattle.ends_core.specs.declared.unit.Unit.TheVariants as unit
 use Rattle.ports_core.specs.declared.tool.Tool.TheVariants as tool
 use Rattle.ports_core.specs.declared.alphabet.Alphabet.TheVariants as alphabet
+use Rattle.ports_core.specs.declared.slot.Mode.TheVariants as mode
 use Rattle.split_core.specs.declared.cut.Cut.TheVariants as cut
 use Rattle.words_core.specs.declared.table.Choice.{Choice}
-use Rattle.words_core.specs.declared.table.Choice.TheVariants.{Lines, Bytes, LineBytes, Files}
+use Rattle.words_core.specs.declared.table.Choice.TheVariants.{Lines, Bytes, LineBytes, Files, Digits}
 use Rattle.words_core.specs.declared.table.Kind.{Kind}
 use Rattle.words_core.specs.declared.table.Kind.TheVariants as kind
 use Rattle.words_core.specs.declared.settings.Headers.TheVariants as headers
-use Rattle.words_core.specs.declared.settings.Settings.TheVariants.{Head, Tail, Split}
+use Rattle.words_core.specs.declared.settings.Settings.TheVariants.{Head, Tail, Split, Csplit, Tee}
 use Rattle.words_core.specs.declared.spelling.State.TheVariants.{First}
-use Rattle.words_core.specs.Table.{OptionRow, ends_table, split_table, tools}
-use Rattle.words_core.specs.Value.{Meant, Counted, as_value, counted, round_in, size_in, value_in}
+use Rattle.words_core.specs.Table.{OptionRow, csplit_table, ends_table, split_table, tools}
+use Rattle.words_core.specs.Value.{Meant, Counted, as_value, counted, round_in, size_in, up_to, value_in}
 use Rattle.words_core.specs.Value as meant
 use Rattle.words_core.specs.Given.{one_option}
 use Rattle.words_core.specs.Spelling.{mixed, onward, said, spelled, valued}
 use Rattle.words_core.specs.EndsWords.{ten_lines}
 use Rattle.words_core.specs.SplitWords.{least_width, then_check}
 use Rattle.words_core.specs.Words.{settings_for, settings_of}
-use Rattle.words_core.specs.Laws.{IsLetter, ends_as, split_as}
+use Rattle.words_core.specs.Laws.{IsLetter, csplit_as, ends_as, plain_style, split_as}
 use Rattle.words_core.proofs.ValueLemmas.{value_after_letter}
 
 -- a letter and its value, as all words after a tool's name
@@ -89,6 +90,9 @@ line_bytes_is = record { named = refl; ascii = lit< tt; no_hyphen = λ is. cc }
 r_is : IsLetter split_table 110 Files kind.Round
 r_is = record { named = refl; ascii = lit< tt; no_hyphen = λ is. cc }
 
+digits_is : IsLetter csplit_table 110 Digits kind.Width
+digits_is = record { named = refl; ascii = lit< tt; no_hyphen = λ is. cc }
+
 pub in_lines : (value : List ℕ) (size : ℕ) → size_in value ≡ Ok size → settings_of (codes "split" ∷ codes "-l" ∷ value ∷ []) ≡ Ok (Split (split_as (cut.Lines size) alphabet.Letters 2 true false))
 unfolding tools
 in_lines value size is = ap (λ given. then_check given (settings_for tool.Split)) (one_given split_table 108 Lines Lines kind.Size kind.Size value (meant.Size size) l_is refl (ap (as_value (λ size. meant.Size size)) is))
@@ -141,3 +145,46 @@ unfolding tools
 split_number digits size is reads =
     ap (λ given. then_check given (settings_for tool.Split)) (one_number split_table Lines kind.Size digits (meant.Size size) is (ap (as_value (λ size. meant.Size size)) reads))
     ∙ sym (in_lines digits size reads)
+
+pub csplit_nothing : settings_of (codes "csplit" ∷ codes "-" ∷ codes "1" ∷ []) ≡ Ok (Csplit (csplit_as plain_style 2))
+unfolding tools
+csplit_nothing = refl
+
+pub csplit_prefix : (text : List ℕ) → settings_of (codes "csplit" ∷ codes "-f" ∷ text ∷ codes "-" ∷ codes "1" ∷ []) ≡ Ok (Csplit (csplit_as (record plain_style { prefix = text }) 4))
+unfolding tools
+csplit_prefix text = refl
+
+pub csplit_digits : (value : List ℕ) (digits : ℕ) → up_to 255 (digits_of value) ≡ Ok digits
+    → settings_of (codes "csplit" ∷ codes "-n" ∷ value ∷ codes "-" ∷ codes "1" ∷ []) ≡ Ok (Csplit (csplit_as (record plain_style { digits = digits }) 4))
+unfolding tools
+csplit_digits value digits is =
+    ap (λ given. then_check given (settings_for tool.Csplit))
+    (value_after_letter csplit_table 110 Digits kind.Width value (meant.Width digits) (codes "-" ∷ codes "1" ∷ []) 1 digits_is (ap (as_value (λ width. meant.Width width)) is))
+
+pub csplit_keep : settings_of (codes "csplit" ∷ codes "-k" ∷ codes "-" ∷ codes "1" ∷ []) ≡ Ok (Csplit (csplit_as (record plain_style { keep = true }) 3))
+unfolding tools
+csplit_keep = refl
+
+pub csplit_quiet : settings_of (codes "csplit" ∷ codes "-s" ∷ codes "-" ∷ codes "1" ∷ []) ≡ Ok (Csplit (csplit_as (record plain_style { quiet = true }) 3))
+unfolding tools
+csplit_quiet = refl
+
+pub csplit_also_quiet : settings_of (codes "csplit" ∷ codes "-q" ∷ codes "-" ∷ codes "1" ∷ []) ≡ Ok (Csplit (csplit_as (record plain_style { quiet = true }) 3))
+unfolding tools
+csplit_also_quiet = refl
+
+pub csplit_elide : settings_of (codes "csplit" ∷ codes "-z" ∷ codes "-" ∷ codes "1" ∷ []) ≡ Ok (Csplit (csplit_as (record plain_style { elide = true }) 3))
+unfolding tools
+csplit_elide = refl
+
+pub csplit_suppress : settings_of (codes "csplit" ∷ codes "--suppress-matched" ∷ codes "-" ∷ codes "1" ∷ []) ≡ Ok (Csplit (csplit_as (record plain_style { suppress = true }) 3))
+unfolding tools
+csplit_suppress = refl
+
+pub tee_nothing : settings_of (codes "tee" ∷ codes "f" ∷ []) ≡ Ok (Tee (record { mode = mode.Fresh; names = codes "f" ∷ [] }))
+unfolding tools
+tee_nothing = refl
+
+pub tee_append : settings_of (codes "tee" ∷ codes "-a" ∷ codes "f" ∷ []) ≡ Ok (Tee (record { mode = mode.Append; names = codes "f" ∷ [] }))
+unfolding tools
+tee_append = refl

@@ -7,7 +7,7 @@ use Rattle.ports_core.specs.declared.fault.Fault.TheVariants.{Usage}
 use Rattle.ports_core.specs.declared.fault.UsageKind.TheVariants.{TwoWays}
 use Rattle.split_core.specs.declared.cut.Cut.{Cut}
 use Rattle.words_core.specs.declared.table.Choice.{Choice}
-use Rattle.words_core.specs.declared.table.Choice.TheVariants.{Lines, Bytes, LineBytes, Files, Quiet, Verbose, SuffixLength, NumericSuffixes, HexSuffixes, ElideEmptyFiles, ZeroTerminated, Separator, AdditionalSuffix}
+use Rattle.words_core.specs.declared.table.Choice.TheVariants.{Lines, Bytes, LineBytes, Files, Quiet, Verbose, SuffixLength, NumericSuffixes, HexSuffixes, ElideEmptyFiles}
 use Rattle.words_core.specs.declared.ends_words.EndsOptions.{EndsOptions}
 use Rattle.words_core.specs.declared.split_words.SplitOptions.{SplitOptions}
 use Rattle.words_core.specs.Value.{Meant, Counted, Width}
@@ -22,21 +22,21 @@ neither true b is = absurd (cc)
 
 -- options that ask for one thing, and a part of what is asked for that only they change
 
-kept : {C : Type 0} (part : EndsOptions → C) (test : GivenOption → Bool)
-    → ((asked : EndsOptions) (option : GivenOption) → test option ≡ false → part (ends_after asked option) ≡ part asked)
-    → (options : List GivenOption) (asked : EndsOptions) → list_any test options ≡ false → part (fold ends_after asked options) ≡ part asked
-kept part test keeps [] asked none = refl
-kept part test keeps (option ∷ options) asked none =
+pub kept : {A C : Type 0} (after : A → GivenOption → A) (part : A → C) (test : GivenOption → Bool)
+    → ((asked : A) (option : GivenOption) → test option ≡ false → part (after asked option) ≡ part asked)
+    → (options : List GivenOption) (asked : A) → list_any test options ≡ false → part (fold after asked options) ≡ part asked
+kept after part test keeps [] asked none = refl
+kept after part test keeps (option ∷ options) asked none =
     let both = neither (test option) (list_any test options) none in
-    kept part test keeps options (ends_after asked option) both.1 ∙ keeps asked option both.0
+    kept after part test keeps options (after asked option) both.1 ∙ keeps asked option both.0
 
-decided : {C : Type 0} (part : EndsOptions → C) (test : GivenOption → Bool)
-    → ((asked : EndsOptions) (option : GivenOption) → test option ≡ false → part (ends_after asked option) ≡ part asked)
-    → ((asked other : EndsOptions) (option : GivenOption) → test option ≡ true → part (ends_after asked option) ≡ part (ends_after other option))
-    → (before after : List GivenOption) (option : GivenOption) (asked other : EndsOptions) → test option ≡ true → list_any test after ≡ false
-    → part (fold ends_after asked (before ++ option ∷ after)) ≡ part (ends_after other option)
-decided part test keeps same [] after option asked other is none = kept part test keeps after (ends_after asked option) none ∙ same asked other option is
-decided part test keeps same (first ∷ before) after option asked other is none = decided part test keeps same before after option (ends_after asked first) other is none
+pub decided : {A C : Type 0} (by : A → GivenOption → A) (part : A → C) (test : GivenOption → Bool)
+    → ((asked : A) (option : GivenOption) → test option ≡ false → part (by asked option) ≡ part asked)
+    → ((asked other : A) (option : GivenOption) → test option ≡ true → part (by asked option) ≡ part (by other option))
+    → (before after : List GivenOption) (option : GivenOption) (asked other : A) → test option ≡ true → list_any test after ≡ false
+    → part (fold by asked (before ++ option ∷ after)) ≡ part (by other option)
+decided by part test keeps same [] after option asked other is none = kept by part test keeps after (by asked option) none ∙ same asked other option is
+decided by part test keeps same (first ∷ before) after option asked other is none = decided by part test keeps same before after option (by asked first) other is none
 
 counts-keeps : (asked : EndsOptions) (choice : Choice) (value : Meant) → counts choice value ≡ false → amount_of (ends_by asked choice value) ≡ amount_of asked
 counts-keeps asked Lines (Counted count) is = absurd (cc)
@@ -62,17 +62,17 @@ heads-same asked other choice value is = absurd (cc)
 
 pub last_count : (before after : List GivenOption) (option : GivenOption) → is_count option ≡ true → list_any is_count after ≡ false → amount_of (ends_of (before ++ option ∷ after)) ≡ amount_of (ends_of (option ∷ []))
 last_count before after option is none =
-    decided amount_of is_count (λ asked option. counts-keeps asked option.choice option.value) (λ asked other option. counts-same asked other option.choice option.value) before after option ten_lines ten_lines is none
+    decided ends_after amount_of is_count (λ asked option. counts-keeps asked option.choice option.value) (λ asked other option. counts-same asked other option.choice option.value) before after option ten_lines ten_lines is none
 
 pub no_count : (options : List GivenOption) → list_any is_count options ≡ false → amount_of (ends_of options) ≡ amount_of (ends_of [])
-no_count options none = kept amount_of is_count (λ asked option. counts-keeps asked option.choice option.value) options ten_lines none
+no_count options none = kept ends_after amount_of is_count (λ asked option. counts-keeps asked option.choice option.value) options ten_lines none
 
 pub last_headers : (before after : List GivenOption) (option : GivenOption) → is_headers option ≡ true → list_any is_headers after ≡ false → (ends_of (before ++ option ∷ after)).headers ≡ (ends_of (option ∷ [])).headers
 last_headers before after option is none =
-    decided (λ asked. asked.headers) is_headers (λ asked option. heads-keeps asked option.choice option.value) (λ asked other option. heads-same asked other option.choice option.value) before after option ten_lines ten_lines is none
+    decided ends_after (λ asked. asked.headers) is_headers (λ asked option. heads-keeps asked option.choice option.value) (λ asked other option. heads-same asked other option.choice option.value) before after option ten_lines ten_lines is none
 
 pub no_headers : (options : List GivenOption) → list_any is_headers options ≡ false → (ends_of options).headers ≡ (ends_of []).headers
-no_headers options none = kept (λ asked. asked.headers) is_headers (λ asked option. heads-keeps asked option.choice option.value) options ten_lines none
+no_headers options none = kept ends_after (λ asked. asked.headers) is_headers (λ asked option. heads-keeps asked option.choice option.value) options ten_lines none
 
 -- the same of options that may be refused
 
@@ -132,11 +132,7 @@ spells-keeps asked next SuffixLength value word differs is = ap (λ (those : Spl
 spells-keeps asked next NumericSuffixes value word differs is = absurd (cc)
 spells-keeps asked next HexSuffixes value word differs is = absurd (cc)
 spells-keeps asked next ElideEmptyFiles value word differs is = ap (λ (those : SplitOptions). those.alphabet) (sym (ok_is (record asked { elide = true }) next is))
-spells-keeps asked next Quiet value word differs is = ap (λ (those : SplitOptions). those.alphabet) (sym (ok_is asked next is))
-spells-keeps asked next Verbose value word differs is = ap (λ (those : SplitOptions). those.alphabet) (sym (ok_is asked next is))
-spells-keeps asked next ZeroTerminated value word differs is = ap (λ (those : SplitOptions). those.alphabet) (sym (ok_is asked next is))
-spells-keeps asked next Separator value word differs is = ap (λ (those : SplitOptions). those.alphabet) (sym (ok_is asked next is))
-spells-keeps asked next AdditionalSuffix value word differs is = ap (λ (those : SplitOptions). those.alphabet) (sym (ok_is asked next is))
+spells-keeps asked next choice value word differs is = ap (λ (those : SplitOptions). those.alphabet) (sym (ok_is asked next is))
 
 same_inside : {C : Type 0} (part : SplitOptions → C) (one other next alone : SplitOptions) → part one ≡ part other → ok one ≡ ok next → ok other ≡ ok alone → part next ≡ part alone
 same_inside part one other next alone same is alone_is = ap part (sym (ok_is one next is)) ∙ same ∙ ap part (ok_is other alone alone_is)
@@ -156,11 +152,7 @@ widens-keeps asked next SuffixLength value word differs is = ap (λ (those : Spl
 widens-keeps asked next NumericSuffixes value word differs is = same_inside (λ those. those.width) _ asked next asked refl is refl
 widens-keeps asked next HexSuffixes value word differs is = same_inside (λ those. those.width) _ asked next asked refl is refl
 widens-keeps asked next ElideEmptyFiles value word differs is = same_inside (λ those. those.width) _ asked next asked refl is refl
-widens-keeps asked next Quiet value word differs is = ap (λ (those : SplitOptions). those.width) (sym (ok_is asked next is))
-widens-keeps asked next Verbose value word differs is = ap (λ (those : SplitOptions). those.width) (sym (ok_is asked next is))
-widens-keeps asked next ZeroTerminated value word differs is = ap (λ (those : SplitOptions). those.width) (sym (ok_is asked next is))
-widens-keeps asked next Separator value word differs is = ap (λ (those : SplitOptions). those.width) (sym (ok_is asked next is))
-widens-keeps asked next AdditionalSuffix value word differs is = ap (λ (those : SplitOptions). those.width) (sym (ok_is asked next is))
+widens-keeps asked next choice value word differs is = ap (λ (those : SplitOptions). those.width) (sym (ok_is asked next is))
 
 widens-same : (asked next other alone : SplitOptions) (choice : Choice) (value : Meant) (word : ℕ) → widens choice value ≡ true → split_by asked choice value word ≡ Ok next → split_by other choice value word ≡ Ok alone → next.width ≡ alone.width
 widens-same asked next other alone SuffixLength (Width width) word equal is alone_is = same_inside (λ those. those.width) _ _ next alone refl is alone_is
@@ -197,12 +189,11 @@ other_by asked SuffixLength value word is = (asked, refl, refl)
 other_by asked NumericSuffixes value word is = (_, refl, refl)
 other_by asked HexSuffixes value word is = (_, refl, refl)
 other_by asked ElideEmptyFiles value word is = (_, refl, refl)
-other_by asked Quiet value word is = (asked, refl, refl)
-other_by asked Verbose value word is = (asked, refl, refl)
-other_by asked ZeroTerminated value word is = (asked, refl, refl)
-other_by asked Separator value word is = (asked, refl, refl)
-other_by asked AdditionalSuffix value word is = (asked, refl, refl)
-other_by asked choice value word is = absurd (cc)
+other_by asked Lines value word is = absurd (cc)
+other_by asked Bytes value word is = absurd (cc)
+other_by asked LineBytes value word is = absurd (cc)
+other_by asked Files value word is = absurd (cc)
+other_by asked choice value word is = (asked, refl, refl)
 
 then_on : (first : Result SplitOptions Fault) (asked : SplitOptions) (next : SplitOptions → Result SplitOptions Fault) → first ≡ Ok asked → then_check first next ≡ next asked
 then_on first asked next is = ap (λ those. then_check those next) is

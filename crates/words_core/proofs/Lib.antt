@@ -1,5 +1,6 @@
 pub mod AskedLemmas
 pub mod ChoiceLemmas
+pub mod CsplitLemmas
 pub mod LimitLemmas
 pub mod OperandLemmas
 pub mod SpellingLemmas

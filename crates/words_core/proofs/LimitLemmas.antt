@@ -1,6 +1,6 @@
 -- Whatever words spell, sizes, counts of files and widths are within their limits, and files that lines are dealt to have names.
 use Rattle.std.proofs.Common.{◌≡◌, refl, ℕ, ◌+◌, ◌==◌, ◌≤◌, Bool, true, false, arith, rules, tests, List, [], ◌∷◌, ◌++◌, Option, Some, None, Result, Ok, Err, IfOk, subst, if◌then◌else◌}
-use Rattle.std.specs.Prelude.{⊤}
+use Rattle.std.specs.Prelude.{⊤, fold}
 use Rattle.std.proofs.lemmas.Bool.Decides.{nat_tests}
 use Rattle.seg_core.specs.Count.{count_of, digits_of, is_number}
 use Rattle.seg_core.specs.declared.count.Count.{Count}
@@ -13,6 +13,7 @@ use Rattle.ports_core.specs.declared.alphabet.Alphabet.TheVariants.{Letters, Dig
 use Rattle.ports_core.specs.declared.tool.Tool.{Tool}
 use Rattle.ports_core.specs.declared.tool.Tool.TheVariants as tool
 use Rattle.ports_core.specs.Name.{name_count}
+use Rattle.csplit_core.specs.Output.{Style}
 use Rattle.split_core.specs.declared.cut.Cut.{Cut}
 use Rattle.split_core.specs.declared.cut.Cut.TheVariants as cut
 use Rattle.words_core.specs.declared.table.Choice.{Choice}
@@ -25,11 +26,13 @@ use Rattle.words_core.specs.declared.spelling.State.{State}
 use Rattle.words_core.specs.declared.spelling.State.TheVariants.{First, Reading, Awaiting, OnlyOperands}
 use Rattle.words_core.specs.declared.split_words.SplitOptions.{SplitOptions}
 use Rattle.words_core.specs.declared.split_words.Suffix.{Suffix}
+use Rattle.words_core.specs.declared.csplit_words.CsplitOptions.{CsplitOptions}
 use Rattle.words_core.specs.declared.settings.Settings.{Settings}
 use Rattle.words_core.specs.Table.{OptionRow, ToolRow}
 use Rattle.words_core.specs.Value.{Meant, Nothing, Counted, Size, Files, Width, Text, Byte, byte_in, ending_in, not_zero, some, some_amount, up_to, counted, size_in, round_in, as_value, value_in}
-use Rattle.words_core.specs.Given.{Given, GivenOption, bare}
-use Rattle.words_core.specs.Spelling.{Meaning, Reads, before, said, valued, attached, by_letter, lettered, option_lettered, cluster, after_equals, by_name, named, dashed, mixed, foremost, meaning_of, behind, onward, spelled, start_of, given_by}
+use Rattle.words_core.specs.Given.{Given, GivenOption, GivenOperand, bare}
+use Rattle.words_core.specs.CsplitWords.{asked_of, csplit_after, csplit_asked, csplit_by, style_of, two_digits, with_digits}
+use Rattle.words_core.specs.Spelling.{Meaning, before, said, valued, attached, by_letter, lettered, option_lettered, cluster, after_equals, by_name, named, dashed, mixed, foremost, meaning_of, behind, onward, spelled, start_of, given_by}
 use Rattle.words_core.specs.SplitWords.{AreNamed, CanSplit, IsInLimits, IsWidth, names_all, least_width, free, dealt, way_of, sized, way_in, second_way, with_width, split_by, split_after, split_options, no_options, suffix_for, files_in, then_check, split_asked}
 use Rattle.words_core.specs.Words.{CanRun, settings_for}
 
@@ -226,14 +229,7 @@ split_by-sound asked choice.Bytes value word sound is = second_way-sound asked (
 split_by-sound asked choice.LineBytes value word sound is = second_way-sound asked (way_in choice.LineBytes value) word asked.cut sound (way_in-limits choice.LineBytes value is)
 split_by-sound asked choice.Files value word sound is = second_way-sound asked (way_in choice.Files value) word asked.cut sound (way_in-limits choice.Files value is)
 split_by-sound asked choice.SuffixLength value word sound is = with_width-sound asked value sound is
-split_by-sound asked choice.NumericSuffixes value word sound is = sound
-split_by-sound asked choice.HexSuffixes value word sound is = sound
-split_by-sound asked choice.ElideEmptyFiles value word sound is = sound
-split_by-sound asked choice.Quiet value word sound is = sound
-split_by-sound asked choice.Verbose value word sound is = sound
-split_by-sound asked choice.ZeroTerminated value word sound is = sound
-split_by-sound asked choice.Separator value word sound is = sound
-split_by-sound asked choice.AdditionalSuffix value word sound is = sound
+split_by-sound asked choice value word sound is = sound
 
 then_check-kept : {A B : Type 0} (P : A → Type 0) (Q : B → Type 0) (first : Result A Fault) (next : A → Result B Fault) → IfOk first P → ((value : A) → P value → IfOk (next value) Q) → IfOk (then_check first next) Q
 then_check-kept P Q (Ok value) next is goes = goes value is
@@ -325,16 +321,38 @@ asked-can given sound =
     then_check-kept (λ _. ⊤) CanSplit (files_in given.operands) _ (all_files (files_in given.operands)) (λ files _.
     record { cut = is.0; width = those.1; named = those.0 })))
 
+-- `csplit`: the least number of digits
+
+with_digits-few : (asked : CsplitOptions) (value : Meant) → asked.digits ≤ 255 → IsSound value → (with_digits asked value).digits ≤ 255
+with_digits-few asked (Width digits) few is = is
+with_digits-few asked value few is = few
+
+csplit_by-few : (asked : CsplitOptions) (choice : Choice) (value : Meant) → asked.digits ≤ 255 → IsSound value → (csplit_by asked choice value).digits ≤ 255
+csplit_by-few asked choice.Digits value few is = with_digits-few asked value few is
+csplit_by-few asked choice value few is = few
+
+csplit-few : (options : List GivenOption) (asked : CsplitOptions) → asked.digits ≤ 255 → AreSound options → (fold csplit_after asked options).digits ≤ 255
+csplit-few [] asked few are = few
+csplit-few (option ∷ options) asked few are = csplit-few options (csplit_after asked option) (csplit_by-few asked option.choice option.value few are.0) are.1
+
+asked_of-few : (style : Style) (operands : List GivenOperand) → style.digits ≤ 255 → IfOk (asked_of style operands) (λ asked. asked.style.digits ≤ 255)
+asked_of-few style [] few = tt
+asked_of-few style (file ∷ []) few = tt
+asked_of-few style (file ∷ operand ∷ operands) few = few
+
+csplit-can : (given : Given) → AreSound given.options → IfOk (csplit_asked given) (λ asked. asked.style.digits ≤ 255)
+csplit-can given sound = asked_of-few (style_of given.options) given.operands (csplit-few given.options two_digits (omega arith) sound)
+
 settled-can : (which : Tool) (given : Given) → AreSound given.options → IfOk (settings_for which given) CanRun
 settled-can tool.Head given sound = tt
 settled-can tool.Tail given sound = tt
 settled-can tool.Split given sound = then_check-kept CanSplit CanRun (split_asked given) _ (asked-can given sound) (λ asked is. is)
-settled-can tool.Csplit given sound = tt
+settled-can tool.Csplit given sound = then_check-kept (λ asked. asked.style.digits ≤ 255) CanRun (csplit_asked given) _ (csplit-can given sound) (λ asked is. is)
 settled-can tool.Tee given sound = tt
 settled-can tool.Cutters given sound = tt
 
 -- what was read of words can be done
-pub read-can : (row : ToolRow) (words : List (List ℕ)) (given : Given) (which : Tool) (result : Result Settings Fault) → given_by row words ≡ Ok given → Reads (settings_for which given) result → IfOk result CanRun
+pub read-can : (row : ToolRow) (words : List (List ℕ)) (given : Given) (which : Tool) (result : Result Settings Fault) → given_by row words ≡ Ok given → IfOk result (λ settings. settings_for which given ≡ Ok settings) → IfOk result CanRun
 read-can row words given which (Ok settings) gives is =
     subst (λ r. IfOk r CanRun) is (settled-can which given (subst GivesSound gives (spelled-sound row.options words 1 (start_of row.number))))
 read-can row words given which (Err fault) gives is = tt

@@ -1,5 +1,5 @@
 -- What options and operands ask of `head` or `tail`.
-use Rattle.std.specs.Prelude.{ℕ, List, [], ◌∷◌, map, fold, codes}
+use Rattle.std.specs.Prelude.{ℕ, List, [], ◌∷◌, fold, codes}
 use Rattle.seg_core.specs.declared.count.Sign.TheVariants.{Plain}
 use Rattle.ends_core.specs.declared.unit.Unit.{Unit as Measured}
 use Rattle.ends_core.specs.declared.unit.Unit.TheVariants as unit
@@ -9,7 +9,7 @@ use Rattle.words_core.specs.declared.settings.Headers.TheVariants.{ForSeveral, N
 use Rattle.words_core.specs.declared.ends_words.EndsOptions.{EndsOptions}
 use Rattle.words_core.specs.EndsAsked.{EndsAsked}
 use Rattle.words_core.specs.Value.{Meant, Counted}
-use Rattle.words_core.specs.Given.{Given, GivenOption, GivenOperand}
+use Rattle.words_core.specs.Given.{Given, GivenOption, GivenOperand, texts_of}
 
 -- without options: ten lines, which end with the newline, and headers where there are several inputs
 abbrev pub ten_lines : EndsOptions
@@ -39,7 +39,7 @@ or_dash [] = codes "-" ∷ []
 or_dash (name ∷ names) = name ∷ names
 
 abbrev pub names_asked : List GivenOperand → List (List ℕ)
-names_asked operands = or_dash (map (λ operand. operand.text) operands)
+names_asked operands = or_dash (texts_of operands)
 
 abbrev pub ends_asked : Given → EndsAsked
 ends_asked given =

@@ -1,5 +1,5 @@
 -- What words give: options with their values, and operands, each in their order.
-use Rattle.std.specs.Prelude.{ℕ, List, [], ◌∷◌, ◌++◌}
+use Rattle.std.specs.Prelude.{ℕ, List, [], ◌∷◌, ◌++◌, map}
 use Rattle.words_core.specs.declared.table.Choice.{Choice}
 use Rattle.words_core.specs.declared.spelled.Chosen.{Chosen}
 use Rattle.words_core.specs.declared.spelled.Operand.{Operand}
@@ -25,6 +25,14 @@ option_seen option = record { choice = option.choice; value = seen option.value;
 
 abbrev pub operand_seen : Operand → GivenOperand
 operand_seen operand = record { text = operand.text.now; word = operand.word }
+
+-- the operands as they are spelled, and the places of their words
+
+abbrev pub texts_of : List GivenOperand → List (List ℕ)
+texts_of operands = map (λ operand. operand.text) operands
+
+abbrev pub places_of : List GivenOperand → List ℕ
+places_of operands = map (λ operand. operand.word) operands
 
 abbrev pub nothing : Given
 nothing = record { options = []; operands = [] }

@@ -6,17 +6,19 @@ use Rattle.ends_core.specs.declared.unit.Unit.{Unit as Measured}
 use Rattle.ports_core.specs.declared.alphabet.Alphabet.{Alphabet}
 use Rattle.ports_core.specs.declared.fault.Fault.{Fault}
 use Rattle.split_core.specs.declared.cut.Cut.{Cut}
+use Rattle.csplit_core.specs.Output.{Style}
 use Rattle.words_core.specs.declared.table.Choice.{Choice}
-use Rattle.words_core.specs.declared.table.Choice.TheVariants.{Lines, Bytes, LineBytes, Files, Quiet, Verbose, SuffixLength, NumericSuffixes, HexSuffixes}
+use Rattle.words_core.specs.declared.table.Choice.TheVariants.{Lines, Bytes, LineBytes, Files, Quiet, Verbose, SuffixLength, NumericSuffixes, HexSuffixes, ElideEmptyFiles, Prefix, Digits, KeepFiles, SuppressMatched, Append}
 use Rattle.words_core.specs.declared.table.Kind.{Kind}
 use Rattle.words_core.specs.declared.table.Takes.TheVariants as takes
 use Rattle.words_core.specs.declared.spelling.State.TheVariants.{Reading}
 use Rattle.words_core.specs.declared.ends_words.EndsOptions.{EndsOptions}
 use Rattle.words_core.specs.declared.split_words.SplitOptions.{SplitOptions}
 use Rattle.words_core.specs.declared.settings.Headers.{Headers}
+use Rattle.words_core.specs.CsplitAsked.{CsplitAsked}
 use Rattle.words_core.specs.EndsAsked.{EndsAsked}
 use Rattle.words_core.specs.SplitAsked.{SplitAsked}
-use Rattle.words_core.specs.Value.{Meant, Counted, Width}
+use Rattle.words_core.specs.Value.{Meant, Counted, Text, Width}
 use Rattle.words_core.specs.Given.{Given, GivenOption, GivenOperand, one_option}
 use Rattle.words_core.specs.Spelling.{behind, is_equals, spelled}
 use Rattle.words_core.specs.Table.{OptionRow, option_named}
@@ -81,6 +83,46 @@ widens choice value = false
 abbrev pub is_width : GivenOption → Bool
 is_width option = widens option.choice option.value
 
+-- which option of `csplit` it is: one for the prefix, one for the digits, or one without a value; and whether it lets `tee` append
+
+abbrev pub names_prefix : Choice → Meant → Bool
+names_prefix Prefix (Text text) = true
+names_prefix choice value = false
+
+abbrev pub is_prefix : GivenOption → Bool
+is_prefix option = names_prefix option.choice option.value
+
+abbrev pub counts_digits : Choice → Meant → Bool
+counts_digits Digits (Width digits) = true
+counts_digits choice value = false
+
+abbrev pub is_digits : GivenOption → Bool
+is_digits option = counts_digits option.choice option.value
+
+abbrev pub keeps_files : Choice → Bool
+keeps_files KeepFiles = true
+keeps_files choice = false
+
+abbrev pub drops_sizes : Choice → Bool
+drops_sizes Quiet = true
+drops_sizes choice = false
+
+abbrev pub elides_files : Choice → Bool
+elides_files ElideEmptyFiles = true
+elides_files choice = false
+
+abbrev pub leaves_lines_out : Choice → Bool
+leaves_lines_out SuppressMatched = true
+leaves_lines_out choice = false
+
+abbrev pub appends : Choice → Bool
+appends Append = true
+appends choice = false
+
+-- some option is of this kind
+abbrev pub has : (Choice → Bool) → List GivenOption → Bool
+has test options = list_any (λ option. test option.choice) options
+
 -- words that are all operands, the first at this place
 abbrev pub as_operands : ℕ → List (List ℕ) → List GivenOperand
 as_operands place [] = []
@@ -108,10 +150,17 @@ pub record IsName (rows : List OptionRow) (name : List ℕ) (choice : Choice) (k
   pub some : name ≢ []
   pub no_equals : list_any is_equals name ≡ false
 
--- what is asked of `head` or `tail`, and of `split`, for standard input
+-- what is asked of `head` or `tail`, of `split`, and of `csplit` with the operand `1` in the word at this place, for standard input
 
 abbrev pub ends_as : Measured → Count → Headers → EndsAsked
 ends_as unit count headers = record { unit = unit; count = count; headers = headers; delim = 10; names = codes "-" ∷ [] }
 
 abbrev pub split_as : Cut → Alphabet → ℕ → Bool → Bool → SplitAsked
 split_as cut alphabet width auto elide = record { cut = cut; alphabet = alphabet; width = width; auto = auto; elide = elide; input = codes "-"; prefix = codes "x"; ending = []; delim = 10 }
+
+abbrev pub csplit_as : Style → ℕ → CsplitAsked
+csplit_as style place = record { style = style; input = codes "-"; operands = codes "1" ∷ []; places = place ∷ [] }
+
+-- files as they are made without options
+abbrev pub plain_style : Style
+plain_style = record { prefix = codes "xx"; digits = 2; keep = false; quiet = false; elide = false; suppress = false }

@@ -1,3 +1,5 @@
+pub mod CsplitAsked
+pub mod CsplitWords
 pub mod EndsAsked
 pub mod EndsWords
 pub mod Given
@@ -6,5 +8,7 @@ pub mod Spelling
 pub mod SplitAsked
 pub mod SplitWords
 pub mod Table
+pub mod TeeAsked
+pub mod TeeWords
 pub mod Value
 pub mod Words

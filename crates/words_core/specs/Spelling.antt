@@ -158,3 +158,7 @@ Adds meant old new (Err fault) = (fault ≡ Memory) ⊎ (before old meant ≡ Er
 abbrev pub Reads : {A : Type 0} → Result A Fault → Result A Fault → Type 0
 Reads meant (Ok value) = meant ≡ Ok value
 Reads meant (Err fault) = (fault ≡ Memory) ⊎ (meant ≡ Err fault)
+
+-- With this fault what is meant isn't returned: memory was refused, or the words are at fault, or what they mean has this fault of its own.
+abbrev pub IsRefused : {A : Type 0} → (HasFault : A → Fault → Type 0) → Result A Fault → Fault → Type 0
+IsRefused {A = A} HasFault meant fault = (fault ≡ Memory) ⊎ ((meant ≡ Err fault) ⊎ ((value : A) × (meant ≡ Ok value) × HasFault value fault))

@@ -58,11 +58,7 @@ split_by asked choice.SuffixLength value word = Ok (with_width asked value)
 split_by asked choice.NumericSuffixes value word = Ok (record asked { alphabet = Decimal })
 split_by asked choice.HexSuffixes value word = Ok (record asked { alphabet = Hexadecimal })
 split_by asked choice.ElideEmptyFiles value word = Ok (record asked { elide = true })
-split_by asked choice.Quiet value word = Ok asked
-split_by asked choice.Verbose value word = Ok asked
-split_by asked choice.ZeroTerminated value word = Ok asked
-split_by asked choice.Separator value word = Ok asked
-split_by asked choice.AdditionalSuffix value word = Ok asked
+split_by asked choice value word = Ok asked
 
 abbrev pub split_after : SplitOptions → GivenOption → Result SplitOptions Fault
 split_after asked option = split_by asked option.choice option.value option.word

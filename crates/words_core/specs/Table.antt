@@ -1,14 +1,15 @@
--- The tools and their options, as their manuals list them: POSIX.1-2017, XCU head, tail and split; GNU coreutils manual, for `-q`,
--- `-v`, `-z` and the `-c` of `head`, the `-C`, `-n`, `-d`, `-x`, `-e`, `-t` and `--additional-suffix` of `split`, and the long names.
+-- The tools and their options, as their manuals list them: POSIX.1-2017, XCU head, tail, split, csplit and tee; GNU coreutils manual,
+-- for `-q`, `-v`, `-z` and the `-c` of `head`, the `-C`, `-n`, `-d`, `-x`, `-e`, `-t` and `--additional-suffix` of `split`, the
+-- `--suppress-matched` of `csplit`, and the long names.
 use Rattle.std.specs.Prelude.{ℕ, Bool, true, false, List, [], ◌∷◌, map, codes, Option, Some, None, if◌then◌else◌}
 use Rattle.std.specs.Borrow.{Bor}
 use Rattle.std.specs.Str.{bytes_eq}
 use Rattle.ports_core.specs.declared.tool.Tool.{Tool}
-use Rattle.ports_core.specs.declared.tool.Tool.TheVariants.{Head, Tail, Split}
+use Rattle.ports_core.specs.declared.tool.Tool.TheVariants.{Head, Tail, Split, Csplit, Tee}
 use Rattle.words_core.specs.declared.table.Choice.{Choice}
-use Rattle.words_core.specs.declared.table.Choice.TheVariants.{Lines, Bytes, LineBytes, Files, Quiet, Verbose, SuffixLength, NumericSuffixes, HexSuffixes, ElideEmptyFiles, ZeroTerminated, Separator, AdditionalSuffix}
+use Rattle.words_core.specs.declared.table.Choice.TheVariants.{Lines, Bytes, LineBytes, Files, Quiet, Verbose, SuffixLength, NumericSuffixes, HexSuffixes, ElideEmptyFiles, ZeroTerminated, Separator, AdditionalSuffix, Prefix, Digits, KeepFiles, SuppressMatched, Append}
 use Rattle.words_core.specs.declared.table.Kind.{Kind}
-use Rattle.words_core.specs.declared.table.Kind.TheVariants.{Count, Size, Round, Width, Byte, Ending}
+use Rattle.words_core.specs.declared.table.Kind.TheVariants.{Count, Size, Round, Width, Text, Byte, Ending}
 use Rattle.words_core.specs.declared.table.Takes.{Takes}
 use Rattle.words_core.specs.declared.table.Takes.TheVariants.{Nothing, Value}
 
@@ -56,12 +57,29 @@ split_table =
     ∷ option (codes "--additional-suffix" ∷ []) AdditionalSuffix (Value Ending)
     ∷ []
 
--- the tools; a hyphen and digits as the first word count lines
+-- the options of `csplit`
+abbrev pub csplit_table : List OptionRow
+csplit_table =
+    option (codes "-f" ∷ codes "--prefix" ∷ []) Prefix (Value Text)
+    ∷ option (codes "-n" ∷ codes "--digits" ∷ []) Digits (Value Width)
+    ∷ option (codes "-k" ∷ codes "--keep-files" ∷ []) KeepFiles Nothing
+    ∷ option (codes "-s" ∷ codes "-q" ∷ codes "--quiet" ∷ codes "--silent" ∷ []) Quiet Nothing
+    ∷ option (codes "-z" ∷ codes "--elide-empty-files" ∷ []) ElideEmptyFiles Nothing
+    ∷ option (codes "--suppress-matched" ∷ []) SuppressMatched Nothing
+    ∷ []
+
+-- the options of `tee`
+abbrev pub tee_table : List OptionRow
+tee_table = option (codes "-a" ∷ codes "--append" ∷ []) Append Nothing ∷ []
+
+-- The tools. A hyphen and digits as the first word count lines for `head`, `tail` and `split`.
 unfoldable pub tools : List ToolRow
 tools =
     record { name = codes "head"; tool = Head; options = ends_table; number = Some (Lines, Count) }
     ∷ record { name = codes "tail"; tool = Tail; options = ends_table; number = Some (Lines, Count) }
     ∷ record { name = codes "split"; tool = Split; options = split_table; number = Some (Lines, Size) }
+    ∷ record { name = codes "csplit"; tool = Csplit; options = csplit_table; number = None }
+    ∷ record { name = codes "tee"; tool = Tee; options = tee_table; number = None }
     ∷ []
 
 -- a row of the table that the code walks, as one of these

@@ -7,7 +7,7 @@ ghost use Rattle.words_core.specs.Spelling.{Reads};
 ghost use Rattle.words_core.specs.Value.{seen};
 
 use crate::settings::{EndsSettings, Headers};
-use crate::spelled::{Chosen, Operand, Spelled};
+use crate::spelled::{Chosen, Operand, Spelled, texts_of};
 use crate::table::Choice;
 use crate::value::Value;
 use ends_core::Unit;
@@ -112,12 +112,7 @@ fn names_of<'a>(alloc: Global, operands: &[Operand<'a>]) -> Result<Vec<&'a str>,
     ensures ok { IfOk result (λ names. map (λ name. name.now) names.items ≡ names_asked (map operand_seen operands.now)) }
     ensures err { IfErr result (λ fault. fault ≡ Fault.Memory) }
 {
-    let mut names = Vec::new(alloc);
-    let mut left = operands;
-    while let [operand, rest @ ..] = left {
-        names.push(operand.text)?;
-        left = rest;
-    }
+    let mut names = texts_of(alloc, operands)?;
     if operands.is_empty() {
         names.push(STANDARD_INPUT)?;
     }

@@ -4,21 +4,23 @@ ghost use Rattle.std.specs.List.{list_any};
 ghost use Rattle.ports_core.specs.declared.fault.UsageKind.TheVariants.{TwoWays};
 ghost use Rattle.words_core.specs.declared.spelling.State.TheVariants.{Reading};
 ghost use Rattle.words_core.specs.declared.split_words.SplitOptions.{SplitOptions};
-ghost use Rattle.seg_core.specs.Count.{count_of, is_number};
+ghost use Rattle.seg_core.specs.Count.{count_of, digits_of, is_number};
 ghost use Rattle.words_core.specs.Given.{Given, GivenOption, one_option};
-ghost use Rattle.words_core.specs.Laws.{AreAmong, Gives, IsLetter, IsName, amount_of, as_operands, ends_as, ends_of, is_alphabet, is_count, is_headers, is_way, is_width, split_as, split_of};
+ghost use Rattle.words_core.specs.CsplitWords.{style_of};
+ghost use Rattle.words_core.specs.Laws.{AreAmong, Gives, IsLetter, IsName, amount_of, appends, as_operands, csplit_as, drops_sizes, elides_files, ends_as, ends_of, has, is_alphabet, is_count, is_digits, is_headers, is_prefix, is_way, is_width, keeps_files, leaves_lines_out, plain_style, split_as, split_of};
 ghost use Rattle.words_core.specs.Spelling.{behind, spelled};
 ghost use Rattle.words_core.specs.EndsWords.{ten_lines};
 ghost use Rattle.words_core.specs.SplitWords.{least_width, way_in};
 ghost use Rattle.words_core.specs.Table.{OptionRow};
-ghost use Rattle.words_core.specs.Value.{Meant, round_in, size_in, value_in};
+ghost use Rattle.words_core.specs.TeeWords.{tee_asked};
+ghost use Rattle.words_core.specs.Value.{Meant, round_in, size_in, up_to, value_in};
 ghost use Rattle.words_core.specs.Words.{settings_of};
 
 use crate::settings::{Headers, Settings};
 use crate::spelling::State;
 use crate::table::{Choice, Kind};
 use ends_core::Unit;
-use ports_core::{Alphabet, Fault};
+use ports_core::{Alphabet, Fault, Mode};
 use seg_core::count::Count;
 use split_core::Cut;
 
@@ -41,6 +43,27 @@ pub fn last_of_split_decides()
         → split_of (before ++ option ∷ after) ≡ Ok asked → split_of (option ∷ []) ≡ Ok alone → asked.alphabet ≡ alone.alphabet }
     ensures width { (before after : List GivenOption) (option : GivenOption) (asked alone : SplitOptions) → is_width option ≡ true → list_any is_width after ≡ false
         → split_of (before ++ option ∷ after) ≡ Ok asked → split_of (option ∷ []) ≡ Ok alone → asked.width ≡ alone.width }
+{}
+
+/// Of several prefixes for `csplit` the last decides, as if it stood alone, whatever options stand before it; and so does
+/// the last number of digits. Without one the prefix is `xx`, and there are two digits.
+pub fn last_of_csplit_decides()
+    ensures prefix { (before after : List GivenOption) (option : GivenOption) → is_prefix option ≡ true → list_any is_prefix after ≡ false
+        → (style_of (before ++ option ∷ after)).prefix ≡ (style_of (option ∷ [])).prefix }
+    ensures no_prefix { (options : List GivenOption) → list_any is_prefix options ≡ false → (style_of options).prefix ≡ codes "xx" }
+    ensures digits { (before after : List GivenOption) (option : GivenOption) → is_digits option ≡ true → list_any is_digits after ≡ false
+        → (style_of (before ++ option ∷ after)).digits ≡ (style_of (option ∷ [])).digits }
+    ensures no_digits { (options : List GivenOption) → list_any is_digits options ≡ false → (style_of options).digits ≡ 2 }
+{}
+
+/// What an option without a value asks of `csplit` or `tee` is asked for exactly where the option is given, wherever it
+/// stands and however often.
+pub fn options_stand_anywhere()
+    ensures keep { (options : List GivenOption) → (style_of options).keep ≡ has keeps_files options }
+    ensures quiet { (options : List GivenOption) → (style_of options).quiet ≡ has drops_sizes options }
+    ensures elide { (options : List GivenOption) → (style_of options).elide ≡ has elides_files options }
+    ensures suppress { (options : List GivenOption) → (style_of options).suppress ≡ has leaves_lines_out options }
+    ensures append { (given : Given) → ((tee_asked given).mode ≡ Mode.Append) ↔ (has appends given.options ≡ true) }
 {}
 
 /// Options for `split` are accepted exactly where at most one of them is a way to split; files are cut in that way. A
@@ -125,6 +148,26 @@ pub fn split_options_ask()
     ensures hexadecimal { settings_of (codes "split" ∷ codes "-x" ∷ []) ≡ Ok (Settings.Split (split_as (Cut.Lines 1000) Alphabet.Hex 2 true false)) }
     ensures elide { settings_of (codes "split" ∷ codes "-e" ∷ []) ≡ Ok (Settings.Split (split_as (Cut.Lines 1000) Alphabet.Letters 2 true true)) }
     ensures width { settings_of (codes "split" ∷ codes "-a3" ∷ []) ≡ Ok (Settings.Split (split_as (Cut.Lines 1000) Alphabet.Letters 3 false false)) }
+{}
+
+/// What the options of `csplit` ask for, each alone, and what is asked for without any (POSIX.1-2017, XCU csplit; GNU
+/// coreutils manual).
+pub fn csplit_options_ask()
+    ensures nothing { settings_of (codes "csplit" ∷ codes "-" ∷ codes "1" ∷ []) ≡ Ok (Settings.Csplit (csplit_as plain_style 2)) }
+    ensures prefix { (text : List ℕ) → settings_of (codes "csplit" ∷ codes "-f" ∷ text ∷ codes "-" ∷ codes "1" ∷ []) ≡ Ok (Settings.Csplit (csplit_as (record plain_style { prefix = text }) 4)) }
+    ensures digits { (value : List ℕ) (digits : ℕ) → up_to 255 (digits_of value) ≡ Ok digits
+        → settings_of (codes "csplit" ∷ codes "-n" ∷ value ∷ codes "-" ∷ codes "1" ∷ []) ≡ Ok (Settings.Csplit (csplit_as (record plain_style { digits = digits }) 4)) }
+    ensures keep { settings_of (codes "csplit" ∷ codes "-k" ∷ codes "-" ∷ codes "1" ∷ []) ≡ Ok (Settings.Csplit (csplit_as (record plain_style { keep = true }) 3)) }
+    ensures quiet { settings_of (codes "csplit" ∷ codes "-s" ∷ codes "-" ∷ codes "1" ∷ []) ≡ Ok (Settings.Csplit (csplit_as (record plain_style { quiet = true }) 3)) }
+    ensures also_quiet { settings_of (codes "csplit" ∷ codes "-q" ∷ codes "-" ∷ codes "1" ∷ []) ≡ Ok (Settings.Csplit (csplit_as (record plain_style { quiet = true }) 3)) }
+    ensures elide { settings_of (codes "csplit" ∷ codes "-z" ∷ codes "-" ∷ codes "1" ∷ []) ≡ Ok (Settings.Csplit (csplit_as (record plain_style { elide = true }) 3)) }
+    ensures suppress { settings_of (codes "csplit" ∷ codes "--suppress-matched" ∷ codes "-" ∷ codes "1" ∷ []) ≡ Ok (Settings.Csplit (csplit_as (record plain_style { suppress = true }) 3)) }
+{}
+
+/// What `tee` is asked for without options, and with `-a` (POSIX.1-2017, XCU tee).
+pub fn tee_options_ask()
+    ensures nothing { settings_of (codes "tee" ∷ codes "f" ∷ []) ≡ Ok (Settings.Tee (record { mode = Mode.Fresh; names = codes "f" ∷ [] })) }
+    ensures append { settings_of (codes "tee" ∷ codes "-a" ∷ codes "f" ∷ []) ≡ Ok (Settings.Tee (record { mode = Mode.Append; names = codes "f" ∷ [] })) }
 {}
 
 /// A hyphen and digits as the only word mean what `-n` means with these digits for `head` and `tail`, and what `-l` means for

@@ -1,6 +1,10 @@
 //! The words of the command line: what they ask of each tool, or what is wrong with them (POSIX.1-2017, XBD 12).
 #![tactic(auto)]
 
+mod csplit_settings;
+#[cfg(test)]
+mod csplit_tests;
+mod csplit_words;
 mod ends_words;
 mod laws;
 mod settings;
@@ -12,13 +16,18 @@ mod spelling_tests;
 mod split_tests;
 mod split_words;
 mod table;
+#[cfg(test)]
+mod tee_tests;
+mod tee_words;
 mod value;
 mod words;
 
+pub use csplit_settings::CsplitSettings;
 pub use laws::{
-    ends_options_ask, last_of_ends_decides, last_of_split_decides, number_comes_first, numbers_ask,
-    one_way_at_most, operands_follow_the_end, operands_keep_their_order, split_options_ask,
-    values_are_spelled_alike,
+    csplit_options_ask, ends_options_ask, last_of_csplit_decides, last_of_ends_decides,
+    last_of_split_decides, number_comes_first, numbers_ask, one_way_at_most,
+    operands_follow_the_end, operands_keep_their_order, options_stand_anywhere, split_options_ask,
+    tee_options_ask, values_are_spelled_alike,
 };
-pub use settings::{EndsSettings, Headers, Settings, SplitSettings};
+pub use settings::{EndsSettings, Headers, Settings, SplitSettings, TeeSettings};
 pub use words::{find_tool, read_words};

@@ -2,9 +2,11 @@
 ghost use Rattle.std.specs.Prelude.{List, map};
 ghost use Rattle.words_core.specs.EndsAsked.{EndsAsked};
 ghost use Rattle.words_core.specs.SplitAsked.{SplitAsked};
+ghost use Rattle.words_core.specs.TeeAsked.{TeeAsked};
 
+use crate::csplit_settings::CsplitSettings;
 use ends_core::Unit;
-use ports_core::Alphabet;
+use ports_core::{Alphabet, Mode};
 use seg_core::count::Count;
 use split_core::Cut;
 use std::marker::Model;
@@ -18,6 +20,10 @@ pub enum Settings<'a> {
     Tail(EndsSettings<'a>),
     /// The input cut into files.
     Split(SplitSettings<'a>),
+    /// The input cut into files where its lines match.
+    Csplit(CsplitSettings<'a>),
+    /// The input copied to several outputs.
+    Tee(TeeSettings<'a>),
 }
 
 /// What `head` or `tail` is to write of its inputs.
@@ -79,4 +85,19 @@ impl<'a> Model for SplitSettings<'a> {
     ghost Value = { SplitAsked };
 
     ghost view = { λ s. record { cut = s.cut; alphabet = s.alphabet; width = s.width; auto = s.auto; elide = s.elide; input = s.input.now; prefix = s.prefix.now; ending = s.ending.now; delim = s.delim } };
+}
+
+/// What `tee` is to write its input to, besides standard output.
+#[derive(Drop)]
+pub struct TeeSettings<'a> {
+    /// How the files are opened.
+    pub mode: Mode,
+    /// The names of the files, in their order; there may be none, and `-` is a name as any other.
+    pub names: Vec<&'a str>,
+}
+
+impl<'a> Model for TeeSettings<'a> {
+    ghost Value = { TeeAsked };
+
+    ghost view = { λ s. record { mode = s.mode; names = map (λ name. name.now) s.names.items } };
 }

@@ -1,6 +1,6 @@
 //! What words spell: options with their values, and operands.
 ghost use Rattle.std.specs.Prelude.{◌≡◌, ◌++◌, [], ◌∷◌, map, IfOk, IfErr};
-ghost use Rattle.words_core.specs.Given.{Given, joined, one_operand, one_option, operand_seen, option_seen};
+ghost use Rattle.words_core.specs.Given.{Given, joined, one_operand, one_option, operand_seen, option_seen, places_of, texts_of};
 ghost use Rattle.words_core.specs.Value.{seen};
 
 use crate::table::Choice;
@@ -83,4 +83,40 @@ impl<'a> Spelled<'a> {
     {
         Ok(self.operands.push(Operand { text, word })?)
     }
+}
+
+/// The texts of operands, in their order.
+///
+/// # Errors
+///
+/// `Memory` where there is no room for them.
+pub fn texts_of<'a>(alloc: Global, operands: &[Operand<'a>]) -> Result<Vec<&'a str>, Fault>
+    ensures ok { IfOk result (λ texts. map (λ text. text.now) texts.items ≡ texts_of (map operand_seen operands.now)) }
+    ensures err { IfErr result (λ fault. fault ≡ Fault.Memory) }
+{
+    let mut texts = Vec::new(alloc);
+    let mut left = operands;
+    while let [operand, rest @ ..] = left {
+        texts.push(operand.text)?;
+        left = rest;
+    }
+    Ok(texts)
+}
+
+/// The places of their words, in their order.
+///
+/// # Errors
+///
+/// `Memory` where there is no room for them.
+pub fn places_of(alloc: Global, operands: &[Operand<'_>]) -> Result<Vec<usize>, Fault>
+    ensures ok { IfOk result (λ places. places.items ≡ places_of (map operand_seen operands.now)) }
+    ensures err { IfErr result (λ fault. fault ≡ Fault.Memory) }
+{
+    let mut places = Vec::new(alloc);
+    let mut left = operands;
+    while let [operand, rest @ ..] = left {
+        places.push(operand.word)?;
+        left = rest;
+    }
+    Ok(places)
 }

@@ -67,11 +67,7 @@ impl SplitOptions {
                 elide: true,
                 ..self
             }),
-            Choice::Quiet
-            | Choice::Verbose
-            | Choice::ZeroTerminated
-            | Choice::Separator
-            | Choice::AdditionalSuffix => Ok(self),
+            _ => Ok(self),
         }
     }
 

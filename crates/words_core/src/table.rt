@@ -1,5 +1,6 @@
-//! The tools and their options, as their manuals list them: POSIX.1-2017, XCU head, tail and split; `-q`, `-v`, `-z`, the
-//! `-c` of `head`, the `-C`, `-n`, `-d`, `-x`, `-e`, `-t` and `--additional-suffix` of `split` and the long names are GNU's.
+//! The tools and their options, as their manuals list them: POSIX.1-2017, XCU head, tail, split, csplit and tee; `-q`, `-v`,
+//! `-z`, the `-c` of `head`, the `-C`, `-n`, `-d`, `-x`, `-e`, `-t` and `--additional-suffix` of `split`, the
+//! `--suppress-matched` of `csplit` and the long names are GNU's.
 ghost use Rattle.std.specs.Prelude.{◌≡◌, map, option_map};
 ghost use Rattle.words_core.specs.Table.{is_among, option_named, row_named, row_seen, tool_seen, tools};
 
@@ -34,6 +35,16 @@ pub enum Choice {
     Separator,
     /// The ending of names.
     AdditionalSuffix,
+    /// What names begin with.
+    Prefix,
+    /// How many digits names have at least.
+    Digits,
+    /// Files stay after a fault.
+    KeepFiles,
+    /// The line at a cut is left out.
+    SuppressMatched,
+    /// What files hold stays, and what is written goes after it.
+    Append,
 }
 
 /// What the value of an option says.
@@ -140,6 +151,39 @@ const SPLIT: &[OptionRow] = &[
     ),
 ];
 
+/// The options of `csplit`.
+const CSPLIT: &[OptionRow] = &[
+    (
+        &["-f", "--prefix"],
+        Choice::Prefix,
+        Takes::Value(Kind::Text),
+    ),
+    (
+        &["-n", "--digits"],
+        Choice::Digits,
+        Takes::Value(Kind::Width),
+    ),
+    (&["-k", "--keep-files"], Choice::KeepFiles, Takes::Nothing),
+    (
+        &["-s", "-q", "--quiet", "--silent"],
+        Choice::Quiet,
+        Takes::Nothing,
+    ),
+    (
+        &["-z", "--elide-empty-files"],
+        Choice::ElideEmptyFiles,
+        Takes::Nothing,
+    ),
+    (
+        &["--suppress-matched"],
+        Choice::SuppressMatched,
+        Takes::Nothing,
+    ),
+];
+
+/// The options of `tee`.
+const TEE: &[OptionRow] = &[(&["-a", "--append"], Choice::Append, Takes::Nothing)];
+
 /// The tools.
 pub const TOOLS: &[ToolRow] = &[
     ("head", Tool::Head, ENDS, Some((Choice::Lines, Kind::Count))),
@@ -150,6 +194,8 @@ pub const TOOLS: &[ToolRow] = &[
         SPLIT,
         Some((Choice::Lines, Kind::Size)),
     ),
+    ("csplit", Tool::Csplit, CSPLIT, None),
+    ("tee", Tool::Tee, TEE, None),
 ];
 
 /// The table of the tools: that of the manuals.

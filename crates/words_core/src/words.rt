@@ -1,14 +1,16 @@
 //! The words of the command line, from the tool's name on (POSIX.1-2017, XBD 12.2).
-ghost use Rattle.std.specs.Prelude.{◌≡◌, ◌⊎◌, map, IfOk, IfErr};
-ghost use Rattle.words_core.specs.Spelling.{Reads};
-ghost use Rattle.words_core.specs.Words.{CanRun, settings_for, settings_of, tool_named};
+ghost use Rattle.std.specs.Prelude.{◌≡◌, map, IfOk, IfErr};
+ghost use Rattle.words_core.specs.Spelling.{IsRefused};
+ghost use Rattle.words_core.specs.Words.{CanRun, HasBadOperands, settings_for, settings_of, tool_named};
 
+use crate::csplit_words::settle_csplit;
 use crate::ends_words::settle_ends;
 use crate::settings::Settings;
 use crate::spelled::Spelled;
 use crate::spelling::read_given;
 use crate::split_words::settle_split;
 use crate::table::{all_tools, find_row};
+use crate::tee_words::settle_tee;
 use ports_core::{Fault, Tool, UsageKind};
 use std::alloc::Global;
 
@@ -17,10 +19,11 @@ use std::alloc::Global;
 /// # Errors
 ///
 /// `Usage`: what is wrong, and with which word; the faults of single words come first, from left to right, then those
-/// of the line as a whole. `Memory` where there is no room for what they spell.
+/// of the line as a whole, and then those of `csplit`'s operands, in their order. `Memory` where there is no room for what
+/// they spell.
 pub fn read_words<'a>(alloc: Global, words: &[&'a str]) -> Result<Settings<'a>, Fault>
     ensures ok { IfOk result (λ settings. settings_of (map (λ word. word.now) words.now) ≡ Ok settings) }
-    ensures err { IfErr result (λ fault. (fault ≡ Fault.Memory) ⊎ (settings_of (map (λ word. word.now) words.now) ≡ Err fault)) }
+    ensures err { IfErr result (IsRefused HasBadOperands (settings_of (map (λ word. word.now) words.now))) }
     ensures can { IfOk result CanRun }
 {
     let [name, words @ ..] = words else {
@@ -45,12 +48,15 @@ pub fn find_tool(name: &str) -> Option<Tool>
 
 /// What the words after a tool's name ask of it.
 fn settle<'a>(alloc: Global, tool: Tool, spelled: &Spelled<'a>) -> Result<Settings<'a>, Fault>
-    ensures { Reads (settings_for tool spelled.now) result }
+    ensures ok { IfOk result (λ settings. settings_for tool spelled.now ≡ Ok settings) }
+    ensures err { IfErr result (IsRefused HasBadOperands (settings_for tool spelled.now)) }
 {
     match tool {
         Tool::Head => Ok(Settings::Head(settle_ends(alloc, spelled)?)),
         Tool::Tail => Ok(Settings::Tail(settle_ends(alloc, spelled)?)),
         Tool::Split => Ok(Settings::Split(settle_split(spelled)?)),
-        Tool::Csplit | Tool::Tee | Tool::Cutters => Err(Fault::Usage(UsageKind::UnknownTool, 0)),
+        Tool::Csplit => Ok(Settings::Csplit(settle_csplit(alloc, spelled)?)),
+        Tool::Tee => Ok(Settings::Tee(settle_tee(alloc, spelled)?)),
+        Tool::Cutters => Err(Fault::Usage(UsageKind::UnknownTool, 0)),
     }
 }

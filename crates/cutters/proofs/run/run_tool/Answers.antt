@@ -1,10 +1,10 @@
-use Rattle.std.proofs.Common.{◌∙◌, ◌∷◌, [], sym, ap}
+use Rattle.std.proofs.Common.{◌∙◌, ◌∷◌, [], refl, sym, ap}
 use Rattle.run_core.specs.Input.{has_dash}
 use Rattle.words_core.specs.SplitAsked.{SplitAsked}
 use Rattle.words_core.specs.declared.settings.Settings.{Settings}
-use Rattle.words_core.specs.declared.settings.Settings.TheVariants.{Head, Tail, Split}
+use Rattle.words_core.specs.declared.settings.Settings.TheVariants.{Head, Tail, Split, Csplit, Tee}
 use Rattle.cutters.specs.Tasks.{names_of}
-use Rattle.cutters.proofs.RunLemmas.{ends_names, for_settings, runs_names, counts_for}
+use Rattle.cutters.proofs.RunLemmas.{ends_names, for_settings, runs_names, counts_for, csplit_runs, tee_counts, tee_runs}
 use Rattle.cutters.proofs.run.run_tool.Goals as goal
 
 pub returns-in-Head-clause-ends : goal.returns-in-Head-clause-ends
@@ -48,3 +48,13 @@ returns-in-Split-clause-opened g c =
 pub returns-in-Split-clause-untouched : goal.returns-in-Split-clause-untouched
 returns-in-Split-clause-untouched g c none =
     c.run_inputs-in-Split.ensures.untouched (ap (λ (asked : SplitAsked). has_dash (asked.input ∷ [])) c.settings-in-Split.view_is ∙ sym (ap (λ (those : Settings). has_dash (names_of those)) c.in-Split.is) ∙ none)
+
+pub returns-in-Csplit-clause-ends : goal.returns-in-Csplit-clause-ends
+returns-in-Csplit-clause-ends g c = for_settings _ _ _ _ (Csplit c.in-Csplit.field-0) _ _ _ c.in-Csplit.is (csplit_runs _ _ _ _ _ c.refuse_csplit.ensures)
+
+pub returns-in-Tee-clause-ends : goal.returns-in-Tee-clause-ends
+returns-in-Tee-clause-ends g c =
+    for_settings _ _ _ _ (Tee c.in-Tee.settings) _ _ _ c.in-Tee.is (tee_runs _ _ _ _ _ _ _ (g.I.Inputs.sources c.args.inputs.now) (g.I.Inputs.sources c.run_tee.new.inputs) _ _ c.deref-in-Tee.ensures.value c.settings-in-Tee.view_is c.run_tee.ensures.ends)
+
+pub returns-in-Tee-clause-opened : goal.returns-in-Tee-clause-opened
+returns-in-Tee-clause-opened g c = counts_for _ _ (Tee c.in-Tee.settings) _ c.in-Tee.is refl (tee_counts _ _ c.requires.inputs c.run_tee.ensures.others)

@@ -1,0 +1,319 @@
+-- Lemmas on copying a piece: what the outputs have after it, and what is said of it.
+use Rattle.std.proofs.Common.{append_assoc, ◌≡◌, ℕ, ◌+◌, ◌<◌, ◌≤◌, zero, suc, eqb, List, [], ◌∷◌, ◌++◌, length, map, take, Bool, true, false, not, ◌&&◌, if◌then◌else◌, Option, Some, None, ◌⊎◌, inl, inr, refl, sym, ◌∙◌, ap, subst, arith, length-append}
+use Rattle.std.specs.List.{concat}
+use Rattle.std.proofs.lemmas.List.Folds.{concat-append}
+use Rattle.std.proofs.lemmas.List.{append-nil}
+use Rattle.std.proofs.lemmas.Bool.{false≢true, eq-eqb, eqb-true}
+use Rattle.ports_core.specs.Slot.{Slot, slot_at, changed_at, is_open, opened, adds, breaks, told_of}
+use Rattle.ports_core.specs.Message.{SaysAll}
+use Rattle.ports_core.specs.Text.{message_of}
+use Rattle.ports_core.specs.declared.slot.Mode.{Mode}
+use Rattle.ports_core.specs.declared.tool.Tool.TheVariants.{Tee}
+use Rattle.ports_core.specs.declared.fault.Fault.{Fault}
+use Rattle.ports_core.proofs.MessageLemmas.{all_said_state, says_behind}
+use Rattle.run_core.specs.RunEnds.{standard_output, standard_error}
+use Rattle.tee_core.specs.Outputs.{ChangesEach, Gets, gets_all, breaks_off, gets_none, IsFile, IsOutput, IsReady, IsUsable, newly_broken}
+use Rattle.tee_core.specs.Run.{OutputLeft, output_whole, output_cut, broke_in, fault_in, output_names, said_in, said_before}
+use Rattle.tee_core.specs.Steps.{Copies, FileHas, has_all, has_none, has_begun, FilesHave, no_more, one_more, HasStreams, IsTeeOf, SaysTo, broken_of, said_since}
+use Rattle.tee_core.specs.TeeState.{TeeState}
+use Rattle.tee_core.proofs.ChangeLemmas.{StayBroken, is_between, is_place, stay_broken}
+use Rattle.tee_core.proofs.GetsLemmas.{still_broken, written_twice}
+use Rattle.tee_core.proofs.TellLemmas.{count_broken, says_nothing}
+
+-- in which call
+
+same_call : (call : ℕ) → broke_in call (Some call) ≡ true
+same_call call = eq-eqb call call refl
+
+other_call : (call other : ℕ) → (other ≡ call → ⊥) → broke_in call (Some other) ≡ false
+other_call call other differs = by (eqb other call) refl where
+  by : (flag : Bool) → eqb other call ≡ flag → eqb other call ≡ false
+  by true is = absurd (differs (eqb-true other call is))
+  by false is = is
+
+-- What a call added to what broke when: it is said where the flag rose, and what broke in the calls before stays.
+pub record Marks (call : ℕ) (before after : Option ℕ) (was now : Bool) : Type 0 where
+  pub said : broke_in call after ≡ (not was && now)
+  pub older : (other : ℕ) → other < call → broke_in other after ≡ broke_in other before
+
+pub marked_none : (call : ℕ) → Marks call None None false false
+marked_none call = record { said = refl; older = λ other less. refl }
+
+pub marked_now : (call : ℕ) → Marks call None (Some call) false true
+marked_now call = record { said = same_call call; older = λ other less. other_call other call (λ is. omega (arith, is, less)) }
+
+pub marked_before : (call earlier : ℕ) → earlier < call → Marks call (Some earlier) (Some earlier) true true
+marked_before call earlier less = record { said = other_call call earlier (λ is. omega (arith, is, less)); older = λ other before. refl }
+
+pub data AllMark (call : ℕ) : List (Option ℕ) → List (Option ℕ) → List Bool → List Bool → Type 0 where
+  none_marked : AllMark call [] [] [] []
+  all_marked : (before after : Option ℕ) (was now : Bool) (befores afters : List (Option ℕ)) (known broken : List Bool) → Marks call before after was now → AllMark call befores afters known broken → AllMark call (before ∷ befores) (after ∷ afters) (was ∷ known) (now ∷ broken)
+
+pub said_marked : (call : ℕ) (names : List (List ℕ)) (befores afters : List (Option ℕ)) (known broken : List Bool) → AllMark call befores afters known broken → said_in call names afters ≡ said_since (fault_in call) names known broken
+said_marked call [] _ _ _ _ marked = refl
+said_marked call (name ∷ names) _ _ _ _ none_marked = refl
+said_marked call (name ∷ names) _ _ _ _ (all_marked before after was now befores afters known broken one rest) =
+    ap (λ (flag : Bool). if flag then message_of Tee (fault_in call) name ∷ said_in call names afters else said_in call names afters) one.said
+    ∙ ap (λ texts. if not was && now then message_of Tee (fault_in call) name ∷ texts else texts) (said_marked call names befores afters known broken rest)
+
+said_older : (call other : ℕ) (names : List (List ℕ)) (befores afters : List (Option ℕ)) (known broken : List Bool) → other < call → AllMark call befores afters known broken → said_in other names afters ≡ said_in other names befores
+said_older call other [] _ _ _ _ less marked = refl
+said_older call other (name ∷ names) _ _ _ _ less none_marked = refl
+said_older call other (name ∷ names) _ _ _ _ less (all_marked before after was now befores afters known broken one rest) =
+    ap (λ (flag : Bool). if flag then message_of Tee (fault_in other) name ∷ said_in other names afters else said_in other names afters) (one.older other less)
+    ∙ ap (λ texts. if broke_in other before then message_of Tee (fault_in other) name ∷ texts else texts) (said_older call other names befores afters known broken less rest)
+
+pub all_older : (call end : ℕ) (names : List (List ℕ)) (befores afters : List (Option ℕ)) (known broken : List Bool) → end ≤ call → AllMark call befores afters known broken → said_before end names afters ≡ said_before end names befores
+all_older call zero names befores afters known broken past marked = refl
+all_older call (suc end) names befores afters known broken past marked =
+    ap (λ texts. texts ++ said_in end names afters) (all_older call end names befores afters known broken (omega arith) marked)
+    ∙ ap (λ texts. said_before end names befores ++ texts) (said_older call end names befores afters known broken (omega arith) marked)
+
+-- one output
+
+pub joined_more : (pieces : List (List ℕ)) (piece : List ℕ) → concat pieces ++ piece ≡ concat (pieces ++ piece ∷ [])
+joined_more pieces piece = sym (concat-append pieces (piece ∷ []) ∙ ap (λ bytes. concat pieces ++ bytes) (append-nil piece))
+
+whole_now : (told : Bool) (pieces : List (List ℕ)) (piece : List ℕ) (start : Slot) → adds (told_of told piece) (adds (told_of told (concat pieces)) start) ≡ adds (told_of told (concat (pieces ++ piece ∷ []))) start
+whole_now told pieces piece start = written_twice told (concat pieces) piece start ∙ ap (λ bytes. adds (told_of told bytes) start) (joined_more pieces piece)
+
+begun_now : (told : Bool) (pieces : List (List ℕ)) (piece : List ℕ) (n : ℕ) (start : Slot) → breaks (adds (told_of told (take n piece)) (adds (told_of told (concat pieces)) start)) ≡ breaks (adds (told_of told (concat pieces ++ take n piece)) start)
+begun_now told pieces piece n start = ap breaks (written_twice told (concat pieces) (take n piece) start)
+
+still_there : (pieces before after : List (List ℕ)) (piece more : List ℕ) → pieces ≡ before ++ piece ∷ after → pieces ++ more ∷ [] ≡ before ++ piece ∷ (after ++ more ∷ [])
+still_there pieces before after piece more is = ap (λ those. those ++ more ∷ []) is ∙ append_assoc before (piece ∷ after) (more ∷ [])
+
+-- a piece was fed in a call before those that follow
+pub call_before : (pieces before after : List (List ℕ)) (piece : List ℕ) → pieces ≡ before ++ piece ∷ after → suc (length before) < suc (length pieces)
+call_before pieces before after piece is = let size : length (before ++ piece ∷ after) ≡ length before + length (piece ∷ after) = length-append before (piece ∷ after) in omega (arith, ap length is, size)
+
+abbrev pub OutputMore : Bool → List (List ℕ) → List ℕ → Option ℕ → Slot → Slot → Type 0
+OutputMore told pieces piece first old new = (after : Option ℕ) × OutputLeft told (pieces ++ piece ∷ []) after new × Marks (suc (length pieces)) first after old.is_broken new.is_broken
+
+output_more : (told : Bool) (pieces : List (List ℕ)) (piece : List ℕ) (first : Option ℕ) (old new : Slot) → OutputLeft told pieces first old → Gets told piece old new → OutputMore told pieces piece first old new
+output_more told pieces piece _ _ _ output_whole (gets_all sound) =
+    (None, subst (OutputLeft told (pieces ++ piece ∷ []) None) (sym (whole_now told pieces piece standard_output)) output_whole, marked_none (suc (length pieces)))
+output_more told pieces piece _ _ _ output_whole (breaks_off sound n within) =
+    (Some (suc (length pieces)), subst (OutputLeft told (pieces ++ piece ∷ []) (Some (suc (length pieces)))) (sym (begun_now told pieces piece n standard_output)) (output_cut pieces piece [] n refl within), marked_now (suc (length pieces)))
+output_more told pieces piece _ _ _ output_whole (gets_none broken) = absurd (false≢true broken)
+output_more told pieces piece _ _ _ (output_cut before that after n is within) (gets_all again) = absurd (false≢true (sym again))
+output_more told pieces piece _ _ _ (output_cut before that after n is within) (breaks_off again m less) = absurd (false≢true (sym again))
+output_more told pieces piece _ _ _ (output_cut before that after n is within) (gets_none broken) =
+    (Some (suc (length before)), output_cut before that (after ++ piece ∷ []) n (still_there pieces before after that piece is) within, marked_before (suc (length pieces)) (suc (length before)) (call_before pieces before after that is))
+
+abbrev pub FileMore : Bool → Mode → List (List ℕ) → List ℕ → List ℕ → Option ℕ → Slot → Slot → Type 0
+FileMore told mode pieces piece name first old new = (after : Option ℕ) × FileHas told mode (pieces ++ piece ∷ []) name after new × Marks (suc (length pieces)) first after old.is_broken new.is_broken
+
+file_more : (told : Bool) (mode : Mode) (pieces : List (List ℕ)) (piece : List ℕ) (name : List ℕ) (first : Option ℕ) (old new : Slot) → FileHas told mode pieces name first old → Gets told piece old new → FileMore told mode pieces piece name first old new
+file_more told mode pieces piece name _ _ _ has_all (gets_all sound) =
+    (None, subst (FileHas told mode (pieces ++ piece ∷ []) name None) (sym (whole_now told pieces piece (opened name mode))) has_all, marked_none (suc (length pieces)))
+file_more told mode pieces piece name _ _ _ has_all (breaks_off sound n within) =
+    (Some (suc (length pieces)), subst (FileHas told mode (pieces ++ piece ∷ []) name (Some (suc (length pieces)))) (sym (begun_now told pieces piece n (opened name mode))) (has_begun pieces piece [] n refl within), marked_now (suc (length pieces)))
+file_more told mode pieces piece name _ _ _ has_all (gets_none broken) = absurd (false≢true broken)
+file_more told mode pieces piece name _ _ _ (has_none kept named) (gets_all again) = absurd (false≢true (sym again))
+file_more told mode pieces piece name _ _ _ (has_none kept named) (breaks_off again m less) = absurd (false≢true (sym again))
+file_more told mode pieces piece name _ _ _ (has_none kept named) (gets_none broken) = (Some 0, has_none kept named, marked_before (suc (length pieces)) 0 (omega arith))
+file_more told mode pieces piece name _ _ _ (has_begun before that after n is within) (gets_all again) = absurd (false≢true (sym again))
+file_more told mode pieces piece name _ _ _ (has_begun before that after n is within) (breaks_off again m less) = absurd (false≢true (sym again))
+file_more told mode pieces piece name _ _ _ (has_begun before that after n is within) (gets_none broken) =
+    (Some (suc (length before)), has_begun before that (after ++ piece ∷ []) n (still_there pieces before after that piece is) within, marked_before (suc (length pieces)) (suc (length before)) (call_before pieces before after that is))
+
+-- the files
+
+abbrev pub FilesMore : Bool → Mode → List (List ℕ) → List ℕ → List (List ℕ) → List (Option ℕ) → List Slot → List Slot → Type 0
+FilesMore told mode pieces piece names broke olds news =
+    (after : List (Option ℕ)) × FilesHave told mode (pieces ++ piece ∷ []) names after news × AllMark (suc (length pieces)) broke after (map (λ (file : Slot). file.is_broken) olds) (map (λ (file : Slot). file.is_broken) news)
+
+files_more : (told : Bool) (mode : Mode) (pieces : List (List ℕ)) (piece : List ℕ) (names : List (List ℕ)) (broke : List (Option ℕ)) (olds news : List Slot) → length news ≡ length olds → ((n : ℕ) → n < length olds → Gets told piece (slot_at olds n) (slot_at news n))
+    → FilesHave told mode pieces names broke olds → FilesMore told mode pieces piece names broke olds news
+files_more told mode pieces piece _ _ _ [] many gets no_more = ([], no_more, none_marked)
+files_more told mode pieces piece _ _ _ (new ∷ news) many gets no_more = absurd (omega (arith, many))
+files_more told mode pieces piece _ _ _ [] many gets (one_more name names first broke old olds one rest) = absurd (omega (arith, many))
+files_more told mode pieces piece _ _ _ (new ∷ news) many gets (one_more name names first broke old olds one rest) =
+    let here = file_more told mode pieces piece name first old new one (gets 0 (omega arith)) in
+    let there = files_more told mode pieces piece names broke olds news (omega (arith, many)) (λ n within. gets (suc n) (omega arith)) rest in
+    (here.0 ∷ there.0, one_more name names here.0 there.0 new news here.1 there.1, all_marked first here.0 old.is_broken new.is_broken broke there.0 _ _ here.2 there.2)
+
+-- where nothing broke, nothing is said
+
+pub said_none : (fault : Fault) (names : List (List ℕ)) (flags : List Bool) → said_since fault names flags flags ≡ []
+said_none fault [] flags = refl
+said_none fault (name ∷ names) [] = refl
+said_none fault (name ∷ names) (flag ∷ flags) = by flag (said_none fault names flags) where
+  by : (b : Bool) → said_since fault names flags flags ≡ [] → (if not b && b then message_of Tee fault name ∷ said_since fault names flags flags else said_since fault names flags flags) ≡ []
+  by true is = is
+  by false is = is
+
+same_flag : (a b : Bool) (rest : ℕ) → (a ≡ true → b ≡ true) → (if not a && b then 1 else 0) + rest ≡ 0 → (a ≡ b) × (rest ≡ 0)
+same_flag true true rest stays none = (refl, omega (arith, none))
+same_flag true false rest stays none = absurd (false≢true (stays refl))
+same_flag false true rest stays none = absurd (omega (arith, none))
+same_flag false false rest stays none = (refl, omega (arith, none))
+
+same_flags : (olds news : List Slot) → length news ≡ length olds → StayBroken olds news → newly_broken olds news ≡ 0 → map (λ (slot : Slot). slot.is_broken) olds ≡ map (λ (slot : Slot). slot.is_broken) news
+same_flags [] [] many stay few = refl
+same_flags [] (new ∷ news) many stay few = absurd (omega (arith, many))
+same_flags (old ∷ olds) [] many stay few = absurd (omega (arith, many))
+same_flags (old ∷ olds) (new ∷ news) many stay few =
+    let here = same_flag old.is_broken new.is_broken (newly_broken olds news) (stay 0) few in
+    ap (λ (flag : Bool). flag ∷ map (λ (slot : Slot). slot.is_broken) olds) here.0 ∙ ap (λ flags. new.is_broken ∷ flags) (same_flags olds news (omega (arith, many)) (λ place broken. stay (suc place) broken) here.1)
+
+but_second : List Bool → List Bool
+but_second [] = []
+but_second (one ∷ []) = []
+but_second (one ∷ two ∷ rest) = one ∷ rest
+
+broken_are : (slots : List Slot) → broken_of slots ≡ but_second (map (λ (slot : Slot). slot.is_broken) slots)
+unfolding but_second
+broken_are [] = refl
+broken_are (output ∷ []) = refl
+broken_are (output ∷ error ∷ files) = refl
+
+pub same_broken : (old new : List Slot) → length new ≡ length old → StayBroken old new → newly_broken old new ≡ 0 → broken_of old ≡ broken_of new
+same_broken old new many stay few = broken_are old ∙ ap but_second (same_flags old new many stay few) ∙ sym (broken_are new)
+
+pub is_output : (tee : TeeState) (place : ℕ) → IsOutput tee place ⊎ (IsOutput tee place → ⊥)
+is_output tee place = elim (is_place 0 place) [
+  | inl here ↦ inl (inl here)
+  | inr differs ↦ elim (is_between tee.first (tee.first + tee.count) place) [
+    | inl file ↦ inl (inr file)
+    | inr other ↦ inr (λ is. elim is [
+      | inl here ↦ differs here
+      | inr file ↦ other file
+    ])
+  ]
+]
+
+-- the outputs of a run
+
+pub length-files : (told : Bool) (mode : Mode) (pieces : List (List ℕ)) (names : List (List ℕ)) (broke : List (Option ℕ)) (files : List Slot) → FilesHave told mode pieces names broke files → length files ≡ length names
+length-files told mode pieces _ _ _ no_more = refl
+length-files told mode pieces _ _ _ (one_more name names first broke file files one rest) = ap suc (length-files told mode pieces names broke files rest)
+
+output_usable : (told : Bool) (pieces : List (List ℕ)) (first : Option ℕ) (output : Slot) → OutputLeft told pieces first output → IsUsable output
+output_usable told pieces _ _ output_whole = λ sound. refl
+output_usable told pieces _ _ (output_cut before that after n is within) = λ sound. refl
+
+file_usable : (told : Bool) (mode : Mode) (pieces : List (List ℕ)) (name : List ℕ) (first : Option ℕ) (file : Slot) → FileHas told mode pieces name first file → IsUsable file
+file_usable told mode pieces name _ _ has_all = λ sound. refl
+file_usable told mode pieces name _ _ (has_none kept named) = λ sound. absurd (false≢true (sym sound))
+file_usable told mode pieces name _ _ (has_begun before that after n is within) = λ sound. refl
+
+files_usable : (told : Bool) (mode : Mode) (pieces : List (List ℕ)) (names : List (List ℕ)) (broke : List (Option ℕ)) (files : List Slot) (n : ℕ) → n < length files → FilesHave told mode pieces names broke files → IsUsable (slot_at files n)
+files_usable told mode pieces _ _ _ n within no_more = absurd (omega arith)
+files_usable told mode pieces _ _ _ zero within (one_more name names first broke file files one rest) = file_usable told mode pieces name first file one
+files_usable told mode pieces _ _ _ (suc n) within (one_more name names first broke file files one rest) = files_usable told mode pieces names broke files n (omega arith) rest
+
+-- a file's place, counted from the first file
+pub file_place : (names : List (List ℕ)) (tee : TeeState) (place : ℕ) → IsTeeOf names tee → IsFile tee place → (n : ℕ) × (place ≡ suc (suc n)) × (n < length names)
+file_place names tee zero is file = absurd (let first : tee.first ≡ 2 = is.first (omega (arith, file.0, file.1)) in omega (arith, file.0, first))
+file_place names tee (suc zero) is file = absurd (let first : tee.first ≡ 2 = is.first (omega (arith, file.0, file.1)) in omega (arith, file.0, first))
+file_place names tee (suc (suc n)) is file = let first : tee.first ≡ 2 = is.first (omega (arith, file.0, file.1)) in let count : tee.count ≡ length names = is.count in (n, refl, omega (arith, file.1, first, count))
+
+pub place_file : (names : List (List ℕ)) (tee : TeeState) (n : ℕ) → IsTeeOf names tee → n < length names → IsFile tee (suc (suc n))
+place_file names tee n is within = let count : tee.count ≡ length names = is.count in let first : tee.first ≡ 2 = is.first (omega (arith, within, count)) in (omega (arith, first), omega (arith, first, count, within))
+
+pub error_no_output : (names : List (List ℕ)) (tee : TeeState) → IsTeeOf names tee → IsOutput tee 1 → ⊥
+error_no_output names tee is (inl here) = omega (arith, here)
+error_no_output names tee is (inr file) = let there = file_place names tee 1 is file in omega (arith, there.1)
+
+module _ (told : Bool) (mode : Mode) (names : List (List ℕ)) where
+  pub copies_ready : (pieces : List (List ℕ)) (messages : List (List ℕ)) (slots : List Slot) (known : List Bool) (tee : TeeState) → IsTeeOf names tee → Copies told mode names pieces messages slots known → IsReady tee slots
+  copies_ready pieces messages slots known tee is copies place output = subst (λ those. IsUsable (slot_at those place)) (sym copies.are) (by output) where
+    by : IsOutput tee place → IsUsable (slot_at (copies.output ∷ copies.error ∷ copies.files) place)
+    by (inl here) = subst (λ at. IsUsable (slot_at (copies.output ∷ copies.error ∷ copies.files) at)) (sym here) (output_usable told pieces copies.first copies.output copies.output_has)
+    by (inr file) =
+        let there = file_place names tee place is file in
+        subst (λ at. IsUsable (slot_at (copies.output ∷ copies.error ∷ copies.files) at)) (sym there.1)
+        (files_usable told mode pieces names copies.broke copies.files there.0 (omega (arith, there.2, length-files told mode pieces names copies.broke copies.files copies.files_have)) copies.files_have)
+
+  -- the outputs once a piece was fed, before anything is said of it
+  pub record Next (pieces : List (List ℕ)) (piece : List ℕ) (messages : List (List ℕ)) (old mid : List Slot) (known : List Bool) (copies : Copies told mode names pieces messages old known) : Type 0 where
+    pub output : Slot
+    pub files : List Slot
+    pub first : Option ℕ
+    pub broke : List (Option ℕ)
+    pub are : mid ≡ output ∷ copies.error ∷ files
+    pub output_has : OutputLeft told (pieces ++ piece ∷ []) first output
+    pub files_have : FilesHave told mode (pieces ++ piece ∷ []) names broke files
+    pub marked : AllMark (suc (length pieces)) (copies.first ∷ copies.broke) (first ∷ broke) (broken_of old) (broken_of mid)
+
+  pub fed_next : (pieces : List (List ℕ)) (piece : List ℕ) (messages : List (List ℕ)) (old mid : List Slot) (known : List Bool) (tee : TeeState) → IsTeeOf names tee → (copies : Copies told mode names pieces messages old known) → ChangesEach (Gets told piece) (IsOutput tee) old mid → Next pieces piece messages old mid known copies
+  fed_next pieces piece messages old mid known tee is copies gets = by mid refl where
+    by : (those : List Slot) → mid ≡ those → Next pieces piece messages old mid known copies
+    by [] short = absurd (omega (arith, ap length short, gets.count, ap length copies.are))
+    by (output ∷ []) short = absurd (omega (arith, ap length short, gets.count, ap length copies.are))
+    by (output ∷ error ∷ files) are =
+        let here : Gets told piece copies.output output = subst (λ slot. Gets told piece copies.output slot) (ap (λ those. slot_at those 0) are) (subst (λ slot. Gets told piece slot (slot_at mid 0)) (ap (λ those. slot_at those 0) copies.are) (gets.each 0 (inl refl))) in
+        let same : error ≡ copies.error = sym (ap (λ those. slot_at those 1) are) ∙ gets.others 1 (error_no_output names tee is) ∙ ap (λ those. slot_at those 1) copies.are in
+        let one = output_more told pieces piece copies.first copies.output output copies.output_has here in
+        let many : length copies.files ≡ length names = length-files told mode pieces names copies.broke copies.files copies.files_have in
+        let rest = files_more told mode pieces piece names copies.broke copies.files files (omega (arith, ap length are, gets.count, ap length copies.are))
+        (λ n within. subst (λ slot. Gets told piece (slot_at copies.files n) slot) (ap (λ those. slot_at those (suc (suc n))) are) (subst (λ slot. Gets told piece slot (slot_at mid (suc (suc n)))) (ap (λ those. slot_at those (suc (suc n))) copies.are) (gets.each (suc (suc n)) (inr (place_file names tee n is (omega (arith, within, many))))))) copies.files_have in
+        record {
+          output = output;
+          files = files;
+          first = one.0;
+          broke = rest.0;
+          are = are ∙ ap (λ slot. output ∷ slot ∷ files) same;
+          output_has = one.1;
+          files_have = rest.1;
+          marked = subst (λ those. AllMark (suc (length pieces)) (copies.first ∷ copies.broke) (one.0 ∷ rest.0) those (broken_of mid)) (sym (ap broken_of copies.are))
+              (subst (λ those. AllMark (suc (length pieces)) (copies.first ∷ copies.broke) (one.0 ∷ rest.0) (broken_of (copies.output ∷ copies.error ∷ copies.files)) those) (sym (ap broken_of are))
+              (all_marked copies.first one.0 copies.output.is_broken output.is_broken copies.broke rest.0 _ _ one.2 rest.2));
+        }
+
+  -- the message for it was said
+  pub piece_said : (pieces : List (List ℕ)) (piece : List ℕ) (old mid new : List Slot) (known now : List Bool) (copies : Copies told mode names pieces [] old known) → Next pieces piece [] old mid known copies → SaysTo told (said_since (fault_in (suc (length pieces))) (output_names names) known (broken_of mid)) mid new → now ≡ broken_of mid
+      → Copies told mode names (pieces ++ piece ∷ []) [] new now
+  piece_said pieces piece old mid new known now copies next says flags = record {
+    output = next.output;
+    error = says.0;
+    files = next.files;
+    first = next.first;
+    broke = next.broke;
+    are = new_is;
+    output_has = next.output_has;
+    files_have = next.files_have;
+    said = subst (λ texts. SaysAll told Tee texts standard_error says.0) messages
+        (says_behind told Tee (said_before (suc (length pieces)) (output_names names) (copies.first ∷ copies.broke) ++ []) _ standard_error copies.error says.0 copies.said (subst (λ slot. SaysAll told Tee (said_since (fault_in (suc (length pieces))) (output_names names) known (broken_of mid)) slot says.0) (ap (λ those. slot_at those 1) next.are) says.1));
+    known_are = flags ∙ ap broken_of next.are ∙ sym (ap broken_of new_is);
+  } where
+    new_is : new ≡ next.output ∷ says.0 ∷ next.files
+    new_is = says.2 ∙ ap (changed_at 1 (λ _. says.0)) next.are
+
+    messages : (said_before (suc (length pieces)) (output_names names) (copies.first ∷ copies.broke) ++ []) ++ said_since (fault_in (suc (length pieces))) (output_names names) known (broken_of mid) ≡ said_before (suc (length (pieces ++ piece ∷ []))) (output_names names) (next.first ∷ next.broke) ++ []
+    messages = ap (λ texts. texts ++ said_since (fault_in (suc (length pieces))) (output_names names) known (broken_of mid)) (append-nil _)
+        ∙ ap (λ texts. said_before (suc (length pieces)) (output_names names) (copies.first ∷ copies.broke) ++ texts)
+        (ap (λ flags. said_since (fault_in (suc (length pieces))) (output_names names) flags (broken_of mid)) copies.known_are ∙ sym (said_marked (suc (length pieces)) (output_names names) _ _ _ _ next.marked))
+        ∙ ap (λ texts. texts ++ said_in (suc (length pieces)) (output_names names) (next.first ∷ next.broke)) (sym (all_older (suc (length pieces)) (suc (length pieces)) (output_names names) _ _ _ _ (omega arith) next.marked))
+        ∙ sym (append-nil _) ∙ ap (λ call. said_before (suc call) (output_names names) (next.first ∷ next.broke) ++ []) (let e : suc (length pieces) ≡ length (pieces ++ piece ∷ []) = omega (arith, length-append pieces (piece ∷ [])) in e)
+
+  -- nothing broke, and nothing has to be said
+  pub piece_quiet : (pieces : List (List ℕ)) (piece : List ℕ) (old mid : List Slot) (known : List Bool) (tee : TeeState) → IsTeeOf names tee → Copies told mode names pieces [] old known → ChangesEach (Gets told piece) (IsOutput tee) old mid → newly_broken old mid ≡ 0 → Copies told mode names (pieces ++ piece ∷ []) [] mid known
+  piece_quiet pieces piece old mid known tee is copies gets few =
+      let same : known ≡ broken_of mid = copies.known_are ∙ same_broken old mid gets.count (stay_broken old mid (still_broken told piece) (is_output tee) gets) few in
+      piece_said pieces piece old mid mid known known copies (fed_next pieces piece [] old mid known tee is copies gets)
+      (subst (λ texts. SaysTo told texts mid mid) (sym (ap (λ flags. said_since (fault_in (suc (length pieces))) (output_names names) flags (broken_of mid)) same ∙ said_none (fault_in (suc (length pieces))) (output_names names) (broken_of mid))) (says_nothing told mid)) same
+
+  pub next_streams : (pieces : List (List ℕ)) (piece : List ℕ) (messages : List (List ℕ)) (old mid : List Slot) (known : List Bool) (tee : TeeState) → IsTeeOf names tee → Copies told mode names pieces messages old known → ChangesEach (Gets told piece) (IsOutput tee) old mid → HasStreams mid (length names)
+  next_streams pieces piece messages old mid known tee is copies gets =
+      let next = fed_next pieces piece messages old mid known tee is copies gets in record {
+        output = next.output;
+        error = copies.error;
+        files = next.files;
+        are = next.are;
+        opened = ap is_open (all_said_state told Tee _ standard_error copies.error copies.said);
+        files_are = length-files told mode (pieces ++ piece ∷ []) names next.broke next.files next.files_have;
+      }
+
+  pub known_many : (pieces : List (List ℕ)) (messages : List (List ℕ)) (slots : List Slot) (known : List Bool) → Copies told mode names pieces messages slots known → length known ≡ length names + 1
+  known_many pieces messages slots known copies =
+      ap length copies.known_are ∙ count_broken slots (length names) (record {
+        output = copies.output;
+        error = copies.error;
+        files = copies.files;
+        are = copies.are;
+        opened = ap is_open (all_said_state told Tee _ standard_error copies.error copies.said);
+        files_are = length-files told mode pieces names copies.broke copies.files copies.files_have;
+      })

@@ -1,0 +1,124 @@
+-- Lemmas on how a run ends.
+use Rattle.std.proofs.Common.{length, ◌≡◌, ℕ, zero, suc, List, [], ◌∷◌, ◌++◌, map, Bool, true, false, not, ◌&&◌, ◌||◌, if◌then◌else◌, Option, Some, None, refl, sym, ◌∙◌, ap, subst, arith}
+use Rattle.std.specs.List.{concat}
+use Rattle.std.proofs.lemmas.Bool.{false≢true}
+use Rattle.ports_core.specs.Slot.{Slot, slot_at, is_open, adds, closes, opened, streams, told_of}
+use Rattle.ports_core.specs.Source.{Content, Source, source_at}
+use Rattle.ports_core.specs.Text.{message_of}
+use Rattle.ports_core.specs.Message.{SaysAll, SaysOn, output_named}
+use Rattle.ports_core.specs.declared.slot.Mode.{Mode}
+use Rattle.ports_core.specs.declared.tool.Tool.TheVariants.{Tee}
+use Rattle.ports_core.specs.declared.fault.Fault.{Fault}
+use Rattle.ports_core.specs.declared.fault.Fault.TheVariants.{Memory}
+use Rattle.run_core.specs.Feeding.{BreaksOnly, OfContent}
+use Rattle.run_core.specs.Input.{empty}
+use Rattle.run_core.specs.RunEnds.{standard_output, standard_error}
+use Rattle.run_core.proofs.FeedingLemmas.{of_content}
+use Rattle.tee_core.specs.Run.{EndsAs, copied, no_room, file_whole, file_unopened, file_cut, file_unclosed, FilesLeft, no_file, one_file, IsRead, to_end, to_break, to_limit, LeavesOf, OutputLeft, output_whole, output_cut, all_copied, are_sound, is_sound, messages_of, output_names, said_before, said_in, status_of}
+use Rattle.tee_core.specs.Steps.{CopiesInput, any_of}
+
+-- the status
+
+any_broken : (broke : List (Option ℕ)) → any_of (map (λ (when : Option ℕ). not (is_sound when)) broke) ≡ not (are_sound broke)
+any_broken [] = refl
+any_broken (first ∷ broke) = ap (λ (flag : Bool). not (is_sound first) || flag) (any_broken broke) ∙ by (is_sound first) (are_sound broke) where
+  by : (a b : Bool) → (not a || not b) ≡ not (a && b)
+  by true b = refl
+  by false b = refl
+
+one_fails : (sound whole : Bool) → ◌≡◌ {A = ℕ} (if not sound || not whole then 1 else 0) (if whole && sound then 0 else 1)
+one_fails true true = refl
+one_fails true false = refl
+one_fails false true = refl
+one_fails false false = refl
+
+status_is : (broke : List (Option ℕ)) (fault : Option Fault) (failed : Bool) (known : List Bool) → failed ≡ (not (is_sound fault) || any_of known) → known ≡ map (λ (when : Option ℕ). not (is_sound when)) broke → (if failed then 1 else 0) ≡ status_of broke fault
+status_is broke fault failed known failing is =
+    ap (λ (flag : Bool). if flag then 1 else 0) (failing ∙ ap (λ flags. not (is_sound fault) || any_of flags) is ∙ ap (λ (flag : Bool). not (is_sound fault) || flag) (any_broken broke))
+    ∙ one_fails (is_sound fault) (are_sound broke)
+
+pub ends_copied : (told_in told : Bool) (mode : Mode) (names : List (List ℕ)) (content : Content) (source : Source) (new : List Slot) (failed : Bool) (status : ℕ) → status ≡ (if failed then 1 else 0) → CopiesInput told_in told mode names content source new failed → EndsAs told_in told mode names content source new status
+ends_copied told_in told mode names content source new failed status is copies =
+    copied copies.pieces copies.fault copies.copied.first copies.copied.broke copies.copied.output copies.copied.error copies.copied.files copies.read copies.copied.output_left copies.copied.files_left copies.copied.said copies.copied.are
+    (is ∙ status_is (copies.copied.first ∷ copies.copied.broke) copies.fault failed copies.known copies.failed_is copies.copied.known_are)
+
+pub of_content_too : (told : Bool) (there : Content) (P Q : Content → Type 0) → ((content : Content) → P content → Q content) → OfContent told there P → OfContent told there Q
+of_content_too told there P Q more (content, is, holds) = (content, is, more content holds)
+
+-- there was no memory
+
+pub memory_open : (slots old : List Slot) → old ≡ streams → slots ≡ old → is_open (slot_at slots 1).state ≡ true
+memory_open slots old is same = ap (λ those. is_open (slot_at those 1).state) (same ∙ is)
+
+ends_nowhere : (told_in told : Bool) (mode : Mode) (names : List (List ℕ)) (content : Content) (source : Source) (mid new : List Slot) (fault : Fault) → fault ≡ Memory → mid ≡ streams → LeavesOf told_in source content.bytes → SaysOn told Tee (message_of Tee fault (output_named mid fault)) mid new → EndsAs told_in told mode names content source new 1
+ends_nowhere told_in told mode names content source mid new fault is at left says =
+    let said = subst (λ (those : Fault). SaysOn told Tee (message_of Tee those (output_named mid those)) mid new) is says standard_output standard_error [] at in
+    no_room said.0 (said.0, said.1, refl) left said.2 refl
+
+pub ends_at_once : (told_in told : Bool) (mode : Mode) (names : List (List ℕ)) (old new_sources : List Source) (first mid new : List Slot) (fault : Fault) → fault ≡ Memory → first ≡ streams → mid ≡ first → new_sources ≡ old → SaysOn told Tee (message_of Tee fault (output_named mid fault)) mid new
+    → OfContent told_in (source_at old 0).left (λ content. EndsAs told_in told mode names content (source_at new_sources 0) new 1 × BreaksOnly told_in content (source_at new_sources 0))
+ends_at_once told_in told mode names old new_sources first mid new fault is at same sources says =
+    of_content told_in (source_at old 0).left empty (source_at new_sources 0) (λ content. EndsAs told_in told mode names content (source_at new_sources 0) new 1)
+    (λ _. ends_nowhere told_in told mode names _ (source_at new_sources 0) mid new fault is (same ∙ at) (λ _. ap (λ those. (source_at those 0).left.bytes) sources) says)
+    (λ untold. ends_nowhere told_in told mode names _ (source_at new_sources 0) mid new fault is (same ∙ at) (λ tells. absurd (false≢true (sym untold ∙ tells))) says)
+    (λ breaks. absurd (false≢true breaks))
+
+-- nothing broke
+
+sound_first : {X : Type 0} (first : Option X) (rest : Bool) → (is_sound first && rest) ≡ true → (first ≡ None) × (rest ≡ true)
+sound_first None rest is = (refl, is)
+sound_first (Some x) rest is = absurd (false≢true is)
+
+nothing_in : (call : ℕ) (names : List (List ℕ)) (broke : List (Option ℕ)) → are_sound broke ≡ true → said_in call names broke ≡ []
+nothing_in call [] broke sound = refl
+nothing_in call (name ∷ names) [] sound = refl
+nothing_in call (name ∷ names) (None ∷ broke) sound = nothing_in call names broke sound
+nothing_in call (name ∷ names) (Some other ∷ broke) sound = absurd (false≢true sound)
+
+nothing_before : (call : ℕ) (names : List (List ℕ)) (broke : List (Option ℕ)) → are_sound broke ≡ true → said_before call names broke ≡ []
+nothing_before zero names broke sound = refl
+nothing_before (suc call) names broke sound = ap (λ texts. texts ++ said_in call names broke) (nothing_before call names broke sound) ∙ nothing_in call names broke sound
+
+whole_output : (told : Bool) (pieces : List (List ℕ)) (first : Option ℕ) (output : Slot) → first ≡ None → OutputLeft told pieces first output → output ≡ adds (told_of told (concat pieces)) standard_output
+whole_output told pieces _ _ is output_whole = refl
+whole_output told pieces _ _ is (output_cut before that after n is_there within) = absurd (some_none is) where
+  some_none : {a : ℕ} → Some a ≡ None → ⊥
+  some_none is = false≢true (ap is_sound is)
+
+whole_files : (told : Bool) (mode : Mode) (pieces : List (List ℕ)) (names : List (List ℕ)) (broke : List (Option ℕ)) (files : List Slot) → are_sound broke ≡ true → FilesLeft told mode pieces names broke files → files ≡ map (λ name. closes (adds (told_of told (concat pieces)) (opened name mode))) names
+whole_files told mode pieces _ _ _ sound no_file = refl
+whole_files told mode pieces _ _ _ sound (one_file name names _ broke _ files file_whole rest) = ap (λ those. closes (adds (told_of told (concat pieces)) (opened name mode)) ∷ those) (whole_files told mode pieces names broke files sound rest)
+whole_files told mode pieces _ _ _ sound (one_file name names _ broke _ files (file_unopened kept named) rest) = absurd (false≢true sound)
+whole_files told mode pieces _ _ _ sound (one_file name names _ broke _ files (file_cut before that after n is within) rest) = absurd (false≢true sound)
+whole_files told mode pieces _ _ _ sound (one_file name names _ broke _ files file_unclosed rest) = absurd (false≢true sound)
+
+status_zero : (sound whole : Bool) → ◌≡◌ {A = ℕ} (if whole && sound then 0 else 1) 0 → (whole ≡ true) × (sound ≡ true)
+status_zero true true is = (refl, refl)
+status_zero true false is = absurd (omega (arith, is))
+status_zero false true is = absurd (omega (arith, is))
+status_zero false false is = absurd (omega (arith, is))
+
+read_whole : (content : Content) (Leaves : List ℕ → Type 0) (x : List ℕ) (fault : Option Fault) → is_sound fault ≡ true → IsRead content Leaves x fault → content.bytes ≡ x
+read_whole content Leaves _ _ sound (to_end x is ended left) = is
+read_whole content Leaves _ _ sound (to_break x is breaks left) = absurd (false≢true sound)
+read_whole content Leaves _ _ sound (to_limit x piece rest is many left) = absurd (false≢true sound)
+
+pub whole_if : (told_in told : Bool) (mode : Mode) (names : List (List ℕ)) (content : Content) (source : Source) (new : List Slot) (status : ℕ) → status ≡ 0 → EndsAs told_in told mode names content source new status → new ≡ all_copied told mode names content.bytes
+whole_if told_in told mode names content source new status zero_is (no_room error said left at one) = absurd (omega (arith, zero_is, one))
+whole_if told_in told mode names content source new status zero_is (copied pieces fault first broke output error files read output_left files_left said at is) =
+    let good = status_zero (is_sound fault) (are_sound (first ∷ broke)) (sym is ∙ zero_is) in
+    let sounds = sound_first first (are_sound broke) good.0 in
+    let silent : messages_of names (first ∷ broke) (length pieces) fault ≡ [] = quiet fault (length pieces) (first ∷ broke) good.1 good.0 in
+    at ∙ ap (λ slot. slot ∷ error ∷ files) (whole_output told pieces first output sounds.0 output_left)
+    ∙ ap (λ slot. adds (told_of told (concat pieces)) standard_output ∷ slot ∷ files) (subst (λ texts. SaysAll told Tee texts standard_error error) silent said)
+    ∙ ap (λ those. adds (told_of told (concat pieces)) standard_output ∷ standard_error ∷ those) (whole_files told mode pieces names broke files sounds.1 files_left)
+    ∙ ap (all_copied told mode names) (sym (read_whole content _ (concat pieces) fault good.1 read)) where
+      quiet : (fault : Option Fault) (pieces : ℕ) (broke : List (Option ℕ)) → is_sound fault ≡ true → are_sound broke ≡ true → messages_of names broke pieces fault ≡ []
+      quiet None pieces broke ended sound =
+          ap (λ texts. (texts ++ []) ++ said_in (suc pieces) (output_names names) broke) (nothing_before (suc pieces) (output_names names) broke sound) ∙ nothing_in (suc pieces) (output_names names) broke sound
+      quiet (Some fault) pieces broke ended sound = absurd (false≢true ended)
+
+pub whole_of : (told_in told : Bool) (mode : Mode) (names : List (List ℕ)) (there : Content) (source : Source) (new : List Slot) (status : ℕ) → told_in ≡ true → status ≡ 0
+    → OfContent told_in there (λ content. EndsAs told_in told mode names content source new status × BreaksOnly told_in content source) → new ≡ all_copied told mode names there.bytes
+whole_of told_in told mode names there source new status tells zero_is (content, is, holds) =
+    whole_if told_in told mode names content source new status zero_is holds.0 ∙ ap (λ (those : Content). all_copied told mode names those.bytes) (is tells)

@@ -1,0 +1,131 @@
+-- Lemmas on files that are opened one after another.
+use Rattle.std.proofs.Common.{◌≡◌, ℕ, ◌+◌, ◌-◌, ◌^◌, ◌<◌, ◌≤◌, zero, suc, List, [], ◌∷◌, ◌++◌, length, map, take, drop, get_or, Bor, true, inl, inr, refl, sym, ◌∙◌, ap, subst, arith, append_assoc, length-append}
+use Rattle.std.proofs.lemmas.List.{append-nil, take_all}
+use Rattle.std.proofs.lemmas.Bool.{false≢true}
+use Rattle.ports_core.specs.Slot.{Slot, slot_at, opened, unopened, is_open, FailsToOpen, broke}
+use Rattle.ports_core.specs.declared.slot.Mode.{Mode}
+use Rattle.ports_core.specs.declared.fault.Fault.TheVariants as fault
+use Rattle.tee_core.specs.Opening.{OpensAs, is_opened, is_unopened, OpensEach, no_more, one_more, Opens, OpensOne, OpensSome}
+use Rattle.tee_core.specs.Outputs.{IsOutput, IsReady, IsUsable}
+use Rattle.tee_core.specs.TeeState.{TeeState}
+
+-- one file
+
+pub opened_one : (mode : Mode) (name : List ℕ) (old new : List Slot) → new ≡ old ++ opened name mode ∷ [] → OpensOne mode name old new
+opened_one mode name old new is = record { slot = opened name mode; opens = is_opened; slots = is }
+
+pub record InVain (mode : Mode) (name : List ℕ) (old new : List Slot) (slot : ℕ) : Type 0 where
+  pub number : slot ≡ length old
+  pub one : OpensOne mode name old new
+
+pub in_vain : (mode : Mode) (name : List ℕ) (old new : List Slot) (slot : ℕ) → FailsToOpen old name new (fault.Open slot) → InVain mode name old new slot
+in_vain mode name old new slot (broke _ kept is named made) = record { number = is; one = record { slot = unopened kept; opens = is_unopened kept named; slots = made } }
+
+-- one after another
+
+pub opens_none : (mode : Mode) (slots : List Slot) → Opens mode [] slots slots
+opens_none mode slots = record { since = []; each = no_more; slots = sym (append-nil slots) }
+
+pub opens_next : (mode : Mode) (name : List ℕ) (names : List (List ℕ)) (old mid new : List Slot) → OpensOne mode name old mid → Opens mode names mid new → Opens mode (name ∷ names) old new
+opens_next mode name names old mid new one rest = record {
+  since = one.slot ∷ rest.since;
+  each = one_more name names one.slot rest.since one.opens rest.each;
+  slots = rest.slots ∙ ap (λ front. front ++ rest.since) one.slots ∙ append_assoc old (one.slot ∷ []) rest.since;
+}
+
+pub some_none : (mode : Mode) (names : List (List ℕ)) (slots : List Slot) → OpensSome mode names slots slots
+some_none mode names slots = record { first = []; rest = names; names_are = refl; opens = opens_none mode slots }
+
+pub some_next : (mode : Mode) (name : List ℕ) (names : List (List ℕ)) (old mid new : List Slot) → OpensOne mode name old mid → OpensSome mode names mid new → OpensSome mode (name ∷ names) old new
+some_next mode name names old mid new one rest = record {
+  first = name ∷ rest.first;
+  rest = rest.rest;
+  names_are = ap (λ those. name ∷ those) rest.names_are;
+  opens = opens_next mode name rest.first old mid new one rest.opens;
+}
+
+pub length-one : (mode : Mode) (name : List ℕ) (old new : List Slot) → OpensOne mode name old new → length new ≡ length old + 1
+length-one mode name old new one = ap length one.slots ∙ length-append old (one.slot ∷ [])
+
+-- how far the loop over the names has come
+pub record Opening (mode : Mode) (names left : List (List ℕ)) (old now : List Slot) : Type 0 where
+  pub whole : (new : List Slot) → Opens mode left now new → Opens mode names old new
+  pub some : (new : List Slot) → OpensSome mode left now new → OpensSome mode names old new
+  pub counts : length now + length left ≡ length old + length names
+  pub small : length now ≤ 2 ^ 64
+
+pub begins_opening : (mode : Mode) (names : List (List ℕ)) (slots : List Slot) → length slots ≤ 2 ^ 64 → Opening mode names names slots slots
+begins_opening mode names slots small = record { whole = λ new opens. opens; some = λ new opens. opens; counts = refl; small = small }
+
+pub opens_more : (mode : Mode) (names : List (List ℕ)) (name : List ℕ) (left : List (List ℕ)) (old now new : List Slot) (slot : ℕ) → Opening mode names (name ∷ left) old now → slot ≡ length now → slot < 2 ^ 64 → OpensOne mode name now new → Opening mode names left old new
+opens_more mode names name left old now new slot so_far number small one = record {
+  whole = λ last opens. so_far.whole last (opens_next mode name left now new last one opens);
+  some = λ last opens. so_far.some last (some_next mode name left now new last one opens);
+  counts = let before : length now + suc (length left) ≡ length old + length names = so_far.counts in omega (arith, length-one mode name now new one);
+  small = omega (arith, length-one mode name now new one);
+}
+
+-- a tee can go on with what was opened
+
+opened_usable : (mode : Mode) (name : List ℕ) (slot : Slot) → OpensAs mode name slot → IsUsable slot
+opened_usable mode name _ is_opened = λ sound. refl
+opened_usable mode name _ (is_unopened kept named) = λ sound. absurd (false≢true (sym sound))
+
+since_usable : (mode : Mode) (names : List (List ℕ)) (slots : List Slot) (place : ℕ) → OpensEach mode names slots → place < length slots → IsUsable (slot_at slots place)
+since_usable mode [] [] place no_more within = absurd (omega arith)
+since_usable mode _ _ zero (one_more name names slot slots one rest) within = opened_usable mode name slot one
+since_usable mode _ _ (suc place) (one_more name names slot slots one rest) within = since_usable mode names slots place rest (omega arith)
+
+at_front : (front rest : List Slot) → 0 < length front → slot_at (front ++ rest) 0 ≡ slot_at front 0
+at_front [] rest some = absurd (omega arith)
+at_front (slot ∷ front) rest some = refl
+
+after_front : (front rest : List Slot) (place : ℕ) → slot_at (front ++ rest) (length front + place) ≡ slot_at rest place
+after_front [] rest place = ap (slot_at rest) (let e : 0 + place ≡ place = omega arith in e)
+after_front (slot ∷ front) rest place = ap (slot_at (slot ∷ (front ++ rest))) (let e : suc (length front) + place ≡ suc (length front + place) = omega arith in e) ∙ after_front front rest place
+
+pub length-since : (mode : Mode) (names : List (List ℕ)) (slots : List Slot) → OpensEach mode names slots → length slots ≡ length names
+length-since mode [] [] no_more = refl
+length-since mode _ _ (one_more name names slot slots one rest) = ap suc (length-since mode names slots rest)
+
+pub ready_to_go : (mode : Mode) (names : List (List ℕ)) (old new : List Slot) (tee : TeeState) → 0 < length old → is_open (slot_at old 0).state ≡ true → Opens mode names old new → tee.count ≡ length names → (0 < tee.count → tee.first ≡ length old) → IsReady tee new
+ready_to_go mode names old new tee some standard opens count first place is = by is where
+  by : IsOutput tee place → IsUsable (slot_at new place)
+  by (inl here) = λ sound. ap (λ at. is_open (slot_at new at).state) here ∙ ap (λ those. is_open (slot_at those 0).state) opens.slots ∙ ap (λ (slot : Slot). is_open slot.state) (at_front old opens.since some) ∙ standard
+  by (inr file) =
+      let start : tee.first ≡ length old = first (omega (arith, file.0, file.1)) in
+      let many : length opens.since ≡ length names = length-since mode names opens.since opens.each in
+      let there : place ≡ length old + (place - length old) = omega (arith, start, file.0) in
+      subst IsUsable (sym (ap (λ at. slot_at new at) there ∙ ap (λ those. slot_at those (length old + (place - length old))) opens.slots ∙ after_front old opens.since (place - length old)))
+      (since_usable mode names opens.since (place - length old) opens.each (omega (arith, start, file.0, file.1, many, count)))
+
+-- the same of names as the code has them
+
+names_none : (names : List (Bor (List ℕ))) → length names < 1 → map (λ name. name.now) names ≡ []
+names_none [] few = refl
+names_none (name ∷ names) few = absurd (omega arith)
+
+pub none_left : (mode : Mode) (names : List (Bor (List ℕ))) (slots : List Slot) → length names < 1 → Opens mode (map (λ name. name.now) names) slots slots
+none_left mode names slots few = rw (names_none names few) (opens_none mode slots)
+
+pub first_and_rest : (other : Bor (List ℕ)) (names : List (Bor (List ℕ))) → 1 ≤ length names → map (λ name. name.now) names ≡ (get_or names 0 other).now ∷ map (λ name. name.now) (take (length names - 1) (drop 1 names))
+first_and_rest other [] some = absurd (omega arith)
+first_and_rest other (name ∷ names) some = ap (λ rest. name.now ∷ map (λ (name : Bor (List ℕ)). name.now) rest) (sym (ap (λ n. take n names) (let e : suc (length names) - 1 ≡ length names = omega arith in e) ∙ take_all (length names) names (omega arith)))
+
+pub opens_more_at : (mode : Mode) (names : List (List ℕ)) (other : Bor (List ℕ)) (left : List (Bor (List ℕ))) (old now new : List Slot) (slot : ℕ) → 1 ≤ length left → Opening mode names (map (λ name. name.now) left) old now → slot ≡ length now → slot < 2 ^ 64 → OpensOne mode (get_or left 0 other).now now new
+    → Opening mode names (map (λ name. name.now) (take (length left - 1) (drop 1 left))) old new
+opens_more_at mode names other left old now new slot some so_far number small one =
+    opens_more mode names _ _ old now new slot (subst (λ those. Opening mode names those old now) (first_and_rest other left some) so_far) number small one
+
+pub opens_next_at : (mode : Mode) (other : Bor (List ℕ)) (names : List (Bor (List ℕ))) (old mid new : List Slot) → 1 ≤ length names → OpensOne mode (get_or names 0 other).now old mid → Opens mode (map (λ name. name.now) (take (length names - 1) (drop 1 names))) mid new → Opens mode (map (λ name. name.now) names) old new
+opens_next_at mode other names old mid new some one rest = rw (first_and_rest other names some) (opens_next mode _ _ old mid new one rest)
+
+pub some_next_at : (mode : Mode) (other : Bor (List ℕ)) (names : List (Bor (List ℕ))) (old mid new : List Slot) → 1 ≤ length names → OpensOne mode (get_or names 0 other).now old mid → OpensSome mode (map (λ name. name.now) (take (length names - 1) (drop 1 names))) mid new → OpensSome mode (map (λ name. name.now) names) old new
+some_next_at mode other names old mid new some one rest = rw (first_and_rest other names some) (some_next mode _ _ old mid new one rest)
+
+pub some_now : (mode : Mode) (names : List (List ℕ)) (old new : List Slot) → new ≡ old → OpensSome mode names old new
+some_now mode names old new is = rw is (some_none mode names old)
+
+-- the numbers of the files
+pub in_range : (mode : Mode) (names : List (List ℕ)) (old new : List Slot) → Opens mode names old new → length new ≡ length old + length names
+in_range mode names old new opens = ap length opens.slots ∙ length-append old opens.since ∙ ap (λ n. length old + n) (length-since mode names opens.since opens.each)

@@ -1,0 +1,60 @@
+-- Lemmas on what a run reads of its input.
+use Rattle.std.proofs.Common.{◌≡◌, ℕ, ◌+◌, ◌<◌, ◌≤◌, ◌^◌, List, [], ◌∷◌, ◌++◌, length, take, Bool, true, false, Option, Some, None, IsTrue, refl, sym, ◌∙◌, ap, subst, arith, length-append, length-take}
+use Rattle.std.proofs.lemmas.List.{append-nil}
+use Rattle.std.specs.List.{concat}
+use Rattle.std.proofs.lemmas.Bool.{false≢true}
+use Rattle.ports_core.specs.Slot.{Slot, changed_at}
+use Rattle.ports_core.specs.Source.{Content, Source, source_at, is_readable, fails, gives, BrokeOff, Gave}
+use Rattle.ports_core.specs.declared.fault.Fault.{Fault}
+use Rattle.ports_core.specs.declared.fault.Fault.TheVariants.{Read, TooLong}
+use Rattle.ports_core.specs.declared.slot.Mode.{Mode}
+use Rattle.run_core.proofs.FeedingLemmas.{HasRead, read_broken, read_failed, read_more, read_none_more, read_to_end}
+use Rattle.tee_core.specs.Run.{IsRead, LeavesOf, to_end, to_break, to_limit}
+use Rattle.tee_core.specs.Steps.{Copies, CopiesRead}
+
+nothing_more : (x rest : List ℕ) → x ≡ x ++ rest → rest ≡ []
+nothing_more x [] is = refl
+nothing_more x (byte ∷ rest) is = absurd (let size : length (x ++ byte ∷ rest) ≡ length x + length (byte ∷ rest) = length-append x (byte ∷ rest) in omega (arith, ap length is, size))
+
+untold : (told : Bool) (source : Source) (rest : List ℕ) → told ≡ false → LeavesOf told source rest
+untold told source rest is = λ tells. absurd (false≢true (sym is ∙ tells))
+
+-- the read failed
+pub broken_read : (told : Bool) (content : Content) (x : List ℕ) (size : ℕ) (sources new : List Source) (fault : Fault) → HasRead content x 0 sources → IsTrue (is_readable sources 0) → BrokeOff (source_at sources 0).left → fault ≡ Read 0 → new ≡ changed_at 0 (fails size) sources → IsRead content (LeavesOf told (source_at new 0)) x (Some fault)
+broken_read told content x size sources new fault read can broke is fails =
+    let end = read_broken content x 0 sources read broke in
+    subst (λ those. IsRead content (LeavesOf told (source_at new 0)) x (Some those)) (sym is) (to_break x end.0 end.1 (λ _. nothing_more x _ (sym end.0 ∙ read_failed content x 0 sources new size read can fails)))
+
+pub broken_untold : (told : Bool) (x : List ℕ) (source : Source) (fault : Fault) → told ≡ false → fault ≡ Read 0 → IsRead (record { bytes = x; breaks_off = true }) (LeavesOf told source) x (Some fault)
+broken_untold told x source fault tells is = subst (λ those. IsRead (record { bytes = x; breaks_off = true }) (LeavesOf told source) x (Some those)) (sym is) (to_break x refl refl (untold told source [] tells))
+
+-- the read told the end
+pub ended_read : (told : Bool) (content : Content) (x buffer old_buffer : List ℕ) (size n : ℕ) (sources new : List Source) → HasRead content x 0 sources → IsTrue (is_readable sources 0) → Gave (source_at sources 0).left old_buffer buffer n → n ≡ 0 → 0 < length old_buffer → new ≡ changed_at 0 (gives size n) sources → IsRead content (LeavesOf told (source_at new 0)) x None
+ended_read told content x buffer old_buffer size n sources new read can gave few room is =
+    let at_end = gave.ended few room in
+    let all = read_to_end content x 0 sources read at_end.0 at_end.1 in
+    to_end x all.1 all.0 (λ _. nothing_more x _ (sym all.1 ∙ read_none_more content x 0 sources new size n read can few is))
+
+pub ended_untold : (told : Bool) (x : List ℕ) (source : Source) → told ≡ false → IsRead (record { bytes = x; breaks_off = false }) (LeavesOf told source) x None
+ended_untold told x source tells = to_end x refl refl (untold told source [] tells)
+
+-- the piece passes the limit
+
+too_many : (x buffer : List ℕ) (fed n : ℕ) → fed ≡ length x → n ≤ length buffer → 2 ^ 63 ≤ fed + n → 2 ^ 63 ≤ length (x ++ take n buffer)
+too_many x buffer fed n counted within many = omega (arith, counted, within, many, length-append x (take n buffer), length-take n buffer)
+
+pub long_read : (told : Bool) (content : Content) (x old_buffer buffer : List ℕ) (size fed n : ℕ) (sources new : List Source) → HasRead content x 0 sources → IsTrue (is_readable sources 0) → Gave (source_at sources 0).left old_buffer buffer n → fed ≡ length x → n ≤ length buffer → 2 ^ 63 ≤ fed + n → new ≡ changed_at 0 (gives size n) sources
+    → IsRead content (LeavesOf told (source_at new 0)) x (Some TooLong)
+long_read told content x old_buffer buffer size fed n sources new read can gave counted within many is =
+    let more = read_more content x 0 sources new old_buffer buffer size n read can gave is in
+    to_limit x (take n buffer) (source_at new 0).left.bytes more.bytes (too_many x buffer fed n counted within many) (λ _. refl)
+
+pub long_untold : (told : Bool) (x buffer : List ℕ) (fed n : ℕ) (source : Source) → told ≡ false → fed ≡ length x → n ≤ length buffer → 2 ^ 63 ≤ fed + n → IsRead (record { bytes = x ++ take n buffer; breaks_off = false }) (LeavesOf told source) x (Some TooLong)
+long_untold told x buffer fed n source tells counted within many = to_limit x (take n buffer) [] (sym (append-nil (x ++ take n buffer))) (too_many x buffer fed n counted within many) (untold told source [] tells)
+
+pub counted_more : (x buffer : List ℕ) (fed n sum : ℕ) → fed ≡ length x → n ≤ length buffer → sum ≡ fed + n → sum ≡ length (x ++ take n buffer)
+counted_more x buffer fed n sum counted within is = omega (arith, counted, within, is, length-append x (take n buffer), length-take n buffer)
+
+pub reads_copied : (told_in told : Bool) (mode : Mode) (names : List (List ℕ)) (content : Content) (source : Source) (slots : List Slot) (known : List Bool) (fault : Option Fault) (came : List ℕ) (pieces : List (List ℕ)) → came ≡ concat pieces → IsRead content (LeavesOf told_in source) came fault → Copies told mode names pieces [] slots known
+    → CopiesRead told_in told mode names content source slots known fault
+reads_copied told_in told mode names content source slots known fault came pieces joined read copies = record { pieces = pieces; read = subst (λ bytes. IsRead content (LeavesOf told_in source) bytes fault) joined read; copies = copies }

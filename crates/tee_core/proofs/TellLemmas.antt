@@ -1,0 +1,157 @@
+-- Lemmas on the messages for outputs that broke.
+use Rattle.std.proofs.Common.{◌≡◌, ℕ, ◌+◌, ◌<◌, ◌≤◌, zero, suc, List, [], ◌∷◌, ◌++◌, length, map, take, drop, get_or, set, Bor, Bool, true, false, not, ◌&&◌, if◌then◌else◌, refl, sym, ◌∙◌, ap, subst, arith, append_assoc}
+use Rattle.std.proofs.lemmas.List.{append-nil, length-map}
+use Rattle.ports_core.specs.Slot.{Slot, slot_at, changed_at, is_open}
+use Rattle.ports_core.specs.Text.{message_of}
+use Rattle.ports_core.specs.Message.{SaysOn}
+use Rattle.ports_core.specs.declared.tool.Tool.TheVariants.{Tee}
+use Rattle.ports_core.specs.declared.fault.Fault.{Fault}
+use Rattle.ports_core.proofs.MessageLemmas.{all_said_state, says_more}
+use Rattle.tee_core.specs.Run.{output_names}
+use Rattle.tee_core.specs.Steps.{HasStreams, SaysTo, broken_of, output_slot, said_since}
+
+-- what is said of one output
+
+abbrev said_one : Fault → List ℕ → Bool → Bool → List (List ℕ)
+said_one fault name was now = if not was && now then message_of Tee fault name ∷ [] else []
+
+one_before : (flag : Bool) (text : List ℕ) (texts : List (List ℕ)) → (if flag then text ∷ texts else texts) ≡ (if flag then text ∷ [] else []) ++ texts
+one_before true text texts = refl
+one_before false text texts = refl
+
+said_next : (fault : Fault) (names : List (List ℕ)) (known broken : List Bool) (n : ℕ) → n < length names → length known ≡ length names → length broken ≡ length names
+    → said_since fault (drop n names) (drop n known) (drop n broken) ≡ said_one fault (get_or names n []) (get_or known n false) (get_or broken n false) ++ said_since fault (drop (suc n) names) (drop (suc n) known) (drop (suc n) broken)
+said_next fault [] known broken n within known_many many = absurd (omega arith)
+said_next fault (name ∷ names) [] broken n within known_many many = absurd (omega (arith, known_many))
+said_next fault (name ∷ names) (was ∷ known) [] n within known_many many = absurd (omega (arith, many))
+said_next fault (name ∷ names) (was ∷ known) (now ∷ broken) zero within known_many many = one_before (not was && now) (message_of Tee fault name) (said_since fault names known broken)
+said_next fault (name ∷ names) (was ∷ known) (now ∷ broken) (suc n) within known_many many = said_next fault names known broken n (omega arith) (omega (arith, known_many)) (omega (arith, many))
+
+-- flags that are brought up to date one after another
+
+set_next : (n : ℕ) (known broken : List Bool) → n < length known → length broken ≡ length known → set (take n broken ++ drop n known) n (get_or broken n false) ≡ take (suc n) broken ++ drop (suc n) known
+set_next n [] broken within many = absurd (omega arith)
+set_next n (was ∷ known) [] within many = absurd (omega (arith, many))
+set_next zero (was ∷ known) (now ∷ broken) within many = refl
+set_next (suc n) (was ∷ known) (now ∷ broken) within many = ap (λ rest. now ∷ rest) (set_next n known broken (omega arith) (omega (arith, many)))
+
+get_next : (n : ℕ) (known broken : List Bool) (other : Bool) → n < length known → length broken ≡ length known → get_or (take n broken ++ drop n known) n other ≡ get_or known n false
+get_next n [] broken other within many = absurd (omega arith)
+get_next n (was ∷ known) [] other within many = absurd (omega (arith, many))
+get_next zero (was ∷ known) (now ∷ broken) other within many = refl
+get_next (suc n) (was ∷ known) (now ∷ broken) other within many = get_next n known broken other (omega arith) (omega (arith, many))
+
+all_set : (n : ℕ) (known broken : List Bool) → length known ≤ n → length broken ≡ length known → take n broken ++ drop n known ≡ broken
+all_set n [] [] past many = nothing n where
+  nothing : (n : ℕ) → take {A = Bool} n [] ++ drop n [] ≡ []
+  nothing zero = refl
+  nothing (suc n) = refl
+all_set n [] (now ∷ broken) past many = absurd (omega (arith, many))
+all_set n (was ∷ known) [] past many = absurd (omega (arith, many))
+all_set zero (was ∷ known) (now ∷ broken) past many = absurd (omega arith)
+all_set (suc n) (was ∷ known) (now ∷ broken) past many = ap (λ rest. now ∷ rest) (all_set n known broken (omega arith) (omega (arith, many)))
+
+-- where outputs stand
+
+broken_there : (files : List Slot) (n : ℕ) → (slot_at files n).is_broken ≡ get_or (map (λ (file : Slot). file.is_broken) files) n false
+broken_there [] n = refl
+broken_there (file ∷ files) zero = refl
+broken_there (file ∷ files) (suc n) = broken_there files n
+
+broken_at : (output error : Slot) (files : List Slot) (n : ℕ) → (slot_at (output ∷ error ∷ files) (output_slot n)).is_broken ≡ get_or (broken_of (output ∷ error ∷ files)) n false
+broken_at output error files zero = refl
+broken_at output error files (suc n) = broken_there files n
+
+pub count_broken : (slots : List Slot) (count : ℕ) → HasStreams slots count → length (broken_of slots) ≡ count + 1
+count_broken slots count has = ap (λ those. length (broken_of those)) has.are ∙ (let many : length (map (λ (file : Slot). file.is_broken) has.files) ≡ length has.files = length-map has.files _ in let same : length has.files ≡ count = has.files_are in let e : suc (length (map (λ (file : Slot). file.is_broken) has.files)) ≡ count + 1 = omega arith in e)
+
+-- standard error alone is written
+
+unchanged : (place : ℕ) (slots : List Slot) → slots ≡ changed_at place (λ _. slot_at slots place) slots
+unchanged place [] = refl
+unchanged zero (slot ∷ slots) = refl
+unchanged (suc place) (slot ∷ slots) = ap (λ rest. slot ∷ rest) (unchanged place slots)
+
+pub says_nothing : (told : Bool) (slots : List Slot) → SaysTo told [] slots slots
+says_nothing told slots = (slot_at slots 1, refl, unchanged 1 slots)
+
+says_after : (told : Bool) (texts : List (List ℕ)) (text : List ℕ) (output error : Slot) (files now new : List Slot) → SaysTo told texts (output ∷ error ∷ files) now → SaysOn told Tee text now new → SaysTo told (texts ++ text ∷ []) (output ∷ error ∷ files) new
+says_after told texts text output error files now new so_far says =
+    let said = says output so_far.0 files so_far.2 in (said.0, says_more told Tee texts text error so_far.0 said.0 so_far.1 said.1, said.2)
+
+pub says_too : (told : Bool) (texts : List (List ℕ)) (text : List ℕ) (count : ℕ) (old now new : List Slot) → HasStreams old count → SaysTo told texts old now → SaysOn told Tee text now new → SaysTo told (texts ++ text ∷ []) old new
+says_too told texts text count old now new has so_far says =
+    subst (λ those. SaysTo told (texts ++ text ∷ []) those new) (sym has.are)
+    (says_after told texts text has.output has.error has.files now new (subst (λ those. SaysTo told texts those now) has.are so_far) says)
+
+still_open : (told : Bool) (texts : List (List ℕ)) (output error : Slot) (files now : List Slot) → is_open error.state ≡ true → SaysTo told texts (output ∷ error ∷ files) now → is_open (slot_at now 1).state ≡ true
+still_open told texts output error files now opened said = ap (λ those. is_open (slot_at those 1).state) said.2 ∙ ap is_open (all_said_state told Tee texts error said.0 said.1) ∙ opened
+
+broken_still : (told : Bool) (texts : List (List ℕ)) (output error : Slot) (files now : List Slot) (n : ℕ) → SaysTo told texts (output ∷ error ∷ files) now → (slot_at now (output_slot n)).is_broken ≡ get_or (broken_of (output ∷ error ∷ files)) n false
+broken_still told texts output error files now n said = ap (λ those. (slot_at those (output_slot n)).is_broken) said.2 ∙ broken_at output said.0 files n
+
+-- how far the loop over the outputs has come
+pub record Telling (told : Bool) (fault : Fault) (names : List (List ℕ)) (known_before : List Bool) (n : ℕ) (old now : List Slot) (known : List Bool) : Type 0 where
+  pub so_far : List (List ℕ)
+  pub said : SaysTo told so_far old now
+  pub rest : so_far ++ said_since fault (drop n names) (drop n known_before) (drop n (broken_of old)) ≡ said_since fault names known_before (broken_of old)
+  pub known_are : known ≡ take n (broken_of old) ++ drop n known_before
+
+pub begins_telling : (told : Bool) (fault : Fault) (names : List (List ℕ)) (known : List Bool) (slots : List Slot) → Telling told fault names known 0 slots slots known
+begins_telling told fault names known slots = record { so_far = []; said = says_nothing told slots; rest = refl; known_are = refl }
+
+pub error_open : (told : Bool) (fault : Fault) (names : List (List ℕ)) (before known : List Bool) (n count : ℕ) (old now : List Slot) → HasStreams old count → Telling told fault names before n old now known → is_open (slot_at now 1).state ≡ true
+error_open told fault names before known n count old now has so_far = still_open told so_far.so_far has.output has.error has.files now has.opened (subst (λ those. SaysTo told so_far.so_far those now) has.are so_far.said)
+
+pub tells_next : (told : Bool) (fault : Fault) (names : List (List ℕ)) (before known : List Bool) (other : Bool) (n count : ℕ) (old now new : List Slot) (name : List ℕ) (broken : Bool) → HasStreams old count → length names ≡ count + 1 → length before ≡ count + 1 → n < length before → Telling told fault names before n old now known
+    → name ≡ get_or names n [] → broken ≡ (slot_at now (output_slot n)).is_broken → ((not (get_or known n other) && broken) ≡ true → SaysOn told Tee (message_of Tee fault name) now new) → ((not (get_or known n other) && broken) ≡ false → new ≡ now)
+    → Telling told fault names before (n + 1) old new (set known n broken)
+tells_next told fault names before known other n count old now new name broken has names_many many within so_far named tells says quiet =
+    subst (λ k. Telling told fault names before k old new (set known n broken)) (let e : suc n ≡ n + 1 = omega arith in e) (by (not (get_or known n other) && broken) refl) where
+      broken_are : length (broken_of old) ≡ count + 1
+      broken_are = count_broken old count has
+
+      here : broken ≡ get_or (broken_of old) n false
+      here = tells ∙ broken_still told so_far.so_far has.output has.error has.files now n (subst (λ those. SaysTo told so_far.so_far those now) has.are so_far.said) ∙ ap (λ those. get_or (broken_of those) n false) (sym has.are)
+
+      was : get_or known n other ≡ get_or before n false
+      was = ap (λ those. get_or those n other) so_far.known_are ∙ get_next n before (broken_of old) other within (broken_are ∙ sym many)
+
+      flags : set known n broken ≡ take (suc n) (broken_of old) ++ drop (suc n) before
+      flags = ap (λ those. set those n broken) so_far.known_are ∙ ap (set (take n (broken_of old) ++ drop n before) n) here ∙ set_next n before (broken_of old) within (broken_are ∙ sym many)
+
+      step : said_since fault (drop n names) (drop n before) (drop n (broken_of old)) ≡ (if not (get_or known n other) && broken then message_of Tee fault name ∷ [] else []) ++ said_since fault (drop (suc n) names) (drop (suc n) before) (drop (suc n) (broken_of old))
+      step = said_next fault names before (broken_of old) n (let e : length names ≡ count + 1 = names_many in omega (arith, within, many)) (many ∙ sym names_many) (broken_are ∙ sym names_many)
+          ∙ ap (λ (those : List ℕ). (if not (get_or before n false) && get_or (broken_of old) n false then message_of Tee fault those ∷ [] else []) ++ said_since fault (drop (suc n) names) (drop (suc n) before) (drop (suc n) (broken_of old))) (sym named)
+          ∙ ap (λ (flag : Bool). (if not flag && get_or (broken_of old) n false then message_of Tee fault name ∷ [] else []) ++ said_since fault (drop (suc n) names) (drop (suc n) before) (drop (suc n) (broken_of old))) (sym was)
+          ∙ ap (λ (flag : Bool). (if not (get_or known n other) && flag then message_of Tee fault name ∷ [] else []) ++ said_since fault (drop (suc n) names) (drop (suc n) before) (drop (suc n) (broken_of old))) (sym here)
+
+      by : (flag : Bool) → (not (get_or known n other) && broken) ≡ flag → Telling told fault names before (suc n) old new (set known n broken)
+      by true is = record {
+        so_far = so_far.so_far ++ message_of Tee fault name ∷ [];
+        said = says_too told so_far.so_far (message_of Tee fault name) count old now new has so_far.said (says is);
+        rest = append_assoc so_far.so_far (message_of Tee fault name ∷ []) _ ∙ ap (λ texts. so_far.so_far ++ texts) (sym (step ∙ ap (λ (flag : Bool). (if flag then message_of Tee fault name ∷ [] else []) ++ said_since fault (drop (suc n) names) (drop (suc n) before) (drop (suc n) (broken_of old))) is)) ∙ so_far.rest;
+        known_are = flags;
+      }
+      by false is = record {
+        so_far = so_far.so_far;
+        said = subst (λ those. SaysTo told so_far.so_far old those) (sym (quiet is)) so_far.said;
+        rest = ap (λ texts. so_far.so_far ++ texts) (sym (step ∙ ap (λ (flag : Bool). (if flag then message_of Tee fault name ∷ [] else []) ++ said_since fault (drop (suc n) names) (drop (suc n) before) (drop (suc n) (broken_of old))) is)) ∙ so_far.rest;
+        known_are = flags;
+      }
+
+none_said : (fault : Fault) (names : List (List ℕ)) (known broken : List Bool) (n : ℕ) → length names ≤ n → said_since fault (drop n names) known broken ≡ []
+none_said fault [] known broken zero past = refl
+none_said fault [] known broken (suc n) past = refl
+none_said fault (name ∷ names) known broken zero past = absurd (omega arith)
+none_said fault (name ∷ names) known broken (suc n) past = none_said fault names known broken n (omega arith)
+
+pub told_all : (told : Bool) (fault : Fault) (names : List (List ℕ)) (before known : List Bool) (n : ℕ) (old now : List Slot) → length names ≤ n → Telling told fault names before n old now known → SaysTo told (said_since fault names before (broken_of old)) old now
+told_all told fault names before known n old now past so_far =
+    subst (λ texts. SaysTo told texts old now) (sym (append-nil so_far.so_far) ∙ ap (λ texts. so_far.so_far ++ texts) (sym (none_said fault names (drop n before) (drop n (broken_of old)) n past)) ∙ so_far.rest) so_far.said
+
+pub known_all : (told : Bool) (fault : Fault) (names : List (List ℕ)) (before known : List Bool) (n count : ℕ) (old now : List Slot) → HasStreams old count → length before ≡ count + 1 → length before ≤ n → Telling told fault names before n old now known → known ≡ broken_of old
+known_all told fault names before known n count old now has many past so_far = so_far.known_are ∙ all_set n before (broken_of old) past (count_broken old count has ∙ sym many)
+
+pub count_names : (names : List (Bor (List ℕ))) → length (output_names (map (λ name. name.now) names)) ≡ length names + 1
+count_names names = let many : length (map (λ (name : Bor (List ℕ)). name.now) names) ≡ length names = length-map names _ in let e : suc (length (map (λ (name : Bor (List ℕ)). name.now) names)) ≡ length names + 1 = omega arith in e

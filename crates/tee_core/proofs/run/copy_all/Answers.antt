@@ -1,0 +1,43 @@
+use Rattle.std.proofs.Common.{subst}
+use Rattle.std.proofs.lemmas.List.{length-map}
+use Rattle.tee_core.specs.Run.{said_of_input}
+use Rattle.tee_core.specs.Steps.{HasStreams}
+use Rattle.tee_core.proofs.CloseLemmas.{copies_said, copies_streams}
+use Rattle.tee_core.proofs.StartLemmas.{length-names, opened_streams, starts}
+use Rattle.tee_core.proofs.run.copy_all.Goals as goal
+
+pub tell_broken-requires-clause-streams : goal.tell_broken-requires-clause-streams
+tell_broken-requires-clause-streams g c = subst (HasStreams (g.O.Outs.slots c.args.outs.now)) (length-map c.args.names.now _) (opened_streams _ _ _ c.requires.opened.1)
+
+pub copy_pieces-fault-requires-clause-copies : goal.copy_pieces-fault-requires-clause-copies
+copy_pieces-fault-requires-clause-copies g c = (c.requires.opened.0, starts _ _ _ _ _ _ _ c.requires.opened.1 (length-names c.args.names.now _ c.requires.unknown) c.tell_broken.ensures.said c.tell_broken.ensures.known)
+
+pub tell_input-requires : goal.tell_input-requires
+tell_input-requires g c =
+    let (mode, opens) = c.requires.opened in
+    let copied = c.copy_pieces-fault.ensures.copies mode (starts _ mode _ _ _ _ _ opens (length-names c.args.names.now _ c.requires.unknown) c.tell_broken.ensures.said c.tell_broken.ensures.known) in
+    (_, copies_streams _ mode _ copied.2.0.pieces _ _ _ copied.2.0.copies)
+
+pub close_all-requires-clause-copies : goal.close_all-requires-clause-copies
+close_all-requires-clause-copies g c =
+    let (mode, opens) = c.requires.opened in
+    let copied = c.copy_pieces-fault.ensures.copies mode (starts _ mode _ _ _ _ _ opens (length-names c.args.names.now _ c.requires.unknown) c.tell_broken.ensures.said c.tell_broken.ensures.known) in
+    (mode, copied.2.0.pieces, said_of_input c.copy_pieces-fault.result, copies_said _ mode _ copied.2.0.pieces _ _ _ _ copied.2.0.copies c.tell_input.ensures)
+
+pub returns-clause-copied : goal.returns-clause-copied
+returns-clause-copied g c mode opens =
+    let copied = c.copy_pieces-fault.ensures.copies mode (starts _ mode _ _ _ _ _ opens (length-names c.args.names.now _ c.requires.unknown) c.tell_broken.ensures.said c.tell_broken.ensures.known) in (
+      copied.0,
+      copied.1,
+      (
+        record {
+          fault = c.copy_pieces-fault.result;
+          pieces = copied.2.0.pieces;
+          known = c.close_all.new.known;
+          read = copied.2.0.read;
+          copied = c.close_all.ensures mode copied.2.0.pieces c.copy_pieces-fault.result (copies_said _ mode _ copied.2.0.pieces _ _ _ _ copied.2.0.copies c.tell_input.ensures);
+          failed_is = c.has_failed.ensures;
+        },
+        copied.2.1,
+      ),
+    )

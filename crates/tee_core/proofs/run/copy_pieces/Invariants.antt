@@ -1,0 +1,27 @@
+use Rattle.std.proofs.Common.{◌≡◌, ◌≤◌, ◌<◌, ◌-◌, ◌^◌, ℕ, List, [], length, map, true, IsTrue}
+use Rattle.std.specs.List.{concat}
+use Rattle.ports_core.specs.Source.{source_at, is_readable}
+use Rattle.ports_core.specs.declared.slot.Mode.{Mode}
+use Rattle.run_core.specs.Feeding.{KeepsOthers}
+use Rattle.run_core.proofs.FeedingLemmas.{HasRead}
+use Rattle.tee_core.specs.Steps.{Copies}
+use Rattle.tee_core.proofs.run.copy_pieces.Given as goal
+
+abbrev pub invariant-pieces : goal.invariant-pieces
+invariant-pieces g l = record {
+  came : List ℕ;
+  pieces : List (List ℕ);
+  joined : came ≡ concat pieces;
+  copies : (mode : Mode) → Copies g.O.Outs.told mode (map (λ name. name.now) l.names) [] [] (g.O.Outs.slots l.fn.outs) l.fn.known
+      → Copies g.O.Outs.told mode (map (λ name. name.now) l.names) pieces [] (g.O.Outs.slots l.outs) l.known;
+  same : l.tee ≡ l.fn.tee;
+  counted : l.fed ≡ length came;
+  small : l.fed < 2 ^ 63;
+  readable : IsTrue (is_readable (g.I.Inputs.sources l.inputs) 0);
+  others : KeepsOthers 0 (g.I.Inputs.sources l.fn.inputs) (g.I.Inputs.sources l.inputs);
+  read : g.I.Inputs.told ≡ true → HasRead (source_at (g.I.Inputs.sources l.fn.inputs) 0).left came 0 (g.I.Inputs.sources l.inputs);
+  asked : (source_at (g.I.Inputs.sources l.fn.inputs) 0).asked ≤ length l.fn.buffer → (source_at (g.I.Inputs.sources l.inputs) 0).asked ≤ length l.fn.buffer;
+}
+
+abbrev pub decreases-pieces : goal.decreases-pieces
+decreases-pieces g l = 2 ^ 63 - l.fed

@@ -1,0 +1,5 @@
+pub mod Opening
+pub mod Outputs
+pub mod Run
+pub mod Steps
+pub mod TeeState

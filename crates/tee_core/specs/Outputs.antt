@@ -1,0 +1,44 @@
+-- The outputs of a tee, and what each of its calls makes of them.
+use Rattle.std.specs.Prelude.{◌≡◌, ℕ, ◌+◌, ◌≤◌, ◌<◌, Bool, true, false, not, ◌&&◌, List, [], ◌∷◌, length, take, ◌⊎◌, if◌then◌else◌}
+use Rattle.ports_core.specs.Slot.{Slot, slot_at, is_open, adds, breaks, closes, told_of}
+use Rattle.tee_core.specs.TeeState.{TeeState}
+
+-- the output at this place is one of its files
+abbrev pub IsFile : TeeState → ℕ → Type 0
+IsFile tee place = (tee.first ≤ place) × (place < tee.first + tee.count)
+
+-- the output at this place is one to which it copies: standard output, or a file
+abbrev pub IsOutput : TeeState → ℕ → Type 0
+IsOutput tee place = (place ≡ 0) ⊎ IsFile tee place
+
+-- a call can write to the output unless it is broken
+abbrev pub IsUsable : Slot → Type 0
+IsUsable slot = slot.is_broken ≡ false → is_open slot.state ≡ true
+
+-- the outputs with which a tee goes on
+abbrev pub IsReady : TeeState → List Slot → Type 0
+IsReady tee slots = (place : ℕ) → IsOutput tee place → IsUsable (slot_at slots place)
+
+-- Some bytes came: an output took all of them; or it took a beginning and broke; or it was broken before.
+pub data Gets (told : Bool) (bytes : List ℕ) (old : Slot) : Slot → Type 0 where
+  gets_all : old.is_broken ≡ false → Gets told bytes old (adds (told_of told bytes) old)
+  breaks_off : old.is_broken ≡ false → (n : ℕ) → n < length bytes → Gets told bytes old (breaks (adds (told_of told (take n bytes)) old))
+  gets_none : old.is_broken ≡ true → Gets told bytes old old
+
+-- The end came: a file was closed, or broke as it was; or it was broken before.
+pub data Closes (old : Slot) : Slot → Type 0 where
+  is_closed : old.is_broken ≡ false → Closes old (closes old)
+  fails_to_close : old.is_broken ≡ false → Closes old (breaks (closes old))
+  was_broken : old.is_broken ≡ true → Closes old old
+
+-- each of these outputs was changed so, whatever became of the others, and nothing else was changed
+pub record ChangesEach (Change : Slot → Slot → Type 0) (IsOne : ℕ → Type 0) (old new : List Slot) : Type 0 where
+  pub count : length new ≡ length old
+  pub each : (place : ℕ) → IsOne place → Change (slot_at old place) (slot_at new place)
+  pub others : (place : ℕ) → (IsOne place → ⊥) → slot_at new place ≡ slot_at old place
+
+-- how many outputs broke in between
+abbrev pub newly_broken : List Slot → List Slot → ℕ
+newly_broken [] news = 0
+newly_broken (old ∷ olds) [] = 0
+newly_broken (old ∷ olds) (new ∷ news) = (if not old.is_broken && new.is_broken then 1 else 0) + newly_broken olds news

@@ -1,0 +1,10 @@
+//! `tee`: an input copied to standard output and to files, each of which may break without harm to the others.
+#![tactic(auto)]
+
+mod run;
+mod tee;
+#[cfg(test)]
+mod tests;
+
+pub use run::run_tee;
+pub use tee::Tee;

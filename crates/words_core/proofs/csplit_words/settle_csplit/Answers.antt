@@ -1,0 +1,12 @@
+use Rattle.std.proofs.Common.{◌∙◌, ap, map, arith}
+use Rattle.std.proofs.lemmas.Bool.Decides.{nat_tests}
+use Rattle.words_core.specs.Given.{Given, operand_seen, option_seen}
+use Rattle.words_core.proofs.CsplitLemmas.{settled}
+use Rattle.words_core.proofs.csplit_words.settle_csplit.Goals as goal
+
+pub returns-clause-ok : goal.returns-clause-ok
+returns-clause-ok c =
+    settled c.args.spelled.now c.deref.result.now _ c.as_slice.result.now c.in_ok-style.style c.read_settings.result
+    (ap (map option_seen) c.deref.ensures.value ∙ ap (λ (given : Given). given.options) c.spelled.view_is)
+    (ap (map operand_seen) c.as_slice.ensures.value ∙ ap (λ (given : Given). given.operands) c.spelled.view_is)
+    c.in_ok-style.ensures.ok c.in-len1-up.len_at_least (grind (arith, nat_tests)) c.read_settings.ensures.ok

@@ -1,0 +1,85 @@
+-- What options and operands ask of `csplit`, or what is wrong with them.
+use Rattle.std.specs.Prelude.{◌≡◌, ℕ, false, true, List, [], ◌∷◌, fold, codes, slice_index_or, Option, Some, None, Result, Ok, Err}
+use Rattle.bre_core.specs.Fault.{number_of, offset_of}
+use Rattle.csplit_core.specs.Fault.{number_of_kind}
+use Rattle.csplit_core.specs.Output.{Style}
+use Rattle.csplit_core.specs.Reading.{IsFault}
+use Rattle.csplit_core.specs.declared.operand_fault.OperandFault.{OperandFault}
+use Rattle.csplit_core.specs.declared.operand_fault.OperandFaultKind.{OperandFaultKind}
+use Rattle.csplit_core.specs.declared.operand_fault.OperandFaultKind.TheVariants as kind
+use Rattle.ports_core.specs.declared.fault.Fault.{Fault}
+use Rattle.ports_core.specs.declared.fault.Fault.TheVariants.{Memory, Usage}
+use Rattle.ports_core.specs.declared.fault.UsageKind.{UsageKind}
+use Rattle.ports_core.specs.declared.fault.UsageKind.TheVariants.{MissingOperand, BadOperand, BadPattern, PatternTooLarge}
+use Rattle.words_core.specs.declared.csplit_words.CsplitOptions.{CsplitOptions}
+use Rattle.words_core.specs.declared.table.Choice.{Choice}
+use Rattle.words_core.specs.declared.table.Choice.TheVariants as choice
+use Rattle.words_core.specs.CsplitAsked.{CsplitAsked}
+use Rattle.words_core.specs.Given.{Given, GivenOption, GivenOperand, places_of, texts_of}
+use Rattle.words_core.specs.Value.{Meant, Text, Width}
+
+-- without options: names have two digits, and nothing is kept, dropped or left out
+abbrev pub two_digits : CsplitOptions
+two_digits = record { digits = 2; keep = false; quiet = false; elide = false; suppress = false }
+
+-- with one more option: the last number of digits decides, and so does the last prefix
+
+abbrev pub with_digits : CsplitOptions → Meant → CsplitOptions
+with_digits asked (Width digits) = record asked { digits = digits }
+with_digits asked value = asked
+
+abbrev pub csplit_by : CsplitOptions → Choice → Meant → CsplitOptions
+csplit_by asked choice.Digits value = with_digits asked value
+csplit_by asked choice.KeepFiles value = record asked { keep = true }
+csplit_by asked choice.Quiet value = record asked { quiet = true }
+csplit_by asked choice.ElideEmptyFiles value = record asked { elide = true }
+csplit_by asked choice.SuppressMatched value = record asked { suppress = true }
+csplit_by asked choice value = asked
+
+abbrev pub csplit_after : CsplitOptions → GivenOption → CsplitOptions
+csplit_after asked option = csplit_by asked option.choice option.value
+
+abbrev pub prefix_by : List ℕ → Choice → Meant → List ℕ
+prefix_by prefix choice.Prefix (Text text) = text
+prefix_by prefix choice value = prefix
+
+abbrev pub with_prefix : List ℕ → GivenOption → List ℕ
+with_prefix prefix option = prefix_by prefix option.choice option.value
+
+-- how files are made; without an option names begin with `xx`
+abbrev pub style_of : List GivenOption → Style
+style_of options =
+    let asked = fold csplit_after two_digits options in
+    record { prefix = fold with_prefix (codes "xx") options; digits = asked.digits; keep = asked.keep; quiet = asked.quiet; elide = asked.elide; suppress = asked.suppress }
+
+abbrev pub asked_with : Style → List ℕ → List GivenOperand → CsplitAsked
+asked_with style input operands = record { style = style; input = input; operands = texts_of operands; places = places_of operands }
+
+-- the file and at least one operand
+abbrev pub asked_of : Style → List GivenOperand → Result CsplitAsked Fault
+asked_of style [] = Err (Usage MissingOperand 0)
+asked_of style (file ∷ []) = Err (Usage MissingOperand 0)
+asked_of style (file ∷ operand ∷ operands) = Ok (asked_with style file.text (operand ∷ operands))
+
+abbrev pub csplit_asked : Given → Result CsplitAsked Fault
+csplit_asked given = asked_of (style_of given.options) given.operands
+
+-- What tells that operands are refused: the number of the rule that is broken, and for a pattern its rule and the place in it. A pattern that
+-- is too large has no such place.
+
+abbrev pub pattern_kind : ℕ → Option ℕ → UsageKind
+pattern_kind number (Some offset) = BadPattern number offset
+pattern_kind number None = PatternTooLarge
+
+abbrev pub fault_in : ℕ → OperandFaultKind → Fault
+fault_in word kind.Memory = Memory
+fault_in word (kind.Bre fault) = Usage (pattern_kind (number_of fault) (offset_of fault)) word
+fault_in word kind = Usage (BadOperand (number_of_kind kind)) word
+
+-- a fault of operands whose words stand at these places
+abbrev pub operand_fault : List ℕ → OperandFault → Fault
+operand_fault places fault = fault_in (slice_index_or places fault.index 0) fault.kind
+
+-- The operands can't be read, and this fault tells the first that is wrong. It may also be want of memory.
+abbrev pub HasBadOperand : CsplitAsked → Fault → Type 0
+HasBadOperand asked fault = (found : OperandFault) × IsFault asked.operands found × (fault ≡ operand_fault asked.places found)

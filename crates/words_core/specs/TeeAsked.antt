@@ -1,0 +1,9 @@
+-- What words ask of `tee`.
+use Rattle.std.specs.Prelude.{ℕ, List}
+use Rattle.ports_core.specs.declared.slot.Mode.{Mode}
+
+pub record TeeAsked : Type 0 where
+  -- how the files are opened
+  pub mode : Mode
+  -- the names of the files
+  pub names : List (List ℕ)
