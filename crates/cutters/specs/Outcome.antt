@@ -60,7 +60,7 @@ pub record TeeEndsAs (told_in told : Bool) (asked : TeeAsked) (inputs : List Inp
   pub ends : TeeCopies told_in told asked.mode asked.names content (source_at sources 0) new status
   pub breaks : BreaksOnly told_in content (source_at sources 0)
 
--- a run that does what these settings ask for ended so
+-- a run did what these settings ask for
 abbrev pub DoesAsked : Bool → Bool → Settings → List Input → List Source → List Slot → ℕ → Type 0
 DoesAsked told_in told (Head asked) inputs sources new status = EndsAs told_in told (head_task asked) inputs sources new status
 DoesAsked told_in told (Tail asked) inputs sources new status = EndsAs told_in told (tail_task asked) inputs sources new status
@@ -72,9 +72,13 @@ DoesAsked told_in told (Tee asked) inputs sources new status = TeeEndsAs told_in
 abbrev pub RefusesFor : Bool → List (List ℕ) → Fault → List Slot → ℕ → Type 0
 RefusesFor told words fault new status = Refuses told (speaker words) (message_of (speaker words) fault (word_of words fault)) new status
 
--- a run did what was asked for, or refused operands that can't be read; or it refused the words
+-- what is asked for has operands that can't be read, and the words are refused for that
+abbrev pub RefusesOperands : Bool → List (List ℕ) → Settings → List Slot → ℕ → Type 0
+RefusesOperands told words settings new status = (fault : Fault) × HasBadOperands settings fault × RefusesFor told words fault new status
+
+-- a run did what was asked for, or refused its operands; or it refused the words
 abbrev pub RunEndsAt : Bool → Bool → List (List ℕ) → List Input → List Source → List Slot → ℕ → Result Settings Fault → Type 0
-RunEndsAt told_in told words inputs sources new status (Ok settings) = DoesAsked told_in told settings inputs sources new status ⊎ ((fault : Fault) × HasBadOperands settings fault × RefusesFor told words fault new status)
+RunEndsAt told_in told words inputs sources new status (Ok settings) = DoesAsked told_in told settings inputs sources new status ⊎ RefusesOperands told words settings new status
 RunEndsAt told_in told words inputs sources new status (Err fault) = RefusesFor told words fault new status
 
 -- a run of these words on these inputs left inputs and outputs so, and returned this status; words that are refused leave the inputs
