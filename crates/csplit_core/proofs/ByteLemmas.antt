@@ -1,8 +1,8 @@
 -- The complete lines of a text and what follows them, where more bytes come.
-use Rattle.std.proofs.Common.{◌≡◌, ◌⊎◌, inl, inr, ℕ, zero, suc, ◌+◌, ◌<◌, ◌≤◌, eqb, Bool, true, false, cond, List, [], ◌∷◌, ◌++◌, length, map, take, drop, refl, sym, ◌∙◌, ap, subst, arith, append_assoc, length-append}
+use Rattle.std.proofs.Common.{◌≡◌, inl, inr, ℕ, zero, suc, ◌+◌, ◌<◌, ◌≤◌, Bool, true, false, cond, List, [], ◌∷◌, ◌++◌, length, map, take, drop, refl, sym, ◌∙◌, ap, subst, arith, append_assoc, length-append}
 use Rattle.std.proofs.lemmas.Bool.{false≢true, cases_eq, eq-eqb, ne_eqb}
 use Rattle.std.proofs.lemmas.List.{append-nil, append_cancel_left, take-append-drop}
-use Rattle.seg_core.specs.Line.{lines_of, line_count, delimiters, ends_with, first_lines, HasNone, IsComplete, IsOpen, AreLines, LastEndsAt}
+use Rattle.seg_core.specs.Line.{lines_of, line_count, delimiters, ends_with, first_lines, HasNone, AreLines, LastEndsAt}
 use Rattle.seg_core.proofs.Delimiters.{delimiters-append}
 use Rattle.seg_core.proofs.FirstLines.{first_lines-zero, first_lines_then_rest, delimiters-first_lines, lines_of-first_lines}
 use Rattle.seg_core.proofs.LastLines.{first_lines-whole}

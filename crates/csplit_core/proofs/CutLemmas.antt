@@ -1,29 +1,29 @@
 -- A cut ends the open section, and the next one begins.
-use Rattle.std.proofs.Common.{◌≡◌, ◌⊎◌, inl, inr, ℕ, suc, ◌+◌, ◌-◌, ◌<◌, ◌≤◌, max, eqb, ◌&&◌, cond, Bool, true, false, List, [], ◌∷◌, ◌++◌, length, map, drop, refl, sym, ◌∙◌, ap, subst, arith, append_assoc}
+use Rattle.std.proofs.Common.{◌≡◌, ℕ, suc, ◌+◌, ◌-◌, ◌<◌, ◌≤◌, max, eqb, ◌&&◌, cond, Bool, true, false, List, [], ◌∷◌, ◌++◌, length, map, refl, sym, ◌∙◌, ap, subst, arith, append_assoc}
 use Rattle.std.proofs.lemmas.List.{map-append, append-nil}
-use Rattle.seg_core.specs.Line.{line_count, first_lines, after_lines}
+use Rattle.seg_core.specs.Line.{first_lines, after_lines}
 use Rattle.seg_core.proofs.FirstLines.{first_lines-zero}
-use Rattle.ports_core.specs.Part.{Part, Begins}
-use Rattle.ports_core.specs.Slot.{Slot, KeepsBroken}
+use Rattle.ports_core.specs.Part.{Begins}
+use Rattle.ports_core.specs.Slot.{Slot}
 use Rattle.ports_core.specs.declared.fault.Fault.{Fault}
 use Rattle.ports_core.specs.declared.fault.Fault.TheVariants.{Memory}
 use Rattle.ports_core.proofs.PartLemmas.{part_trans}
 use Rattle.ports_core.proofs.SlotSteps.{keeps_again}
 use Rattle.csplit_core.specs.Csplit.{settled_of}
-use Rattle.csplit_core.specs.Draft.{Draft, draft_part, last_contents, with_bytes, with_section}
-use Rattle.csplit_core.specs.Input.{newline, marked, all_lines}
+use Rattle.csplit_core.specs.Draft.{Draft, draft_part, with_bytes, with_section}
+use Rattle.csplit_core.specs.Input.{newline, all_lines}
 use Rattle.csplit_core.specs.Operand.{Operand, Line, is_kept}
-use Rattle.csplit_core.specs.Output.{Style, Contents, contents_of, part_by, part_of}
+use Rattle.csplit_core.specs.Output.{Style, contents_of, part_by, part_of}
 use Rattle.csplit_core.specs.Plan.{State, start, Step, Ending, search_line, line_after, state_after, step_of, Runs, is_used_up, misses, is_above, is_below, cuts}
-use Rattle.csplit_core.specs.Planned.{Plan, plan, plan_within}
+use Rattle.csplit_core.specs.Planned.{Plan, plan_within}
 use Rattle.csplit_core.specs.PlanLaws.{needed, plan_once, runs}
-use Rattle.csplit_core.specs.Progress.{state_of, GoesPast}
+use Rattle.csplit_core.specs.Progress.{GoesPast}
 use Rattle.csplit_core.specs.Section.{Section, section, section_of, lines_between, bytes_of, is_last_kept, settled_end, settled_sections}
-use Rattle.csplit_core.specs.SectionLaws.{part_grows, front_of, ends_as}
+use Rattle.csplit_core.specs.SectionLaws.{part_grows, ends_as}
 use Rattle.csplit_core.specs.Writer.{WriterState, Writes, IsReady, KeepsFiles, Halts, Went, Stopped, Goes, size_of}
 use Rattle.csplit_core.specs.Writer.{Moves as Gets}
 use Rattle.csplit_core.specs.declared.line_cutter.Cut.{Cut}
-use Rattle.csplit_core.specs.Cutter.{CutterState, suppress_in, state_in, kept_by, text_from, Leads, draft_by, settled_part, IsFit, IsSame, IsAt, part_at, Looked, search_after, CutsNow, PassesOn, IsAfter, CutAt, CutNot, WillCut}
+use Rattle.csplit_core.specs.Cutter.{CutterState, suppress_in, state_in, kept_by, text_from, Leads, draft_by, settled_part, IsFit, IsAt, part_at, search_after, CutsNow, PassesOn, IsAfter, CutAt, CutNot, WillCut}
 use Rattle.csplit_core.proofs.HoldLemmas.{memory_halts}
 use Rattle.csplit_core.proofs.LastSectionLemmas.{after_within}
 use Rattle.csplit_core.proofs.LineLemmas.{bytes_between, first_further, from_further}
@@ -51,11 +51,11 @@ begun_by style operands lines steps state [] last ending rest all =
     subst (Begins (draft_part style (draft_by lines steps (kept_by state.operands) []))) (sym (settled_by_plan style operands lines (steps ++ []) last ending all))
     (subst (λ those. Begins (draft_part style (draft_by lines steps (kept_by state.operands) [])) (part_by style (map contents_of (map (section_of lines) those ++ section (is_last_kept ending) false (lines_between last.current (settled_end (length lines) ending) lines) ∷ [])))) (sym (append-nil steps))
     (begins_with style (map (section_of lines) steps) (section (is_last_kept ending) false (lines_between last.current (settled_end (length lines) ending) lines)) [] (kept_by state.operands) (at_end state last ending rest))) where
-  at_end : (state last : State) (ending : Ending) → Runs style.suppress lines state [] last ending → kept_by state.operands ≡ is_last_kept ending
-  at_end state last ending (is_used_up state' none) = last_kept style.suppress lines state' ending (ends_as style.suppress lines state' [] state' ending (is_used_up state' none))
-  at_end state last ending (misses state' operand those is none) = ap kept_by is
-  at_end state last ending (is_above state' operand those matched cut is at far) = ap kept_by is
-  at_end state last ending (is_below state' operand those matched cut is at within low) = ap kept_by is
+      at_end : (state last : State) (ending : Ending) → Runs style.suppress lines state [] last ending → kept_by state.operands ≡ is_last_kept ending
+      at_end state last ending (is_used_up state' none) = last_kept style.suppress lines state' ending (ends_as style.suppress lines state' [] state' ending (is_used_up state' none))
+      at_end state last ending (misses state' operand those is none) = ap kept_by is
+      at_end state last ending (is_above state' operand those matched cut is at far) = ap kept_by is
+      at_end state last ending (is_below state' operand those matched cut is at within low) = ap kept_by is
 begun_by style operands lines steps state (step ∷ more) last ending rest all =
     let tail = map (section_of lines) more ++ section (is_last_kept ending) false (lines_between last.current (settled_end (length lines) ending) lines) ∷ [] in
     subst (Begins (draft_part style (draft_by lines steps (kept_by state.operands) []))) (sym (settled_by_plan style operands lines (steps ++ step ∷ more) last ending all
@@ -89,7 +89,7 @@ cut_draft cutter x left before at cut operand operands kept are some on before_i
     ap (λ k. record { ended = map contents_of (map (section_of (all_lines x)) at.steps) ++ record { is_kept = k; is_closed = true; bytes = at.written ++ before } ∷ []; is_kept = kept; bytes = [] }) (ap kept_by are)
     ∙ ap (λ bytes. record { ended = map contents_of (map (section_of (all_lines x)) at.steps) ++ record { is_kept = is_kept operand.target; is_closed = true; bytes = bytes } ∷ []; is_kept = kept; bytes = [] }) bytes
     ∙ ap (λ ended. record { ended = ended; is_kept = kept; bytes = [] })
-      (sym (ap (map contents_of) (map-append (section_of (all_lines x)) at.steps (step_at cutter operand cut ∷ [])) ∙ map-append contents_of (map (section_of (all_lines x)) at.steps) (section_of (all_lines x) (step_at cutter operand cut) ∷ [])))
+    (sym (ap (map contents_of) (map-append (section_of (all_lines x)) at.steps (step_at cutter operand cut ∷ [])) ∙ map-append contents_of (map (section_of (all_lines x)) at.steps) (section_of (all_lines x) (step_at cutter operand cut) ∷ [])))
 
 leads_on : (cutter : CutterState) (x left : List ℕ) (at : IsAt cutter x left) (cut : Cut) (goes : GoesPast (suppress_in cutter) (all_lines x) (state_in cutter) cut.matched cut.line)
     → Leads (suppress_in cutter) (all_lines x) cutter.operands (at.steps ++ step_at cutter goes.operand cut ∷ []) (state_after (suppress_in cutter) goes.operand goes.operands cutter.progress.repetition cut.matched cut.line)
@@ -222,12 +222,12 @@ after_at told cutter mid writer next cut place x left line before rest all kept 
     let first : 1 ≤ cut.line = (let s = fit.fits.some in let f = will.from in omega (arith, s, f)) in
     let same_count : cut.line - place ≡ cut.line - (cutter.progress.current + at.taken) = ap (λ n. cut.line - n) now.place_is in
     let left_after : all ≡ text_from cut.line x = all_is ∙ ap (λ n. after_lines newline n left) same_count ∙ ap (after_lines newline (cut.line - (cutter.progress.current + at.taken))) at.left_is
-        ∙ from_further (cutter.progress.current + at.taken) (cut.line - (cutter.progress.current + at.taken)) x (let s = fit.fits.some in omega (arith, s))
-        ∙ ap (λ n. text_from n x) (let e : cutter.progress.current + at.taken + (cut.line - (cutter.progress.current + at.taken)) ≡ cut.line = omega (arith, on) in e) in
+    ∙ from_further (cutter.progress.current + at.taken) (cut.line - (cutter.progress.current + at.taken)) x (let s = fit.fits.some in omega (arith, s))
+    ∙ ap (λ n. text_from n x) (let e : cutter.progress.current + at.taken + (cut.line - (cutter.progress.current + at.taken)) ≡ cut.line = omega (arith, on) in e) in
     let draft_is = cut_draft cutter x left before at cut now.goes.operand now.goes.operands kept now.goes.are fit.fits.some on (before_is ∙ ap (λ n. first_lines newline n left) same_count) in
     let near : mid.lines ≤ search_line next.style.suppress (state_in mid) =
-        (let e : search_line next.style.suppress (state_in mid) ≡ search_after (suppress_in cutter) cut = ap (λ b. search_line b (state_in mid)) suppress_is
-        ∙ search_same (suppress_in cutter) (state_in mid) _ (ap (λ (s : State). s.current) state) (ap (λ (s : State). s.matched) state) in let n = now.near in omega (arith, e, n, lines_is)) in record {
+    (let e : search_line next.style.suppress (state_in mid) ≡ search_after (suppress_in cutter) cut = ap (λ b. search_line b (state_in mid)) suppress_is
+    ∙ search_same (suppress_in cutter) (state_in mid) _ (ap (λ (s : State). s.current) state) (ap (λ (s : State). s.matched) state) in let n = now.near in omega (arith, e, n, lines_is)) in record {
       now = record {
         steps = at.steps ++ step_at cutter now.goes.operand cut ∷ [];
         leads = leads_as (suppress_in cutter) next.style.suppress (all_lines x) cutter.operands mid.operands _ _ (state_in mid) suppress_is (ap (λ (c : CutterState). c.operands) passed.same) state (leads_on cutter x left at cut now.goes);

@@ -1,10 +1,9 @@
 -- Cutting the lines that wait and one more.
-use Rattle.std.proofs.Common.{◌≡◌, ℕ, suc, ◌+◌, ◌-◌, ◌≤◌, Bool, true, eqb, Result, Ok, Err, List, [], ◌∷◌, ◌++◌, length, take, refl, sym, ◌∙◌, ap, subst, arith, length-append}
+use Rattle.std.proofs.Common.{◌≡◌, ℕ, suc, ◌+◌, ◌-◌, Bool, true, eqb, Result, Ok, Err, List, [], ◌∷◌, ◌++◌, length, take, refl, sym, ◌∙◌, ap, subst, arith, length-append}
 use Rattle.std.proofs.lemmas.Bool.{eqb-true}
 use Rattle.std.proofs.lemmas.List.{take_at}
 use Rattle.seg_core.specs.Line.{delimiters, first_lines}
 use Rattle.seg_core.specs.Window.{Window}
-use Rattle.ports_core.specs.Part.{Part, Begins}
 use Rattle.ports_core.specs.Slot.{Slot}
 use Rattle.ports_core.specs.declared.fault.Fault.{Fault}
 use Rattle.ports_core.specs.declared.fault.Fault.TheVariants.{Memory}
@@ -12,8 +11,7 @@ use Rattle.ports_core.proofs.PartLemmas.{part_trans}
 use Rattle.csplit_core.specs.Draft.{draft_part, with_bytes}
 use Rattle.csplit_core.specs.Input.{newline, all_lines}
 use Rattle.csplit_core.specs.declared.line_cutter.Cut.{Cut}
-use Rattle.csplit_core.specs.declared.progress.Turn.{Turn}
-use Rattle.csplit_core.specs.Cutter.{CutterState, state_in, kept_by, draft_by, settled_part, IsFit, IsAt, part_at, CutsNow, CutAll, CutAllNot, CutsAll, WillCut}
+use Rattle.csplit_core.specs.Cutter.{CutterState, state_in, kept_by, draft_by, settled_part, IsFit, IsAt, CutsNow, CutAllNot, CutsAll, WillCut}
 use Rattle.csplit_core.proofs.CutLemmas.{before_begins}
 use Rattle.csplit_core.proofs.HoldLemmas.{memory_halts}
 use Rattle.csplit_core.proofs.SpreadLemmas.{alike, at_alike}

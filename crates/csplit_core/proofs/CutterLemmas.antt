@@ -1,28 +1,19 @@
 -- Lemmas on the cutter of lines.
-use Rattle.std.proofs.Common.{◌≡◌, ◌⊎◌, inl, inr, ℕ, suc, ◌+◌, ◌-◌, ◌<◌, ◌≤◌, ◌^◌, Bool, true, false, List, [], ◌∷◌, ◌++◌, length, map, refl, sym, ◌∙◌, ap, subst, arith}
+use Rattle.std.proofs.Common.{◌≡◌, ◌⊎◌, inl, inr, ℕ, ◌+◌, ◌-◌, ◌<◌, ◌≤◌, ◌^◌, List, [], ◌++◌, sym, ◌∙◌, ap, subst, arith}
 use Rattle.std.proofs.lemmas.List.{append-nil}
-use Rattle.seg_core.specs.Line.{line_count, first_lines, after_lines, but_last_lines, last_lines}
-use Rattle.ports_core.specs.Part.{Part}
-use Rattle.ports_core.specs.Slot.{Slot}
-use Rattle.csplit_core.specs.Csplit.{settled_of}
+use Rattle.seg_core.specs.Line.{line_count, first_lines, after_lines}
 use Rattle.csplit_core.specs.Draft.{Draft, draft_part, with_bytes}
 use Rattle.csplit_core.specs.Input.{newline, all_lines}
-use Rattle.csplit_core.specs.Measure.{Fits}
-use Rattle.csplit_core.specs.Operand.{Operand, Line}
 use Rattle.csplit_core.specs.Output.{Style}
-use Rattle.csplit_core.specs.Plan.{State, start, Step, Ending, Runs}
-use Rattle.csplit_core.specs.Planned.{plan}
-use Rattle.csplit_core.specs.PlanLaws.{goes_on, plan_once}
-use Rattle.csplit_core.specs.Progress.{EndsHere, AimsAt}
-use Rattle.csplit_core.specs.Section.{is_final, most_waiting}
-use Rattle.csplit_core.specs.SectionLaws.{ends_as}
+use Rattle.csplit_core.specs.Plan.{start, Runs}
+use Rattle.csplit_core.specs.PlanLaws.{goes_on}
+use Rattle.csplit_core.specs.Section.{most_waiting}
 use Rattle.csplit_core.specs.declared.progress.Turn.{Turn}
-use Rattle.csplit_core.specs.declared.progress.Turn.TheVariants.{Below}
 use Rattle.csplit_core.specs.Writer.{WriterState, Writes}
 use Rattle.csplit_core.specs.Cutter.{CutterState, suppress_in, state_in, kept_by, text_from, draft_by, settled_draft, settled_part, IsFit, IsWhole, IsAt, part_at, EndsNow, IsLive, IsPast, Arrives}
 use Rattle.csplit_core.proofs.MoveLemmas.{few_repetitions}
 use Rattle.csplit_core.proofs.LineLemmas.{all_lines-append, count-append, count_from, first_still, rest_more, from_further, first_further}
-use Rattle.csplit_core.proofs.SettledLemmas.{settled_draft_is, settled_part_is, settled_count, final_count, ended_still, most_is, aims_live, aims_past}
+use Rattle.csplit_core.proofs.SettledLemmas.{settled_draft_is, settled_part_is, settled_count, ended_still}
 
 -- the numbers are small
 pub small_current : (cutter : CutterState) → IsFit cutter → cutter.lines ≤ 2 ^ 63 → cutter.progress.current < 2 ^ 64 - 1

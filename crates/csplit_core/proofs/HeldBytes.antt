@@ -1,5 +1,5 @@
 -- How many bytes wait.
-use Rattle.std.proofs.Common.{◌≡◌, ◌⊎◌, inl, inr, ℕ, ◌+◌, ◌-◌, ◌<◌, ◌≤◌, ◌^◌, min, Bool, true, false, cond, List, [], ◌∷◌, ◌++◌, length, refl, sym, ◌∙◌, ap, subst, arith, length-append}
+use Rattle.std.proofs.Common.{◌≡◌, inl, inr, ℕ, ◌+◌, ◌-◌, ◌<◌, ◌≤◌, ◌^◌, min, false, cond, List, [], ◌++◌, length, sym, ◌∙◌, ap, subst, arith, length-append}
 use Rattle.std.proofs.Math.Nat.{min-eq_left}
 use Rattle.seg_core.specs.Line.{after_lines, first_lines}
 use Rattle.seg_core.proofs.FirstLines.{first_lines_then_rest}
@@ -7,9 +7,7 @@ use Rattle.ports_core.specs.Guard.{GuardState, HoldsIn}
 use Rattle.csplit_core.specs.Csplit.{waiting, waiting_of}
 use Rattle.csplit_core.specs.CsplitState.{CsplitState, Holds, whole_lines}
 use Rattle.csplit_core.specs.Cutter.{CutterState, suppress_in, state_in, text_from, IsLive, IsPast, Stands}
-use Rattle.csplit_core.specs.Input.{newline, all_lines, complete_lines, open_line}
-use Rattle.csplit_core.specs.Operand.{Line}
-use Rattle.csplit_core.specs.Output.{Style}
+use Rattle.csplit_core.specs.Input.{newline, all_lines, open_line}
 use Rattle.csplit_core.specs.Plan.{start}
 use Rattle.csplit_core.specs.Planned.{Plan, plan}
 use Rattle.csplit_core.specs.PlanLaws.{plan_once}

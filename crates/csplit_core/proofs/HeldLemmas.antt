@@ -1,5 +1,5 @@
 -- What `hold` leaves: all that is settled of the lines that came in is written, and the others wait.
-use Rattle.std.proofs.Common.{◌≡◌, ◌⊎◌, inl, inr, ℕ, ◌+◌, ◌-◌, ◌<◌, ◌≤◌, Bool, true, false, Result, Ok, Err, OnOk, List, [], ◌∷◌, ◌++◌, length, drop, refl, sym, ◌∙◌, ap, subst, arith, length-append}
+use Rattle.std.proofs.Common.{◌≡◌, inl, inr, ℕ, ◌+◌, ◌-◌, ◌≤◌, Bool, true, false, Result, Ok, Err, OnOk, List, [], ◌++◌, length, refl, sym, ◌∙◌, ap, subst, arith, length-append}
 use Rattle.std.proofs.lemmas.List.{drop_all}
 use Rattle.seg_core.specs.Line.{line_count, first_lines, after_lines, but_last_lines, last_lines}
 use Rattle.seg_core.specs.Window.{Window, without_first}
@@ -8,13 +8,12 @@ use Rattle.ports_core.specs.declared.fault.Fault.{Fault}
 use Rattle.csplit_core.specs.Draft.{Draft, draft_part, with_bytes}
 use Rattle.csplit_core.specs.Input.{newline, all_lines}
 use Rattle.csplit_core.specs.Output.{Style}
-use Rattle.csplit_core.specs.Plan.{State, start, Step, Ending, Runs}
-use Rattle.csplit_core.specs.Planned.{Plan, plan}
+use Rattle.csplit_core.specs.Plan.{Runs}
+use Rattle.csplit_core.specs.Planned.{Plan}
 use Rattle.csplit_core.specs.PlanLaws.{plan_once}
-use Rattle.csplit_core.specs.Progress.{EndsHere, AimsAt}
-use Rattle.csplit_core.specs.Section.{is_final, most_waiting, settled_end}
+use Rattle.csplit_core.specs.Progress.{AimsAt}
+use Rattle.csplit_core.specs.Section.{is_final, most_waiting}
 use Rattle.csplit_core.specs.SectionLaws.{ends_as}
-use Rattle.csplit_core.specs.declared.progress.Turn.{Turn}
 use Rattle.csplit_core.specs.declared.progress.Turn.TheVariants.{Below}
 use Rattle.csplit_core.specs.Writer.{WriterState, Writes, IsReady, Went, Stopped, Goes, size_of}
 use Rattle.csplit_core.specs.Cutter.{CutterState, suppress_in, state_in, kept_by, text_from, draft_by, settled_draft, settled_part, IsFit, IsAt, part_at, EndsNow, IsLive, IsPast, Arrives, Held, HeldNot, Holds}

@@ -1,5 +1,5 @@
 -- Writing lines that wait to the open section.
-use Rattle.std.proofs.Common.{◌≡◌, ◌⊎◌, inl, inr, ℕ, ◌+◌, ◌-◌, ◌<◌, ◌≤◌, min, Bool, true, false, Result, Ok, Err, OnOk, IfErr, List, [], ◌∷◌, ◌++◌, length, take, drop, refl, sym, ◌∙◌, ap, subst, arith, append_assoc, length-append}
+use Rattle.std.proofs.Common.{◌≡◌, ◌⊎◌, inl, inr, ℕ, ◌+◌, ◌-◌, ◌<◌, ◌≤◌, min, Bool, true, false, Result, Ok, Err, OnOk, IfErr, List, [], ◌++◌, length, take, drop, refl, sym, ◌∙◌, ap, subst, arith, append_assoc, length-append}
 use Rattle.std.proofs.lemmas.Bool.{cases_lt}
 use Rattle.std.proofs.Math.Nat.{min-eq_left, min-eq_right}
 use Rattle.std.proofs.lemmas.List.{append-nil, length-take-le, length-drop, take-append-drop, take-append-le, take_all, drop_all, take_at, drop_at}
@@ -14,7 +14,7 @@ use Rattle.ports_core.specs.Part.{Part, InTurn}
 use Rattle.ports_core.specs.declared.fault.Fault.{Fault}
 use Rattle.ports_core.specs.declared.fault.Fault.TheVariants.{Memory}
 use Rattle.ports_core.proofs.PartLemmas.{part_begins_itself, turn_last, turn_next}
-use Rattle.csplit_core.specs.Output.{Style, Contents, makes_file, files_of, part_by}
+use Rattle.csplit_core.specs.Output.{Style, makes_file, files_of}
 use Rattle.csplit_core.specs.Draft.{Draft, draft_part, last_contents, with_bytes, AreClosed}
 use Rattle.csplit_core.specs.Writer.{WriterState, Writes, IsReady, Moves, Halts, Went, Stopped, Goes, size_of}
 use Rattle.csplit_core.proofs.WriterLemmas.{moves_again, halts_after, halts_wider, bytes_begin, breaks_later, owns_again, moves_same, moves_as, halts_as}

@@ -3,15 +3,14 @@ use Rattle.std.proofs.Common.{◌≡◌, ◌⊎◌, inl, inr, ℕ, suc, ◌+◌,
 use Rattle.std.proofs.lemmas.Bool.{cases_lt}
 use Rattle.std.proofs.lemmas.List.{map-append, take-map, drop-map, length-map, length-drop, drop_at, drop_all, drop-append-le, take-append-le, drop-drop}
 use Rattle.std.proofs.Math.Seq.{take-add}
-use Rattle.seg_core.specs.Line.{lines_of, line_count, delimiters, joined, first_lines, after_lines, ends_with, Reaches, EndsAt, FallsShort}
+use Rattle.seg_core.specs.Line.{lines_of, line_count, delimiters, joined, first_lines, after_lines, ends_with, EndsAt, FallsShort}
 use Rattle.seg_core.proofs.LinesOf.{lines_of-append, joined-lines_of}
 use Rattle.seg_core.proofs.LineCounts.{line_count-closed, ends_with-append, line_count-le-length}
 use Rattle.seg_core.proofs.FirstLines.{first_lines-short, first_lines_then_rest, joined-append}
 use Rattle.seg_core.proofs.EndLines.{after_lines-past, after_lines-append}
 use Rattle.seg_core.proofs.Carried.{lines_of-after_lines}
-use Rattle.csplit_core.specs.Operand.{Line}
 use Rattle.csplit_core.specs.Section.{lines_between, bytes_of}
-use Rattle.csplit_core.specs.Input.{newline, marked, all_lines, complete_lines}
+use Rattle.csplit_core.specs.Input.{newline, marked, all_lines}
 use Rattle.csplit_core.specs.Cutter.{IsWhole, IsLine, text_from}
 
 -- the lines of complete lines and of what follows them
@@ -107,7 +106,7 @@ first_further first a b x some =
     ap joined (take-add a b (lines_of newline (text_from first x)))
     ∙ joined-append (take a (lines_of newline (text_from first x))) (take b (drop a (lines_of newline (text_from first x))))
     ∙ ap (λ those. first_lines newline a (text_from first x) ++ joined (take b those))
-      (sym (lines_of-after_lines newline a (text_from first x)) ∙ ap (lines_of newline) (from_further first a x some))
+    (sym (lines_of-after_lines newline a (text_from first x)) ∙ ap (lines_of newline) (from_further first a x some))
 
 -- all that is left is from a line on
 pub whole_from : (first : ℕ) (x : List ℕ) → IsWhole x → IsWhole (text_from first x)

@@ -1,17 +1,16 @@
 -- Going on after a cut.
-use Rattle.std.proofs.Common.{◌≡◌, ℕ, ◌+◌, ◌<◌, ◌≤◌, Result, Ok, Err, OnOk, Option, Some, None, List, [], ◌∷◌, length, drop, get_or, refl, sym, ◌∙◌, ap, subst}
-use Rattle.seg_core.specs.Window.{Window}
+use Rattle.std.proofs.Common.{◌≡◌, ℕ, ◌<◌, ◌≤◌, Result, Ok, Err, OnOk, Some, None, List, [], ◌∷◌, length, drop, get_or, refl, sym, ◌∙◌, ap, subst}
 use Rattle.ports_core.specs.declared.fault.Fault.{Fault}
 use Rattle.csplit_core.specs.Input.{newline}
 use Rattle.csplit_core.specs.Measure.{Fits}
 use Rattle.csplit_core.specs.Operand.{Operand}
-use Rattle.csplit_core.specs.Plan.{State, state_after}
+use Rattle.csplit_core.specs.Plan.{state_after}
 use Rattle.csplit_core.specs.PlanLaws.{needed}
-use Rattle.csplit_core.specs.Progress.{state_of, MovesOn}
+use Rattle.csplit_core.specs.Progress.{state_of}
 use Rattle.csplit_core.specs.declared.line_cutter.Cut.{Cut}
 use Rattle.csplit_core.specs.declared.progress.Progress.{Progress}
 use Rattle.csplit_core.specs.declared.progress.Turn.TheVariants.{Cuts}
-use Rattle.csplit_core.specs.Cutter.{CutterState, suppress_in, state_in, next_of, most_by, pattern_by, IsFit, WillCut, PassesOn}
+use Rattle.csplit_core.specs.Cutter.{CutterState, state_in, next_of, most_by, pattern_by, IsFit, WillCut}
 use Rattle.csplit_core.proofs.MoveLemmas.{passed}
 use Rattle.csplit_core.proofs.TurnLemmas.{left_is, none_left}
 

@@ -1,27 +1,20 @@
 -- Cutting as often as operands cut the lines that are left.
-use Rattle.std.proofs.Common.{◌≡◌, ◌⊎◌, inl, inr, ℕ, suc, ◌+◌, ◌-◌, ◌<◌, ◌≤◌, max, Bool, true, false, Result, Ok, Err, OnOk, Option, Some, None, List, [], ◌∷◌, ◌++◌, length, refl, sym, ◌∙◌, ap, subst, arith}
-use Rattle.seg_core.specs.Line.{line_count, first_lines, after_lines}
+use Rattle.std.proofs.Common.{◌≡◌, inl, ℕ, ◌+◌, ◌<◌, ◌≤◌, Bool, Result, Ok, Err, Some, None, List, [], ◌++◌, length, refl, sym, ◌∙◌, ap, subst, arith}
 use Rattle.seg_core.specs.Window.{Window}
-use Rattle.bre_core.specs.Pattern.{Pattern}
-use Rattle.ports_core.specs.Part.{Part, Begins}
+use Rattle.ports_core.specs.Part.{Part}
 use Rattle.ports_core.specs.Slot.{Slot, KeepsBroken}
 use Rattle.ports_core.specs.declared.fault.Fault.{Fault}
-use Rattle.ports_core.specs.declared.fault.Fault.TheVariants.{Memory}
 use Rattle.ports_core.proofs.PartLemmas.{part_trans}
 use Rattle.ports_core.proofs.SlotSteps.{keeps_again}
-use Rattle.csplit_core.specs.Draft.{draft_part, with_bytes}
-use Rattle.csplit_core.specs.Input.{newline, marked, all_lines}
+use Rattle.csplit_core.specs.Input.{all_lines}
 use Rattle.csplit_core.specs.Output.{Style}
 use Rattle.csplit_core.specs.PlanLaws.{needed}
-use Rattle.csplit_core.specs.Progress.{EndsHere, GoesPast}
-use Rattle.csplit_core.specs.Section.{is_final}
 use Rattle.csplit_core.specs.Writer.{WriterState, IsReady, KeepsFiles, Halts, size_of}
 use Rattle.csplit_core.specs.Writer.{Moves as Gets}
 use Rattle.csplit_core.specs.declared.line_cutter.Cut.{Cut}
 use Rattle.csplit_core.specs.declared.progress.Turn.{Turn}
-use Rattle.csplit_core.specs.Cutter.{CutterState, suppress_in, state_in, kept_by, draft_by, settled_part, AimHolds, IsFit, IsSound, IsSame, IsAt, part_at, Stands, EndsNow, Arrives, Held, HeldNot, Holds, Looked, Tries, StaysNear, CutsNow, IsAfter, CutAt, CutNot, CutAll, CutAllNot, CutsAll, WillCut}
-use Rattle.csplit_core.proofs.CutLemmas.{cut_begins}
-use Rattle.csplit_core.proofs.WriterLemmas.{moves_again, moves_as, halts_after, halts_wider, halts_as, breaks_later, owns_again}
+use Rattle.csplit_core.specs.Cutter.{CutterState, state_in, settled_part, AimHolds, IsFit, IsSound, IsSame, IsAt, part_at, EndsNow, Arrives, Held, HeldNot, Holds, Tries, CutsNow, IsAfter, CutAt, CutNot, CutAll, CutAllNot, CutsAll, WillCut}
+use Rattle.csplit_core.proofs.WriterLemmas.{moves_again, moves_as, halts_after, halts_as, breaks_later, owns_again}
 
 -- What is said of the sections and of where the run stands doesn't depend on the aim or the lines that wait.
 

@@ -1,23 +1,23 @@
 -- What the stage that takes in bytes owes.
-use Rattle.std.proofs.Common.{◌≡◌, ◌⊎◌, inl, inr, ℕ, ◌+◌, ◌<◌, ◌≤◌, ◌^◌, Bool, true, false, not, List, [], ◌∷◌, ◌++◌, length, Option, Some, None, Result, Ok, Err, OnOk, IfErr, refl, sym, ◌∙◌, ap, subst, arith}
+use Rattle.std.proofs.Common.{◌≡◌, ◌⊎◌, inl, inr, ℕ, Bool, true, false, not, List, [], ◌++◌, length, Option, Some, None, Result, Ok, Err, OnOk, IfErr, refl, sym, ◌∙◌, ap, subst}
 use Rattle.std.proofs.lemmas.Bool.{false≢true}
 use Rattle.ports_core.specs.Swept.{Swept}
-use Rattle.ports_core.specs.Slot.{Slot, Rose}
+use Rattle.ports_core.specs.Slot.{Slot}
 use Rattle.ports_core.specs.Part.{OutputsAt, StoppedBetween, nothing}
 use Rattle.ports_core.specs.Engine.{TakesIn, PutsOut, CutsOff, EndsShort, EndsWith, EndsThere, Finishes, StandsAt, IsMet, KeepsOwn, is_verdict}
 use Rattle.ports_core.specs.Engine as engine
 use Rattle.ports_core.specs.declared.fault.Fault.{Fault}
 use Rattle.ports_core.specs.declared.fault.Fault.TheVariants.{Memory, Write, Read, Open, Suffixes, NoMatch, Range, Usage, Failed, TooLong}
 use Rattle.ports_core.proofs.PartLemmas.{stopped_in_turn}
-use Rattle.csplit_core.specs.Csplit.{csplit_work, settled_of, settled_by, whole_by, verdict_of, verdict_by}
-use Rattle.csplit_core.specs.Input.{newline, open_line, all_lines}
+use Rattle.csplit_core.specs.Csplit.{settled_of, settled_by, verdict_of, verdict_by}
+use Rattle.csplit_core.specs.Input.{open_line, all_lines}
 use Rattle.csplit_core.specs.Output.{Style}
 use Rattle.csplit_core.specs.Operand.{Operand}
 use Rattle.csplit_core.specs.Planned.{plan}
-use Rattle.csplit_core.specs.Cutter.{CutterState, IsJudged, IsSame, Stands, TookNot, load, settled_part, suppress_in, whole_part}
+use Rattle.csplit_core.specs.Cutter.{CutterState, IsSame, Stands, settled_part, suppress_in, whole_part}
 use Rattle.csplit_core.specs.Writer.{Breaks}
 use Rattle.csplit_core.specs.declared.progress.Turn.TheVariants.{Below}
-use Rattle.csplit_core.specs.CsplitState.{BegunNot, CsplitState, Closed, ClosedNot, Holds, IsReady, Judges, Owns, Passed, Passes, whole_lines, work}
+use Rattle.csplit_core.specs.CsplitState.{BegunNot, CsplitState, Closed, ClosedNot, Holds, Judges, Owns, Passed, Passes, whole_lines, work}
 use Rattle.csplit_core.proofs.ByteLemmas.{all_complete, lines_whole, lines_more, lines_then_open, open_more}
 use Rattle.csplit_core.proofs.StageLemmas.{is_past, past_end, past_settled, past_verdict, past_whole}
 use Rattle.csplit_core.proofs.StageSteps.{below_or_not}

@@ -3,7 +3,7 @@ use Rattle.std.proofs.Common.{◌≡◌, ◌⊎◌, inl, inr, ℕ, ◌+◌, ◌-
 use Rattle.std.proofs.lemmas.Bool.{false≢true}
 use Rattle.std.proofs.lemmas.List.{append-nil}
 use Rattle.seg_core.specs.Line.{line_count}
-use Rattle.ports_core.specs.Part.{Part, Begins}
+use Rattle.ports_core.specs.Part.{Begins}
 use Rattle.ports_core.specs.Slot.{Slot}
 use Rattle.ports_core.specs.declared.fault.Fault.{Fault}
 use Rattle.ports_core.specs.declared.fault.Fault.TheVariants.{Memory}
@@ -13,14 +13,14 @@ use Rattle.csplit_core.specs.Draft.{draft_part, AreClosed}
 use Rattle.csplit_core.specs.Input.{newline, all_lines}
 use Rattle.csplit_core.specs.Operand.{Operand, Line}
 use Rattle.csplit_core.specs.Output.{Style, contents_of, part_of}
-use Rattle.csplit_core.specs.Plan.{State, start, Step, Ending, used_up, missed, above, below}
+use Rattle.csplit_core.specs.Plan.{start, Step, Ending, used_up, missed, above, below}
 use Rattle.csplit_core.specs.Planned.{Plan, plan}
 use Rattle.csplit_core.specs.PlanLaws.{plan_runs}
 use Rattle.csplit_core.specs.Section.{section, section_of, lines_between, is_last_kept, whole_end, is_final, whole_sections}
 use Rattle.csplit_core.specs.SectionLaws.{AreWithin, are_within, closed_still, grows, ends_with}
 use Rattle.csplit_core.specs.Writer.{IsReady, Moves, Halts}
 use Rattle.csplit_core.specs.declared.progress.Turn.TheVariants.{Below}
-use Rattle.csplit_core.specs.Cutter.{CutterState, EndedAll, EndedNone, IsJudged, IsLive, IsPast, IsSame, IsSound, IsWhole, Stands, Took, TookNot, Takes, kept_by, load, settled_draft, settled_part, state_in, suppress_in, draft_by, whole_part}
+use Rattle.csplit_core.specs.Cutter.{CutterState, EndedAll, EndedNone, IsPast, IsSame, IsSound, IsWhole, Stands, Took, TookNot, kept_by, load, settled_draft, settled_part, suppress_in, draft_by, whole_part}
 use Rattle.csplit_core.specs.CsplitState.{CsplitState, Closed, ClosedNot}
 use Rattle.csplit_core.proofs.HoldLemmas.{memory_halts}
 use Rattle.csplit_core.proofs.LineLemmas.{all_lines-append, whole-append}

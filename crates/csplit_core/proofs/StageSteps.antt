@@ -1,5 +1,5 @@
 -- The steps of the stage that takes in bytes. A stage is known by its fields and by its value.
-use Rattle.std.proofs.Common.{◌≡◌, ◌⊎◌, inl, inr, ℕ, suc, eqb, ◌+◌, ◌-◌, ◌<◌, ◌≤◌, ◌^◌, Bool, true, false, List, [], ◌∷◌, ◌++◌, length, Result, Ok, Err, OnOk, IfErr, take, drop, append_assoc, length-drop, refl, sym, ◌∙◌, ap, subst, arith, length-append}
+use Rattle.std.proofs.Common.{◌≡◌, ◌⊎◌, inl, inr, ℕ, suc, eqb, ◌+◌, ◌-◌, ◌<◌, ◌≤◌, Bool, true, false, List, [], ◌∷◌, ◌++◌, length, Result, Ok, Err, OnOk, IfErr, take, drop, append_assoc, length-drop, refl, sym, ◌∙◌, ap, subst, arith, length-append}
 use Rattle.std.proofs.lemmas.Bool.{false≢true, eqb-true}
 use Rattle.std.proofs.lemmas.List.{take-append-drop}
 use Rattle.seg_core.specs.Line.{delimiters, ends_with, LastEndsAt}
@@ -7,7 +7,7 @@ use Rattle.ports_core.specs.Slot.{Slot}
 use Rattle.ports_core.specs.declared.fault.Fault.{Fault}
 use Rattle.ports_core.specs.declared.fault.Fault.TheVariants.{Memory}
 use Rattle.ports_core.proofs.PartLemmas.{take_all}
-use Rattle.csplit_core.specs.Input.{newline, open_line}
+use Rattle.csplit_core.specs.Input.{newline}
 use Rattle.csplit_core.specs.Cutter.{CutterState, EndsAll, IsLine, IsSound, IsWhole, Took, TookNot, Takes, load}
 use Rattle.csplit_core.specs.CsplitState.{CsplitState, Closes, Passed, Passes, whole_lines}
 use Rattle.csplit_core.specs.Writer.{IsReady}

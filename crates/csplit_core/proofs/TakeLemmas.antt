@@ -1,30 +1,28 @@
 -- Taking lines in.
-use Rattle.std.proofs.Common.{◌≡◌, ◌⊎◌, inl, inr, ℕ, suc, ◌+◌, ◌-◌, ◌<◌, ◌≤◌, max, Bool, true, false, Result, Ok, Err, OnOk, Option, Some, None, List, [], ◌∷◌, ◌++◌, length, map, take, drop, refl, sym, ◌∙◌, ap, subst, arith, length-append}
+use Rattle.std.proofs.Common.{◌≡◌, ◌⊎◌, inl, inr, ℕ, suc, ◌+◌, ◌-◌, ◌<◌, ◌≤◌, max, Bool, true, false, Result, Ok, Err, Some, None, List, [], ◌∷◌, ◌++◌, length, map, take, drop, refl, sym, ◌∙◌, ap, subst, arith, length-append}
 use Rattle.std.proofs.lemmas.Bool.{false≢true, cases_lt}
 use Rattle.seg_core.specs.Line.{line_count, delimiters}
 use Rattle.seg_core.specs.Window.{Window}
 use Rattle.std.proofs.Math.Nat.{max-le, le-max_left, le-max_right}
 use Rattle.seg_core.proofs.LineCounts.{line_count-le-length}
-use Rattle.ports_core.specs.Part.{Part, Begins}
 use Rattle.ports_core.specs.Slot.{Slot}
 use Rattle.ports_core.specs.declared.fault.Fault.{Fault}
-use Rattle.csplit_core.specs.Input.{newline, marked, all_lines}
-use Rattle.csplit_core.specs.Operand.{Target, Operand, Line, most_held}
-use Rattle.csplit_core.specs.Plan.{State, start, Step, Ending, used_up, missed, above, below, CutsAt, Misses, state_after, step_of, Runs, is_used_up, misses, is_above, is_below, cuts}
+use Rattle.csplit_core.specs.Input.{newline, all_lines}
+use Rattle.csplit_core.specs.Operand.{Operand, Line}
+use Rattle.csplit_core.specs.Plan.{State, start, Step, Ending, used_up, missed, above, below, CutsAt, state_after, step_of, Runs, cuts}
 use Rattle.csplit_core.specs.Draft.{draft_part}
 use Rattle.csplit_core.specs.Output.{contents_of}
 use Rattle.csplit_core.specs.Planned.{Plan, plan, plan_within}
 use Rattle.csplit_core.specs.PlanLaws.{cuts_still, needed, runs, line_some, plan_runs}
 use Rattle.seg_core.proofs.EndLines.{line_count-grows}
-use Rattle.csplit_core.specs.Progress.{EndsHere, GoesPast, AimsAt}
+use Rattle.csplit_core.specs.Progress.{GoesPast, AimsAt}
 use Rattle.csplit_core.specs.Section.{section_of, lines_between, bytes_of, is_last_kept, is_final, most_waiting, settled_end}
 use Rattle.csplit_core.specs.SectionLaws.{EndsAs, ends_as, front_of, none_there, missed_cut, cut_once, are_within, closed_still}
 use Rattle.csplit_core.specs.Writer.{Writes, IsReady, size_of}
-use Rattle.csplit_core.specs.Writer.{Moves as Gets}
 use Rattle.csplit_core.specs.declared.line_cutter.Cut.{Cut}
 use Rattle.csplit_core.specs.declared.progress.Turn.{Turn}
 use Rattle.csplit_core.specs.declared.progress.Turn.TheVariants.{Below}
-use Rattle.csplit_core.specs.Cutter.{CutterState, suppress_in, state_in, settled_part, settled_draft, draft_by, AimHolds, load, IsFit, IsSound, IsSame, IsWhole, IsLine, IsAt, part_at, IsLive, IsPast, Stands, EndsNow, Arrives, Held, HeldNot, Holds, CutsNow, CutAll, CutAllNot, CutsAll, WillCut, TriesNext, search_after, Took, TookNot, Takes}
+use Rattle.csplit_core.specs.Cutter.{CutterState, suppress_in, state_in, settled_part, settled_draft, draft_by, AimHolds, IsFit, IsSound, IsWhole, IsLine, IsLive, IsPast, Stands, EndsNow, Arrives, Held, HeldNot, Holds, CutsNow, CutAll, CutAllNot, CutsAll, WillCut, TriesNext, search_after, Took, TookNot, Takes}
 use Rattle.csplit_core.proofs.CutterLemmas.{runs_to, at_more, part_more, live_part}
 use Rattle.csplit_core.proofs.LineLemmas.{all_lines-append, all_lines-line, length-all_lines, count-line, count_from, whole_count, whole_from}
 use Rattle.csplit_core.proofs.SettledLemmas.{settled_count, settled_part_is, most_is, aims_past}
@@ -72,7 +70,7 @@ place_before cutter x t matched cut live whole goes fit from =
     let runs_here = runs_to cutter x cutter.window.held live.at live.ends in
     let ends = ends_as (suppress_in cutter) (all_lines x) (start cutter.operands) live.at.steps (state_in cutter) live.ends.ending runs_here in
     let at = subst (λ lines. CutsAt (suppress_in cutter) lines (state_in cutter) goes.operand goes.operand.target matched cut) (all_lines-append x t whole)
-        (goes_cuts (suppress_in cutter) (all_lines (x ++ t)) (state_in cutter) matched cut goes (let s = fit.fits.some in omega (arith, s, from))) in
+    (goes_cuts (suppress_in cutter) (all_lines (x ++ t)) (state_in cutter) matched cut goes (let s = fit.fits.some in omega (arith, s, from))) in
     let count : length (all_lines x) ≡ cutter.lines = length-all_lines x ∙ sym live.at.counted in
     let before = settled_before (suppress_in cutter) (all_lines x) (all_lines t) (state_in cutter) live.ends.ending goes.operand goes.operands matched cut ends live.live goes.are at (settled_most (length (all_lines x)) live.ends.ending live.live) in
     taken_before cutter.lines cutter.progress.current live.at.taken (most_waiting live.ends.ending) (settled_end cutter.lines live.ends.ending) cut live.settled (settled_count cutter.lines cutter.progress.current live.ends.ending live.live)
@@ -93,7 +91,7 @@ low_none cutter x t live whole fit (below operand repetition) run past =
           let ends = ends_as (suppress_in cutter) (all_lines x) (start cutter.operands) live.at.steps (state_in cutter) live.ends.ending runs_here in
           let count : length (all_lines x) ≡ cutter.lines = length-all_lines x ∙ sym live.at.counted in
           let before = settled_before (suppress_in cutter) (all_lines x) (all_lines t) (state_in cutter) live.ends.ending operand operands matched cut ends live.live are
-              (subst (λ lines. CutsAt (suppress_in cutter) lines (state_in cutter) operand operand.target matched cut) (all_lines-append x t whole) at) (settled_most (length (all_lines x)) live.ends.ending live.live) in
+          (subst (λ lines. CutsAt (suppress_in cutter) lines (state_in cutter) operand operand.target matched cut) (all_lines-append x t whole) at) (settled_most (length (all_lines x)) live.ends.ending live.live) in
           let e : settled_end cutter.lines live.ends.ending ≤ cut = subst (λ n. settled_end n live.ends.ending ≤ cut) count before in
           let s = settled_count cutter.lines cutter.progress.current live.ends.ending live.live in
           let t' : live.at.taken ≡ cutter.lines + 1 - cutter.progress.current - most_waiting live.ends.ending = live.settled in omega (arith, e, s, t', low)
@@ -119,9 +117,9 @@ arrives_more cutter lines aim x t live whole fit count ends =
       low = λ past. low_none cutter x t live whole fit ends.ending ends.runs past;
       enough = more either most;
     } where
-  more : {taken most other : ℕ} → (taken ≡ 0) ⊎ (other ≤ line_count newline cutter.window.held) → most ≡ other → (taken ≡ 0) ⊎ (most ≤ line_count newline (cutter.window.held ++ t))
-  more (inl none) is = inl none
-  more {most = most} {other = other} (inr enough) is = inr (let grows = line_count-grows newline cutter.window.held t in omega (arith, grows, enough, is))
+      more : {taken most other : ℕ} → (taken ≡ 0) ⊎ (other ≤ line_count newline cutter.window.held) → most ≡ other → (taken ≡ 0) ⊎ (most ≤ line_count newline (cutter.window.held ++ t))
+      more (inl none) is = inl none
+      more {most = most} {other = other} (inr enough) is = inr (let grows = line_count-grows newline cutter.window.held t in omega (arith, grows, enough, is))
 
 -- Once more lines came, and what is settled of them is written and the others held.
 
@@ -295,7 +293,7 @@ past_draft_still cutter x t whole past =
     ap (λ (q : Plan). draft_by (all_lines (x ++ t)) q.steps (is_last_kept q.ending) (bytes_of (lines_between q.last.current (settled_end (length (all_lines (x ++ t))) q.ending) (all_lines (x ++ t))))) is
     ∙ ap (λ lines. draft_by (all_lines (x ++ t)) p.steps (is_last_kept p.ending) (bytes_of lines)) (none_between p.last.current (length (all_lines (x ++ t))) p.ending (all_lines (x ++ t)) past.past ∙ sym (none_between p.last.current (length (all_lines x)) p.ending (all_lines x) past.past))
     ∙ ap (λ ended. record { ended = map contents_of ended; is_kept = is_last_kept p.ending; bytes = bytes_of (lines_between p.last.current (settled_end (length (all_lines x)) p.ending) (all_lines x)) })
-      (ap (λ lines. map (section_of lines) p.steps) (all_lines-append x t whole) ∙ closed_still (all_lines x) (all_lines t) p.steps within)
+    (ap (λ lines. map (section_of lines) p.steps) (all_lines-append x t whole) ∙ closed_still (all_lines x) (all_lines t) p.steps within)
 
 still_past : (cutter : CutterState) (x t : List ℕ) → IsWhole x → IsPast cutter x → IsPast cutter (x ++ t)
 still_past cutter x t whole past =
@@ -310,7 +308,7 @@ still_past cutter x t whole past =
 pub took_past : (told : Bool) (cutter : CutterState) (t : List ℕ) (slots : List Slot) → cutter.aim ≡ Below → IsSound cutter → IsReady cutter.writer slots → Took told cutter t slots slots cutter
 took_past told cutter t slots aim sound ready = record {
   same = record { operands = refl; style = refl };
-  stands = λ x whole stands. elim stands [ | inl live ↦ absurd (past_not_live cutter x aim live) | inr past ↦ inr (still_past cutter x t whole past) ];
+  stands = λ x whole stands. elim stands [ inl live ↦ absurd (past_not_live cutter x aim live) | inr past ↦ inr (still_past cutter x t whole past) ];
   moves = λ x whole stands. elim stands [
     | inl live ↦ absurd (past_not_live cutter x aim live)
     | inr past ↦ moves_same told (settled_part cutter x) (settled_part cutter (x ++ t)) slots

@@ -4,22 +4,19 @@ use Rattle.std.specs.Prelude.{min, max, eqb, ◌&&◌}
 use Rattle.std.proofs.lemmas.Bool.{false≢true, cases_lt}
 use Rattle.std.proofs.Math.Nat.{le-max_left}
 use Rattle.std.proofs.Math.Seq.{get_or-append_seam}
-use Rattle.bre_core.specs.Pattern.{Pattern}
 use Rattle.bre_core.specs.Search.{contains}
-use Rattle.seg_core.specs.Line.{line_count}
-use Rattle.csplit_core.specs.Input.{newline, without_newline, marked, all_lines, is_match_of}
-use Rattle.csplit_core.specs.Measure.{Fits}
+use Rattle.csplit_core.specs.Input.{without_newline, marked, all_lines, is_match_of}
 use Rattle.csplit_core.specs.MatchLaws.{search_past, search_some, match_still}
 use Rattle.csplit_core.specs.Operand.{Target, Number, Search, Operand, Line, unmarked, is_match}
-use Rattle.csplit_core.specs.Plan.{State, start, Step, Ending, used_up, missed, above, below, search_line, line_after, CutsAt, Misses, state_after, step_of, Runs, cuts}
+use Rattle.csplit_core.specs.Plan.{State, start, Ending, used_up, missed, above, below, search_line, line_after, CutsAt, Misses, Runs, cuts}
 use Rattle.csplit_core.specs.PlanLaws.{cuts_still}
-use Rattle.csplit_core.specs.Progress.{state_of, AreSeen, CutsWhere, Turns, MovesOn, AimsAt, EndsHere, GoesPast, Advances}
-use Rattle.csplit_core.specs.SectionLaws.{EndsAs, ends_as, front_of, none_there}
+use Rattle.csplit_core.specs.Progress.{AreSeen, Turns, MovesOn, AimsAt, EndsHere, GoesPast, Advances}
+use Rattle.csplit_core.specs.SectionLaws.{EndsAs, ends_as, front_of}
 use Rattle.csplit_core.specs.declared.line_cutter.Cut.{Cut}
 use Rattle.csplit_core.specs.declared.progress.Progress.{Progress}
 use Rattle.csplit_core.specs.declared.progress.Turn.{Turn}
 use Rattle.csplit_core.specs.declared.progress.Turn.TheVariants.{UsedUp, Missed, Above, Below, Cuts}
-use Rattle.csplit_core.specs.Cutter.{CutterState, suppress_in, state_in, pattern_in, pattern_by, next_of, AimHolds, IsFit, IsSound, IsWhole, IsLine, IsAt, IsLive, EndsNow, Looked, IsFound, IsLastLine, IsNoCut, search_after, StaysNear, Tries, TriesNext}
+use Rattle.csplit_core.specs.Cutter.{CutterState, suppress_in, state_in, pattern_in, pattern_by, AimHolds, IsFit, IsWhole, IsLine, IsLive, EndsNow, Looked, IsFound, IsNoCut, search_after, StaysNear, Tries, TriesNext}
 use Rattle.csplit_core.proofs.AdvanceLemmas.{advances}
 use Rattle.csplit_core.proofs.CutterLemmas.{runs_to}
 use Rattle.csplit_core.proofs.LineLemmas.{all_lines-line, length-all_lines, count-line}

@@ -1,18 +1,15 @@
 -- How many bytes wait in the stage that takes in bytes.
-use Rattle.std.proofs.Common.{◌≡◌, ◌⊎◌, inl, inr, ℕ, ◌+◌, ◌-◌, ◌<◌, ◌≤◌, ◌^◌, min, Bool, true, false, cond, List, [], ◌∷◌, ◌++◌, length, map, drop, refl, sym, ◌∙◌, ap, subst, arith, length-append}
+use Rattle.std.proofs.Common.{◌≡◌, ℕ, ◌+◌, ◌-◌, ◌≤◌, cond, List, [], length, drop, sym, ◌∙◌, ap, arith}
 use Rattle.std.proofs.lemmas.List.{drop-map}
-use Rattle.seg_core.specs.Line.{lines_of, line_count, joined, after_lines}
+use Rattle.seg_core.specs.Line.{lines_of, line_count, joined}
 use Rattle.seg_core.proofs.Carried.{lines_of-after_lines}
-use Rattle.csplit_core.specs.Csplit.{waiting, waiting_of}
-use Rattle.csplit_core.specs.Input.{newline, marked, all_lines, open_line}
+use Rattle.csplit_core.specs.Input.{newline, marked, all_lines}
 use Rattle.csplit_core.specs.Plan.{start}
 use Rattle.csplit_core.specs.Planned.{Plan, plan}
 use Rattle.csplit_core.specs.PlanLaws.{plan_once}
-use Rattle.csplit_core.specs.Section.{bytes_of, is_final, settled_end, most_waiting, waiting_lines}
+use Rattle.csplit_core.specs.Section.{bytes_of, settled_end, most_waiting, waiting_lines}
 use Rattle.csplit_core.specs.SectionLaws.{are_within}
-use Rattle.csplit_core.specs.Cutter.{CutterState, IsLive, IsPast, state_in, suppress_in, text_from}
-use Rattle.csplit_core.specs.CsplitState.{CsplitState, Holds, whole_lines}
-use Rattle.csplit_core.proofs.ByteLemmas.{all_complete, lines_then_open}
+use Rattle.csplit_core.specs.Cutter.{CutterState, IsLive, state_in, suppress_in, text_from}
 use Rattle.csplit_core.proofs.CutterLemmas.{runs_to}
 use Rattle.csplit_core.proofs.LineLemmas.{bytes_marked, from_further, length-all_lines}
 use Rattle.csplit_core.proofs.SettledLemmas.{settled_count}

@@ -1,7 +1,7 @@
 -- What contracts see of the stage that takes in bytes, and what its calls do.
 use Rattle.std.specs.Prelude.{◌≡◌, ◌≢◌, ℕ, ◌+◌, ◌<◌, ◌≤◌, ◌^◌, Bool, List, [], ◌++◌, length, Option, Result, Ok, Err}
 use Rattle.seg_core.specs.Line.{delimiters, first_lines}
-use Rattle.ports_core.specs.Part.{OutputsAt, nothing}
+use Rattle.ports_core.specs.Part.{nothing}
 use Rattle.ports_core.specs.Slot.{Slot, KeepsBroken}
 use Rattle.ports_core.specs.Swept.{AreMade}
 use Rattle.ports_core.specs.Work.{Work}
@@ -12,7 +12,7 @@ use Rattle.csplit_core.specs.Input.{newline, all_lines, open_line}
 use Rattle.csplit_core.specs.Operand.{Operand}
 use Rattle.csplit_core.specs.Output.{Style}
 use Rattle.csplit_core.specs.Planned.{plan}
-use Rattle.csplit_core.specs.Writer.{Breaks, Halts, KeepsFiles, OwnsFiles, size_of}
+use Rattle.csplit_core.specs.Writer.{Breaks, Halts, KeepsFiles, OwnsFiles}
 use Rattle.csplit_core.specs.Writer.{IsReady as CanWrite, Moves as Gets}
 use Rattle.csplit_core.specs.declared.progress.Turn.TheVariants.{Below}
 

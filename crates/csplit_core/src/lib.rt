@@ -2,6 +2,8 @@
 #![tactic(auto)]
 
 mod csplit_stage;
+#[cfg(test)]
+mod csplit_tests;
 mod csplitter;
 mod holding;
 pub mod laws;

@@ -1,4 +1,4 @@
-use Rattle.std.proofs.Common.{◌≡◌, length, sym, ◌∙◌, arith}
+use Rattle.std.proofs.Common.{length, ◌∙◌, arith}
 use Rattle.std.proofs.lemmas.List.{take_all, drop_all}
 use Rattle.csplit_core.proofs.LineLemmas.{rest_is, short_all, short_none}
 use Rattle.csplit_core.proofs.lines.split_lines.Goals as goal

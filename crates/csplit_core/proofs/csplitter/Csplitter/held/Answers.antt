@@ -1,6 +1,3 @@
-use Rattle.std.proofs.Common.{◌+◌, ◌-◌, ◌^◌, min, length, sym, ◌∙◌, ap}
-use Rattle.ports_core.specs.Guard.{GuardState}
-use Rattle.csplit_core.specs.CsplitState.{CsplitState}
 use Rattle.csplit_core.proofs.HeldBytes.{held_in}
 use Rattle.csplit_core.proofs.csplitter.Csplitter.held.Goals as goal
 

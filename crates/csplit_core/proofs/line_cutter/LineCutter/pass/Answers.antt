@@ -1,4 +1,4 @@
-use Rattle.csplit_core.proofs.PassOnLemmas.{IsOn, goes_on_by, fit_again, fit_next, fewer_again, fewer_next}
+use Rattle.csplit_core.proofs.PassOnLemmas.{goes_on_by, fit_again, fit_next, fewer_again, fewer_next}
 use Rattle.csplit_core.proofs.line_cutter.LineCutter.pass.Goals as goal
 
 pub returns-then-self-done-clause-fit : goal.returns-then-self-done-clause-fit
