@@ -1,5 +1,7 @@
 //! How files are made of sections.
+ghost use Rattle.std.specs.Prelude.{◌≡◌, IfOk};
 
+use std::alloc::{AllocError, Global};
 use std::marker::Model;
 
 /// How `csplit` makes files (POSIX.1-2017, XCU csplit, OPTIONS; `elide` and `suppress` are GNU's).
@@ -26,4 +28,24 @@ impl Model for Style {
     ghost Value = { Asked };
 
     ghost view = { λ s. record { prefix = string_bytes s.prefix; digits = s.digits; keep = s.keep; quiet = s.quiet; elide = s.elide; suppress = s.suppress } };
+}
+
+impl Style {
+    /// The same style, with a prefix of its own, for which it takes memory.
+    ///
+    /// # Errors
+    ///
+    /// `AllocError` where there is none.
+    pub fn try_clone(&self, alloc: Global) -> Result<Style, AllocError>
+        ensures { IfOk result (λ style. style ≡ self.now) }
+    {
+        Ok(Style {
+            prefix: String::from_str(alloc, &self.prefix)?,
+            digits: self.digits,
+            keep: self.keep,
+            quiet: self.quiet,
+            elide: self.elide,
+            suppress: self.suppress,
+        })
+    }
 }

@@ -1,3 +1,4 @@
 pub mod AdapterLemmas
+pub mod CsplitLemmas
 pub mod RunLemmas
 pub mod SpeakerLemmas

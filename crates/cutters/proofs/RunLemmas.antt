@@ -23,14 +23,16 @@ use Rattle.tee_core.specs.Run.{LeavesOf, EndsAs as TeeCopies}
 use Rattle.tee_core.specs.Run as copies
 use Rattle.words_core.specs.EndsAsked.{EndsAsked}
 use Rattle.words_core.specs.Spelling.{IsRefused}
+use Rattle.words_core.specs.CsplitAsked.{CsplitAsked}
 use Rattle.words_core.specs.TeeAsked.{TeeAsked}
+use Rattle.csplit_core.specs.Reading.{Asks}
+use Rattle.csplit_core.specs.declared.operand.Operand.{Operand}
 use Rattle.words_core.specs.declared.settings.Headers.{Headers}
 use Rattle.words_core.specs.declared.settings.Settings.{Settings}
 use Rattle.words_core.specs.declared.settings.Settings.TheVariants.{Head, Tail, Split, Csplit, Tee}
 use Rattle.words_core.specs.Words.{HasBadOperands, settings_of}
-use Rattle.cutters.specs.Outcome.{DoesAsked, IsUnknown, RefusesFor, RunEnds, RunEndsAt, TeeEndsAs, names_at, names_read, speaker, word_of}
-use Rattle.cutters.specs.Outcome as unknown
-use Rattle.cutters.specs.Tasks.{head_task, tail_task, split_task, names_of}
+use Rattle.cutters.specs.Outcome.{CsplitEndsAs, DoesAsked, RefusesFor, cut, unread, RunEnds, RunEndsAt, TeeEndsAs, names_at, names_read, speaker, word_of}
+use Rattle.cutters.specs.Tasks.{csplit_task, head_task, tail_task, split_task, names_of}
 use Rattle.cutters.proofs.SpeakerLemmas.{runs_as_named, tool_of}
 
 pub tool_runs : (told_in told : Bool) (world : World) (words : List (List ℕ)) (settings : Settings) (sources : List Source) (new : List Slot) (status : ℕ) → settings_of words ≡ Ok settings
@@ -86,9 +88,9 @@ tee_counts old new fresh keeps = omega (arith, keeps.count, ap length fresh.only
 -- words that weren't read for want of memory, where they ask for this
 
 -- an input that wasn't read, whether it tells its bytes or not
-unread : (told : Bool) (source : Source) → OfContent told source.left (λ content. LeavesOf told source content.bytes × BreaksOnly told content source)
-unread true source = (source.left, λ t. refl, (λ t. refl, λ untold. absurd (false≢true (sym untold))))
-unread false source = (empty, λ t. absurd (false≢true t), (λ t. absurd (false≢true t), λ untold breaks. absurd (false≢true breaks)))
+unread_source : (told : Bool) (source : Source) → OfContent told source.left (λ content. LeavesOf told source content.bytes × BreaksOnly told content source)
+unread_source true source = (source.left, λ t. refl, (λ t. refl, λ untold. absurd (false≢true (sym untold))))
+unread_source false source = (empty, λ t. absurd (false≢true t), (λ t. absurd (false≢true t), λ untold breaks. absurd (false≢true breaks)))
 
 unread_task : (told_in told : Bool) (laid : ℕ → List ℕ → Option Content) (sources : List Source) (task : Task) (names : List (List ℕ)) (new : List Slot) (error : Slot) → IsFresh sources
     → Says told task.tool (message_of task.tool Memory []) standard_error error → new ≡ streams_with error
@@ -100,7 +102,7 @@ unread_tee : (told_in told : Bool) (laid : ℕ → List ℕ → Option Content) 
     → Says told tool.Tee (message_of tool.Tee Memory []) standard_error error → new ≡ streams_with error
     → RunsOver told_in (world_of laid sources) (codes "-" ∷ []) (λ found. TeeEndsAs told_in told asked found sources new 1)
 unread_tee told_in told laid sources asked new error says slots =
-    let (content, there, (leaves, breaks)) = unread told_in (source_at sources 0) in (
+    let (content, there, (leaves, breaks)) = unread_source told_in (source_at sources 0) in (
       standard_input content ∷ [],
       finds_standard told_in laid sources content there,
       record { content = content; input = refl; ends = copies.no_room error (error, says, refl) leaves slots refl; breaks = breaks },
@@ -112,11 +114,9 @@ unread_settings : (told_in told : Bool) (laid : ℕ → List ℕ → Option Cont
 unread_settings told_in told laid sources (Head asked) new error fresh says slots = unread_task told_in told laid sources (head_task asked) asked.names new error fresh says slots
 unread_settings told_in told laid sources (Tail asked) new error fresh says slots = unread_task told_in told laid sources (tail_task asked) asked.names new error fresh says slots
 unread_settings told_in told laid sources (Split asked) new error fresh says slots = unread_task told_in told laid sources (split_task asked) (asked.input ∷ []) new error fresh says slots
-unread_settings told_in told laid sources (Csplit asked) new error fresh says slots = (
-  [],
-  record { are = refl; there = λ t. refl },
-  unknown.no_room (record { error = error; says = says; slots = slots; failed = refl }),
-)
+unread_settings told_in told laid sources (Csplit asked) new error fresh says slots =
+    let untouched = none_touched told_in laid sources (asked.input ∷ []) fresh in
+    (untouched.0, untouched.1, unread untouched.2 (record { error = error; says = says; slots = slots; failed = refl }))
 unread_settings told_in told laid sources (Tee asked) new error fresh says slots = unread_tee told_in told laid sources asked new error says slots
 
 -- words that are refused, or weren't read for want of memory
@@ -159,9 +159,12 @@ refused_or_memory told_in told laid sources words fault old new fresh (inl is) a
     let said = subst (λ why. SaysOn told (speaker words) (message_of (speaker words) why (word_of words why)) old new) is says standard_output standard_error [] are in
     unread_for told_in told laid sources words (settings_of words) new said.0 fresh refl said.1 said.2
 
--- `csplit` is refused, and reads nothing
-pub csplit_runs : (told_in told : Bool) (world : World) (new : List Slot) (status : ℕ) → IsUnknown told new status → RunsOver told_in world [] (λ found. IsUnknown told new status)
-csplit_runs told_in told world new status unknown = ([], record { are = refl; there = λ t. refl }, unknown)
+-- `csplit` cuts at the operands that were read
+pub csplit_runs : (told_in told : Bool) (world : World) (asked : CsplitAsked) (input : List ℕ) (operands : List Operand) (sources : List Source) (new : List Slot) (status : ℕ) → input ≡ asked.input → Asks asked.operands operands
+    → RunsOver told_in world (input ∷ []) (λ found. EndsAs told_in told (csplit_task asked operands) found sources new status)
+    → RunsOver told_in world (asked.input ∷ []) (λ found. CsplitEndsAs told_in told asked found sources new status)
+csplit_runs told_in told world asked input operands sources new status is asks (found, finds, ends) =
+    (found, subst (λ name. Finds told_in world (name ∷ []) found) is finds, cut operands asks ends)
 
 pub asked_or_none : (words : List (List ℕ)) (settings : Settings) (fault : Fault) → settings_of words ≡ Ok settings → settings_of words ≡ Err fault → ⊥
 asked_or_none words settings fault asks refuses = both (sym asks ∙ refuses) where

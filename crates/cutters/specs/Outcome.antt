@@ -1,5 +1,5 @@
 -- What a whole run does, by its words.
-use Rattle.std.specs.Prelude.{◌≡◌, ℕ, Bool, List, [], ◌∷◌, Option, Some, None, Result, Ok, Err, ◌⊎◌, codes, slice_index_or}
+use Rattle.std.specs.Prelude.{◌≡◌, ℕ, Bool, List, [], ◌∷◌, Option, Some, None, Result, Ok, Err, ◌⊎◌, slice_index_or}
 use Rattle.ports_core.specs.Slot.{Slot}
 use Rattle.ports_core.specs.Source.{Content, Source, source_at}
 use Rattle.ports_core.specs.Text.{message_of}
@@ -8,16 +8,19 @@ use Rattle.ports_core.specs.declared.tool.Tool.{Tool}
 use Rattle.ports_core.specs.declared.tool.Tool.TheVariants as tool
 use Rattle.ports_core.specs.declared.fault.Fault.{Fault}
 use Rattle.ports_core.specs.declared.fault.Fault.TheVariants.{Memory, Write, Read, Open, Suffixes, NoMatch, Range, Usage, Failed, TooLong}
-use Rattle.ports_core.specs.declared.fault.UsageKind.TheVariants.{UnknownTool}
+use Rattle.csplit_core.specs.declared.operand.Operand.{Operand}
+use Rattle.csplit_core.specs.Reading.{Asks}
 use Rattle.run_core.specs.Feeding.{BreaksOnly}
 use Rattle.run_core.specs.Input.{Input, standard_input}
+use Rattle.run_core.specs.Reading.{AreUntouched}
 use Rattle.run_core.specs.RunEnds.{EndsAs, standard_error, streams_with}
 use Rattle.tee_core.specs.Run.{EndsAs as TeeCopies}
 use Rattle.words_core.specs.declared.settings.Settings.{Settings}
 use Rattle.words_core.specs.declared.settings.Settings.TheVariants.{Head, Tail, Split, Csplit, Tee}
+use Rattle.words_core.specs.CsplitAsked.{CsplitAsked}
 use Rattle.words_core.specs.TeeAsked.{TeeAsked}
 use Rattle.words_core.specs.Words.{HasBadOperands, tool_named, settings_of}
-use Rattle.cutters.specs.Tasks.{head_task, tail_task, split_task, names_of}
+use Rattle.cutters.specs.Tasks.{csplit_task, head_task, tail_task, split_task, names_of}
 
 -- who refuses words: their tool, or the program where they name none
 abbrev pub or_cutters : Option Tool → Tool
@@ -48,10 +51,12 @@ pub record Refuses (told : Bool) (tool : Tool) (text : List ℕ) (new : List Slo
   pub slots : new ≡ streams_with error
   pub failed : status ≡ 1
 
--- There is no `csplit` yet: a run that asks for it is refused as one of an unknown tool is; or for want of memory for its words.
-pub data IsUnknown (told : Bool) (new : List Slot) (status : ℕ) : Type 0 where
-  unknown_tool : Refuses told tool.Cutters (message_of tool.Cutters (Usage UnknownTool 0) (codes "csplit")) new status → IsUnknown told new status
-  no_room : Refuses told tool.Csplit (message_of tool.Csplit Memory []) new status → IsUnknown told new status
+-- `csplit` over its input: it was cut at the operands that its words ask for; or there was no memory for them, and nothing was read.
+pub data CsplitEndsAs (told_in told : Bool) (asked : CsplitAsked) (inputs : List Input) (sources : List Source) (new : List Slot) (status : ℕ) : Type 0 where
+  cut : (operands : List Operand) → Asks asked.operands operands → EndsAs told_in told (csplit_task asked operands) inputs sources new status
+      → CsplitEndsAs told_in told asked inputs sources new status
+  unread : AreUntouched inputs sources → Refuses told tool.Csplit (message_of tool.Csplit Memory []) new status
+      → CsplitEndsAs told_in told asked inputs sources new status
 
 -- `tee` over its inputs, which are standard input alone
 pub record TeeEndsAs (told_in told : Bool) (asked : TeeAsked) (inputs : List Input) (sources : List Source) (new : List Slot) (status : ℕ) : Type 0 where
@@ -65,7 +70,7 @@ abbrev pub DoesAsked : Bool → Bool → Settings → List Input → List Source
 DoesAsked told_in told (Head asked) inputs sources new status = EndsAs told_in told (head_task asked) inputs sources new status
 DoesAsked told_in told (Tail asked) inputs sources new status = EndsAs told_in told (tail_task asked) inputs sources new status
 DoesAsked told_in told (Split asked) inputs sources new status = EndsAs told_in told (split_task asked) inputs sources new status
-DoesAsked told_in told (Csplit asked) inputs sources new status = IsUnknown told new status
+DoesAsked told_in told (Csplit asked) inputs sources new status = CsplitEndsAs told_in told asked inputs sources new status
 DoesAsked told_in told (Tee asked) inputs sources new status = TeeEndsAs told_in told asked inputs sources new status
 
 -- the words are refused for this fault, with the word that it speaks of

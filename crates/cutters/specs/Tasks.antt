@@ -101,10 +101,10 @@ csplit_task asked operands = record {
   with_header = false;
 }
 
--- The names of its inputs. `tee` reads standard input alone, whatever its files are called; `csplit`, which is refused, reads nothing.
+-- The names of its inputs. `tee` reads standard input alone, whatever its files are called.
 abbrev pub names_of : Settings → List (List ℕ)
 names_of (Head asked) = asked.names
 names_of (Tail asked) = asked.names
 names_of (Split asked) = asked.input ∷ []
-names_of (Csplit asked) = []
+names_of (Csplit asked) = asked.input ∷ []
 names_of (Tee asked) = codes "-" ∷ []

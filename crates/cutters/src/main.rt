@@ -2,6 +2,7 @@
 #![tactic(auto)]
 
 mod args;
+mod csplit;
 mod ends;
 #[cfg(test)]
 mod ends_tests;

@@ -6,13 +6,14 @@ ghost use Rattle.run_core.specs.Input.{has_dash};
 ghost use Rattle.run_core.specs.Reading.{AsksAtMost, count_after};
 ghost use Rattle.run_core.specs.RunEnds.{RunsOver, largest_piece};
 ghost use Rattle.run_core.specs.RunSteps.{world_of};
-ghost use Rattle.cutters.specs.Outcome.{AreNone, DoesAsked, IsUnknown, RunEnds, names_read, speaker, word_of};
+ghost use Rattle.cutters.specs.Outcome.{AreNone, DoesAsked, RunEnds, names_read, speaker, word_of};
 ghost use Rattle.cutters.specs.Tasks.{names_of};
 ghost use Rattle.words_core.specs.Words.{CanRun};
 
+use crate::csplit::CsplitAdapter;
 use crate::ends::{HeadAdapter, TailAdapter};
 use crate::split::SplitAdapter;
-use ports_core::{Fault, Inputs, Outs, Tool, UsageKind, say};
+use ports_core::{Fault, Inputs, Outs, Tool, say};
 use run_core::run_inputs;
 use std::alloc::Global;
 use tee_core::run_tee;
@@ -78,19 +79,18 @@ fn run_tool<I: Inputs, O: Outs>(
             inputs,
             outs,
         ),
-        Settings::Csplit(_) => refuse_csplit(alloc, outs),
+        Settings::Csplit(asked) => run_inputs(
+            alloc,
+            &CsplitAdapter {
+                settings: asked,
+                operands: asked.operands(),
+            },
+            &[asked.input],
+            inputs,
+            outs,
+        ),
         Settings::Tee(settings) => run_tee(alloc, &settings.names, settings.mode, inputs, outs),
     }
-}
-
-/// There is no `csplit` yet: it is refused as an unknown tool is. Returns the status.
-fn refuse_csplit<O: Outs>(alloc: Global, outs: &mut O) -> u8
-    requires { O.slots outs.old ≡ streams }
-    ensures { IsUnknown O.told (O.slots outs.new) result }
-{
-    let fault = Fault::Usage(UsageKind::UnknownTool, 0);
-    say(alloc, Tool::Cutters, &fault, "csplit", outs);
-    1
 }
 
 /// Who refuses words: the tool that they name, or the program where they name none.

@@ -1,5 +1,6 @@
 use Rattle.std.proofs.Common.{◌∙◌, ◌∷◌, [], refl, sym, ap}
 use Rattle.run_core.specs.Input.{has_dash}
+use Rattle.words_core.specs.CsplitAsked.{CsplitAsked}
 use Rattle.words_core.specs.SplitAsked.{SplitAsked}
 use Rattle.words_core.specs.declared.settings.Settings.{Settings}
 use Rattle.words_core.specs.declared.settings.Settings.TheVariants.{Head, Tail, Split, Csplit, Tee}
@@ -50,7 +51,16 @@ returns-in-Split-clause-untouched g c none =
     c.run_inputs-in-Split.ensures.untouched (ap (λ (asked : SplitAsked). has_dash (asked.input ∷ [])) c.settings-in-Split.view_is ∙ sym (ap (λ (those : Settings). has_dash (names_of those)) c.in-Split.is) ∙ none)
 
 pub returns-in-Csplit-clause-ends : goal.returns-in-Csplit-clause-ends
-returns-in-Csplit-clause-ends g c = for_settings _ _ _ _ (Csplit c.in-Csplit.field-0) _ _ _ c.in-Csplit.is (csplit_runs _ _ _ _ _ c.refuse_csplit.ensures)
+returns-in-Csplit-clause-ends g c =
+    for_settings _ _ _ _ (Csplit c.in-Csplit.asked) _ _ _ c.in-Csplit.is (csplit_runs _ _ _ _ _ _ _ _ _ (ap (λ (asked : CsplitAsked). asked.input) c.asked.view_is) c.operands.ensures c.run_inputs-in-Csplit.ensures.ends)
+
+pub returns-in-Csplit-clause-opened : goal.returns-in-Csplit-clause-opened
+returns-in-Csplit-clause-opened g c =
+    counts_for _ _ (Csplit c.in-Csplit.asked) _ c.in-Csplit.is (ap (λ (asked : CsplitAsked). asked.input ∷ []) c.asked.view_is) c.run_inputs-in-Csplit.ensures.opened
+
+pub returns-in-Csplit-clause-untouched : goal.returns-in-Csplit-clause-untouched
+returns-in-Csplit-clause-untouched g c none =
+    c.run_inputs-in-Csplit.ensures.untouched (ap (λ (asked : CsplitAsked). has_dash (asked.input ∷ [])) c.asked.view_is ∙ sym (ap (λ (those : Settings). has_dash (names_of those)) c.in-Csplit.is) ∙ none)
 
 pub returns-in-Tee-clause-ends : goal.returns-in-Tee-clause-ends
 returns-in-Tee-clause-ends g c =

@@ -1,0 +1,83 @@
+-- Lemmas on opening the engine of `csplit`.
+use Rattle.std.proofs.Common.{◌≡◌, ℕ, ◌<◌, ◌≤◌, ◌^◌, Bool, true, false, not, List, [], length, Result, Ok, Err, IfOk, IfErr, OnOk, refl, sym, ap, subst, arith}
+use Rattle.std.proofs.lemmas.Bool.{false≢true}
+use Rattle.ports_core.specs.Slot.{Slot}
+use Rattle.ports_core.specs.Part.{OutputsAt, StoppedBetween, nothing}
+use Rattle.ports_core.specs.Swept.{AreMade}
+use Rattle.ports_core.specs.Work.{Work, Needs}
+use Rattle.ports_core.specs.Engine.{is_verdict}
+use Rattle.ports_core.specs.declared.fault.Fault.{Fault}
+use Rattle.ports_core.specs.declared.fault.Fault.TheVariants.{Memory, Write, Read, Open, Suffixes, NoMatch, Range, Usage, Failed, TooLong}
+use Rattle.ports_core.proofs.PartLemmas.{nothing_out, nothing_begins_part, stopped_here}
+use Rattle.ports_core.proofs.SlotSteps.{none_past, swept_none}
+use Rattle.csplit_core.specs.Csplit.{csplit_work, settled_by}
+use Rattle.csplit_core.specs.Output.{Style}
+use Rattle.csplit_core.specs.Writer.{Breaks}
+use Rattle.csplit_core.specs.declared.operand.Operand.{Operand}
+use Rattle.run_core.specs.Feeding.{Stops, call_of}
+use Rattle.run_core.specs.RunSteps.{Opens, OpensShort}
+
+some_there : (slots : List Slot) → 2 ≤ length slots → 0 < length slots
+some_there slots two = omega (arith, two)
+
+stops_as : (style : Style) (operands : List Operand) (opening : Needs) (old new : List Slot) (fault : Fault) → opening.memory ≡ true → opening.files ≡ true → Breaks style old new fault → Stops (call_of (csplit_work style operands) opening [] nothing (settled_by style operands [])) new fault
+stops_as style operands opening old new Memory may opens breaks = may
+stops_as style operands opening old new (Write slot) may opens breaks = (λ first. ap not (breaks.0 first), λ none. absurd (false≢true (sym none)), breaks.1.1)
+stops_as style operands opening old new (Open slot) may opens breaks = (refl, opens)
+stops_as style operands opening old new (Read slot) may opens breaks = breaks
+stops_as style operands opening old new Suffixes may opens breaks = breaks
+stops_as style operands opening old new (NoMatch operand repetition) may opens breaks = breaks
+stops_as style operands opening old new (Range operand repetition) may opens breaks = breaks
+stops_as style operands opening old new (Usage kind word) may opens breaks = breaks
+stops_as style operands opening old new Failed may opens breaks = breaks
+stops_as style operands opening old new TooLong may opens breaks = absurd breaks
+
+unjudged_by : (style : Style) (old new : List Slot) (fault : Fault) → Breaks style old new fault → is_verdict fault ≡ false
+unjudged_by style old new Memory breaks = refl
+unjudged_by style old new (Write slot) breaks = refl
+unjudged_by style old new (Open slot) breaks = refl
+unjudged_by style old new (Read slot) breaks = refl
+unjudged_by style old new Suffixes breaks = absurd breaks
+unjudged_by style old new (NoMatch operand repetition) breaks = absurd breaks
+unjudged_by style old new (Range operand repetition) breaks = absurd breaks
+unjudged_by style old new (Usage kind word) breaks = refl
+unjudged_by style old new Failed breaks = refl
+unjudged_by style old new TooLong breaks = refl
+
+csplit_stops : (told : Bool) (style : Style) (operands : List Operand) (opening : Needs) (old new : List Slot) (fault : Fault) → opening.memory ≡ true → opening.files ≡ true → 2 ≤ length old
+    → ((before : List Slot) → OutputsAt told before nothing old → StoppedBetween told before nothing (settled_by style operands []) fault new) → Breaks style old new fault → ((place : ℕ) → length old ≤ place → AreMade place 0 new)
+    → OpensShort (csplit_work style operands) opening told old new fault
+csplit_stops told style operands opening old new fault may opens two stop breaks none = record {
+  unjudged = unjudged_by style old new fault breaks;
+  reached = new;
+  why = stops_as style operands opening old new fault may opens breaks;
+  stop = stop old (nothing_out told old (some_there old two));
+  swept = swept_none (not style.keep) (length old) new (λ place past. (none place past).none_after place (omega (arith)));
+}
+
+-- The style is a copy of the one that was asked for.
+pub csplit_short : (told : Bool) (style asked : Style) (operands : List Operand) (opening : Needs) (old new : List Slot) (E : Type 0) (result : Result E Fault) → opening.memory ≡ true → opening.files ≡ true → style ≡ asked → 2 ≤ length old
+    → IfErr result (λ fault. (before : List Slot) → OutputsAt told before nothing old → StoppedBetween told before nothing (settled_by style operands []) fault new) → IfErr result (Breaks style old new) → IfErr result (λ fault. (place : ℕ) → length old ≤ place → AreMade place 0 new)
+    → IfErr result (OpensShort (csplit_work asked operands) opening told old new)
+csplit_short told style asked operands opening old new E (Ok engine) may opens is two stop breaks none = tt
+csplit_short told style asked operands opening old new E (Err fault) may opens is two stop breaks none =
+    subst (λ those. OpensShort (csplit_work those operands) opening told old new fault) is (csplit_stops told style operands opening old new fault may opens two stop breaks none)
+
+pub csplit_opened : {E : Type 0} (Holds : E → List ℕ → Type 0) (Owns : E → ℕ → List Slot → Type 0) (work : E → Work) (Ready : E → List Slot → Type 0) (fed : E → ℕ) (style asked : Style) (operands : List Operand) (told : Bool) (old new : List Slot) (result : Result E Fault) → style ≡ asked → 2 ≤ length old
+    → IfOk result (λ e. Holds e []) → IfOk result (λ e. work e ≡ csplit_work style operands) → IfOk result (λ e. fed e < 2 ^ 63) → IfOk result (λ e. Ready e new) → IfOk result (λ e. Owns e (length old) new)
+    → OnOk result ((before : List Slot) → OutputsAt told before nothing old → OutputsAt told before (settled_by style operands []) new)
+    → IfOk result (Opens Holds Owns work Ready fed (csplit_work asked operands) told old new)
+csplit_opened Holds Owns work Ready fed style asked operands told old new (Ok e) is two fresh does bound ready owns puts =
+    subst (λ those. Opens Holds Owns work Ready fed (csplit_work those operands) told old new e) is
+    (record { fresh = fresh; does = does; bound = bound; ready = ready; owns = owns; outputs = puts old (nothing_out told old (some_there old two)) })
+csplit_opened Holds Owns work Ready fed style asked operands told old new (Err fault) is two fresh does bound ready owns puts = tt
+
+-- there was no memory for a copy of the style
+pub csplit_unstyled : (told : Bool) (style : Style) (operands : List Operand) (opening : Needs) (slots : List Slot) (fault : Fault) → opening.memory ≡ true → 2 ≤ length slots → fault ≡ Memory → OpensShort (csplit_work style operands) opening told slots slots fault
+csplit_unstyled told style operands opening slots fault may two is = subst (OpensShort (csplit_work style operands) opening told slots slots) (sym is) (record {
+  unjudged = refl;
+  reached = slots;
+  why = may;
+  stop = stopped_here told slots nothing _ Memory slots slots (nothing_out told slots (some_there slots two)) (nothing_begins_part _) refl tt;
+  swept = swept_none (not style.keep) (length slots) slots (none_past slots);
+})
