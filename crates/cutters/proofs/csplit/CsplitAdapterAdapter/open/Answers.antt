@@ -1,6 +1,5 @@
 use Rattle.std.proofs.Common.{◌∙◌, refl, ap}
 use Rattle.ports_core.proofs.HandedOn.{fault_is}
-use Rattle.csplit_core.specs.Csplit.{csplit_work}
 use Rattle.words_core.specs.CsplitAsked.{CsplitAsked}
 use Rattle.cutters.proofs.CsplitLemmas.{csplit_opened, csplit_short, csplit_unstyled}
 use Rattle.cutters.proofs.csplit.CsplitAdapterAdapter.open.Goals as goal
