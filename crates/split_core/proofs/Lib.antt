@@ -15,3 +15,7 @@ pub mod WaysLemmas
 pub mod SectionLemmas
 pub mod PlaceLemmas
 pub mod WaitingLemmas
+pub mod AgreedLemmas
+pub mod UndecidedLemmas
+pub mod PlacedLemmas
+pub mod RoundPlacedLemmas

@@ -218,17 +218,27 @@ waits_few (LineBytes n delim) rest some short =
 pub waiting_few : (limit : Limit) (x : List ℕ) → 0 < most limit → length (waiting_rest limit (cut_up limit x).rest) < most limit
 waiting_few limit x some = waits_few limit (cut_up limit x).rest some (rest_short limit x)
 
-bytes_of_shares : (state : State) (those : List (List ℕ)) → map (λ (file : Share). file.bytes) (map (share state) those) ≡ those
+pub bytes_of_shares : (state : State) (those : List (List ℕ)) → map (λ (file : Share). file.bytes) (map (share state) those) ≡ those
 bytes_of_shares state [] = refl
 bytes_of_shares state (part ∷ those) = ap (λ rest. part ∷ rest) (bytes_of_shares state those)
 
+-- what files have once a text came in
+abbrev pub settled_list : Limit → List ℕ → List (List ℕ)
+settled_list limit x = (cut_up limit x).full ++ unless_empty (settled_rest limit (cut_up limit x).rest)
+
+pub settled_bytes : (limit : Limit) (x : List ℕ) → map (λ (file : Share). file.bytes) (settled_parts limit x) ≡ settled_list limit x
+settled_bytes limit x =
+    let full = (cut_up limit x).full in let rest = (cut_up limit x).rest in
+    map-append (λ (file : Share). file.bytes) (map (share Closed) full) (map (share Open) (unless_empty (settled_rest limit rest)))
+    ∙ ap (λ those. those ++ map (λ (file : Share). file.bytes) (map (share Open) (unless_empty (settled_rest limit rest)))) (bytes_of_shares Closed full)
+    ∙ ap (λ those. full ++ those) (bytes_of_shares Open (unless_empty (settled_rest limit rest)))
+
+pub list_all : (limit : Limit) (x : List ℕ) → joined (settled_list limit x) ++ waiting_rest limit (cut_up limit x).rest ≡ x
+list_all limit x =
+    let full = (cut_up limit x).full in let rest = (cut_up limit x).rest in
+    ap (λ bytes. bytes ++ waiting_rest limit rest) (joined-append full (unless_empty (settled_rest limit rest)) ∙ ap (λ bytes. joined full ++ bytes) (joined_one (settled_rest limit rest)))
+    ∙ append_assoc (joined full) (settled_rest limit rest) (waiting_rest limit rest) ∙ ap (λ bytes. joined full ++ bytes) (settled_then_waiting limit rest) ∙ cut_all limit x
+
 -- what is written and what waits are together what came in
 pub settled_all : (limit : Limit) (x : List ℕ) → joined (map (λ (file : Share). file.bytes) (settled_parts limit x)) ++ waiting_rest limit (cut_up limit x).rest ≡ x
-settled_all limit x =
-    let full = (cut_up limit x).full in let rest = (cut_up limit x).rest in
-    ap (λ those. joined those ++ waiting_rest limit rest)
-    (map-append (λ (file : Share). file.bytes) (map (share Closed) full) (map (share Open) (unless_empty (settled_rest limit rest)))
-    ∙ ap (λ those. those ++ map (λ (file : Share). file.bytes) (map (share Open) (unless_empty (settled_rest limit rest)))) (bytes_of_shares Closed full)
-    ∙ ap (λ those. full ++ those) (bytes_of_shares Open (unless_empty (settled_rest limit rest))))
-    ∙ ap (λ bytes. bytes ++ waiting_rest limit rest) (joined-append full (unless_empty (settled_rest limit rest)) ∙ ap (λ bytes. joined full ++ bytes) (joined_one (settled_rest limit rest)))
-    ∙ append_assoc (joined full) (settled_rest limit rest) (waiting_rest limit rest) ∙ ap (λ bytes. joined full ++ bytes) (settled_then_waiting limit rest) ∙ cut_all limit x
+settled_all limit x = ap (λ those. joined those ++ waiting_rest limit (cut_up limit x).rest) (settled_bytes limit x) ∙ list_all limit x

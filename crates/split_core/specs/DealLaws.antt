@@ -20,7 +20,7 @@ dealt_onto : (n file place byte : ℕ) (lines : List (List ℕ)) → dealt n fil
 dealt_onto n file place byte [] = refl
 dealt_onto n file place byte (line ∷ lines) = onto_step (eqb (place % n) file) byte line (dealt n file (place + 1) lines)
 
-dealt_first : (ends : Bool) (n file place byte : ℕ) (lines : List (List ℕ)) → dealt n file place (cond ends ((byte ∷ []) ∷ lines) (onto_first byte lines))
+pub dealt_first : (ends : Bool) (n file place byte : ℕ) (lines : List (List ℕ)) → dealt n file place (cond ends ((byte ∷ []) ∷ lines) (onto_first byte lines))
     ≡ cond (eqb (place % n) file) (byte ∷ dealt n file (cond ends (place + 1) place) lines) (dealt n file (cond ends (place + 1) place) lines)
 dealt_first true n file place byte lines = refl
 dealt_first false n file place byte lines = dealt_onto n file place byte lines
@@ -29,7 +29,7 @@ goes_on : (gets : Bool) (byte : ℕ) (these more : List ℕ) → cond gets (byte
 goes_on true byte these more = refl
 goes_on false byte these more = refl
 
-next_place : (ends : Bool) (place count : ℕ) → cond ends (place + 1) place + count ≡ place + cond ends (count + 1) count
+pub next_place : (ends : Bool) (place count : ℕ) → cond ends (place + 1) place + count ≡ place + cond ends (count + 1) count
 next_place true place count = omega arith
 next_place false place count = refl
 

@@ -20,3 +20,4 @@ pub mod Split
 pub mod Splitter
 pub mod Step
 pub mod Ways
+pub mod Place

@@ -148,7 +148,7 @@ pub parts_on : (limit : Limit) (x y : List ℕ) → parts limit (x ++ y) ≡ (cu
 parts_on limit x y = ap (λ cut. cut.full ++ unless_empty cut.rest) (cut_on limit x y) ∙ append_assoc (cut_up limit x).full _ _
 
 -- a text with a full part has that as its first
-cut_first : (limit : Limit) (x : List ℕ) → is_full limit x ≡ true → cut_up limit x ≡ cut_so (first_part limit x ∷ (cut_up limit (behind_first limit x)).full) (cut_up limit (behind_first limit x)).rest
+pub cut_first : (limit : Limit) (x : List ℕ) → is_full limit x ≡ true → cut_up limit x ≡ cut_so (first_part limit x ∷ (cut_up limit (behind_first limit x)).full) (cut_up limit (behind_first limit x)).rest
 cut_first limit x full = cut_once limit x _ _ (goes x _ _ full (cuts_up limit (behind_first limit x)))
 
 rest_begins_by : (limit : Limit) (rest y : List ℕ) (full : Bool) → is_full limit (rest ++ y) ≡ full → is_full limit rest ≡ false → SharesBegin (map (share Open) (unless_empty (settled_rest limit rest))) (settled_parts limit (rest ++ y))

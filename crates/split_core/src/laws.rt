@@ -1,12 +1,15 @@
 //! Laws of the definitions, with no code: each stands on the contract of a function whose body is empty.
 ghost use Rattle.std.specs.Prelude.{◌≡◌, ◌<◌, ◌≤◌, ◌+◌, ◌*◌, ◌++◌, ℕ, List, [], true, get_or, length, map, take, drop, All, false};
+ghost use Rattle.ports_core.specs.Agreed.{ArePlaced, IsAgreed, IsUndecided};
 ghost use Rattle.ports_core.specs.Guard.{GuardState, HoldsIn};
 ghost use Rattle.ports_core.specs.declared.slot.State.TheVariants.{Closed};
 ghost use Rattle.seg_core.specs.Line.{delimiters, joined, line_count, lines_of};
 ghost use Rattle.split_core.specs.declared.cut.Limit.TheVariants.{Bytes, LineBytes, Lines};
 ghost use Rattle.split_core.specs.Parts.{cut_up, dealt, most, parts, round_robin, settled_rest, waiting_rest};
+ghost use Rattle.split_core.specs.Place.{split_spots};
 ghost use Rattle.split_core.specs.Sections.{AreLineByteParts, byte_parts, line_parts};
-ghost use Rattle.split_core.specs.Split.{Share, dealt_files, settled_parts, share};
+ghost use Rattle.split_core.specs.Split.{Plan, Share, dealt_files, is_short, settled_parts, share, split_work, waiting};
+ghost use Rattle.split_core.specs.Splitter.{IsPositive};
 ghost use Rattle.split_core.specs.Ways.{Holds, work};
 ghost use Rattle.split_core.specs.declared.ways.Ways.{Ways};
 
@@ -58,6 +61,17 @@ pub fn lines_are_dealt()
     ensures files { (delim n : ℕ) (x : List ℕ) → length (round_robin delim n x) ≡ n }
     ensures goes_on { (delim n file place : ℕ) (x y : List ℕ) → dealt n file place (lines_of delim (x ++ y)) ≡ dealt n file place (lines_of delim x) ++ dealt n file (place + delimiters delim x) (lines_of delim y) }
     ensures elided { (delim n : ℕ) (x : List ℕ) → dealt_files delim true n x ≡ take (line_count delim x) (round_robin delim n x) }
+{}
+
+/// What is settled is what all continuations agree on, and the bytes that wait are those that two continuations put to
+/// different places, or one of them nowhere. So nothing is written that could still go into another file, and nothing
+/// is kept back that can't. This holds of all four ways to cut, of any byte that lines end with, and of both values of
+/// eliding; what it says of waiting, where the input so far needs no more files than there are names. Where a byte goes
+/// is said by spots, and each file has at each spot just the one byte that goes there.
+pub fn agreed_is_settled()
+    ensures outputs { (plan : Plan) → IsPositive plan.cut → (x : List ℕ) → IsAgreed (split_work plan) x ((split_work plan).settled x) }
+    ensures waits { (plan : Plan) → IsPositive plan.cut → (x : List ℕ) → is_short plan x ≡ false → IsUndecided (split_spots plan) x (waiting (split_work plan) x) }
+    ensures placed { (plan : Plan) → IsPositive plan.cut → ArePlaced (split_work plan) (split_spots plan) }
 {}
 
 /// An engine that has returned no fault has named all files that its input needs: names that ran out are always told.

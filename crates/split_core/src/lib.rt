@@ -25,6 +25,7 @@ mod ways;
 
 pub use cut::{Cut, Limit};
 pub use laws::{
-    all_files_have_names, line_byte_parts, lines_are_dealt, parts_are_runs, parts_go_on,
+    agreed_is_settled, all_files_have_names, line_byte_parts, lines_are_dealt, parts_are_runs,
+    parts_go_on,
 };
 pub use splitter::Splitter;

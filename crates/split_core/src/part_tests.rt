@@ -82,6 +82,25 @@ fn holds_an_open_line_behind_a_complete_one(rt: HostRuntime) -> Result<(), Fail>
 }
 
 #[test]
+fn what_follows_decides_where_an_open_line_goes(rt: HostRuntime) -> Result<(), Fail> {
+    let rows: [(&[u8], &[&[u8]]); 3] = [
+        (b"c", &[b"a\n", b"bc"]),
+        (b"\n", &[b"a\nb\n"]),
+        (b"", &[b"a\nb"]),
+    ];
+    for (piece, files) in rows {
+        let mut outs = MemOut::new(rt.alloc())?;
+        let mut splitter = open(rt.alloc(), Limit::LineBytes(4, b'\n'), &mut outs)?;
+        feed(&mut splitter, &mut outs, b"a\nb")?;
+        assert!(rt; has_files(&outs, &[b"a\n"]));
+        feed(&mut splitter, &mut outs, piece)?;
+        close(&mut splitter, &mut outs)?;
+        assert!(rt; has_files(&outs, files));
+    }
+    Ok(())
+}
+
+#[test]
 fn puts_out_what_held_at_the_end(rt: HostRuntime) -> Result<(), Fail> {
     let mut outs = MemOut::new(rt.alloc())?;
     let mut splitter = open(rt.alloc(), Limit::LineBytes(4, b'\n'), &mut outs)?;

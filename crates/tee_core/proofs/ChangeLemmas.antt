@@ -117,7 +117,7 @@ newly_in_two (o ∷ olds) (m ∷ mids) (n ∷ news) count_mid count_new first se
     let rest = newly_in_two olds mids news (omega (arith, count_mid)) (omega (arith, count_new)) (λ place broken. first (suc place) broken) (λ place broken. second (suc place) broken) in
     omega (arith, here, rest)
 
--- some outputs were changed, and so many of them broke
+-- some outputs were changed, and `broke` of them broke
 pub record Turns (Change : Slot → Slot → Type 0) (IsOne : ℕ → Type 0) (old new : List Slot) (broke : ℕ) : Type 0 where
   pub changes : ChangesEach Change IsOne old new
   pub broke_are : broke ≡ newly_broken old new

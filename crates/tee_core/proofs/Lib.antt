@@ -7,3 +7,4 @@ pub mod OpeningLemmas
 pub mod ReadLemmas
 pub mod StartLemmas
 pub mod TellLemmas
+pub mod AgreedLemmas

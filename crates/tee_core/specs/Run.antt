@@ -44,7 +44,7 @@ abbrev pub said_of_input : Option Fault → List (List ℕ)
 said_of_input None = []
 said_of_input (Some fault) = message_of Tee fault (codes "standard input") ∷ []
 
--- all messages of a run over so many pieces
+-- all messages of a run over `pieces` pieces
 abbrev pub messages_of : List (List ℕ) → List (Option ℕ) → ℕ → Option Fault → List (List ℕ)
 messages_of names broke pieces fault =
     said_before (suc pieces) (output_names names) broke ++ said_of_input fault ++ said_in (suc pieces) (output_names names) broke

@@ -21,7 +21,7 @@ struct Left<'a> {
     status: u8,
 }
 
-/// A standard input with these bytes, read by at most so many at once.
+/// A standard input with these bytes, read by pieces of at most `piece`.
 fn inputs_of(alloc: Global, bytes: &[u8], piece: usize) -> Result<MemIn, Fault>
     requires { 0 < piece }
     ensures { IfOk result (λ inputs. IsFresh inputs.sources) }
@@ -32,7 +32,7 @@ fn inputs_of(alloc: Global, bytes: &[u8], piece: usize) -> Result<MemIn, Fault>
     Ok(inputs)
 }
 
-/// Outputs of which these take so many bytes and no more.
+/// Outputs where each slot of these takes that number of bytes and no more.
 fn outs_of(alloc: Global, limits: &[(usize, usize)]) -> Result<MemOut, Fault>
     ensures { IfOk result (λ outs. outs ≡ streams) }
 {
@@ -65,7 +65,7 @@ fn check(
     assert_eq!(rt; status, left.status);
 }
 
-/// Runs `tee s t` where outputs take so many bytes, in one piece and in pieces of one byte.
+/// Runs `tee s t` where outputs are limited so, in one piece and in pieces of one byte.
 fn check_limits(
     rt: &impl Abort,
     alloc: Global,

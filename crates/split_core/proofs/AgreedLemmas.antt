@@ -1,0 +1,197 @@
+-- What all continuations agree on, of files.
+use Rattle.std.proofs.Common.{◌≡◌, ℕ, ◌+◌, ◌-◌, ◌<◌, zero, suc, List, [], ◌∷◌, ◌++◌, length, map, replicate, Bool, true, false, cond, inl, inr, refl, sym, ◌∙◌, ap, subst, arith, append_assoc, length-append}
+use Rattle.std.proofs.lemmas.Bool.{cases_lt, ne_eqb}
+use Rattle.std.proofs.lemmas.List.{append-nil, take_all, length-map, length-replicate}
+use Rattle.seg_core.specs.Line.{delimiters, first_lines}
+use Rattle.seg_core.proofs.Delimiters.{delimiters-append}
+use Rattle.seg_core.proofs.FirstLines.{first_lines-full}
+use Rattle.ports_core.specs.Name.{Naming}
+use Rattle.ports_core.specs.Part.{File}
+use Rattle.ports_core.specs.Agreed.{CanCome, IsAgreed, file_bytes, outputs_of}
+use Rattle.ports_core.specs.declared.slot.State.TheVariants.{Open, Closed}
+use Rattle.ports_core.proofs.AgreedLemmas.{none_comes, copies_come, other, other_differs, other_comes, agreed_by, agreed_now, common}
+use Rattle.split_core.specs.declared.cut.Cut.{Cut}
+use Rattle.split_core.specs.declared.cut.Cut.TheVariants as cut
+use Rattle.split_core.specs.declared.cut.Limit.{Limit}
+use Rattle.split_core.specs.declared.cut.Limit.TheVariants.{Lines, Bytes, LineBytes}
+use Rattle.split_core.specs.Parts.{whole_lines, most, behind_first, cut_up, unless_empty, parts, settled_rest}
+use Rattle.split_core.specs.Split.{Plan, Share, share, is_named, are_named, named, file_at, settled_parts, settled_by, whole_by, split_work, dealt_files}
+use Rattle.split_core.specs.Splitter.{IsPositive}
+use Rattle.split_core.specs.PartState.{parts_work}
+use Rattle.split_core.specs.Round.{round_plan, round_work}
+use Rattle.split_core.specs.CutLaws.{short_some, full_from, whole_of_lines, whole_of_none, whole_some, rest_short}
+use Rattle.split_core.specs.ShareLaws.{cut_first, parts_on, settled_count}
+use Rattle.split_core.specs.PartStateLaws as part_law
+use Rattle.split_core.specs.RoundLaws as round_law
+use Rattle.split_core.proofs.MoveLemmas.{named_before}
+use Rattle.split_core.proofs.SectionLemmas.{bytes_of_shares, settled_list, settled_bytes}
+
+-- The bytes of files that have names
+
+abbrev pub named_bytes : Naming → ℕ → List (List ℕ) → List (List ℕ)
+named_bytes names place [] = []
+named_bytes names place (one ∷ those) = cond (is_named names place) (one ∷ named_bytes names (place + 1) those) []
+
+file_step : (is : Bool) (file : File) (files : List File) (those : List (List ℕ)) → map (λ (file : File). file.bytes) files ≡ those → map (λ (file : File). file.bytes) (cond is (file ∷ files) []) ≡ cond is (file.bytes ∷ those) []
+file_step true file files those are = ap (λ rest. file.bytes ∷ rest) are
+file_step false file files those are = refl
+
+pub bytes_named : (names : Naming) (place : ℕ) (shares : List Share) → map (λ (file : File). file.bytes) (named names place shares) ≡ named_bytes names place (map (λ (file : Share). file.bytes) shares)
+bytes_named names place [] = refl
+bytes_named names place (one ∷ shares) = file_step (is_named names place) (file_at names place one) (named names (place + 1) shares) _ (bytes_named names (place + 1) shares)
+
+more_step : (is : Bool) (one : List ℕ) (all front : List (List ℕ)) → (more : List (List ℕ)) × (all ≡ front ++ more) → (more : List (List ℕ)) × (cond is (one ∷ all) [] ≡ cond is (one ∷ front) [] ++ more)
+more_step true one all front (more, are) = (more, ap (λ rest. one ∷ rest) are)
+more_step false one all front (more, are) = ([], refl)
+
+-- further parts make further files, or none
+pub named_more : (names : Naming) (place : ℕ) (front back : List (List ℕ)) → (more : List (List ℕ)) × (named_bytes names place (front ++ back) ≡ named_bytes names place front ++ more)
+named_more names place [] back = (named_bytes names place back, refl)
+named_more names place (one ∷ front) back = more_step (is_named names place) one _ _ (named_more names (place + 1) front back)
+
+count_step : (is : Bool) (one two : List ℕ) (these those : List (List ℕ)) → length these ≡ length those → length (cond is (one ∷ these) []) ≡ length (cond is (two ∷ those) [])
+count_step true one two these those same = ap suc same
+count_step false one two these those same = refl
+
+one_less : (n m : ℕ) → suc n ≡ suc m → n ≡ m
+one_less n m is = omega (arith, is)
+
+pub count_named : (names : Naming) (place : ℕ) (these those : List (List ℕ)) → length these ≡ length those → length (named_bytes names place these) ≡ length (named_bytes names place those)
+count_named names place [] [] same = refl
+count_named names place [] (two ∷ those) same = absurd (omega (arith, same))
+count_named names place (one ∷ these) [] same = absurd (omega (arith, same))
+count_named names place (one ∷ these) (two ∷ those) same = count_step (is_named names place) one two _ _ (count_named names (place + 1) these those (one_less _ _ same))
+
+named_each : (names : Naming) (place : ℕ) (one : List ℕ) (those : List (List ℕ)) → is_named names (place + length those) ≡ true → named_bytes names place (one ∷ those) ≡ one ∷ those
+named_each names place one [] is = ap (λ has. cond has (one ∷ []) []) (named_before names place (place + 0) is (omega arith))
+named_each names place one (two ∷ those) is =
+    ap (λ has. cond has (one ∷ named_bytes names (place + 1) (two ∷ those)) []) (named_before names place (place + suc (length those)) is (omega arith))
+    ∙ ap (λ rest. one ∷ rest) (named_each names (place + 1) two those (subst (λ n. is_named names n ≡ true) (moved place (length those)) is)) where
+      moved : (n m : ℕ) → n + suc m ≡ n + 1 + m
+      moved n m = omega arith
+
+-- where all have names, none is left out
+pub each_named : (names : Naming) (those : List (List ℕ)) → are_named names (length those) ≡ true → named_bytes names 0 those ≡ those
+each_named names [] are = refl
+each_named names (one ∷ those) are = named_each names 0 one those (subst (λ n. is_named names n ≡ true) (none (length those)) are) where
+  none : (n : ℕ) → n ≡ 0 + n
+  none n = omega arith
+
+-- Parts that follow one another
+
+pub whole_files : (limit : Limit) (names : Naming) (x : List ℕ) → file_bytes ((parts_work limit names).whole x) ≡ named_bytes names 0 (parts limit x)
+whole_files limit names x = bytes_named names 0 (map (share Closed) (parts limit x)) ∙ ap (named_bytes names 0) (bytes_of_shares Closed (parts limit x))
+
+pub settled_files : (limit : Limit) (names : Naming) (x : List ℕ) → file_bytes ((parts_work limit names).settled x) ≡ named_bytes names 0 (settled_list limit x)
+settled_files limit names x = bytes_named names 0 (settled_parts limit x) ∙ ap (named_bytes names 0) (settled_bytes limit x)
+
+pub list_count : (limit : Limit) (x : List ℕ) → length (settled_list limit x) ≡ length (parts limit x)
+list_count limit x = ap length (sym (settled_bytes limit x)) ∙ length-map (settled_parts limit x) (λ (file : Share). file.bytes) ∙ settled_count limit x
+
+-- a continuation of which what is settled are parts, and perhaps others follow
+pub record Decides (limit : Limit) (x : List ℕ) : Type 0 where
+  pub y : List ℕ
+  pub comes : CanCome y
+  pub more : List (List ℕ)
+  pub are : parts limit (x ++ y) ≡ settled_list limit x ++ more
+
+-- the end is one, where nothing waits
+decides_now : (limit : Limit) (x : List ℕ) → settled_rest limit (cut_up limit x).rest ≡ (cut_up limit x).rest → Decides limit x
+decides_now limit x same = record {
+  y = [];
+  comes = none_comes;
+  more = [];
+  are = ap (parts limit) (append-nil x) ∙ ap (λ those. (cut_up limit x).full ++ unless_empty those) (sym same) ∙ sym (append-nil (settled_list limit x));
+}
+
+none_among : (delim k : ℕ) → delimiters delim (replicate k (other delim)) ≡ 0
+none_among delim zero = refl
+none_among delim (suc k) =
+    ap (λ is. cond is (delimiters delim (replicate k (other delim)) + 1) (delimiters delim (replicate k (other delim)))) (ne_eqb (other delim) delim (λ is. other_differs delim (sym is))) ∙ none_among delim k
+
+-- as many further bytes as a part lacks, none of which is a delimiter
+abbrev pub filling : (delim n : ℕ) → List ℕ → List ℕ
+filling delim n rest = replicate (n - length rest) (other delim)
+
+whole_same : (delim : ℕ) (rest y : List ℕ) → 0 < delimiters delim rest → delimiters delim y ≡ 0 → whole_lines delim (rest ++ y) ≡ whole_lines delim rest
+whole_same delim rest y some none =
+    let count : delimiters delim (rest ++ y) ≡ delimiters delim rest = (let sum = delimiters-append delim rest y in omega (arith, sum, none)) in
+    whole_of_lines delim (rest ++ y) (omega (arith, count, some)) ∙ ap (λ n. first_lines delim n (rest ++ y)) count
+    ∙ first_lines-full delim (delimiters delim rest) rest y (omega arith) ∙ sym (whole_of_lines delim rest some)
+
+-- a part that is full without a further line ends with its last one
+line_ends : (delim n : ℕ) (rest : List ℕ) → 0 < n → length rest < n → 0 < delimiters delim rest → parts (LineBytes n delim) (rest ++ filling delim n rest) ≡ whole_lines delim rest ∷ parts (LineBytes n delim) (behind_first (LineBytes n delim) (rest ++ filling delim n rest))
+line_ends delim n rest some short lines =
+    let size : length (rest ++ filling delim n rest) ≡ n = (let sum = length-append rest (filling delim n rest) in let all = length-replicate (n - length rest) (other delim) in omega (arith, sum, all, short)) in
+    ap (λ cut. cut.full ++ unless_empty cut.rest) (cut_first (LineBytes n delim) (rest ++ filling delim n rest) (full_from (LineBytes n delim) (rest ++ filling delim n rest) some (omega (arith, size))))
+    ∙ ap (λ part. part ∷ parts (LineBytes n delim) (behind_first (LineBytes n delim) (rest ++ filling delim n rest)))
+    (ap (whole_lines delim) (take_all n (rest ++ filling delim n rest) (omega (arith, size))) ∙ whole_same delim rest (filling delim n rest) lines (none_among delim (n - length rest)))
+
+pub one_of : (bytes : List ℕ) → 0 < length bytes → unless_empty bytes ≡ bytes ∷ []
+one_of [] some = absurd (omega (arith, some))
+one_of (byte ∷ bytes) some = refl
+
+pub delimiters_some : (delim : ℕ) (x : List ℕ) → 0 < delimiters delim x → 0 < length x
+delimiters_some delim [] some = absurd (omega (arith, some))
+delimiters_some delim (byte ∷ x) some = omega arith
+
+pub decides_lines : (delim n : ℕ) (x : List ℕ) → 0 < n → 0 < delimiters delim (cut_up (LineBytes n delim) x).rest → Decides (LineBytes n delim) x
+decides_lines delim n x some lines =
+    let full = (cut_up (LineBytes n delim) x).full in let rest = (cut_up (LineBytes n delim) x).rest in
+    let next = parts (LineBytes n delim) (behind_first (LineBytes n delim) (rest ++ filling delim n rest)) in record {
+      y = filling delim n rest;
+      comes = copies_come (n - length rest) (other delim) (other_comes delim);
+      more = next;
+      are = parts_on (LineBytes n delim) x (filling delim n rest)
+          ∙ ap (λ those. full ++ those) (line_ends delim n rest some (short_some (LineBytes n delim) rest (rest_short (LineBytes n delim) x) some) lines)
+          ∙ sym (append_assoc full (whole_lines delim rest ∷ []) next)
+          ∙ ap (λ those. (full ++ those) ++ next) (sym (one_of (whole_lines delim rest) (whole_some delim rest (delimiters_some delim rest lines))));
+    }
+
+decides : (limit : Limit) → 0 < most limit → (x : List ℕ) → Decides limit x
+decides (Lines n delim) some x = decides_now (Lines n delim) x refl
+decides (Bytes n) some x = decides_now (Bytes n) x refl
+decides (LineBytes n delim) some x = elim (cases_lt 0 (delimiters delim (cut_up (LineBytes n delim) x).rest)) [
+  | inl lines ↦ decides_lines delim n x some lines
+  | inr none ↦ decides_now (LineBytes n delim) x (whole_of_none delim (cut_up (LineBytes n delim) x).rest (omega (arith, none)))
+]
+
+parts_agreed_by : (limit : Limit) (names : Naming) (x : List ℕ) → Decides limit x → IsAgreed (parts_work limit names) x ((parts_work limit names).settled x)
+parts_agreed_by limit names x decides =
+    let further = named_more names 0 (settled_list limit x) decides.more in
+    agreed_by (parts_work limit names) x [] decides.y further.0 (common (parts_work limit names) (part_law.lawful limit names) x) none_comes decides.comes count
+    (ap (λ files. [] ∷ files) (whole_files limit names (x ++ decides.y) ∙ ap (named_bytes names 0) decides.are ∙ further.1 ∙ ap (λ files. files ++ further.0) (sym (settled_files limit names x)))) where
+      count : length (outputs_of ((parts_work limit names).whole (x ++ []))) ≡ length (outputs_of ((parts_work limit names).settled x))
+      count = ap suc
+          (ap length (whole_files limit names (x ++ []))
+          ∙ count_named names 0 (parts limit (x ++ [])) (settled_list limit x) (ap (λ all. length (parts limit all)) (append-nil x) ∙ sym (list_count limit x))
+          ∙ ap length (sym (settled_files limit names x)))
+
+pub parts_agreed : (limit : Limit) (names : Naming) → 0 < most limit → (x : List ℕ) → IsAgreed (parts_work limit names) x ((parts_work limit names).settled x)
+parts_agreed limit names some x = parts_agreed_by limit names x (decides limit some x)
+
+-- Lines that are dealt
+
+pub dealt_settled : (delim n : ℕ) (elide : Bool) (names : Naming) (x : List ℕ) → file_bytes (settled_by (round_plan delim n elide names) x) ≡ named_bytes names 0 (dealt_files delim elide n x)
+dealt_settled delim n elide names x = bytes_named names 0 (map (share Open) (dealt_files delim elide n x)) ∙ ap (named_bytes names 0) (bytes_of_shares Open (dealt_files delim elide n x))
+
+pub dealt_whole : (delim n : ℕ) (elide : Bool) (names : Naming) (x : List ℕ) → file_bytes (whole_by (round_plan delim n elide names) x) ≡ named_bytes names 0 (dealt_files delim elide n x)
+dealt_whole delim n elide names x = bytes_named names 0 (map (share Closed) (dealt_files delim elide n x)) ∙ ap (named_bytes names 0) (bytes_of_shares Closed (dealt_files delim elide n x))
+
+round_agreed : (delim n : ℕ) (elide : Bool) (names : Naming) (x : List ℕ) → IsAgreed (split_work (round_plan delim n elide names)) x (settled_by (round_plan delim n elide names) x)
+round_agreed delim n elide names x = agreed_now (split_work (round_plan delim n elide names)) x (common (round_work (round_plan delim n elide names)) (round_law.lawful delim n elide names) x)
+    (ap (λ files. [] ∷ files) (dealt_whole delim n elide names x ∙ sym (dealt_settled delim n elide names x)))
+
+-- All ways to cut
+
+abbrev pub plan_by : ℕ → Cut → Bool → Naming → Plan
+plan_by delim cut elide names = record { delim = delim; cut = cut; elide = elide; names = names }
+
+agreed_at : (delim : ℕ) (cut : Cut) (elide : Bool) (names : Naming) → IsPositive cut → (x : List ℕ) → IsAgreed (split_work (plan_by delim cut elide names)) x ((split_work (plan_by delim cut elide names)).settled x)
+agreed_at delim (cut.Lines n) elide names some x = parts_agreed (Lines n delim) names some x
+agreed_at delim (cut.Bytes n) elide names some x = parts_agreed (Bytes n) names some x
+agreed_at delim (cut.LineBytes n) elide names some x = parts_agreed (LineBytes n delim) names some x
+agreed_at delim (cut.Round n) elide names some x = round_agreed delim n elide names x
+
+pub split_agreed : (plan : Plan) → IsPositive plan.cut → (x : List ℕ) → IsAgreed (split_work plan) x ((split_work plan).settled x)
+split_agreed plan some x = agreed_at plan.delim plan.cut plan.elide plan.names some x

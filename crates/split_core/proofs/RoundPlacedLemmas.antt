@@ -1,0 +1,259 @@
+-- The spots of split's files are right, where lines are dealt.
+use Rattle.std.proofs.Common.{◌≡◌, ℕ, ◌+◌, ◌%◌, ◌<◌, ◌≤◌, ◌&&◌, nat_lt, zero, suc, List, [], ◌∷◌, ◌++◌, length, map, take, drop, get_or, Bool, true, false, cond, eqb, inl, inr, refl, sym, ◌∙◌, ap, subst, arith, length-append}
+use Rattle.std.specs.List.{range_with_len}
+use Rattle.std.proofs.Math.Nat.{mod-lt}
+use Rattle.std.proofs.Math.Seq.{drop-cons, get_or-append_seam}
+use Rattle.std.proofs.lemmas.Bool.{cases_lt, lt-ltb, ltb-true, eq-eqb, eqb-true}
+use Rattle.std.proofs.lemmas.List.{take-append-drop, get_or_past, length-take-le}
+use Rattle.std.proofs.lemmas.List.FromFn.{get_or-map-range_with_len, length-map-range_with_len}
+use Rattle.seg_core.specs.Line.{delimiters, lines_of}
+use Rattle.ports_core.specs.Name.{Naming}
+use Rattle.ports_core.specs.Agreed.{Spot, spot, GoesTo, file_bytes, ArePlaced}
+use Rattle.split_core.specs.declared.cut.Cut.{Cut}
+use Rattle.split_core.specs.declared.cut.Cut.TheVariants as cut
+use Rattle.split_core.specs.declared.cut.Limit.TheVariants.{Lines, Bytes, LineBytes}
+use Rattle.split_core.specs.Parts.{dealt}
+use Rattle.split_core.specs.Split.{Plan, is_named, whole_by, split_work, dealt_files}
+use Rattle.split_core.specs.Place.{dealt_to, dealt_spots, split_spots}
+use Rattle.split_core.specs.Round.{round_plan, opened_by}
+use Rattle.split_core.specs.ShareLaws.{take_less}
+use Rattle.split_core.specs.Splitter.{IsPositive}
+use Rattle.split_core.specs.DealLaws.{share_of, share_none, dealt_append, dealt_first, next_place, dealt_files_are, opened_by-most}
+use Rattle.split_core.proofs.MoveLemmas.{named_before}
+use Rattle.split_core.proofs.AgreedLemmas.{named_bytes, dealt_whole, plan_by}
+use Rattle.split_core.proofs.PlacedLemmas.{only_spot, parts_placed}
+
+-- What a file has, byte by byte
+
+-- how many bytes a file has of those before byte i
+abbrev had : ℕ → ℕ → ℕ → List ℕ → ℕ → ℕ
+had delim n file x i = length (dealt n file 0 (lines_of delim (take i x)))
+
+-- byte i follows what its file has of those before it
+pub record Follows (delim n : ℕ) (x : List ℕ) (i : ℕ) : Type 0 where
+  pub rest : List ℕ
+  pub is : share_of delim n x (dealt_to delim n x i) ≡ dealt n (dealt_to delim n x i) 0 (lines_of delim (take i x)) ++ get_or x i 0 ∷ rest
+
+follows : (delim n : ℕ) (x : List ℕ) (i : ℕ) → i < length x → Follows delim n x i
+follows delim n x i less =
+    let file = dealt_to delim n x i in
+    let byte = get_or x i 0 in
+    let place = 0 + delimiters delim (take i x) in
+    let after = dealt n file (cond (eqb byte delim) (place + 1) place) (lines_of delim (drop (suc i) x)) in record {
+      rest = after;
+      is = ap (λ those. dealt n file 0 (lines_of delim those)) (sym (take-append-drop i x))
+          ∙ dealt_append delim n file 0 (take i x) (drop i x)
+          ∙ ap (λ those. dealt n file 0 (lines_of delim (take i x)) ++ dealt n file place (lines_of delim those)) (drop-cons x i 0 less)
+          ∙ ap (λ those. dealt n file 0 (lines_of delim (take i x)) ++ those) (dealt_first (eqb byte delim) n file place byte (lines_of delim (drop (suc i) x)))
+          ∙ ap (λ is. dealt n file 0 (lines_of delim (take i x)) ++ cond is (byte ∷ after) after) (eq-eqb (place % n) file (ap (λ k. k % n) (let e : 0 + delimiters delim (take i x) ≡ delimiters delim (take i x) = omega arith in e)));
+    }
+
+had_less : (delim n : ℕ) (x : List ℕ) (i : ℕ) → i < length x → had delim n (dealt_to delim n x i) x i < length (share_of delim n x (dealt_to delim n x i))
+had_less delim n x i less =
+    let next = follows delim n x i less in
+    let long : length (share_of delim n x (dealt_to delim n x i)) ≡ had delim n (dealt_to delim n x i) x i + length (get_or x i 0 ∷ next.rest) = ap length next.is ∙ length-append (dealt n (dealt_to delim n x i) 0 (lines_of delim (take i x))) (get_or x i 0 ∷ next.rest) in
+    omega (arith, long)
+
+had_byte : (delim n : ℕ) (x : List ℕ) (i : ℕ) → i < length x → get_or (share_of delim n x (dealt_to delim n x i)) (had delim n (dealt_to delim n x i) x i) 0 ≡ get_or x i 0
+had_byte delim n x i less =
+    let next = follows delim n x i less in
+    ap (λ those. get_or those (had delim n (dealt_to delim n x i) x i) 0) next.is ∙ get_or-append_seam (dealt n (dealt_to delim n x i) 0 (lines_of delim (take i x))) (get_or x i 0) next.rest 0
+
+-- of two bytes of a file the later one stands later in it
+had_grows : (delim n : ℕ) (x : List ℕ) (i j : ℕ) → i < j → j < length x → dealt_to delim n x i ≡ dealt_to delim n x j → had delim n (dealt_to delim n x i) x i < had delim n (dealt_to delim n x j) x j
+had_grows delim n x i j less within same =
+    let front : take i (take j x) ≡ take i x = take_less i j x (omega (arith, less)) in
+    let file : dealt_to delim n (take j x) i ≡ dealt_to delim n x i = ap (λ those. delimiters delim those % n) front in
+    let grown : had delim n (dealt_to delim n (take j x) i) (take j x) i < length (share_of delim n (take j x) (dealt_to delim n (take j x) i))
+    = had_less delim n (take j x) i (let all : length (take j x) ≡ j = length-take-le j x (omega (arith, within)) in omega (arith, less, all)) in
+    let low : had delim n (dealt_to delim n (take j x) i) (take j x) i ≡ had delim n (dealt_to delim n x i) x i
+    = ap (λ k. had delim n k (take j x) i) file ∙ ap (λ those. length (dealt n (dealt_to delim n x i) 0 (lines_of delim those))) front in
+    let high : length (share_of delim n (take j x) (dealt_to delim n (take j x) i)) ≡ had delim n (dealt_to delim n x j) x j = ap (λ k. length (share_of delim n (take j x) k)) (file ∙ same) in
+    omega (arith, grown, low, high)
+
+-- for each place in a file a byte is found that goes there
+
+pub record Found (delim n file place : ℕ) (x : List ℕ) (k : ℕ) : Type 0 where
+  pub i : ℕ
+  pub within : i < length x
+  pub goes : (place + delimiters delim (take i x)) % n ≡ file
+  pub at : length (dealt n file place (lines_of delim (take i x))) ≡ k
+
+found_now : (delim n file place byte : ℕ) (x : List ℕ) → eqb (place % n) file ≡ true → Found delim n file place (byte ∷ x) 0
+found_now delim n file place byte x is = record {
+  i = 0;
+  within = omega arith;
+  goes = ap (λ k. k % n) (let e : place + 0 ≡ place = omega arith in e) ∙ eqb-true (place % n) file is;
+  at = refl;
+}
+
+found_after : (delim n file place byte k : ℕ) (x : List ℕ) (gets : Bool) → eqb (place % n) file ≡ gets → Found delim n file (cond (eqb byte delim) (place + 1) place) x k → Found delim n file place (byte ∷ x) (cond gets (suc k) k)
+found_after delim n file place byte k x gets is found = record {
+  i = suc found.i;
+  within = (let less = found.within in omega (arith, less));
+  goes = ap (λ those. those % n) (sym (next_place (eqb byte delim) place (delimiters delim (take found.i x)))) ∙ found.goes;
+  at = ap length (dealt_first (eqb byte delim) n file place byte (lines_of delim (take found.i x)))
+      ∙ ap (λ those. length (cond those (byte ∷ dealt n file (cond (eqb byte delim) (place + 1) place) (lines_of delim (take found.i x))) (dealt n file (cond (eqb byte delim) (place + 1) place) (lines_of delim (take found.i x))))) is
+      ∙ counted gets;
+} where
+  counted : (gets : Bool) → length (cond gets (byte ∷ dealt n file (cond (eqb byte delim) (place + 1) place) (lines_of delim (take found.i x))) (dealt n file (cond (eqb byte delim) (place + 1) place) (lines_of delim (take found.i x)))) ≡ cond gets (suc k) k
+  counted true = ap suc found.at
+  counted false = found.at
+
+found_by : (delim n file place byte k : ℕ) (x : List ℕ) (gets : Bool) → eqb (place % n) file ≡ gets
+    → ((k : ℕ) → k < length (dealt n file (cond (eqb byte delim) (place + 1) place) (lines_of delim x)) → Found delim n file (cond (eqb byte delim) (place + 1) place) x k)
+    → k < length (cond gets (byte ∷ dealt n file (cond (eqb byte delim) (place + 1) place) (lines_of delim x)) (dealt n file (cond (eqb byte delim) (place + 1) place) (lines_of delim x)))
+    → Found delim n file place (byte ∷ x) k
+found_by delim n file place byte zero x true is later less = found_now delim n file place byte x is
+found_by delim n file place byte (suc k) x true is later less = found_after delim n file place byte k x true is (later k (omega (arith, less)))
+found_by delim n file place byte k x false is later less = found_after delim n file place byte k x false is (later k less)
+
+find : (delim n file place : ℕ) (x : List ℕ) (k : ℕ) → k < length (dealt n file place (lines_of delim x)) → Found delim n file place x k
+find delim n file place [] k less = absurd (omega (arith, less))
+find delim n file place (byte ∷ x) k less =
+    found_by delim n file place byte k x (eqb (place % n) file) refl (λ m within. find delim n file (cond (eqb byte delim) (place + 1) place) x m within)
+    (subst (λ those. k < length those) (dealt_first (eqb byte delim) n file place byte (lines_of delim x)) less)
+
+-- The files
+
+all_of : (count : ℕ) (f : ℕ → List ℕ) (file : ℕ) → file < count → get_or (map f (range_with_len 0 count)) file [] ≡ f file
+all_of count f file within = get_or-map-range_with_len f 0 count file file [] within (let e : 0 + file ≡ file = omega arith in e)
+
+opened_share : (delim : ℕ) (elide : Bool) (n : ℕ) (x : List ℕ) (file : ℕ) → opened_by delim elide n x ≤ file → file < n → share_of delim n x file ≡ []
+opened_share delim true n x file past within = share_none delim n x file (omega (arith, past, within)) within
+opened_share delim false n x file past within = absurd (omega (arith, past, within))
+
+file_is : (delim : ℕ) (elide : Bool) (n : ℕ) (x : List ℕ) (file : ℕ) → file < n → get_or (dealt_files delim elide n x) file [] ≡ share_of delim n x file
+file_is delim elide n x file within = ap (λ files. get_or files file []) (dealt_files_are delim elide n x) ∙ elim (cases_lt file (opened_by delim elide n x)) [
+  | inl less ↦ all_of (opened_by delim elide n x) (share_of delim n x) file less
+  | inr past ↦ get_or_past (map (share_of delim n x) (range_with_len 0 (opened_by delim elide n x))) file [] (let count = length-map-range_with_len (share_of delim n x) 0 (opened_by delim elide n x) in omega (arith, past, count))
+      ∙ sym (opened_share delim elide n x file past within)
+]
+
+named_at : (names : Naming) (place : ℕ) (those : List (List ℕ)) (k : ℕ) → is_named names (place + k) ≡ true → get_or (named_bytes names place those) k [] ≡ get_or those k []
+named_at names place [] k is = refl
+named_at names place (one ∷ those) zero is = ap (λ has. get_or (cond has (one ∷ named_bytes names (place + 1) those) []) 0 []) (named_before names place (place + 0) is (omega arith))
+named_at names place (one ∷ those) (suc k) is =
+    ap (λ has. get_or (cond has (one ∷ named_bytes names (place + 1) those) []) (suc k) []) (named_before names place (place + suc k) is (omega arith))
+    ∙ named_at names (place + 1) those k (subst (λ m. is_named names m ≡ true) (let e : place + suc k ≡ place + 1 + k = omega arith in e) is)
+
+-- a file that has a byte has a name, and is one of n
+has_by : (names : Naming) (place : ℕ) (one : List ℕ) (rest : List (List ℕ)) (k offset : ℕ) (has : Bool) → is_named names place ≡ has → offset < length (get_or (cond has (one ∷ rest) []) (suc k) []) → offset < length (get_or rest k [])
+has_by names place one rest k offset true is less = less
+has_by names place one rest k offset false is less = absurd (omega (arith, less))
+
+first_has : (names : Naming) (place : ℕ) (one : List ℕ) (rest : List (List ℕ)) (offset : ℕ) (has : Bool) → is_named names place ≡ has → offset < length (get_or (cond has (one ∷ rest) []) 0 []) → is_named names place ≡ true
+first_has names place one rest offset true is less = is
+first_has names place one rest offset false is less = absurd (omega (arith, less))
+
+has_name_there : (names : Naming) (place : ℕ) (those : List (List ℕ)) (k offset : ℕ) → offset < length (get_or (named_bytes names place those) k []) → is_named names (place + k) ≡ true
+has_name_there names place [] k offset less = absurd (omega (arith, less))
+has_name_there names place (one ∷ those) zero offset less =
+    subst (λ m. is_named names m ≡ true) (let e : place ≡ place + 0 = omega arith in e) (first_has names place one (named_bytes names (place + 1) those) offset (is_named names place) refl less)
+has_name_there names place (one ∷ those) (suc k) offset less =
+    subst (λ m. is_named names m ≡ true) (let e : place + 1 + k ≡ place + suc k = omega arith in e)
+    (has_name_there names (place + 1) those k offset (has_by names place one (named_bytes names (place + 1) those) k offset (is_named names place) refl less))
+
+within_n : (delim : ℕ) (elide : Bool) (n : ℕ) (x : List ℕ) (file offset : ℕ) → offset < length (get_or (dealt_files delim elide n x) file []) → file < n
+within_n delim elide n x file offset less = elim (cases_lt file n) [
+  | inl within ↦ within
+  | inr past ↦
+      (let none : get_or (dealt_files delim elide n x) file [] ≡ [] = get_or_past (dealt_files delim elide n x) file []
+      (let count : length (dealt_files delim elide n x) ≡ opened_by delim elide n x = ap length (dealt_files_are delim elide n x) ∙ length-map-range_with_len (share_of delim n x) 0 (opened_by delim elide n x) in
+      let most = opened_by-most delim elide n x in omega (arith, past, count, most)) in
+      let size : length (get_or (dealt_files delim elide n x) file []) ≡ 0 = ap length none in absurd (omega (arith, less, size)))
+]
+
+-- Spots
+
+pub record Goes (delim n : ℕ) (names : Naming) (x : List ℕ) (i : ℕ) (at : Spot) : Type 0 where
+  pub within : i < length x
+  pub named : is_named names (dealt_to delim n x i) ≡ true
+  pub is : at ≡ spot (dealt_to delim n x i + 1) (had delim n (dealt_to delim n x i) x i)
+
+goes_by : (delim n : ℕ) (names : Naming) (x : List ℕ) (i : ℕ) (at : Spot) (less has : Bool) → nat_lt i (length x) ≡ less → is_named names (dealt_to delim n x i) ≡ has
+    → GoesTo at (cond (less && has) (spot (dealt_to delim n x i + 1) (had delim n (dealt_to delim n x i) x i) ∷ []) []) → Goes delim n names x i at
+goes_by delim n names x i at true true less has goes = record { within = ltb-true i (length x) less; named = has; is = only_spot at _ goes }
+goes_by delim n names x i at true false less has goes = absurd goes
+goes_by delim n names x i at false has less is goes = absurd goes
+
+dealt_goes : (delim n : ℕ) (names : Naming) (x : List ℕ) (i : ℕ) (at : Spot) → GoesTo at (dealt_spots delim n names x i) → Goes delim n names x i at
+dealt_goes delim n names x i at goes = goes_by delim n names x i at (nat_lt i (length x)) (is_named names (dealt_to delim n x i)) refl refl goes
+
+abbrev files_of : ℕ → ℕ → Bool → Naming → List ℕ → List (List ℕ)
+files_of delim n elide names x = file_bytes (whole_by (round_plan delim n elide names) x)
+
+file_there : (delim n : ℕ) (elide : Bool) (names : Naming) (x : List ℕ) (file : ℕ) → file < n → is_named names file ≡ true → get_or ([] ∷ files_of delim n elide names x) (file + 1) [] ≡ share_of delim n x file
+file_there delim n elide names x file within named =
+    ap (λ k. get_or ([] ∷ files_of delim n elide names x) k []) (let e : file + 1 ≡ suc file = omega arith in e)
+    ∙ ap (λ files. get_or files file []) (dealt_whole delim n elide names x)
+    ∙ named_at names 0 (dealt_files delim elide n x) file (subst (λ m. is_named names m ≡ true) (let e : file ≡ 0 + file = omega arith in e) named)
+    ∙ file_is delim elide n x file within
+
+abbrev StandsThere : List (List ℕ) → Spot → ℕ → Type 0
+StandsThere outputs at byte = (at.offset < length (get_or outputs at.place [])) × (get_or (get_or outputs at.place []) at.offset 0 ≡ byte)
+
+dealt_stands : (delim n : ℕ) (elide : Bool) (names : Naming) → 0 < n → (x : List ℕ) (i : ℕ) (at : Spot) → GoesTo at (dealt_spots delim n names x i) → StandsThere ([] ∷ files_of delim n elide names x) at (get_or x i 0)
+dealt_stands delim n elide names some x i at goes =
+    let one = dealt_goes delim n names x i at goes in
+    let there = file_there delim n elide names x (dealt_to delim n x i) (mod-lt (delimiters delim (take i x)) some) one.named in
+    subst (λ those. StandsThere ([] ∷ files_of delim n elide names x) those (get_or x i 0)) (sym one.is)
+    (subst (λ those. had delim n (dealt_to delim n x i) x i < length those) (sym there) (had_less delim n x i one.within), ap (λ those. get_or those (had delim n (dealt_to delim n x i) x i) 0) there ∙ had_byte delim n x i one.within)
+
+goes_there : (delim n : ℕ) (names : Naming) (x : List ℕ) (i file offset : ℕ) → i < length x → dealt_to delim n x i ≡ file → had delim n file x i ≡ offset → is_named names file ≡ true → GoesTo (spot (suc file) offset) (dealt_spots delim n names x i)
+goes_there delim n names x i file offset less to at named =
+    let has : is_named names (dealt_to delim n x i) ≡ true = ap (is_named names) to ∙ named in
+    subst (GoesTo (spot (suc file) offset))
+    (sym (ap (λ within. cond (within && is_named names (dealt_to delim n x i)) (spot (dealt_to delim n x i + 1) (had delim n (dealt_to delim n x i) x i) ∷ []) []) (lt-ltb i (length x) less)
+    ∙ ap (λ is. cond is (spot (dealt_to delim n x i + 1) (had delim n (dealt_to delim n x i) x i) ∷ []) []) has))
+    (inl (ap (λ k. spot k offset) (let e : suc file ≡ dealt_to delim n x i + 1 = omega (arith, to) in e) ∙ ap (spot (dealt_to delim n x i + 1)) (sym at ∙ ap (λ k. had delim n k x i) (sym to))))
+
+dealt_filled : (delim n : ℕ) (elide : Bool) (names : Naming) (x : List ℕ) (place offset : ℕ) → offset < length (get_or ([] ∷ files_of delim n elide names x) place []) → (i : ℕ) × (i < length x) × GoesTo (spot place offset) (dealt_spots delim n names x i)
+dealt_filled delim n elide names x zero offset less = absurd (omega (arith, less))
+dealt_filled delim n elide names x (suc file) offset less =
+    let in_files : offset < length (get_or (named_bytes names 0 (dealt_files delim elide n x)) file []) = subst (λ files. offset < length (get_or files file [])) (dealt_whole delim n elide names x) less in
+    let named_it = has_name_there names 0 (dealt_files delim elide n x) file offset in_files in
+    let in_dealt : offset < length (get_or (dealt_files delim elide n x) file []) = subst (λ those. offset < length those) (named_at names 0 (dealt_files delim elide n x) file named_it) in_files in
+    let within = within_n delim elide n x file offset in_dealt in
+    let found = find delim n file 0 x offset (subst (λ those. offset < length those) (file_is delim elide n x file within) in_dealt) in (
+      found.i,
+      found.within,
+      goes_there delim n names x found.i file offset found.within
+          (ap (λ k. k % n) (let e : delimiters delim (take found.i x) ≡ 0 + delimiters delim (take found.i x) = omega arith in e) ∙ found.goes) found.at
+          (subst (λ m. is_named names m ≡ true) (let e : 0 + file ≡ file = omega arith in e) named_it),
+    )
+
+not_before : (delim n : ℕ) (names : Naming) (x : List ℕ) (i j : ℕ) (at : Spot) → Goes delim n names x i at → Goes delim n names x j at → i < j → ⊥
+not_before delim n names x i j at one two less =
+    let same : dealt_to delim n x i ≡ dealt_to delim n x j = (let e : dealt_to delim n x i + 1 ≡ dealt_to delim n x j + 1 = ap (λ those. those.place) (sym one.is ∙ two.is) in omega (arith, e)) in
+    let level : had delim n (dealt_to delim n x i) x i ≡ had delim n (dealt_to delim n x j) x j = ap (λ those. those.offset) (sym one.is ∙ two.is) in
+    let grows = had_grows delim n x i j less two.within same in omega (arith, level, grows)
+
+dealt_apart : (delim n : ℕ) (names : Naming) (x : List ℕ) (i j : ℕ) (at : Spot) → GoesTo at (dealt_spots delim n names x i) → GoesTo at (dealt_spots delim n names x j) → i ≡ j
+dealt_apart delim n names x i j at goes also =
+    let one = dealt_goes delim n names x i at goes in let two = dealt_goes delim n names x j at also in
+    elim (cases_lt i j) [
+      | inl less ↦ absurd (not_before delim n names x i j at one two less)
+      | inr past ↦ elim (cases_lt j i) [
+        | inl less ↦ absurd (not_before delim n names x j i at two one less)
+        | inr behind ↦ (let e : i ≡ j = omega (arith, past, behind) in e)
+      ]
+    ]
+
+pub round_placed : (delim n : ℕ) (elide : Bool) (names : Naming) → 0 < n → ArePlaced (split_work (round_plan delim n elide names)) (dealt_spots delim n names)
+round_placed delim n elide names some = record {
+  stands = λ x i at less goes. dealt_stands delim n elide names some x i at goes;
+  filled = λ x at less. dealt_filled delim n elide names x at.place at.offset less;
+  apart = λ x i j at goes also. dealt_apart delim n names x i j at goes also;
+}
+
+-- All ways to cut
+
+placed_at : (delim : ℕ) (cut : Cut) (elide : Bool) (names : Naming) → IsPositive cut → ArePlaced (split_work (plan_by delim cut elide names)) (split_spots (plan_by delim cut elide names))
+placed_at delim (cut.Lines n) elide names some = parts_placed (Lines n delim) names
+placed_at delim (cut.Bytes n) elide names some = parts_placed (Bytes n) names
+placed_at delim (cut.LineBytes n) elide names some = parts_placed (LineBytes n delim) names
+placed_at delim (cut.Round n) elide names some = round_placed delim n elide names some
+
+pub split_placed : (plan : Plan) → IsPositive plan.cut → ArePlaced (split_work plan) (split_spots plan)
+split_placed plan some = placed_at plan.delim plan.cut plan.elide plan.names some

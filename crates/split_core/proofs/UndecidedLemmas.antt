@@ -1,0 +1,228 @@
+-- Which bytes continuations put into different files.
+use Rattle.std.proofs.Common.{◌≡◌, ◌≢◌, ◌⊎◌, ℕ, ◌+◌, ◌-◌, ◌%◌, ◌<◌, ◌≤◌, ◌&&◌, nat_lt, suc, List, [], ◌∷◌, ◌++◌, length, map, take, drop, Bool, true, false, not, cond, inl, inr, refl, sym, ◌∙◌, ap, arith, length-append}
+use Rattle.std.specs.List.{filter}
+use Rattle.std.proofs.Math.Seq.{drop-append_seam}
+use Rattle.std.proofs.lemmas.Bool.{cases_lt, false≢true, lt-ltb}
+use Rattle.std.proofs.lemmas.List.{append-nil, length-map, drop_all, take-append-le}
+use Rattle.seg_core.specs.Line.{joined, delimiters, lines_of}
+use Rattle.seg_core.proofs.FirstLines.{joined-append}
+use Rattle.ports_core.specs.Name.{Naming}
+use Rattle.ports_core.specs.Part.{File, FilesBegin}
+use Rattle.ports_core.specs.Slot.{is_open}
+use Rattle.ports_core.specs.Agreed.{CanCome, IsUndecided, Spot, spot, spots_from, file_bytes}
+use Rattle.ports_core.specs.declared.slot.State.TheVariants.{Open, Closed}
+use Rattle.ports_core.proofs.AgreedLemmas.{none_comes, beginning_short, common, spot_in, spot_past, none_before}
+use Rattle.split_core.specs.declared.cut.Cut.{Cut}
+use Rattle.split_core.specs.declared.cut.Cut.TheVariants as cut
+use Rattle.split_core.specs.declared.cut.Limit.{Limit}
+use Rattle.split_core.specs.declared.cut.Limit.TheVariants.{Lines, Bytes, LineBytes}
+use Rattle.split_core.specs.Parts.{whole_lines, most, cut_up, unless_empty, parts, settled_rest, waiting_rest, round_robin, dealt}
+use Rattle.split_core.specs.Split.{Plan, share, is_some, is_named, are_named, named, file_at, settled_by, is_short, split_work, dealt_files, bytes_in, waiting}
+use Rattle.split_core.specs.Splitter.{IsPositive}
+use Rattle.split_core.specs.PartState.{parts_work}
+use Rattle.split_core.specs.Place.{dealt_to, dealt_spots, split_spots}
+use Rattle.split_core.specs.Round.{round_plan}
+use Rattle.split_core.specs.CutLaws.{whole_some, open_of_none, cut_all}
+use Rattle.split_core.specs.PartStateLaws as part_law
+use Rattle.split_core.proofs.PlaceLemmas.{all_dealt}
+use Rattle.split_core.proofs.SectionLemmas.{settled_list, list_all}
+use Rattle.split_core.proofs.AgreedLemmas.{named_bytes, named_more, each_named, whole_files, settled_files, list_count, decides_lines, one_of, delimiters_some, dealt_settled, plan_by}
+
+-- Spots in parts that follow one another
+
+-- after some outputs
+spots_after : (place i : ℕ) (front back : List (List ℕ)) → length (joined front) ≤ i → spots_from place (front ++ back) i ≡ spots_from (place + length front) back (i - length (joined front))
+spots_after place i [] back past = ap (λ at. spots_from at back i) (same_place place) ∙ ap (λ at. spots_from (place + 0) back at) (same i) where
+  same_place : (n : ℕ) → n ≡ n + 0
+  same_place n = omega arith
+
+  same : (n : ℕ) → n ≡ n - 0
+  same n = omega arith
+spots_after place i (bytes ∷ front) back past =
+    let long = length-append bytes (joined front) in
+    spot_past place i bytes (front ++ back) (omega (arith, past, long))
+    ∙ spots_after (place + 1) (i - length bytes) front back (omega (arith, past, long))
+    ∙ ap (λ at. spots_from at back (i - length bytes - length (joined front))) (moved place (length front))
+    ∙ ap (λ at. spots_from (place + suc (length front)) back at) (let e : i - length bytes - length (joined front) ≡ i - length (bytes ++ joined front) = omega (arith, long) in e) where
+      moved : (n m : ℕ) → n + 1 + m ≡ n + suc m
+      moved n m = omega arith
+
+-- only the last file may be open
+abbrev OnlyLastOpen : List File → Type 0
+OnlyLastOpen [] = Unit {0}
+OnlyLastOpen (file ∷ files) = (file.state ≡ Open → files ≡ []) × OnlyLastOpen files
+
+open_step : (is : Bool) (file : File) → OnlyLastOpen (cond is (file ∷ []) [])
+open_step true file = (λ opened. refl, tt)
+open_step false file = tt
+
+shut_step : (is : Bool) (file : File) (files : List File) → file.state ≡ Closed → OnlyLastOpen files → OnlyLastOpen (cond is (file ∷ files) [])
+shut_step true file files shut rest = (λ opened. absurd (false≢true (ap is_open (sym shut ∙ opened))), rest)
+shut_step false file files shut rest = tt
+
+last_open : (names : Naming) (place : ℕ) (full : List (List ℕ)) (rest : List ℕ) → OnlyLastOpen (named names place (map (share Closed) full ++ map (share Open) (unless_empty rest)))
+last_open names place [] [] = tt
+last_open names place [] (byte ∷ rest) = open_step (is_named names place) (file_at names place (share Open (byte ∷ rest)))
+last_open names place (part ∷ full) rest = shut_step (is_named names place) (file_at names place (share Closed part)) _ refl (last_open names (place + 1) full rest)
+
+-- bytes that files have stay where they are
+spots_stay : (place i : ℕ) (low high : List File) → FilesBegin low high → OnlyLastOpen low → i < length (joined (map (λ (file : File). file.bytes) low))
+    → spots_from place (map (λ (file : File). file.bytes) high) i ≡ spots_from place (map (λ (file : File). file.bytes) low) i
+spots_stay place i [] high begins last less = absurd (omega (arith, less))
+spots_stay place i (file ∷ low) [] begins last less = absurd begins
+spots_stay place i (file ∷ low) (whole ∷ high) begins last less = elim (cases_lt i (length file.bytes)) [
+  | inl within ↦ (let short = beginning_short file.bytes whole.bytes begins.4 in spot_in place i whole.bytes _ (omega (arith, within, short)) ∙ sym (spot_in place i file.bytes _ within))
+  | inr past ↦ after past (λ rest. spots_stay (place + 1) (i - length file.bytes) low high begins.5 last.1 rest) begins.3
+] where
+  after : length file.bytes ≤ i
+      → (i - length file.bytes < length (joined (map (λ (file : File). file.bytes) low)) → spots_from (place + 1) (map (λ (file : File). file.bytes) high) (i - length file.bytes) ≡ spots_from (place + 1) (map (λ (file : File). file.bytes) low) (i - length file.bytes))
+      → (file.state ≡ Open) ⊎ (file ≡ whole) → spots_from place (map (λ (file : File). file.bytes) (whole ∷ high)) i ≡ spots_from place (map (λ (file : File). file.bytes) (file ∷ low)) i
+  after past later (inl opened) = absurd
+      (let none : length (file.bytes ++ joined (map (λ (file : File). file.bytes) low)) ≡ length (file.bytes ++ []) = ap (λ those. length (file.bytes ++ joined (map (λ (file : File). file.bytes) those))) (last.0 opened) in
+      let all = length-append file.bytes [] in omega (arith, less, past, none, all))
+  after past later (inr same) =
+      let is : length whole.bytes ≡ length file.bytes = ap (λ (those : File). length those.bytes) (sym same) in
+      spot_past place i whole.bytes _ (omega (arith, past, is)) ∙ ap (λ n. spots_from (place + 1) (map (λ (file : File). file.bytes) high) (i - n)) is
+      ∙ later (let all = length-append file.bytes (joined (map (λ (file : File). file.bytes) low)) in omega (arith, less, past, all))
+      ∙ sym (spot_past place i file.bytes _ past)
+
+abbrev parts_spots : Limit → Naming → List ℕ → ℕ → List Spot
+parts_spots limit names x i = spots_from 1 (file_bytes ((parts_work limit names).whole x)) i
+
+abbrev settled_in : Limit → Naming → List ℕ → List ℕ
+settled_in limit names x = bytes_in ((parts_work limit names).settled x)
+
+parts_decided : (limit : Limit) (names : Naming) (x : List ℕ) (i : ℕ) → i < length (settled_in limit names x) → (y : List ℕ) → parts_spots limit names (x ++ y) i ≡ spots_from 1 (file_bytes ((parts_work limit names).settled x)) i
+parts_decided limit names x i less y =
+    spots_stay 1 i _ _ (common (parts_work limit names) (part_law.lawful limit names) x y).files (last_open names 0 (cut_up limit x).full (settled_rest limit (cut_up limit x).rest)) less
+
+-- where all files have names
+
+settled_bytes_in : (limit : Limit) (names : Naming) (x : List ℕ) → are_named names (length (parts limit x)) ≡ true → settled_in limit names x ≡ joined (settled_list limit x)
+settled_bytes_in limit names x are = ap joined (settled_files limit names x ∙ each_named names (settled_list limit x) (ap (are_named names) (list_count limit x) ∙ are))
+
+came_in : (limit : Limit) (names : Naming) (x : List ℕ) → are_named names (length (parts limit x)) ≡ true → settled_in limit names x ++ waiting_rest limit (cut_up limit x).rest ≡ x
+came_in limit names x are = ap (λ bytes. bytes ++ waiting_rest limit (cut_up limit x).rest) (settled_bytes_in limit names x are) ∙ list_all limit x
+
+-- what stands after a beginning
+after_front : (x front rest : List ℕ) → front ++ rest ≡ x → x ≡ front ++ drop (length front) x
+after_front x front rest is = sym is ∙ ap (λ those. front ++ those) (sym (ap (drop (length front)) (sym is) ∙ drop-append_seam front rest))
+
+none_wait : (limit : Limit) (names : Naming) (x : List ℕ) (i : ℕ) → are_named names (length (parts limit x)) ≡ true → waiting_rest limit (cut_up limit x).rest ≡ [] → length (settled_in limit names x) ≤ i → i < length x → ⊥
+none_wait limit names x i are none past within =
+    let all : length (settled_in limit names x) ≡ length x = ap length (sym (append-nil (settled_in limit names x)) ∙ ap (λ those. settled_in limit names x ++ those) (sym none) ∙ came_in limit names x are) in
+    omega (arith, past, within, all)
+
+-- two continuations that put byte i to different spots
+pub record Differs (spots_of : List ℕ → ℕ → List Spot) (x : List ℕ) (i : ℕ) : Type 0 where
+  pub y : List ℕ
+  pub z : List ℕ
+  pub y_comes : CanCome y
+  pub z_comes : CanCome z
+  pub apart : spots_of (x ++ y) i ≢ spots_of (x ++ z) i
+
+-- A byte of an open line after whole ones: the end puts it into their part, and bytes that fill the part put it into a later one, or
+-- nowhere.
+
+lines_here : (delim n : ℕ) (names : Naming) (x : List ℕ) → are_named names (length (parts (LineBytes n delim) x)) ≡ true → 0 < delimiters delim (cut_up (LineBytes n delim) x).rest
+    → (i : ℕ) → length (joined (cut_up (LineBytes n delim) x).full) ≤ i → i < length x
+    → parts_spots (LineBytes n delim) names (x ++ []) i ≡ spot (1 + length (cut_up (LineBytes n delim) x).full) (i - length (joined (cut_up (LineBytes n delim) x).full)) ∷ []
+lines_here delim n names x are lines i past within =
+    let full = (cut_up (LineBytes n delim) x).full in let rest = (cut_up (LineBytes n delim) x).rest in
+    ap (λ all. parts_spots (LineBytes n delim) names all i) (append-nil x)
+    ∙ ap (λ files. spots_from 1 files i) (whole_files (LineBytes n delim) names x ∙ each_named names (parts (LineBytes n delim) x) are ∙ ap (λ those. full ++ those) (one_of rest (delimiters_some delim rest lines)))
+    ∙ spots_after 1 i full (rest ∷ []) past
+    ∙ spot_in (1 + length full) (i - length (joined full)) rest []
+    (let long : length x ≡ length (joined full) + length rest = ap length (sym (cut_all (LineBytes n delim) x)) ∙ length-append (joined full) rest in omega (arith, past, within, long))
+
+lines_there : (limit : Limit) (names : Naming) (x y : List ℕ) (next : List (List ℕ)) → are_named names (length (parts limit x)) ≡ true → parts limit (x ++ y) ≡ settled_list limit x ++ next
+    → (i : ℕ) → length (joined (settled_list limit x)) ≤ i → (more : List (List ℕ)) × (parts_spots limit names (x ++ y) i ≡ spots_from (1 + length (settled_list limit x)) more (i - length (joined (settled_list limit x))))
+lines_there limit names x y next are is i past =
+    let further = named_more names 0 (settled_list limit x) next in (
+      further.0,
+      ap (λ files. spots_from 1 files i)
+          (whole_files limit names (x ++ y) ∙ ap (named_bytes names 0) is ∙ further.1
+          ∙ ap (λ files. files ++ further.0) (each_named names (settled_list limit x) (ap (are_named names) (list_count limit x) ∙ are)))
+          ∙ spots_after 1 i (settled_list limit x) further.0 past,
+    )
+
+lines_differ : (delim n : ℕ) (names : Naming) (x : List ℕ) → 0 < n → are_named names (length (parts (LineBytes n delim) x)) ≡ true → 0 < delimiters delim (cut_up (LineBytes n delim) x).rest
+    → (i : ℕ) → length (settled_in (LineBytes n delim) names x) ≤ i → i < length x → Differs (parts_spots (LineBytes n delim) names) x i
+lines_differ delim n names x some are lines i past within =
+    let full = (cut_up (LineBytes n delim) x).full in let begun = whole_lines delim (cut_up (LineBytes n delim) x).rest in
+    let decides = decides_lines delim n x some lines in
+    let one : settled_list (LineBytes n delim) x ≡ full ++ begun ∷ [] = ap (λ those. full ++ those) (one_of begun (whole_some delim (cut_up (LineBytes n delim) x).rest (delimiters_some delim (cut_up (LineBytes n delim) x).rest lines))) in
+    let count : length (settled_list (LineBytes n delim) x) ≡ length full + 1 = ap length one ∙ length-append full (begun ∷ []) in
+    let bytes : length (joined (settled_list (LineBytes n delim) x)) ≡ length (joined full) + length (joined (begun ∷ [])) = ap (λ those. length (joined those)) one ∙ ap length (joined-append full (begun ∷ [])) ∙ length-append (joined full) (joined (begun ∷ [])) in
+    let had : length (settled_in (LineBytes n delim) names x) ≡ length (joined (settled_list (LineBytes n delim) x)) = ap length (settled_bytes_in (LineBytes n delim) names x are) in
+    let here = lines_here delim n names x are lines i (omega (arith, past, had, bytes)) within in
+    let there = lines_there (LineBytes n delim) names x decides.y decides.more are decides.are i (omega (arith, past, had)) in record {
+      y = [];
+      z = decides.y;
+      y_comes = none_comes;
+      z_comes = decides.comes;
+      apart = λ same. none_before (1 + length (settled_list (LineBytes n delim) x)) (i - length (joined (settled_list (LineBytes n delim) x))) (1 + length full) (i - length (joined full)) there.0 (omega (arith, count)) (sym there.1 ∙ sym same ∙ here);
+    }
+
+parts_differ : (limit : Limit) (names : Naming) (x : List ℕ) → 0 < most limit → are_named names (length (parts limit x)) ≡ true → (i : ℕ) → length (settled_in limit names x) ≤ i → i < length x → Differs (parts_spots limit names) x i
+parts_differ (Lines n delim) names x some are i past within = absurd (none_wait (Lines n delim) names x i are refl past within)
+parts_differ (Bytes n) names x some are i past within = absurd (none_wait (Bytes n) names x i are refl past within)
+parts_differ (LineBytes n delim) names x some are i past within = elim (cases_lt 0 (delimiters delim (cut_up (LineBytes n delim) x).rest)) [
+  | inl lines ↦ lines_differ delim n names x some are lines i past within
+  | inr none ↦ absurd (none_wait (LineBytes n delim) names x i are (open_of_none delim (cut_up (LineBytes n delim) x).rest (omega (arith, none))) past within)
+]
+
+parts_undecided : (limit : Limit) (names : Naming) (x : List ℕ) → 0 < most limit → are_named names (length (parts limit x)) ≡ true → IsUndecided (parts_spots limit names) x (waiting (parts_work limit names) x)
+parts_undecided limit names x some are = record {
+  before = settled_in limit names x;
+  are_last = after_front x (settled_in limit names x) (waiting_rest limit (cut_up limit x).rest) (came_in limit names x are);
+  differ = λ i past within. (let two = parts_differ limit names x some are i past within in (two.y, two.z, two.y_comes, two.z_comes, two.apart));
+  decided = λ i less y z can also. parts_decided limit names x i less y ∙ sym (parts_decided limit names x i less z);
+}
+
+-- Lines that are dealt: none waits
+
+joined_some : (those : List (List ℕ)) → joined (filter is_some those) ≡ joined those
+joined_some [] = refl
+joined_some ([] ∷ those) = joined_some those
+joined_some ((byte ∷ bytes) ∷ those) = ap (λ rest. (byte ∷ bytes) ++ rest) (joined_some those)
+
+dealt_bytes : (delim n : ℕ) (elide : Bool) (x : List ℕ) → 0 < n → length (joined (dealt_files delim elide n x)) ≡ length x
+dealt_bytes delim n true x some = ap length (joined_some (round_robin delim n x)) ∙ all_dealt delim n x some
+dealt_bytes delim n false x some = all_dealt delim n x some
+
+dealt_decided : (delim n : ℕ) (names : Naming) (x y : List ℕ) (i : ℕ) → i < length x → dealt_spots delim n names (x ++ y) i ≡ dealt_spots delim n names x i
+dealt_decided delim n names x y i less =
+    ap (λ within. cond (within && is_named names (dealt_to delim n (x ++ y) i)) (spot (dealt_to delim n (x ++ y) i + 1) (length (dealt n (dealt_to delim n (x ++ y) i) 0 (lines_of delim (take i (x ++ y))))) ∷ []) [])
+    (lt-ltb i (length (x ++ y)) (let all = length-append x y in omega (arith, less, all)) ∙ sym (lt-ltb i (length x) less))
+    ∙ ap (λ front. cond (nat_lt i (length x) && is_named names (delimiters delim front % n)) (spot (delimiters delim front % n + 1) (length (dealt n (delimiters delim front % n) 0 (lines_of delim front))) ∷ []) []) (take-append-le i x y (omega (arith, less)))
+
+round_undecided : (delim n : ℕ) (elide : Bool) (names : Naming) (x : List ℕ) → 0 < n → are_named names (length (dealt_files delim elide n x)) ≡ true
+    → IsUndecided (split_spots (round_plan delim n elide names)) x (waiting (split_work (round_plan delim n elide names)) x)
+round_undecided delim n elide names x some are =
+    let has : bytes_in (settled_by (round_plan delim n elide names) x) ≡ joined (dealt_files delim elide n x) = ap joined (dealt_settled delim n elide names x ∙ each_named names (dealt_files delim elide n x) are) in
+    let size : length (bytes_in (settled_by (round_plan delim n elide names) x)) ≡ length x = ap length has ∙ dealt_bytes delim n elide x some in record {
+      before = x;
+      are_last = sym (ap (λ rest. x ++ rest) (drop_all (length (bytes_in (settled_by (round_plan delim n elide names) x))) x (omega (arith, size))) ∙ append-nil x);
+      differ = λ i past within. absurd (omega (arith, past, within));
+      decided = λ i less y z can also. dealt_decided delim n names x y i less ∙ sym (dealt_decided delim n names x z i less);
+    }
+
+-- All ways to cut
+
+has_names : (b : Bool) → not b ≡ false → b ≡ true
+has_names true is = refl
+has_names false is = absurd (false≢true (sym is))
+
+counted : (names : Naming) (those : List (List ℕ)) → not (are_named names (length (map (share Closed) those))) ≡ false → are_named names (length those) ≡ true
+counted names those is = ap (are_named names) (sym (length-map those (share Closed))) ∙ has_names _ is
+
+undecided_at : (delim : ℕ) (cut : Cut) (elide : Bool) (names : Naming) → IsPositive cut → (x : List ℕ) → is_short (plan_by delim cut elide names) x ≡ false
+    → IsUndecided (split_spots (plan_by delim cut elide names)) x (waiting (split_work (plan_by delim cut elide names)) x)
+undecided_at delim (cut.Lines n) elide names some x enough = parts_undecided (Lines n delim) names x some (counted names (parts (Lines n delim) x) enough)
+undecided_at delim (cut.Bytes n) elide names some x enough = parts_undecided (Bytes n) names x some (counted names (parts (Bytes n) x) enough)
+undecided_at delim (cut.LineBytes n) elide names some x enough = parts_undecided (LineBytes n delim) names x some (counted names (parts (LineBytes n delim) x) enough)
+undecided_at delim (cut.Round n) elide names some x enough = round_undecided delim n elide names x some (counted names (dealt_files delim elide n x) enough)
+
+pub split_undecided : (plan : Plan) → IsPositive plan.cut → (x : List ℕ) → is_short plan x ≡ false → IsUndecided (split_spots plan) x (waiting (split_work plan) x)
+split_undecided plan some x enough = undecided_at plan.delim plan.cut plan.elide plan.names some x enough

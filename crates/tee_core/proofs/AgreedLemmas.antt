@@ -1,0 +1,107 @@
+-- What all continuations agree on, of a copied input.
+use Rattle.std.proofs.Common.{◌≡◌, ℕ, ◌+◌, ◌<◌, ◌≤◌, nat_lt, zero, suc, List, [], ◌∷◌, ◌++◌, length, map, get_or, Bool, true, false, cond, inl, inr, refl, sym, ◌∙◌, ap, subst, arith, length-append}
+use Rattle.std.proofs.lemmas.Bool.{lt-ltb}
+use Rattle.std.proofs.lemmas.List.{append-nil}
+use Rattle.ports_core.specs.Agreed.{IsAgreed, IsUndecided, Spot, spot, output_at, GoesTo, ArePlaced}
+use Rattle.ports_core.specs.Part.{File, FilesBegin, OutputsAt, file_of, told_file}
+use Rattle.ports_core.specs.Slot.{streams, opened, adds, closes, told_of}
+use Rattle.ports_core.specs.declared.slot.Mode.{Mode}
+use Rattle.ports_core.specs.declared.slot.State.{State}
+use Rattle.ports_core.specs.declared.slot.State.TheVariants.{Open, Closed}
+use Rattle.ports_core.proofs.AgreedLemmas.{agreed_now}
+use Rattle.tee_core.specs.Copy.{copy_in, tee_work, spots_each, tee_spots}
+use Rattle.tee_core.specs.Run.{all_copied}
+
+copies_begin : (mode : Mode) (names : List (List ℕ)) (x y : List ℕ) → FilesBegin (map (copy_in mode Open x) names) (map (copy_in mode Closed (x ++ y)) names)
+copies_begin mode [] x y = tt
+copies_begin mode (name ∷ names) x y = (refl, refl, refl, inl refl, (y, refl), copies_begin mode names x y)
+
+same_bytes : (mode : Mode) (one other : State) (names : List (List ℕ)) (x : List ℕ) → map (λ (file : File). file.bytes) (map (copy_in mode one x) names) ≡ map (λ (file : File). file.bytes) (map (copy_in mode other x) names)
+same_bytes mode one other [] x = refl
+same_bytes mode one other (name ∷ names) x = ap (λ files. x ∷ files) (same_bytes mode one other names x)
+
+pub tee_agreed : (mode : Mode) (names : List (List ℕ)) (x : List ℕ) → IsAgreed (tee_work mode names) x ((tee_work mode names).settled x)
+tee_agreed mode names x = agreed_now (tee_work mode names) x (λ y. record { out = (y, refl); files = copies_begin mode names x y }) (ap (λ files. x ∷ files) (same_bytes mode Closed Open names x))
+
+-- a byte that came in goes to all outputs, whatever comes
+goes_there : (names : List (List ℕ)) (x y : List ℕ) (i : ℕ) → i < length x → tee_spots names (x ++ y) i ≡ spot 0 i ∷ spots_each 1 names i
+goes_there names x y i less = ap (λ within. cond within (spot 0 i ∷ spots_each 1 names i) []) (lt-ltb i (length (x ++ y)) (let all = length-append x y in omega (arith, less, all)))
+
+pub tee_undecided : (names : List (List ℕ)) (x : List ℕ) → IsUndecided (tee_spots names) x []
+tee_undecided names x = record {
+  before = x;
+  are_last = sym (append-nil x);
+  differ = λ i past within. absurd (omega (arith, past, within));
+  decided = λ i less y z can also. goes_there names x y i less ∙ sym (goes_there names x z i less);
+}
+
+-- spots are right
+
+each_goes : (place : ℕ) (names : List (List ℕ)) (i : ℕ) (at : Spot) → GoesTo at (spots_each place names i) → (at.offset ≡ i) × (place ≤ at.place) × (at.place < place + length names)
+each_goes place [] i at goes = absurd goes
+each_goes place (name ∷ names) i at (inl is) = (ap (λ those. those.offset) is, (let e : at.place ≡ place = ap (λ those. those.place) is in omega (arith, e)), (let e : at.place ≡ place = ap (λ those. those.place) is in omega (arith, e)))
+each_goes place (name ∷ names) i at (inr goes) = (let rest = each_goes (place + 1) names i at goes in (rest.0, (let less = rest.1 in omega (arith, less)), (let less = rest.2 in omega (arith, less))))
+
+all_go : (names : List (List ℕ)) (i : ℕ) (at : Spot) → GoesTo at (spot 0 i ∷ spots_each 1 names i) → (at.offset ≡ i) × (at.place < 1 + length names)
+all_go names i at (inl is) = (ap (λ those. those.offset) is, (let e : at.place ≡ 0 = ap (λ those. those.place) is in omega (arith, e)))
+all_go names i at (inr goes) = (let rest = each_goes 1 names i at goes in (rest.0, rest.2))
+
+tee_goes_by : (names : List (List ℕ)) (x : List ℕ) (i : ℕ) (at : Spot) (less : Bool) → nat_lt i (length x) ≡ less → GoesTo at (cond less (spot 0 i ∷ spots_each 1 names i) []) → (at.offset ≡ i) × (at.place < 1 + length names)
+tee_goes_by names x i at true is goes = all_go names i at goes
+tee_goes_by names x i at false is goes = absurd goes
+
+tee_goes : (names : List (List ℕ)) (x : List ℕ) (i : ℕ) (at : Spot) → GoesTo at (tee_spots names x i) → (at.offset ≡ i) × (at.place < 1 + length names)
+tee_goes names x i at goes = tee_goes_by names x i at (nat_lt i (length x)) refl goes
+
+file_has : (mode : Mode) (names : List (List ℕ)) (x : List ℕ) (place : ℕ) → place < length names → get_or (map (λ (file : File). file.bytes) (map (copy_in mode Closed x) names)) place [] ≡ x
+file_has mode [] x place less = absurd (omega (arith, less))
+file_has mode (name ∷ names) x zero less = refl
+file_has mode (name ∷ names) x (suc place) less = file_has mode names x place (omega (arith, less))
+
+output_has : (mode : Mode) (names : List (List ℕ)) (x : List ℕ) (place : ℕ) → place < 1 + length names → output_at ((tee_work mode names).whole x) place ≡ x
+output_has mode names x zero less = refl
+output_has mode names x (suc place) less = file_has mode names x place (omega (arith, less))
+
+no_output : (mode : Mode) (names : List (List ℕ)) (x : List ℕ) (place offset : ℕ) → offset < length (get_or (map (λ (file : File). file.bytes) (map (copy_in mode Closed x) names)) place []) → place < length names
+no_output mode [] x place offset less = absurd (omega (arith, less))
+no_output mode (name ∷ names) x zero offset less = omega arith
+no_output mode (name ∷ names) x (suc place) offset less = (let rest = no_output mode names x place offset less in omega (arith, rest))
+
+goes_to_each : (from : ℕ) (names : List (List ℕ)) (i k : ℕ) → k < length names → GoesTo (spot (from + k) i) (spots_each from names i)
+goes_to_each from [] i k less = absurd (omega (arith, less))
+goes_to_each from (name ∷ names) i zero less = inl (ap (λ place. spot place i) (let e : from + 0 ≡ from = omega arith in e))
+goes_to_each from (name ∷ names) i (suc k) less = inr (subst (λ place. GoesTo (spot place i) (spots_each (from + 1) names i)) (let e : from + 1 + k ≡ from + suc k = omega arith in e) (goes_to_each (from + 1) names i k (omega (arith, less))))
+
+tee_filled : (mode : Mode) (names : List (List ℕ)) (x : List ℕ) (place offset : ℕ) → offset < length (output_at ((tee_work mode names).whole x) place) → (i : ℕ) × (i < length x) × GoesTo (spot place offset) (tee_spots names x i)
+tee_filled mode names x zero offset less = (offset, less, subst (λ within. GoesTo (spot 0 offset) (cond within (spot 0 offset ∷ spots_each 1 names offset) [])) (sym (lt-ltb offset (length x) less)) (inl refl))
+tee_filled mode names x (suc place) offset less =
+    let there = no_output mode names x place offset less in
+    let within : offset < length x = subst (λ those. offset < length those) (file_has mode names x place there) less in (
+      offset,
+      within,
+      subst (λ is. GoesTo (spot (suc place) offset) (cond is (spot 0 offset ∷ spots_each 1 names offset) [])) (sym (lt-ltb offset (length x) within))
+          (inr (subst (λ k. GoesTo (spot k offset) (spots_each 1 names offset)) (let e : 1 + place ≡ suc place = omega arith in e) (goes_to_each 1 names offset place there))),
+    )
+
+pub tee_placed : (mode : Mode) (names : List (List ℕ)) → ArePlaced (tee_work mode names) (tee_spots names)
+tee_placed mode names = record {
+  stands = λ x i at less goes. (let one = tee_goes names x i at goes in let has = output_has mode names x at.place one.1 in
+      (subst (λ those. at.offset < length those) (sym has) (let e = one.0 in omega (arith, less, e)), ap (λ those. get_or those at.offset 0) has ∙ ap (λ k. get_or x k 0) one.0));
+  filled = λ x at less. tee_filled mode names x at.place at.offset less;
+  apart = λ x i j at goes also. sym (tee_goes names x i at goes).0 ∙ (tee_goes names x j at also).0;
+}
+
+-- the outputs of a run in which nothing breaks
+
+copied_files : (told : Bool) (mode : Mode) (names : List (List ℕ)) (x : List ℕ)
+    → map file_of (map (λ name. closes (adds (told_of told x) (opened name mode))) names) ≡ map (told_file told) (map (copy_in mode Closed x) names)
+copied_files told mode [] x = refl
+copied_files told mode (name ∷ names) x = ap (λ files. copy_in mode Closed (told_of told x) name ∷ files) (copied_files told mode names x)
+
+pub copied_whole : (told : Bool) (mode : Mode) (names : List (List ℕ)) (x : List ℕ) → OutputsAt told streams ((tee_work mode names).whole x) (all_copied told mode names x)
+copied_whole told mode names x = record {
+  standard = omega arith;
+  since = map (λ name. closes (adds (told_of told x) (opened name mode))) names;
+  slots = refl;
+  files = copied_files told mode names x;
+}

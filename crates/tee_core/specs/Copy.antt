@@ -1,0 +1,35 @@
+-- What `tee` makes of an input where no output breaks, and where its bytes go: POSIX.1-2017, XCU tee.
+use Rattle.std.specs.Prelude.{ℕ, ◌+◌, nat_lt, true, false, List, [], ◌∷◌, length, map, if◌then◌else◌}
+use Rattle.ports_core.specs.Agreed.{Spot, spot}
+use Rattle.ports_core.specs.Part.{File, Part}
+use Rattle.ports_core.specs.Work.{Work, always_well, no_needs}
+use Rattle.ports_core.specs.declared.slot.Mode.{Mode}
+use Rattle.ports_core.specs.declared.slot.State.{State}
+use Rattle.ports_core.specs.declared.slot.State.TheVariants.{Open, Closed}
+
+abbrev pub copy_in : Mode → State → List ℕ → List ℕ → File
+copy_in mode state x name = record { name = name; mode = mode; bytes = x; state = state; is_broken = false }
+
+-- standard output and each file have all of it
+abbrev pub copies : Mode → List (List ℕ) → State → List ℕ → Part
+copies mode names state x = record { out = x; files = map (copy_in mode state x) names }
+
+-- All that came in is written at once; at the end the files are closed. No memory is needed.
+abbrev pub tee_work : Mode → List (List ℕ) → Work
+tee_work mode names = record {
+  settled = copies mode names Open;
+  whole = copies mode names Closed;
+  is_complete = λ x. false;
+  verdict = always_well;
+  clears = false;
+  means = record { output = true; files = true; feeding = no_needs; closing = no_needs };
+}
+
+-- the byte at i goes to that offset of the outputs from a place on, one for each name
+abbrev pub spots_each : ℕ → List (List ℕ) → ℕ → List Spot
+spots_each place [] i = []
+spots_each place (name ∷ names) i = spot place i ∷ spots_each (place + 1) names i
+
+-- and so to standard output and to each file
+abbrev pub tee_spots : List (List ℕ) → List ℕ → ℕ → List Spot
+tee_spots names x i = if nat_lt i (length x) then spot 0 i ∷ spots_each 1 names i else []

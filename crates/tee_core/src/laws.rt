@@ -1,0 +1,18 @@
+//! Laws of the definitions, with no code: each stands on the contract of a function whose body is empty.
+ghost use Rattle.std.specs.Prelude.{Bool, List, [], ℕ};
+ghost use Rattle.ports_core.specs.Agreed.{ArePlaced, IsAgreed, IsUndecided};
+ghost use Rattle.ports_core.specs.Part.{OutputsAt};
+ghost use Rattle.ports_core.specs.Slot.{streams};
+ghost use Rattle.tee_core.specs.Copy.{tee_spots, tee_work};
+ghost use Rattle.tee_core.specs.Run.{all_copied};
+
+use ports_core::Mode;
+
+/// What is settled is what all continuations agree on: all that came in, in each output. So no byte waits, and each goes
+/// to its spot in every output. Where nothing breaks, a run leaves the outputs at the whole.
+pub fn agreed_is_settled()
+    ensures outputs { (mode : Mode) (names : List (List ℕ)) (x : List ℕ) → IsAgreed (tee_work mode names) x ((tee_work mode names).settled x) }
+    ensures waits { (names : List (List ℕ)) (x : List ℕ) → IsUndecided (tee_spots names) x [] }
+    ensures placed { (mode : Mode) (names : List (List ℕ)) → ArePlaced (tee_work mode names) (tee_spots names) }
+    ensures whole { (told : Bool) (mode : Mode) (names : List (List ℕ)) (x : List ℕ) → OutputsAt told streams ((tee_work mode names).whole x) (all_copied told mode names x) }
+{}
