@@ -7,7 +7,7 @@ use Rattle.std.proofs.lemmas.List.{drop_more, drop_all}
 use Rattle.bre_core.specs.Pattern.{Pattern}
 use Rattle.csplit_core.specs.Operand.{Offset, Target, Number, Search, Operand, Line, is_match, moved, has_more}
 use Rattle.csplit_core.specs.Plan.{State, search_line, CutsAt, Misses, line_after, operands_after, repetition_after, state_after}
-use Rattle.csplit_core.specs.Progress.{state_of, AreSeen, MissesNow, Turns, FallsAt, IsSought, sought_by}
+use Rattle.csplit_core.specs.Progress.{state_of, AreSeen, MissesNow, Turns, FallsAt}
 use Rattle.csplit_core.specs.declared.progress.Turn.{Turn}
 use Rattle.csplit_core.specs.declared.progress.Turn.TheVariants.{UsedUp, Missed, Above, Below, Cuts}
 use Rattle.csplit_core.proofs.StayLemmas.{looks_last, looks_past}
@@ -85,14 +85,6 @@ misses_search suppress all total state found operand operands pattern kept offse
 -- no operand is left
 pub none_left : (operands : List Operand) (at : ℕ) → length operands ≤ at → drop at operands ≡ []
 none_left operands at beyond = drop_all at operands beyond
-
-pub sought_none : (suppress : Bool) (total : ℕ) (state : State) (operands : List Operand) → operands ≡ [] → IsSought suppress total state operands None
-sought_none suppress total state operands is = subst (λ those. IsSought suppress total state those None) (sym is) refl
-
-pub sought_at : (suppress : Bool) (total : ℕ) (state : State) (those : List Operand) (operand : Operand) (rest : List Operand) (target : Target) (sought : Option Pattern) → those ≡ operand ∷ rest → operand.target ≡ target
-    → sought_by total (search_line suppress state) target sought → IsSought suppress total state those sought
-sought_at suppress total state those operand rest target sought are is by =
-    subst (λ o. IsSought suppress total state o sought) (sym are) (subst (λ t. sought_by total (search_line suppress state) t sought) (sym is) by)
 
 pub left_is : (operands : List Operand) (at : ℕ) (operand : Operand) → at < length operands → operand ≡ get_or operands at operand → drop at operands ≡ operand ∷ drop (at + 1) operands
 left_is operands at operand within is = drop_more operands at operand within ∙ ap (λ o. o ∷ drop (at + 1) operands) (sym is)

@@ -1,6 +1,5 @@
 -- What contracts see of where a run stands, and of what the next operand does.
-use Rattle.std.specs.Prelude.{◌≡◌, ℕ, ◌-◌, ◌<◌, ◌≤◌, ◌^◌, min, Bool, false, List, [], ◌∷◌, length, drop, Option, Some, None}
-use Rattle.bre_core.specs.Pattern.{Pattern}
+use Rattle.std.specs.Prelude.{◌≡◌, ℕ, ◌-◌, ◌<◌, ◌≤◌, ◌^◌, min, Bool, false, List, [], ◌∷◌, length, drop}
 use Rattle.csplit_core.specs.Operand.{Target, Number, Search, Operand, Line, is_match}
 use Rattle.csplit_core.specs.Plan.{State, Step, Ending, used_up, missed, above, below, CutsAt, Misses, search_line, state_after, step_of, Runs}
 use Rattle.csplit_core.specs.Measure.{Moves}
@@ -69,16 +68,6 @@ MovesOn operands total progress (Above matched line) = WillMove operands total p
 MovesOn operands total progress Below = Unit {0}
 MovesOn operands total progress (Cuts matched line) = (operand : Operand) × (rest : List Operand) × (progress.done < length operands) × (drop progress.done operands ≡ operand ∷ rest)
     × Moves total (state_of operands progress) operand.target matched line × (matched ≤ total) × (progress.current ≤ line) × (line ≤ total)
-
--- The pattern that the last line has to be matched with: that of the next operand, if its search reaches that line.
-abbrev pub sought_by : ℕ → (from : ℕ) → Target → Option Pattern → Type 0
-sought_by total from (Number n) sought = sought ≡ None
-sought_by total from (Search pattern kept offset) None = total < from
-sought_by total from (Search pattern kept offset) (Some sought) = (sought ≡ pattern) × (from ≤ total)
-
-abbrev pub IsSought : Bool → (total : ℕ) → State → List Operand → Option Pattern → Type 0
-IsSought suppress total state [] sought = sought ≡ None
-IsSought suppress total state (operand ∷ operands) sought = sought_by total (search_line suppress state) operand.target sought
 
 -- a turn that cuts nothing is how the plan ends
 abbrev pub AimsAt : Turn → Ending → Type 0

@@ -20,204 +20,215 @@ enum Options {
     SuppressElide,
 }
 
-/// Options, operands, an input, the sizes that are written, and the files that are made.
-type Row<'a> = (Options, &'a [&'a str], &'a [u8], &'a [u8], &'a [&'a [u8]]);
+/// Options, operands, an input, the fault with which it ends, the sizes that are written, and the files that are left.
+type Row<'a> = (
+    Options,
+    &'a [&'a str],
+    &'a [u8],
+    Option<Fault>,
+    &'a [u8],
+    &'a [&'a [u8]],
+);
 
 /// How long the pieces are that an input comes in.
 const SIZES: [usize; 4] = [1, 2, 3, 100];
 
 #[test]
 fn cuts_into_sections(rt: HostRuntime) -> Result<(), Fail> {
-    let rows: [Row<'_>; 16] = [
-        (
-            Options::Plain,
-            &["/^b/", "{*}"],
-            b"b1\nx\nb2\ny\n",
-            b"0\n5\n5\n",
-            &[b"", b"b1\nx\n", b"b2\ny\n"],
-        ),
-        (
-            Options::Elide,
-            &["/^b/", "{*}"],
-            b"b1\nx\nb2\ny\n",
-            b"5\n5\n",
-            &[b"b1\nx\n", b"b2\ny\n"],
-        ),
-        (
-            Options::Quiet,
-            &["/^b/", "{*}"],
-            b"b1\nx\nb2\ny\n",
-            b"",
-            &[b"", b"b1\nx\n", b"b2\ny\n"],
-        ),
-        (
-            Options::Plain,
-            &["/c/-1"],
-            b"a\nb\nc\nd\n",
-            b"2\n6\n",
-            &[b"a\n", b"b\nc\nd\n"],
-        ),
-        (
-            Options::Plain,
-            &["2", "{*}"],
-            b"1\n2\n3\n4\n5\n",
-            b"2\n4\n4\n",
-            &[b"1\n", b"2\n3\n", b"4\n5\n"],
-        ),
-        (
-            Options::Plain,
-            &["2", "/b/"],
-            b"a\nb\nb\n",
-            b"2\n2\n2\n",
-            &[b"a\n", b"b\n", b"b\n"],
-        ),
-        (
-            Options::Plain,
-            &["/b/-1", "{*}"],
-            b"a\nb\nb\nc\n",
-            b"0\n2\n6\n",
-            &[b"", b"a\n", b"b\nb\nc\n"],
-        ),
-        (
-            Options::Plain,
-            &["%b%", "/d/"],
-            b"a\nb\nc\nd\ne\n",
-            b"4\n4\n",
-            &[b"b\nc\n", b"d\ne\n"],
-        ),
-        (
-            Options::Plain,
-            &["/b/+1", "/d/"],
-            b"a\nb\nc\nd\ne\n",
-            b"4\n2\n4\n",
-            &[b"a\nb\n", b"c\n", b"d\ne\n"],
-        ),
-        (
-            Options::Plain,
-            &["/a\\/b/"],
-            b"x\na/b\n",
-            b"2\n4\n",
-            &[b"x\n", b"a/b\n"],
-        ),
-        (
-            Options::Plain,
-            &["/b/", "{*}", "9"],
-            b"a\nb\n",
-            b"2\n2\n",
-            &[b"a\n", b"b\n"],
-        ),
-        (Options::Plain, &["%b%", "{*}"], b"a\nb\nc\n", b"", &[]),
-        (
-            Options::Plain,
-            &["/b/"],
-            b"a\nb",
-            b"2\n1\n",
-            &[b"a\n", b"b"],
-        ),
-        (
-            Options::Plain,
-            &["/b/-2", "/d/"],
-            b"x\na\nz\nb\nc\nd",
-            b"2\n8\n1\n",
-            &[b"x\n", b"a\nz\nb\nc\n", b"d"],
-        ),
-        (
-            Options::Plain,
-            &["3", "/b/", "{1}"],
-            b"1\n2\n3\nb\n4\nb\n5\n",
-            b"4\n2\n4\n4\n",
-            &[b"1\n2\n", b"3\n", b"b\n4\n", b"b\n5\n"],
-        ),
-        (Options::Plain, &["/b/", "{*}"], b"", b"0\n", &[b""]),
-    ];
-    for (options, words, input, sizes, files) in rows {
-        for size in SIZES {
-            let mut outs = MemOut::new(rt.alloc())?;
-            let style = style_of(rt.alloc(), options)?;
-            let operands = read_operands(rt.alloc(), words).expect(&rt, "these are operands");
-            run(rt.alloc(), style, &operands, input, size, &mut outs)?;
-            assert!(rt; has_files(&outs, files), "at {words:?} in pieces of {size}");
-            assert_eq!(rt; outs.bytes(0), sizes, "at {words:?} in pieces of {size}");
-        }
-    }
-    Ok(())
+    check_rows(&rt, rt.alloc(), &SECTIONS)
 }
+
+const SECTIONS: [Row<'static>; 16] = [
+    (
+        Options::Plain,
+        &["/^b/", "{*}"],
+        b"b1\nx\nb2\ny\n",
+        None,
+        b"0\n5\n5\n",
+        &[b"", b"b1\nx\n", b"b2\ny\n"],
+    ),
+    (
+        Options::Elide,
+        &["/^b/", "{*}"],
+        b"b1\nx\nb2\ny\n",
+        None,
+        b"5\n5\n",
+        &[b"b1\nx\n", b"b2\ny\n"],
+    ),
+    (
+        Options::Quiet,
+        &["/^b/", "{*}"],
+        b"b1\nx\nb2\ny\n",
+        None,
+        b"",
+        &[b"", b"b1\nx\n", b"b2\ny\n"],
+    ),
+    (
+        Options::Plain,
+        &["/c/-1"],
+        b"a\nb\nc\nd\n",
+        None,
+        b"2\n6\n",
+        &[b"a\n", b"b\nc\nd\n"],
+    ),
+    (
+        Options::Plain,
+        &["2", "{*}"],
+        b"1\n2\n3\n4\n5\n",
+        None,
+        b"2\n4\n4\n",
+        &[b"1\n", b"2\n3\n", b"4\n5\n"],
+    ),
+    (
+        Options::Plain,
+        &["2", "/b/"],
+        b"a\nb\nb\n",
+        None,
+        b"2\n2\n2\n",
+        &[b"a\n", b"b\n", b"b\n"],
+    ),
+    (
+        Options::Plain,
+        &["/b/-1", "{*}"],
+        b"a\nb\nb\nc\n",
+        None,
+        b"0\n2\n6\n",
+        &[b"", b"a\n", b"b\nb\nc\n"],
+    ),
+    (
+        Options::Plain,
+        &["%b%", "/d/"],
+        b"a\nb\nc\nd\ne\n",
+        None,
+        b"4\n4\n",
+        &[b"b\nc\n", b"d\ne\n"],
+    ),
+    (
+        Options::Plain,
+        &["/b/+1", "/d/"],
+        b"a\nb\nc\nd\ne\n",
+        None,
+        b"4\n2\n4\n",
+        &[b"a\nb\n", b"c\n", b"d\ne\n"],
+    ),
+    (
+        Options::Plain,
+        &["/a\\/b/"],
+        b"x\na/b\n",
+        None,
+        b"2\n4\n",
+        &[b"x\n", b"a/b\n"],
+    ),
+    (
+        Options::Plain,
+        &["/b/", "{*}", "9"],
+        b"a\nb\n",
+        None,
+        b"2\n2\n",
+        &[b"a\n", b"b\n"],
+    ),
+    (
+        Options::Plain,
+        &["%b%", "{*}"],
+        b"a\nb\nc\n",
+        None,
+        b"",
+        &[],
+    ),
+    (
+        Options::Plain,
+        &["/b/"],
+        b"a\nb",
+        None,
+        b"2\n1\n",
+        &[b"a\n", b"b"],
+    ),
+    (
+        Options::Plain,
+        &["/b/-2", "/d/"],
+        b"x\na\nz\nb\nc\nd",
+        None,
+        b"2\n8\n1\n",
+        &[b"x\n", b"a\nz\nb\nc\n", b"d"],
+    ),
+    (
+        Options::Plain,
+        &["3", "/b/", "{1}"],
+        b"1\n2\n3\nb\n4\nb\n5\n",
+        None,
+        b"4\n2\n4\n4\n",
+        &[b"1\n2\n", b"3\n", b"b\n4\n", b"b\n5\n"],
+    ),
+    (Options::Plain, &["/b/", "{*}"], b"", None, b"0\n", &[b""]),
+];
 
 #[test]
 fn leaves_out_the_line_at_a_cut(rt: HostRuntime) -> Result<(), Fail> {
-    let rows: [Row<'_>; 6] = [
-        (
-            Options::Suppress,
-            &["/b/"],
-            b"a\nb\nc\n",
-            b"2\n2\n",
-            &[b"a\n", b"c\n"],
-        ),
-        (
-            Options::Suppress,
-            &["2", "{*}"],
-            b"1\n2\n3\n4\n5\n",
-            b"2\n2\n2\n",
-            &[b"1\n", b"3\n", b"5\n"],
-        ),
-        (
-            Options::Suppress,
-            &["/b/", "{*}"],
-            b"a\nb\nb\nc\n",
-            b"2\n0\n2\n",
-            &[b"a\n", b"", b"c\n"],
-        ),
-        (
-            Options::SuppressElide,
-            &["/b/", "{*}"],
-            b"a\nb\nb\nc\n",
-            b"2\n2\n",
-            &[b"a\n", b"c\n"],
-        ),
-        (
-            Options::Suppress,
-            &["/b/-1", "{*}"],
-            b"a\nb\nb\nc\n",
-            b"0\n0\n4\n",
-            &[b"", b"", b"b\nc\n"],
-        ),
-        (
-            Options::Suppress,
-            &["2"],
-            b"a\nb\n",
-            b"2\n0\n",
-            &[b"a\n", b""],
-        ),
-    ];
-    for (options, words, input, sizes, files) in rows {
-        for size in SIZES {
-            let mut outs = MemOut::new(rt.alloc())?;
-            let style = style_of(rt.alloc(), options)?;
-            let operands = read_operands(rt.alloc(), words).expect(&rt, "these are operands");
-            run(rt.alloc(), style, &operands, input, size, &mut outs)?;
-            assert!(rt; has_files(&outs, files), "at {words:?} in pieces of {size}");
-            assert_eq!(rt; outs.bytes(0), sizes, "at {words:?} in pieces of {size}");
-        }
-    }
-    Ok(())
+    check_rows(&rt, rt.alloc(), &SUPPRESSED)
 }
 
-/// Options, operands, an input, its fault, the sizes that are written, and the files that were made.
-type FaultRow<'a> = (
-    Options,
-    &'a [&'a str],
-    &'a [u8],
-    Fault,
-    &'a [u8],
-    &'a [&'a [u8]],
-);
+const SUPPRESSED: [Row<'static>; 6] = [
+    (
+        Options::Suppress,
+        &["/b/"],
+        b"a\nb\nc\n",
+        None,
+        b"2\n2\n",
+        &[b"a\n", b"c\n"],
+    ),
+    (
+        Options::Suppress,
+        &["2", "{*}"],
+        b"1\n2\n3\n4\n5\n",
+        None,
+        b"2\n2\n2\n",
+        &[b"1\n", b"3\n", b"5\n"],
+    ),
+    (
+        Options::Suppress,
+        &["/b/", "{*}"],
+        b"a\nb\nb\nc\n",
+        None,
+        b"2\n0\n2\n",
+        &[b"a\n", b"", b"c\n"],
+    ),
+    (
+        Options::SuppressElide,
+        &["/b/", "{*}"],
+        b"a\nb\nb\nc\n",
+        None,
+        b"2\n2\n",
+        &[b"a\n", b"c\n"],
+    ),
+    (
+        Options::Suppress,
+        &["/b/-1", "{*}"],
+        b"a\nb\nb\nc\n",
+        None,
+        b"0\n0\n4\n",
+        &[b"", b"", b"b\nc\n"],
+    ),
+    (
+        Options::Suppress,
+        &["2"],
+        b"a\nb\n",
+        None,
+        b"2\n0\n",
+        &[b"a\n", b""],
+    ),
+];
 
-const FAULTS: [FaultRow<'static>; 8] = [
+#[test]
+fn ends_where_an_operand_finds_no_line(rt: HostRuntime) -> Result<(), Fail> {
+    check_rows(&rt, rt.alloc(), &FAULTS)
+}
+
+const FAULTS: [Row<'static>; 8] = [
     (
         Options::Keep,
         &["/c/-3"],
         b"a\nb\nc\nd\n",
-        Fault::Range(0, 0),
+        Some(Fault::Range(0, 0)),
         b"0\n",
         &[b""],
     ),
@@ -225,7 +236,7 @@ const FAULTS: [FaultRow<'static>; 8] = [
         Options::Keep,
         &["2", "{3}"],
         b"1\n2\n3\n4\n5\n",
-        Fault::Range(0, 2),
+        Some(Fault::Range(0, 2)),
         b"2\n4\n4\n",
         &[b"1\n", b"2\n3\n", b"4\n5\n"],
     ),
@@ -233,7 +244,7 @@ const FAULTS: [FaultRow<'static>; 8] = [
         Options::Keep,
         &["/x/"],
         b"a\nb\n",
-        Fault::NoMatch(0, 0),
+        Some(Fault::NoMatch(0, 0)),
         b"4\n",
         &[b"a\nb\n"],
     ),
@@ -241,7 +252,7 @@ const FAULTS: [FaultRow<'static>; 8] = [
         Options::Keep,
         &["/b/", "{2}"],
         b"a\nb\nc",
-        Fault::NoMatch(0, 1),
+        Some(Fault::NoMatch(0, 1)),
         b"2\n3\n",
         &[b"a\n", b"b\nc"],
     ),
@@ -249,7 +260,7 @@ const FAULTS: [FaultRow<'static>; 8] = [
         Options::Keep,
         &["/b/+5"],
         b"a\nb\n",
-        Fault::Range(0, 0),
+        Some(Fault::Range(0, 0)),
         b"4\n",
         &[b"a\nb\n"],
     ),
@@ -257,7 +268,7 @@ const FAULTS: [FaultRow<'static>; 8] = [
         Options::Keep,
         &["1", "%x%"],
         b"a\n",
-        Fault::NoMatch(1, 0),
+        Some(Fault::NoMatch(1, 0)),
         b"0\n",
         &[b""],
     ),
@@ -265,7 +276,7 @@ const FAULTS: [FaultRow<'static>; 8] = [
         Options::Suppress,
         &["2", "2"],
         b"a\nb\nc\n",
-        Fault::Range(1, 0),
+        Some(Fault::Range(1, 0)),
         b"2\n0\n",
         &[],
     ),
@@ -273,28 +284,31 @@ const FAULTS: [FaultRow<'static>; 8] = [
         Options::Plain,
         &["/x/"],
         b"a\nb\n",
-        Fault::NoMatch(0, 0),
+        Some(Fault::NoMatch(0, 0)),
         b"4\n",
         &[],
     ),
 ];
 
-#[test]
-fn ends_where_an_operand_finds_no_line(rt: HostRuntime) -> Result<(), Fail> {
-    for (options, words, input, fault, sizes, files) in &FAULTS {
+/// Cuts the input of each row, in pieces of each size.
+fn check_rows(rt: &impl Abort, alloc: Global, rows: &[Row<'_>]) -> Result<(), Fail> {
+    for row in rows {
         for size in SIZES {
-            let mut outs = MemOut::new(rt.alloc())?;
-            let style = style_of(rt.alloc(), *options)?;
-            let operands = read_operands(rt.alloc(), words).expect(&rt, "these are operands");
-            let end = run(rt.alloc(), style, &operands, input, size, &mut outs);
-            assert!(rt;
-                matches!(end, Err(met) if met == *fault),
-                "at {words:?} in pieces of {size}"
-            );
-            assert!(rt; has_left(&outs, files), "at {words:?} in pieces of {size}");
-            assert_eq!(rt; outs.bytes(0), *sizes, "at {words:?} in pieces of {size}");
+            check_row(rt, alloc, row, size)?;
         }
     }
+    Ok(())
+}
+
+fn check_row(rt: &impl Abort, alloc: Global, row: &Row<'_>, size: usize) -> Result<(), Fail> {
+    let (options, words, input, fault, sizes, files) = row;
+    let mut outs = MemOut::new(alloc)?;
+    let style = style_of(alloc, *options)?;
+    let operands = read_operands(alloc, words).expect(rt, "these are operands");
+    let end = run(alloc, style, &operands, input, size, &mut outs);
+    assert!(rt; end.err() == *fault, "at {words:?} in pieces of {size}");
+    assert!(rt; has_left(&outs, files), "at {words:?} in pieces of {size}");
+    assert_eq!(rt; outs.bytes(0), *sizes, "at {words:?} in pieces of {size}");
     Ok(())
 }
 
@@ -353,7 +367,7 @@ fn run(
     close(&mut engine, outs)
 }
 
-fn open<'o>(
+pub fn open<'o>(
     alloc: Global,
     style: Style,
     operands: &'o Operands,
@@ -366,14 +380,14 @@ fn open<'o>(
     Csplitter::open(alloc, operands, style, outs)
 }
 
-fn feed(engine: &mut Csplitter<'_>, piece: &[u8], outs: &mut MemOut) -> Result<(), Fault>
+pub fn feed(engine: &mut Csplitter<'_>, piece: &[u8], outs: &mut MemOut) -> Result<(), Fault>
     requires { engine.old.is_over ≡ false → IsReady engine.old.stage outs.old }
     ensures { engine.new.is_over ≡ false → IsReady engine.new.stage outs.new }
 {
     engine.feed(piece, outs)
 }
 
-fn close(engine: &mut Csplitter<'_>, outs: &mut MemOut) -> Result<(), Fault>
+pub fn close(engine: &mut Csplitter<'_>, outs: &mut MemOut) -> Result<(), Fault>
     requires { engine.old.is_over ≡ false → IsReady engine.old.stage outs.old }
 {
     engine.close(outs)
@@ -393,9 +407,8 @@ fn has_files(outs: &MemOut, files: &[&[u8]]) -> bool {
 
 /// Whether just these files are there, with these bytes: no other was made, or the first was removed.
 fn has_left(outs: &MemOut, files: &[&[u8]]) -> bool {
-    if files.is_empty() {
-        outs.removed(2)
-    } else {
-        has_files(outs, files)
+    if files.is_empty() && outs.removed(2) {
+        return true;
     }
+    has_files(outs, files)
 }

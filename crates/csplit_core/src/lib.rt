@@ -1,6 +1,10 @@
 //! The tool that cuts an input where its lines match: `csplit`.
 #![tactic(auto)]
 
+#[cfg(test)]
+mod csplit_plain;
+#[cfg(test)]
+mod csplit_plain_tests;
 mod csplit_stage;
 #[cfg(test)]
 mod csplit_tests;

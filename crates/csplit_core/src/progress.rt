@@ -1,13 +1,12 @@
 //! Where a run stands, and what its next operand does.
-ghost use Rattle.std.specs.Prelude.{◌≡◌, ◌<◌, ◌≤◌, ◌+◌, ◌-◌, ◌^◌, ◌∷◌, drop, min, Bool, List, option_map};
+ghost use Rattle.std.specs.Prelude.{◌≡◌, ◌<◌, ◌≤◌, ◌+◌, ◌-◌, ◌^◌, ◌∷◌, drop, min, Bool, List};
 ghost use Rattle.csplit_core.specs.Measure.{Fits};
 ghost use Rattle.csplit_core.specs.Operand.{Line, has_more, moved};
 ghost use Rattle.csplit_core.specs.Plan.{line_after, search_line, state_after};
-ghost use Rattle.csplit_core.specs.Progress.{AreSeen, FallsAt, IsSought, MovesOn, Turns, state_of};
+ghost use Rattle.csplit_core.specs.Progress.{AreSeen, FallsAt, MovesOn, Turns, state_of};
 ghost use Rattle.csplit_core.specs.declared.operand.Operand.{Operand};
 
 use crate::{Offset, Operand, Target, Times};
-use scan_core::Bre;
 
 /// What the next operand does.
 #[derive(Clone, Copy, Debug, PartialEq, Eq)]
@@ -63,25 +62,6 @@ impl Progress {
             1
         } else {
             self.current.max(self.matched) + 1
-        }
-    }
-
-    /// The pattern with which the last of `total` lines has to be matched, if any: that of the next operand, where its
-    /// search begins at that line or before it.
-    pub fn sought<'o>(&self, suppress: bool, operands: &'o [Operand], total: u64) -> Option<&'o Bre>
-        requires current { self.now.current < 2 ^ 64 - 1 }
-        requires matched { self.now.matched < 2 ^ 64 - 1 }
-        ensures { IsSought suppress total (state_of operands.now self.now) (drop self.now.done operands.now) (option_map (λ bre. bre.now) result) }
-    {
-        let operand = operands.get(self.done)?;
-        match &operand.target {
-            Target::Number(_) => None,
-            Target::Search { pattern, .. } => {
-                if total < self.search_line(suppress) {
-                    return None;
-                }
-                Some(pattern)
-            }
         }
     }
 
