@@ -3,7 +3,7 @@ ghost use Rattle.ports_core.specs.Slot.{is_writable, with_written, told_of};
 ghost use Rattle.ports_core.specs.Work.{IsLawful};
 ghost use Rattle.ports_core.specs.Engine.{OwnsNone};
 ghost use Rattle.ports_core.specs.Guard.{GuardState, HoldsIn};
-ghost use Rattle.ends_core.specs.Head.{IsDone, Holds, head_work, work};
+ghost use Rattle.ends_core.specs.Head.{IsDone, Holds, head_waiting, head_work, work};
 ghost use Rattle.ends_core.specs.HeadState.{HeadState};
 ghost use Rattle.ends_core.specs.HeadWay.{FullLacksNone, SameWay, delim_of, due, is_full, left_of, left_waiting, may_lack, state_of, unit_of, waiting_of};
 ghost use Rattle.ends_core.specs.Ends.{measure};
@@ -100,9 +100,10 @@ impl Head {
         })
     }
 
-    /// How many bytes wait, and so aren't written.
+    /// How many bytes wait, and so aren't written: those that came in and of which it isn't decided yet where they go.
     pub fn held(&self) -> u64
-        ensures { result ≡ length self.now.stage.waiting }
+        ensures bytes { result ≡ length self.now.stage.waiting }
+        ensures waits { (x : List ℕ) → HoldsIn Holds self.now x → result ≡ length (head_waiting self.now.stage.delim self.now.stage.unit self.now.stage.but_last self.now.stage.count x) }
     {
         self.engine.stage().way.held()
     }

@@ -1,11 +1,13 @@
 //! Laws of the definitions, with no code: each stands on the contract of a function whose body is empty.
-ghost use Rattle.std.specs.Prelude.{◌≡◌, ◌<◌, ◌≤◌, ◌+◌, ◌-◌, ◌++◌, ◌⊎◌, ℕ, List, length, true, false};
+ghost use Rattle.std.specs.Prelude.{◌≡◌, ◌<◌, ◌≤◌, ◌+◌, ◌-◌, ◌++◌, ◌⊎◌, ℕ, Bool, List, length, true, false};
 ghost use Rattle.seg_core.specs.Line.{delimiters, ends_with, line_count};
 ghost use Rattle.ends_core.specs.Ends.{behind_of, but_last_of, first_of, last_of, measure, size, tail_of};
-ghost use Rattle.ends_core.specs.Head.{work, Holds as HeadHolds, IsRefused as HeadRefused};
+ghost use Rattle.ends_core.specs.Head.{head_waiting, head_work, work, Holds as HeadHolds, IsRefused as HeadRefused};
 ghost use Rattle.ends_core.specs.HeadState.{HeadState};
-ghost use Rattle.ends_core.specs.Tail.{Holds as TailHolds, IsRefused as TailRefused};
+ghost use Rattle.ends_core.specs.Place.{head_spots, tail_spots};
+ghost use Rattle.ends_core.specs.Tail.{tail_waiting, tail_work, Holds as TailHolds, IsRefused as TailRefused};
 ghost use Rattle.ends_core.specs.TailState.{TailState};
+ghost use Rattle.ports_core.specs.Agreed.{ArePlaced, IsAgreed, IsUndecided};
 ghost use Rattle.ports_core.specs.Guard.{GuardState, HoldsIn};
 ghost use Rattle.ports_core.specs.Slot.{Slot};
 
@@ -42,6 +44,21 @@ pub fn tail_goes_on(unit: Unit, delim: u8)
     ensures last { (n : ℕ) (x y : List ℕ) → last_of delim unit n (x ++ y) ≡ last_of delim unit n (last_of delim unit n x ++ y) }
     ensures waits { (tail : GuardState TailState) (x : List ℕ) → HoldsIn TailHolds tail x → tail.stage.from_nth ≡ false → tail.stage.waiting ≡ last_of tail.stage.delim tail.stage.unit tail.stage.count x }
     ensures few { (n : ℕ) (x : List ℕ) → size delim unit (last_of delim unit n x) ≤ n }
+{
+    let _ = (unit, delim);
+}
+
+/// What is settled is what all continuations agree on, and the bytes that wait are those that two continuations put to
+/// different places, or one of them nowhere. So nothing is written that could still change, and nothing is kept back
+/// that can't. This holds of every count, 0 too, after any bytes. Where a byte goes is said by spots, and each output has
+/// at each spot just the one byte that goes there.
+pub fn agreed_is_settled(unit: Unit, delim: u8)
+    ensures head { (but_last : Bool) (n : ℕ) (x : List ℕ) → IsAgreed (head_work delim unit but_last n) x ((head_work delim unit but_last n).settled x) }
+    ensures head_waits { (but_last : Bool) (n : ℕ) (x : List ℕ) → IsUndecided (head_spots delim unit but_last n) x (head_waiting delim unit but_last n x) }
+    ensures head_placed { (but_last : Bool) (n : ℕ) → ArePlaced (head_work delim unit but_last n) (head_spots delim unit but_last n) }
+    ensures tail { (from_nth : Bool) (n : ℕ) (x : List ℕ) → IsAgreed (tail_work delim unit from_nth n) x ((tail_work delim unit from_nth n).settled x) }
+    ensures tail_waits { (from_nth : Bool) (n : ℕ) (x : List ℕ) → IsUndecided (tail_spots delim unit from_nth n) x (tail_waiting delim unit from_nth n x) }
+    ensures tail_placed { (from_nth : Bool) (n : ℕ) → ArePlaced (tail_work delim unit from_nth n) (tail_spots delim unit from_nth n) }
 {
     let _ = (unit, delim);
 }

@@ -1,9 +1,9 @@
-ghost use Rattle.std.specs.Prelude.{◌≡◌, ◌+◌, ◌-◌, ◌^◌, ◌<◌, ◌≤◌, [], true, false, length, IsTrue, IfOk, IfErr, OnOk};
+ghost use Rattle.std.specs.Prelude.{◌≡◌, ◌+◌, ◌-◌, ◌^◌, ◌<◌, ◌≤◌, ℕ, List, [], true, false, length, IsTrue, IfOk, IfErr, OnOk};
 ghost use Rattle.ports_core.specs.Slot.{is_writable, with_written, told_of};
 ghost use Rattle.ports_core.specs.Work.{IsLawful};
 ghost use Rattle.ports_core.specs.Engine.{OwnsNone};
 ghost use Rattle.ports_core.specs.Guard.{GuardState, HoldsIn};
-ghost use Rattle.ends_core.specs.Tail.{Holds, tail_work, work};
+ghost use Rattle.ends_core.specs.Tail.{Holds, tail_waiting, tail_work, work};
 ghost use Rattle.ends_core.specs.TailState.{TailState};
 ghost use Rattle.ends_core.specs.TailWay.{FullLacksNone, SameWay, delim_of, due, left_of, left_waiting, may_lack, state_of, unit_of, waiting_of};
 ghost use Rattle.ends_core.specs.Ends.{measure};
@@ -99,9 +99,10 @@ impl Tail {
         }
     }
 
-    /// How many bytes wait, and so aren't written.
+    /// How many bytes wait, and so aren't written: those that came in and of which it isn't decided yet where they go.
     pub fn held(&self) -> u64
-        ensures { result ≡ length self.now.stage.waiting }
+        ensures bytes { result ≡ length self.now.stage.waiting }
+        ensures waits { (x : List ℕ) → HoldsIn Holds self.now x → result ≡ length (tail_waiting self.now.stage.delim self.now.stage.unit self.now.stage.from_nth self.now.stage.count x) }
     {
         self.engine.stage().way.held()
     }

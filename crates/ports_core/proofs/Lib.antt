@@ -14,3 +14,5 @@ pub mod DirInLemmas
 pub mod DirOutLemmas
 pub mod MessageLemmas
 pub mod SlotSteps
+pub mod AgreedLemmas
+pub mod OneAgreed

@@ -30,7 +30,8 @@ pub trait Engine {
     /// Whether the slots from a place on are those that it opened.
     ghost Owns: { Self → ℕ → List Slot → Type 0 };
 
-    /// Takes the next piece of the input, and writes what is settled with it.
+    /// Takes the next piece of the input, and writes what is settled with it. What that is, each tool's law
+    /// `agreed_is_settled` says: exactly what all continuations of the input agree on.
     ///
     /// # Errors
     ///

@@ -52,8 +52,9 @@ fn print_message<O: Outs>(tool: Tool, line: Result<Vec<u8>, Fault>, outs: &mut O
     }
 }
 
-/// Writes a text to standard error, as far as that takes it.
-fn print<O: Outs>(text: &[u8], outs: &mut O)
+/// Writes a text to standard error, as far as that takes it. Where standard error can't be written, the text is passed over. It
+/// takes no memory.
+pub fn print<O: Outs>(text: &[u8], outs: &mut O)
     requires { is_open (slot_at (O.slots outs.old) 1).state ≡ true }
     ensures { PrintsOn O.told text.now (O.slots outs.old) (O.slots outs.new) }
 {

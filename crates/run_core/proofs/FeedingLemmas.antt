@@ -27,7 +27,7 @@ nothing_read slot sources = record { bytes = refl; breaks_off = refl }
 
 -- a change of one input
 
-changed_there : {X : Type 0} (default : X) (place : ℕ) (change : X → X) (xs : List X) → place < length xs → slice_index_or (changed_at place change xs) place default ≡ change (slice_index_or xs place default)
+pub changed_there : {X : Type 0} (default : X) (place : ℕ) (change : X → X) (xs : List X) → place < length xs → slice_index_or (changed_at place change xs) place default ≡ change (slice_index_or xs place default)
 changed_there default place change [] within = absurd (omega arith)
 changed_there default zero change (x ∷ xs) within = refl
 changed_there default (suc place) change (x ∷ xs) within = changed_there default place change xs (omega arith)
