@@ -1,0 +1,223 @@
+-- Two placings of looks agree.
+use Rattle.std.proofs.Common.{◌≡◌, ℕ, ◌<◌, zero, suc, Bool, true, false, List, [], ◌∷◌, ◌++◌, length, take, Option, Some, None, refl, sym, ◌∙◌, ap, subst, arith, append_assoc, length-append, slice_index_or, bytes_eq, if◌then◌else◌, ◌⊎◌, inl, inr}
+use Rattle.std.proofs.lemmas.List.{append-nil, get_or_append_left}
+use Rattle.std.proofs.lemmas.Bool.{false≢true}
+use Rattle.std.proofs.lemmas.Slice.Eq.{bytes_eq-Decides}
+use Rattle.ports_core.specs.Slot.{changed_at}
+use Rattle.ports_core.specs.Part.{IsBeginning}
+use Rattle.ports_core.proofs.SlotLemmas.{length-changed_at}
+use Rattle.ports_core.proofs.PartLemmas.{begins_itself, begins_trans}
+use Rattle.watch_core.specs.Snapshot.{Snapshot}
+use Rattle.watch_core.specs.Edits.{Edit, append, truncate, replace, remove, World, empty_world, led_to, with_file, edited, edited_by, seen_in, snapshots_from, snapshots_of}
+use Rattle.follow_core.specs.Version.{Version, Entry, version, gap, version_in, is_file, entries_led, entries_later, entries_at_look, entries_of, open_after_look}
+use Rattle.follow_core.specs.Run.{AreKept, name_text}
+use Rattle.follow_core.specs.Gain.{file_of, gain_between, gains_later, last_from, gains_after}
+use Rattle.follow_core.specs.Placing.{all_edits, IsUncut, AreSeen, AllSeen, Agree}
+use Rattle.follow_core.proofs.RunLemmas.{text_is_gains}
+use Rattle.follow_core.proofs.LaterLemmas.{open_step}
+use Rattle.follow_core.proofs.PlacingLemmas.{one_look_more, led_same, grown}
+use Rattle.watch_core.proofs.WorldLemmas.{append_leads, append_grows}
+
+-- files that names lead to are there, and no two names lead to one
+record Sound (world : World) : Type 0 where
+  known : (name : List ℕ) (file : ℕ) → led_to world.links name ≡ Some file → file < length world.files
+  one : (name other : List ℕ) (file : ℕ) → led_to world.links name ≡ Some file → led_to world.links other ≡ Some file → name ≡ other
+
+some_is : (a b : ℕ) → Some a ≡ Some b → a ≡ b
+some_is a b is = ap (λ o. elim o [ None ↦ a | Some x ↦ x ]) is
+
+not_some : (a : ℕ) → None ≡ Some a → ⊥
+not_some a is = false≢true (ap (λ (o : Option ℕ). elim o [ None ↦ false | Some x ↦ true ]) is)
+
+sound_changes : (world : World) (file : Option ℕ) (change : List ℕ → List ℕ) → Sound world → Sound (with_file file change world)
+sound_changes world None change sound = sound
+sound_changes world (Some file) change sound = record {
+  known = λ name other is. subst (λ n. other < n) (sym (length-changed_at file change world.files)) (sound.known name other is);
+  one = sound.one;
+}
+
+sound_replace : (world : World) (name bytes : List ℕ) → Sound world → Sound (edited (replace name bytes) world)
+sound_replace world name bytes sound = record { known = λ a file is. knows a file (bytes_eq name a) is; one = λ a b file is also. ones a b file (bytes_eq name a) (bytes_eq name b) refl refl is also } where
+  knows : (a : List ℕ) (file : ℕ) (test : Bool) → (if test then Some (length world.files) else led_to world.links a) ≡ Some file → file < length (world.files ++ bytes ∷ [])
+  knows a file true is = let n = length-append world.files (bytes ∷ []) in let e : length world.files ≡ file = some_is _ _ is in omega (arith, n, e)
+  knows a file false is = let n = length-append world.files (bytes ∷ []) in let k : file < length world.files = sound.known a file is in omega (arith, n, k)
+
+  ones : (a b : List ℕ) (file : ℕ) (test other : Bool) → bytes_eq name a ≡ test → bytes_eq name b ≡ other → (if test then Some (length world.files) else led_to world.links a) ≡ Some file → (if other then Some (length world.files) else led_to world.links b) ≡ Some file → a ≡ b
+  ones a b file true true same also is one = sym ((bytes_eq-Decides name a).0 same) ∙ (bytes_eq-Decides name b).0 also
+  ones a b file true false same also is one = absurd (let e : length world.files ≡ file = some_is _ _ is in let k : file < length world.files = sound.known b file one in omega (arith, e, k))
+  ones a b file false true same also is one = absurd (let e : length world.files ≡ file = some_is _ _ one in let k : file < length world.files = sound.known a file is in omega (arith, e, k))
+  ones a b file false false same also is one = sound.one a b file is one
+
+sound_remove : (world : World) (name : List ℕ) → Sound world → Sound (edited (remove name) world)
+sound_remove world name sound = record { known = λ a file is. knows a file (bytes_eq name a) is; one = λ a b file is also. ones a b file (bytes_eq name a) (bytes_eq name b) is also } where
+  knows : (a : List ℕ) (file : ℕ) (test : Bool) → (if test then None else led_to world.links a) ≡ Some file → file < length world.files
+  knows a file true is = absurd (not_some file is)
+  knows a file false is = sound.known a file is
+
+  ones : (a b : List ℕ) (file : ℕ) (test other : Bool) → (if test then None else led_to world.links a) ≡ Some file → (if other then None else led_to world.links b) ≡ Some file → a ≡ b
+  ones a b file true other is one = absurd (not_some file is)
+  ones a b file false true is one = absurd (not_some file one)
+  ones a b file false false is one = sound.one a b file is one
+
+sound_edited : (world : World) (edit : Edit) → Sound world → Sound (edited edit world)
+sound_edited world (append name bytes) sound = sound_changes world (led_to world.links name) (λ held. held ++ bytes) sound
+sound_edited world (truncate name n) sound = sound_changes world (led_to world.links name) (λ held. take n held) sound
+sound_edited world (replace name bytes) sound = sound_replace world name bytes sound
+sound_edited world (remove name) sound = sound_remove world name sound
+
+sound_all : (world : World) (edits : List Edit) → Sound world → Sound (edited_by edits world)
+sound_all world [] sound = sound
+sound_all world (edit ∷ edits) sound = sound_all (edited edit world) edits (sound_edited world edit sound)
+
+changed_other : (files : List (List ℕ)) (place file : ℕ) (change : List ℕ → List ℕ) → (place ≡ file → ⊥) → slice_index_or (changed_at place change files) file [] ≡ slice_index_or files file []
+changed_other [] place file change differs = refl
+changed_other (held ∷ files) zero zero change differs = absurd (differs refl)
+changed_other (held ∷ files) zero (suc file) change differs = refl
+changed_other (held ∷ files) (suc place) zero change differs = refl
+changed_other (held ∷ files) (suc place) (suc file) change differs = changed_other files place file change (λ is. differs (ap suc is))
+
+one_append : (world : World) (other bytes : List ℕ) (file : ℕ) → IsBeginning ((seen_in world).holds file) ((seen_in (edited (append other bytes) world)).holds file)
+one_append world other bytes file = elim (append_grows world other bytes file) [
+  | inl same ↦ ([], same ∙ sym (append-nil _))
+  | inr both ↦ (bytes, both.1)
+]
+
+-- a file that a name leads to keeps its bytes, where the name is not cut
+uncut : (world : World) (name : List ℕ) (file : ℕ) (edits : List Edit) → Sound world → led_to world.links name ≡ Some file → IsUncut name edits → AreSeen edits → IsBeginning ((seen_in world).holds file) ((seen_in (edited_by edits world)).holds file)
+uncut world name file [] sound leads no_cut seen = begins_itself _
+uncut world name file (truncate other n ∷ []) sound leads no_cut seen = by (led_to world.links other) refl where
+  by : (led : Option ℕ) → led_to world.links other ≡ led → IsBeginning ((seen_in world).holds file) ((seen_in (with_file led (λ held. take n held) world)).holds file)
+  by None is = begins_itself _
+  by (Some place) is = subst (λ held. IsBeginning ((seen_in world).holds file) held) (sym (changed_other world.files place file _ (λ same. false≢true (sym no_cut.0 ∙ (bytes_eq-Decides name other).1 (sound.one name other file leads (is ∙ ap Some same)))))) (begins_itself _)
+uncut world name file (replace other bytes ∷ []) sound leads no_cut seen =
+    subst (λ held. IsBeginning ((seen_in world).holds file) held) (sym (get_or_append_left world.files (bytes ∷ []) [] file (sound.known name file leads))) (begins_itself _)
+uncut world name file (remove other ∷ []) sound leads no_cut seen = begins_itself _
+uncut world name file (append other bytes ∷ []) sound leads no_cut seen = one_append world other bytes file
+uncut world name file (append other bytes ∷ next ∷ edits) sound leads no_cut seen =
+    begins_trans _ _ _ (one_append world other bytes file) (uncut (edited (append other bytes) world) name file (next ∷ edits) (sound_edited world (append other bytes) sound) (append_leads world other bytes name ∙ leads) no_cut seen.1)
+uncut world name file (truncate other n ∷ (next ∷ edits)) sound leads no_cut seen = elim seen [ ]
+uncut world name file (replace other bytes ∷ (next ∷ edits)) sound leads no_cut seen = elim seen [ ]
+uncut world name file (remove other ∷ (next ∷ edits)) sound leads no_cut seen = elim seen [ ]
+
+-- what was last seen of a name is as it is now
+abbrev Matches : Snapshot → Entry → Type 0
+Matches snapshot gap = Unit {0}
+Matches snapshot (version v) = snapshot.holds v.file ≡ v.contents
+
+record Stays (by_name : Bool) (name : List ℕ) (world : World) (last : Entry) : Type 0 where
+  sound : Sound world
+  leads : by_name ≡ true → led_to world.links name ≡ file_of last
+  matches : Matches (seen_in world) last
+
+abbrev gained : Bool → List ℕ → Entry → List Snapshot → List ℕ
+gained by_name name last looks = gains_later last (entries_later by_name name (file_of last) looks)
+
+abbrev last_seen : Bool → List ℕ → Entry → Snapshot → Entry
+last_seen by_name name last snapshot = last_from last (entries_at_look by_name name (file_of last) snapshot)
+
+matches_now : (by_name : Bool) (name : List ℕ) (last : Entry) (snapshot : Snapshot) → Matches snapshot (last_seen by_name name last snapshot)
+matches_now true name gap snapshot = by (snapshot.leads name) where
+  by : (led : Option ℕ) → Matches snapshot (last_from gap (entries_led snapshot None led))
+  by None = tt
+  by (Some file) = refl
+matches_now false name gap snapshot = tt
+matches_now false name (version v) snapshot = refl
+matches_now true name (version v) snapshot = by (snapshot.leads name) where
+  some : (file : ℕ) (test : Bool) → Matches snapshot (last_from (version_in snapshot v.file) (if test then [] else version_in snapshot file ∷ []))
+  some file true = refl
+  some file false = refl
+
+  by : (led : Option ℕ) → Matches snapshot (last_from (version v) (version_in snapshot v.file ∷ entries_led snapshot (Some v.file) led))
+  by None = tt
+  by (Some file) = some file (is_file file (Some v.file))
+
+stays_now : (by_name : Bool) (name : List ℕ) (last : Entry) (world : World) → Sound world → Stays by_name name world (last_seen by_name name last (seen_in world))
+stays_now by_name name last world sound = record {
+  sound = sound;
+  leads = λ is. by by_name is;
+  matches = matches_now by_name name last (seen_in world);
+} where
+  by : (way : Bool) → way ≡ true → led_to world.links name ≡ file_of (last_seen way name last (seen_in world))
+  by true is = open_step true name (file_of last) (seen_in world) last refl
+  by false is = absurd (false≢true is)
+
+pub gains-append : (last : Entry) (entries more : List Entry) → gains_later last (entries ++ more) ≡ gains_later last entries ++ gains_later (last_from last entries) more
+gains-append last [] more = refl
+gains-append last (entry ∷ entries) more = ap (λ x. gain_between last entry ++ x) (gains-append entry entries more) ∙ sym (append_assoc (gain_between last entry) (gains_later entry entries) _)
+
+-- one look, and then the others
+gained_first : (by_name : Bool) (name : List ℕ) (last : Entry) (snapshot : Snapshot) (looks : List Snapshot) → gained by_name name last (snapshot ∷ looks) ≡ gains_later last (entries_at_look by_name name (file_of last) snapshot) ++ gained by_name name (last_seen by_name name last snapshot) looks
+gained_first by_name name last snapshot looks =
+    gains-append last (entries_at_look by_name name (file_of last) snapshot) (entries_later by_name name (open_after_look by_name name (file_of last) snapshot) looks)
+    ∙ ap (λ opened. gains_later last (entries_at_look by_name name (file_of last) snapshot) ++ gains_later (last_seen by_name name last snapshot) (entries_later by_name name opened looks)) (open_step by_name name (file_of last) snapshot last refl)
+
+same_first : (by_name : Bool) (name : List ℕ) (last : Entry) (snapshot : Snapshot) (looks others : List Snapshot) → gained by_name name (last_seen by_name name last snapshot) looks ≡ gained by_name name (last_seen by_name name last snapshot) others → gained by_name name last (snapshot ∷ looks) ≡ gained by_name name last (snapshot ∷ others)
+same_first by_name name last snapshot looks others same =
+    gained_first by_name name last snapshot looks ∙ ap (λ x. gains_later last (entries_at_look by_name name (file_of last) snapshot) ++ x) same ∙ sym (gained_first by_name name last snapshot others)
+
+-- a look after no edit gives nothing
+still : (v : Version) (snapshot : Snapshot) (entries : List Entry) → snapshot.holds v.file ≡ v.contents → gains_later (version v) (version_in snapshot v.file ∷ entries) ≡ gains_later (version v) entries
+still v snapshot entries same =
+    ap (λ contents. gains_later (version v) (version (record { file = v.file; contents = contents }) ∷ entries)) same
+    ∙ ap (λ x. x ++ gains_later (version v) entries) (grown v.file v.contents [] v.contents (sym (append-nil v.contents)))
+
+idle_look : (by_name : Bool) (name : List ℕ) (last : Entry) (world : World) (looks : List Snapshot) → Stays by_name name world last → gained by_name name last (seen_in world ∷ looks) ≡ gained by_name name last looks
+idle_look false name gap world looks stays = refl
+idle_look true name gap world looks stays = ap (λ led. gains_later gap (entries_led (seen_in world) None led ++ entries_later true name led looks)) (stays.leads refl)
+idle_look false name (version v) world looks stays = still v (seen_in world) (entries_later false name (Some v.file) looks) stays.matches
+idle_look true name (version v) world looks stays =
+    ap (λ led. gains_later (version v) ((version_in (seen_in world) v.file ∷ entries_led (seen_in world) (Some v.file) led) ++ entries_later true name led looks)) (stays.leads refl)
+    ∙ ap (λ entries. gains_later (version v) ((version_in (seen_in world) v.file ∷ entries) ++ entries_later true name (Some v.file) looks)) (led_same (seen_in world) v.file)
+    ∙ still v (seen_in world) (entries_later true name (Some v.file) looks) stays.matches
+
+-- a look after each edit
+abbrev singles : List Edit → List (List Edit)
+singles [] = []
+singles (edit ∷ edits) = (edit ∷ []) ∷ singles edits
+
+abbrev Refines : Bool → List ℕ → List (List Edit) → Type 0
+Refines by_name name groups = (world : World) (last : Entry) → Stays by_name name world last → gained by_name name last (snapshots_from world groups) ≡ gained by_name name last (snapshots_from world (singles (all_edits groups)))
+
+one_group : (by_name : Bool) (name : List ℕ) (group : List Edit) (groups : List (List Edit)) → AreSeen group → Refines by_name name groups → Refines by_name name (group ∷ groups)
+one_group by_name name [] groups seen rest world last stays = idle_look by_name name last world _ stays ∙ rest world last stays
+one_group by_name name (edit ∷ []) groups seen rest world last stays =
+    same_first by_name name last (seen_in (edited edit world)) _ _ (rest (edited edit world) _ (stays_now by_name name last (edited edit world) (sound_edited world edit stays.sound)))
+one_group by_name name (append other bytes ∷ next ∷ edits) groups seen rest world last stays =
+    sym (one_look_more by_name name last (seen_in (edited (append other bytes) world)) (seen_in (edited_by (next ∷ edits) (edited (append other bytes) world))) (snapshots_from (edited_by (next ∷ edits) (edited (append other bytes) world)) groups) (λ is. append_leads world other bytes name ∙ stays.leads is) grows)
+    ∙ same_first by_name name last (seen_in (edited (append other bytes) world)) (snapshots_from (edited (append other bytes) world) ((next ∷ edits) ∷ groups)) (snapshots_from (edited (append other bytes) world) (singles (all_edits ((next ∷ edits) ∷ groups)))) (one_group by_name name (next ∷ edits) groups seen.1 rest (edited (append other bytes) world) _ (stays_now by_name name last (edited (append other bytes) world) (sound_edited world (append other bytes) stays.sound))) where
+      grows : (v : Version) → last ≡ version v → ((seen_in (edited (append other bytes) world)).holds v.file ≡ v.contents) ⊎ (IsBeginning v.contents ((seen_in (edited (append other bytes) world)).holds v.file) × IsBeginning ((seen_in (edited (append other bytes) world)).holds v.file) ((seen_in (edited_by (next ∷ edits) (edited (append other bytes) world))).holds v.file))
+      grows v is = let was : (seen_in world).holds v.file ≡ v.contents = subst (Matches (seen_in world)) is stays.matches in elim (append_grows world other bytes v.file) [
+        | inl same ↦ inl (same ∙ was)
+        | inr both ↦ inr ((bytes, both.1 ∙ ap (λ held. held ++ bytes) was), uncut (edited (append other bytes) world) other v.file (next ∷ edits) (sound_edited world (append other bytes) stays.sound) (append_leads world other bytes other ∙ both.0) seen.0 seen.1)
+      ]
+one_group by_name name (truncate other n ∷ next ∷ edits) groups seen rest world last stays = elim seen [ ]
+one_group by_name name (replace other bytes ∷ next ∷ edits) groups seen rest world last stays = elim seen [ ]
+one_group by_name name (remove other ∷ next ∷ edits) groups seen rest world last stays = elim seen [ ]
+
+refines : (by_name : Bool) (name : List ℕ) (groups : List (List Edit)) → AllSeen groups → Refines by_name name groups
+refines by_name name [] seen world last stays = refl
+refines by_name name (group ∷ groups) seen world last stays = one_group by_name name group groups seen.0 (refines by_name name groups seen.1) world last stays
+
+-- after the first look
+from_first : (start : List ℕ → List ℕ) (by_name : Bool) (name : List ℕ) (world : World) (groups : List (List Edit)) → Sound world → AllSeen groups → (led : Option ℕ) → led_to world.links name ≡ led
+    → gains_after start [] (entries_led (seen_in world) None led ++ entries_later by_name name led (snapshots_from world groups))
+    ≡ gains_after start [] (entries_led (seen_in world) None led ++ entries_later by_name name led (snapshots_from world (singles (all_edits groups))))
+from_first start by_name name world groups sound seen None is = refines by_name name groups seen world gap (record { sound = sound; leads = λ _. is; matches = tt })
+from_first start by_name name world groups sound seen (Some file) is =
+    ap (λ x. start ((seen_in world).holds file) ++ x) (refines by_name name groups seen world (version_in (seen_in world) file) (record { sound = sound; leads = λ _. is; matches = refl }))
+
+no_world : Sound empty_world
+no_world = record { known = λ name file is. absurd (not_some file is); one = λ name other file is also. absurd (not_some file is) }
+
+text_of_singles : (start : List ℕ → List ℕ) (by_name : Bool) (name : List ℕ) (first : List Edit) (groups : List (List Edit)) → AllSeen groups → AreKept (entries_of by_name name (snapshots_of (first ∷ groups)))
+    → name_text start (entries_of by_name name (snapshots_of (first ∷ groups))) ≡ gains_after start [] (entries_of by_name name (snapshots_of (first ∷ singles (all_edits groups))))
+text_of_singles start by_name name first groups seen kept =
+    text_is_gains start (entries_of by_name name (snapshots_of (first ∷ groups))) kept
+    ∙ from_first start by_name name (edited_by first empty_world) groups (sound_all empty_world first no_world) seen (led_to (edited_by first empty_world).links name) refl
+
+-- Two placings of looks give the same text.
+pub agree : (start : List ℕ → List ℕ) (by_name : Bool) (name : List ℕ) (first : List Edit) (one other : List (List Edit)) → Agree start by_name name first one other
+agree start by_name name first one other seen_one seen_other same kept_one kept_other =
+    text_of_singles start by_name name first one seen_one kept_one
+    ∙ ap (λ edits. gains_after start [] (entries_of by_name name (snapshots_of (first ∷ singles edits)))) same
+    ∙ sym (text_of_singles start by_name name first other seen_other kept_other)

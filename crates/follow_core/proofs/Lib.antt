@@ -1,0 +1,11 @@
+pub mod RunLemmas
+pub mod ShareLemmas
+pub mod LaterLemmas
+pub mod PlacingLemmas
+pub mod AgreeLemmas
+pub mod PrintLemmas
+pub mod CopyLemmas
+pub mod GiveLemmas
+pub mod CatchLemmas
+pub mod ChangeLemmas
+pub mod AgainLemmas

@@ -1,0 +1,67 @@
+-- What following writes and says, and whether anything failed.
+use Rattle.std.specs.Prelude.{ℕ, Bool, true, false, not, ◌&&◌, ◌||◌, List, [], ◌∷◌, ◌++◌, Option, Some, None, bytes_eq, if◌then◌else◌}
+use Rattle.ports_core.specs.Text.{header_of}
+use Rattle.follow_core.specs.Look.{Ways, Look}
+use Rattle.follow_core.specs.Share.{Share, shares_of}
+
+abbrev pub is_empty : List ℕ → Bool
+is_empty [] = true
+is_empty (byte ∷ bytes) = false
+
+-- the last header was of this name
+abbrev pub is_last : List ℕ → Option (List ℕ) → Bool
+is_last name None = false
+is_last name (Some last) = bytes_eq name last
+
+abbrev pub is_none : Option (List ℕ) → Bool
+is_none None = true
+is_none (Some last) = false
+
+-- Where headers are written: at the first look each file that was opened has one; later one stands before text that isn't empty, unless
+-- the last header was of that name.
+abbrev pub has_header : Bool → Option (List ℕ) → Share → Bool
+has_header headers last share = headers && (share.is_opened || (not (is_empty share.bytes) && not (is_last share.name last)))
+
+abbrev pub share_text : Bool → Option (List ℕ) → Share → List ℕ
+share_text headers last share = (if has_header headers last share then header_of share.name (is_none last) else []) ++ share.bytes
+
+-- whose the last header is after that
+abbrev pub header_after : Bool → Option (List ℕ) → Share → Option (List ℕ)
+header_after headers last share = if has_header headers last share then Some share.name else last
+
+-- the text of shares, where the last header before them was of this name
+abbrev pub text_from : Bool → Option (List ℕ) → List Share → List ℕ
+text_from headers last [] = []
+text_from headers last (share ∷ shares) = share_text headers last share ++ text_from headers (header_after headers last share) shares
+
+abbrev pub last_header_from : Bool → Option (List ℕ) → List Share → Option (List ℕ)
+last_header_from headers last [] = last
+last_header_from headers last (share ∷ shares) = last_header_from headers (header_after headers last share) shares
+
+abbrev pub messages_of : List Share → List (List ℕ)
+messages_of [] = []
+messages_of (share ∷ shares) = share.messages ++ messages_of shares
+
+-- some name could not be opened or read, or was missing at the first look
+abbrev pub any_failed : List Share → Bool
+any_failed [] = false
+any_failed (share ∷ shares) = share.has_failed || any_failed shares
+
+pub record Followed : Type 0 where
+  -- the text on standard output
+  pub out : List ℕ
+  -- the lines on standard error
+  pub messages : List (List ℕ)
+  -- the status is 1 in place of 0
+  pub has_failed : Bool
+
+abbrev pub made_of : Bool → List Share → Followed
+made_of headers shares = record { out = text_from headers None shares; messages = messages_of shares; has_failed = any_failed shares }
+
+-- what following these names through these looks writes and says
+abbrev pub followed : Ways → Bool → List (List ℕ) → List Look → Followed
+followed ways headers names looks = made_of headers (shares_of ways names looks)
+
+-- the name that the last header of these looks is of
+abbrev pub last_header : Ways → Bool → List (List ℕ) → List Look → Option (List ℕ)
+last_header ways headers names looks = last_header_from headers None (shares_of ways names looks)

@@ -1,0 +1,44 @@
+-- What each entry adds to the text of a name, by the one before it.
+use Rattle.std.specs.Prelude.{ℕ, List, [], ◌∷◌, ◌++◌, Option, Some, None, length, drop, if◌then◌else◌}
+use Rattle.follow_core.specs.Version.{Entry, version, gap}
+use Rattle.follow_core.specs.Run.{goes_on}
+
+abbrev pub gain_between : Entry → Entry → List ℕ
+gain_between (version v) (version w) = if goes_on v w then drop (length v.contents) w.contents else w.contents
+gain_between (version v) gap = []
+gain_between gap (version w) = w.contents
+gain_between gap gap = []
+
+abbrev pub gains_later : Entry → List Entry → List ℕ
+gains_later last [] = []
+gains_later last (entry ∷ entries) = gain_between last entry ++ gains_later entry entries
+
+-- what the first look gives
+abbrev pub started : (List ℕ → List ℕ) → Entry → List ℕ
+started start (version v) = start v.contents
+started start gap = []
+
+abbrev pub last_from : Entry → List Entry → Entry
+last_from entry [] = entry
+last_from entry (next ∷ entries) = last_from next entries
+
+-- what further entries add
+abbrev pub gains_after : (List ℕ → List ℕ) → List Entry → List Entry → List ℕ
+gains_after start [] [] = []
+gains_after start [] (entry ∷ entries) = started start entry ++ gains_later entry entries
+gains_after start (entry ∷ before) entries = gains_later (last_from entry before) entries
+
+-- the last entry; before the first look none is open
+abbrev pub last_of : List Entry → Entry
+last_of [] = gap
+last_of (entry ∷ entries) = last_from entry entries
+
+-- the file that is open after an entry
+abbrev pub file_of : Entry → Option ℕ
+file_of gap = None
+file_of (version v) = Some v.file
+
+-- how much of it was seen
+abbrev pub seen_length : Entry → ℕ
+seen_length gap = 0
+seen_length (version v) = length v.contents

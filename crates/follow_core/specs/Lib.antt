@@ -1,0 +1,14 @@
+pub mod Version
+pub mod Run
+pub mod Gain
+pub mod Notice
+pub mod Look
+pub mod Share
+pub mod Followed
+pub mod Placing
+pub mod Printing
+pub mod Copying
+pub mod Giving
+pub mod Catching
+pub mod Changing
+pub mod Again

@@ -1,0 +1,47 @@
+-- The looks that were made, and how each name came through them.
+use Rattle.std.specs.Prelude.{ℕ, Bool, true, false, not, ◌||◌, List, [], ◌∷◌, map, slice_index_or}
+use Rattle.watch_core.specs.Snapshot.{Snapshot}
+use Rattle.follow_core.specs.Version.{Entry, entries_of}
+
+-- how a name came through a look
+pub data Fate : Type 0 where
+  sound : Fate
+  -- A call that looks or opens failed. Of the messages and bytes that the look gives for the name, this number of each was given before that.
+  unopened : ℕ → ℕ → Fate
+  -- a call that reads the open file, or asks how long it is, failed; the same
+  unread : ℕ → ℕ → Fate
+
+pub record Look : Type 0 where
+  pub snapshot : Snapshot
+  -- of each name, in order; a name that is left out came through
+  pub fates : List Fate
+
+abbrev pub is_sound : Fate → Bool
+is_sound sound = true
+is_sound (unopened notices bytes) = false
+is_sound (unread notices bytes) = false
+
+abbrev pub fate_at : ℕ → Look → Fate
+fate_at place look = slice_index_or look.fates place sound
+
+-- the name at this place broke at one of these looks: it is dropped from then on
+abbrev pub is_dropped : ℕ → List Look → Bool
+is_dropped place [] = false
+is_dropped place (look ∷ looks) = not (is_sound (fate_at place look)) || is_dropped place looks
+
+abbrev pub snapshots : List Look → List Snapshot
+snapshots looks = map (λ look. look.snapshot) looks
+
+-- no look was made yet
+abbrev pub is_first : List Look → Bool
+is_first [] = true
+is_first (look ∷ looks) = false
+
+-- how the names are followed: by name, or by the file that was opened; and what is written of a file when it is opened first
+pub record Ways : Type 0 where
+  pub by_name : Bool
+  pub start : List ℕ → List ℕ
+
+-- the versions of a name in these looks
+abbrev pub entries_in : Ways → List ℕ → List Look → List Entry
+entries_in ways name looks = entries_of ways.by_name name (snapshots looks)

@@ -1,0 +1,44 @@
+-- What is told of a name from look to look.
+use Rattle.std.specs.Prelude.{ℕ, ◌==◌, Bool, true, false, List, [], ◌∷◌, ◌++◌, codes, if◌then◌else◌}
+use Rattle.ports_core.specs.Text.{in_quotes, tool_name}
+use Rattle.ports_core.specs.declared.tool.Tool.TheVariants.{Tail}
+use Rattle.follow_core.specs.declared.notice.Notice.{Notice}
+use Rattle.follow_core.specs.declared.notice.Notice.TheVariants.{Truncated, Replaced, Inaccessible, Appeared}
+use Rattle.follow_core.specs.Version.{Entry, version, gap}
+use Rattle.follow_core.specs.Run.{goes_on}
+
+abbrev pub notice_words : Notice → List ℕ
+notice_words Truncated = codes "file truncated"
+notice_words Replaced = codes "file replaced"
+notice_words Inaccessible = codes "file inaccessible"
+notice_words Appeared = codes "file appeared"
+
+-- a line of `tail` about a name
+abbrev pub line_of : List ℕ → List ℕ → List ℕ
+line_of words name = tool_name Tail ++ codes ": " ++ in_quotes name ++ codes ": " ++ words ++ codes "\n"
+
+-- the line that tells it
+abbrev pub notice_of : Notice → List ℕ → List ℕ
+notice_of notice name = line_of (notice_words notice) name
+
+-- What is told between two neighbours: nothing within a run and between gaps; where another run follows, whether it is of the same file.
+abbrev pub notices_between : Entry → Entry → List Notice
+notices_between (version v) (version w) = if goes_on v w then [] else (if v.file == w.file then Truncated else Replaced) ∷ []
+notices_between (version v) gap = Inaccessible ∷ []
+notices_between gap (version w) = Appeared ∷ []
+notices_between gap gap = []
+
+abbrev pub notices_later : Entry → List Entry → List Notice
+notices_later last [] = []
+notices_later last (entry ∷ entries) = notices_between last entry ++ notices_later entry entries
+
+-- what is told of a name that has these entries
+abbrev pub notices_of : List Entry → List Notice
+notices_of [] = []
+notices_of (entry ∷ entries) = notices_later entry entries
+
+-- the name led nowhere at the first look
+abbrev pub is_missing : List Entry → Bool
+is_missing [] = false
+is_missing (gap ∷ entries) = true
+is_missing (version v ∷ entries) = false

@@ -1,0 +1,47 @@
+-- Looks that are placed among edits.
+use Rattle.std.specs.Prelude.{◌≡◌, ℕ, Bool, false, List, [], ◌∷◌, ◌++◌, map, bytes_eq}
+use Rattle.watch_core.specs.Edits.{Edit, append, truncate, replace, remove, snapshots_of}
+use Rattle.follow_core.specs.Version.{Entry, entries_of}
+use Rattle.follow_core.specs.Run.{name_text, AreKept}
+use Rattle.follow_core.specs.Look.{Look}
+
+-- a look after each of these lists of edits, through which all names come
+abbrev pub looks_after : List (List Edit) → List Look
+looks_after looks = map (λ snapshot. record { snapshot = snapshot; fates = [] }) (snapshots_of looks)
+
+-- the edits before all looks, where each list of them is followed by a look
+abbrev pub all_edits : List (List Edit) → List Edit
+all_edits [] = []
+all_edits (edits ∷ looks) = edits ++ all_edits looks
+
+-- among these edits the name's file is not truncated
+abbrev pub IsUncut : List ℕ → List Edit → Type 0
+IsUncut name [] = Unit {0}
+IsUncut name (append other bytes ∷ edits) = IsUncut name edits
+IsUncut name (truncate other n ∷ edits) = (bytes_eq name other ≡ false) × IsUncut name edits
+IsUncut name (replace other bytes ∷ edits) = IsUncut name edits
+IsUncut name (remove other ∷ edits) = IsUncut name edits
+
+-- One look after these edits sees all that they do: a truncation, a replacement or a removal is the last of them, and no file is
+-- truncated that was appended to among them.
+abbrev pub AreSeen : List Edit → Type 0
+AreSeen [] = Unit {0}
+AreSeen (edit ∷ []) = Unit {0}
+AreSeen (append name bytes ∷ next ∷ edits) = IsUncut name (next ∷ edits) × AreSeen (next ∷ edits)
+AreSeen (truncate name n ∷ next ∷ edits) = ⊥
+AreSeen (replace name bytes ∷ next ∷ edits) = ⊥
+AreSeen (remove name ∷ next ∷ edits) = ⊥
+
+abbrev pub AllSeen : List (List Edit) → Type 0
+AllSeen [] = Unit {0}
+AllSeen (edits ∷ looks) = AreSeen edits × AllSeen looks
+
+-- the versions of a name, where a first look comes after the first edits, and one look after each further list of edits
+abbrev pub entries_among : Bool → List ℕ → List Edit → List (List Edit) → List Entry
+entries_among by_name name first looks = entries_of by_name name (snapshots_of (first ∷ looks))
+
+-- Two placings of looks among the same edits, with the first look after the same ones, give the same text of a name.
+abbrev pub Agree : (List ℕ → List ℕ) → Bool → List ℕ → List Edit → List (List Edit) → List (List Edit) → Type 0
+Agree start by_name name first one other = AllSeen one → AllSeen other → all_edits one ≡ all_edits other
+    → AreKept (entries_among by_name name first one) → AreKept (entries_among by_name name first other)
+    → name_text start (entries_among by_name name first one) ≡ name_text start (entries_among by_name name first other)

@@ -1,0 +1,63 @@
+-- The versions of a name: what was seen of it, look by look.
+use Rattle.std.specs.Prelude.{ℕ, ◌==◌, Bool, true, false, List, [], ◌∷◌, ◌++◌, Option, Some, None, if◌then◌else◌}
+use Rattle.watch_core.specs.Snapshot.{Snapshot}
+
+-- a file as a look found it: its identity, and all that it held
+pub record Version : Type 0 where
+  pub file : ℕ
+  pub contents : List ℕ
+
+pub data Entry : Type 0 where
+  version : Version → Entry
+  -- no file of the name is open after a look
+  gap : Entry
+
+abbrev pub version_in : Snapshot → ℕ → Entry
+version_in snapshot file = version (record { file = file; contents = snapshot.holds file })
+
+abbrev pub is_file : ℕ → Option ℕ → Bool
+is_file file None = false
+is_file file (Some other) = file == other
+
+-- the file that was open, as it is now
+abbrev pub entries_open : Snapshot → Option ℕ → List Entry
+entries_open snapshot None = []
+entries_open snapshot (Some file) = version_in snapshot file ∷ []
+
+-- then the file that the name leads to, where it is another or none was open; a gap where it leads nowhere
+abbrev pub entries_led : Snapshot → Option ℕ → Option ℕ → List Entry
+entries_led snapshot opened None = gap ∷ []
+entries_led snapshot opened (Some file) = if is_file file opened then [] else version_in snapshot file ∷ []
+
+abbrev pub gap_if_none : Option ℕ → List Entry
+gap_if_none None = gap ∷ []
+gap_if_none (Some file) = []
+
+-- what a look adds where this file was open: a name is followed by itself, or else by the file that was opened
+abbrev pub entries_at_look : Bool → List ℕ → Option ℕ → Snapshot → List Entry
+entries_at_look true name opened snapshot = entries_open snapshot opened ++ entries_led snapshot opened (snapshot.leads name)
+entries_at_look false name opened snapshot = entries_open snapshot opened ++ gap_if_none opened
+
+-- the file that is open after that look
+abbrev pub open_after_look : Bool → List ℕ → Option ℕ → Snapshot → Option ℕ
+open_after_look true name opened snapshot = snapshot.leads name
+open_after_look false name opened snapshot = opened
+
+abbrev pub entries_later : Bool → List ℕ → Option ℕ → List Snapshot → List Entry
+entries_later by_name name opened [] = []
+entries_later by_name name opened (snapshot ∷ snapshots) =
+    entries_at_look by_name name opened snapshot ++ entries_later by_name name (open_after_look by_name name opened snapshot) snapshots
+
+-- The first look opens the file that the name leads to, if there is one.
+abbrev pub entries_of : Bool → List ℕ → List Snapshot → List Entry
+entries_of by_name name [] = []
+entries_of by_name name (first ∷ later) = entries_led first None (first.leads name) ++ entries_later by_name name (first.leads name) later
+
+abbrev pub open_after_later : Bool → List ℕ → Option ℕ → List Snapshot → Option ℕ
+open_after_later by_name name opened [] = opened
+open_after_later by_name name opened (snapshot ∷ snapshots) = open_after_later by_name name (open_after_look by_name name opened snapshot) snapshots
+
+-- the file of a name that is open after these looks
+abbrev pub open_after : Bool → List ℕ → List Snapshot → Option ℕ
+open_after by_name name [] = None
+open_after by_name name (first ∷ later) = open_after_later by_name name (first.leads name) later

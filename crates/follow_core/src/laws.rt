@@ -1,0 +1,30 @@
+//! Laws of the definitions, with no code: each stands on the contract of a function whose body is empty.
+ghost use Rattle.std.specs.Prelude.{◌≡◌, ◌++◌, ◌∷◌, [], ◌||◌, ℕ, List, Bool};
+ghost use Rattle.watch_core.specs.Edits.{Edit};
+ghost use Rattle.follow_core.specs.Version.{Entry};
+ghost use Rattle.follow_core.specs.Run.{AreKept, name_text};
+ghost use Rattle.follow_core.specs.Gain.{gains_after};
+ghost use Rattle.follow_core.specs.Look.{Look, Ways};
+ghost use Rattle.follow_core.specs.Share.{shares_at_look};
+ghost use Rattle.follow_core.specs.Followed.{any_failed, followed, last_header, messages_of, text_from};
+ghost use Rattle.follow_core.specs.Placing.{Agree};
+
+/// What one look more gives. The text and the messages are those before and then that look's, in the order of the names; the
+/// status is 1 where it was before or a name fails in that look.
+pub fn one_look_more()
+    ensures out { (ways : Ways) (headers : Bool) (names : List (List ℕ)) (looks : List Look) (look : Look) → (followed ways headers names (looks ++ look ∷ [])).out ≡ (followed ways headers names looks).out ++ text_from headers (last_header ways headers names looks) (shares_at_look ways names looks look) }
+    ensures messages { (ways : Ways) (headers : Bool) (names : List (List ℕ)) (looks : List Look) (look : Look) → (followed ways headers names (looks ++ look ∷ [])).messages ≡ (followed ways headers names looks).messages ++ messages_of (shares_at_look ways names looks look) }
+    ensures failed { (ways : Ways) (headers : Bool) (names : List (List ℕ)) (looks : List Look) (look : Look) → (followed ways headers names (looks ++ look ∷ [])).has_failed ≡ ((followed ways headers names looks).has_failed || any_failed (shares_at_look ways names looks look)) }
+{}
+
+/// The text of a name only grows, where a file that is appended to keeps its bytes: what further entries add stands after what
+/// was there, and each adds what it has that the entry before it lacks.
+pub fn text_goes_on()
+    ensures { (start : List ℕ → List ℕ) (before more : List Entry) → AreKept (before ++ more) → name_text start (before ++ more) ≡ name_text start before ++ gains_after start before more }
+{}
+
+/// Looks don't matter: two placings of looks among the same edits give the same text of each name, where the first look stands
+/// after the same edits, one look sees all that the edits before it do, and a file that is appended to keeps its bytes.
+pub fn looks_agree()
+    ensures { (start : List ℕ → List ℕ) (by_name : Bool) (name : List ℕ) (first : List Edit) (one other : List (List Edit)) → Agree start by_name name first one other }
+{}

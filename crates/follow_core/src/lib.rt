@@ -1,0 +1,15 @@
+//! `tail` that follows files: what it writes and says of names that are watched.
+#![tactic(auto)]
+
+mod again;
+mod catching;
+mod changing;
+mod copying;
+mod laws;
+mod notice;
+mod printer;
+#[cfg(test)]
+mod row_tests;
+
+pub use laws::{looks_agree, one_look_more, text_goes_on};
+pub use notice::{Notice, notice_line};

@@ -1,0 +1,119 @@
+//! Where the bytes of followed names go, under headers.
+ghost use Rattle.std.specs.Prelude.{◌≡◌, ◌≤◌, ◌++◌, [], ℕ, List, Option, Some, false, IsTrue, IfErr, OnOk, string_bytes, option_map};
+ghost use Rattle.ports_core.specs.Slot.{is_writable, with_written, told_of};
+ghost use Rattle.follow_core.specs.Printing.{PrinterState, Short, text_under, front_under, printer_under, header_under, is_due};
+ghost use Rattle.follow_core.specs.Followed.{is_last, is_none};
+
+use ports_core::{Fault, Outs, header, write_whole};
+use std::alloc::Global;
+use std::marker::Model;
+
+/// Standard output, and the name that its last header was of.
+#[derive(Drop)]
+pub(crate) struct Printer {
+    alloc: Global,
+    headers: bool,
+    last: Option<String>,
+}
+
+impl Model for Printer {
+    ghost Value = { PrinterState };
+
+    ghost view = { λ p. record { headers = p.headers; last = option_map (λ name. string_bytes name) p.last } };
+}
+
+impl Printer {
+    /// Writes bytes of a name, after its header where one is due.
+    ///
+    /// # Errors
+    ///
+    /// `Memory` where there is no room for the header, `Write(0)` where standard output broke.
+    pub(crate) fn put<O: Outs>(
+        &mut self,
+        name: &str,
+        bytes: &[u8],
+        outs: &mut O,
+    ) -> Result<(), Fault>
+        requires { IsTrue (is_writable (O.slots outs.old) 0) }
+        ensures out { OnOk result (O.slots outs.new ≡ with_written 0 (told_of O.told (text_under self.old name.now bytes.now)) (O.slots outs.old)) }
+        ensures last { OnOk result (self.new ≡ printer_under self.old name.now bytes.now) }
+        ensures short { IfErr result (Short O.told (text_under self.old name.now bytes.now) (O.slots outs.old) (O.slots outs.new)) }
+    {
+        if let Err(fault) = self.show_if_due(name, bytes, outs) {
+            return Err(fault);
+        }
+        match write_whole(outs, 0, bytes) {
+            Ok(()) => Ok(()),
+            Err(_) => Err(Fault::Write(0)),
+        }
+    }
+
+    /// Writes the header that is due before bytes of a name.
+    ///
+    /// # Errors
+    ///
+    /// `Memory` where there is no room for the header, `Write(0)` where standard output broke.
+    fn show_if_due<O: Outs>(&mut self, name: &str, bytes: &[u8], outs: &mut O) -> Result<(), Fault>
+        requires { IsTrue (is_writable (O.slots outs.old) 0) }
+        ensures out { OnOk result (O.slots outs.new ≡ with_written 0 (told_of O.told (front_under self.old name.now bytes.now)) (O.slots outs.old)) }
+        ensures last { OnOk result (self.new ≡ printer_under self.old name.now bytes.now) }
+        ensures writable { OnOk result (IsTrue (is_writable (O.slots outs.new) 0)) }
+        ensures short { IfErr result (Short O.told (front_under self.old name.now bytes.now) (O.slots outs.old) (O.slots outs.new)) }
+    {
+        if !self.is_due(name, bytes) {
+            return Ok(());
+        }
+        self.show(name, outs)
+    }
+
+    /// Whether a header is due before bytes of a name.
+    fn is_due(&self, name: &str, bytes: &[u8]) -> bool
+        ensures { result ≡ is_due self.now name.now bytes.now }
+    {
+        self.headers && !bytes.is_empty() && !self.is_last(name)
+    }
+
+    /// Writes the header of a name.
+    ///
+    /// # Errors
+    ///
+    /// `Memory` where there is no room for the header, `Write(0)` where standard output broke.
+    pub(crate) fn show<O: Outs>(&mut self, name: &str, outs: &mut O) -> Result<(), Fault>
+        requires { IsTrue (is_writable (O.slots outs.old) 0) }
+        ensures out { OnOk result (O.slots outs.new ≡ with_written 0 (told_of O.told (header_under self.old name.now)) (O.slots outs.old)) }
+        ensures last { OnOk result (self.new ≡ record self.old { last = Some name.now }) }
+        ensures writable { OnOk result (IsTrue (is_writable (O.slots outs.new) 0)) }
+        ensures short { IfErr result (Short O.told (header_under self.old name.now) (O.slots outs.old) (O.slots outs.new)) }
+    {
+        let Ok(text) = header(self.alloc, name, self.is_first()) else {
+            return Err(Fault::Memory);
+        };
+        let Ok(kept) = String::from_str(self.alloc, name) else {
+            return Err(Fault::Memory);
+        };
+        match write_whole(outs, 0, &text) {
+            Ok(()) => {
+                self.last = Some(kept);
+                Ok(())
+            }
+            Err(_) => Err(Fault::Write(0)),
+        }
+    }
+
+    /// Whether no header was written yet.
+    fn is_first(&self) -> bool
+        ensures { result ≡ is_none self.now.last }
+    {
+        self.last.is_none()
+    }
+
+    /// Whether the last header was of this name.
+    fn is_last(&self, name: &str) -> bool
+        ensures { result ≡ is_last name.now self.now.last }
+    {
+        match &self.last {
+            Some(last) => last.as_str() == name,
+            None => false,
+        }
+    }
+}

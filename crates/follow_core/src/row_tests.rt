@@ -1,0 +1,71 @@
+//! Examples of following, by the definitions alone: each contract says what they make of some edits with a look after each list.
+ghost use Rattle.std.specs.Prelude.{◌≡◌, [], ◌∷◌, drop, codes, true, false};
+ghost use Rattle.watch_core.specs.Edits.{append, truncate, replace, remove, edited_by, empty_world, seen_in};
+ghost use Rattle.follow_core.specs.Followed.{followed};
+ghost use Rattle.ends_core.specs.Ends.{tail_of};
+ghost use Rattle.follow_core.specs.Look.{unopened};
+ghost use Rattle.follow_core.specs.Placing.{looks_after};
+
+use ends_core::Unit;
+
+/// `tail -F -n 1 f`: what is appended, a truncation, and a replacement after more was appended.
+fn by_name()
+    ensures { followed (record { by_name = true; start = tail_of 10 Unit.Lines false 1 }) false (codes "f" ∷ []) (looks_after ((replace (codes "f") (codes "a\nb\n") ∷ []) ∷ (append (codes "f") (codes "c") ∷ []) ∷ (truncate (codes "f") 0 ∷ []) ∷ (append (codes "f") (codes "z\n") ∷ []) ∷ (append (codes "f") (codes "w") ∷ replace (codes "f") (codes "q\n") ∷ []) ∷ []))
+        ≡ record { out = codes "b\ncz\nwq\n"; messages = codes "tail: 'f': file truncated\n" ∷ codes "tail: 'f': file replaced\n" ∷ []; has_failed = false } }
+{}
+
+/// `tail -F f`, where the file comes after the first look.
+fn that_appears()
+    ensures { followed (record { by_name = true; start = tail_of 10 Unit.Lines false 10 }) false (codes "f" ∷ []) (looks_after ([] ∷ (replace (codes "f") (codes "x\n") ∷ []) ∷ []))
+        ≡ record { out = codes "x\n"; messages = codes "tail: cannot open 'f'\n" ∷ codes "tail: 'f': file appeared\n" ∷ []; has_failed = true } }
+{}
+
+/// `tail -F f`, where the file is removed and another one comes.
+fn that_comes_again()
+    ensures { followed (record { by_name = true; start = tail_of 10 Unit.Lines false 10 }) false (codes "f" ∷ []) (looks_after ((replace (codes "f") (codes "a\n") ∷ []) ∷ (remove (codes "f") ∷ []) ∷ (replace (codes "f") (codes "b\n") ∷ []) ∷ []))
+        ≡ record { out = codes "a\nb\n"; messages = codes "tail: 'f': file inaccessible\n" ∷ codes "tail: 'f': file appeared\n" ∷ []; has_failed = false } }
+{}
+
+/// `tail -f f`, where the file is removed and another one comes: the one that was opened is followed.
+fn that_is_left()
+    ensures { followed (record { by_name = false; start = tail_of 10 Unit.Lines false 10 }) false (codes "f" ∷ []) (looks_after ((replace (codes "f") (codes "a\n") ∷ []) ∷ (remove (codes "f") ∷ []) ∷ (replace (codes "f") (codes "b\n") ∷ []) ∷ []))
+        ≡ record { out = codes "a\n"; messages = []; has_failed = false } }
+{}
+
+/// `tail -f g`, where there is no such file.
+fn that_is_missing()
+    ensures { followed (record { by_name = false; start = tail_of 10 Unit.Lines false 10 }) false (codes "g" ∷ []) (looks_after ([] ∷ []))
+        ≡ record { out = []; messages = codes "tail: cannot open 'g'\n" ∷ []; has_failed = true } }
+{}
+
+/// `tail -f -c 2 f`, where the file is truncated.
+fn that_is_truncated()
+    ensures { followed (record { by_name = false; start = tail_of 10 Unit.Bytes false 2 }) false (codes "f" ∷ []) (looks_after ((replace (codes "f") (codes "abc") ∷ []) ∷ (truncate (codes "f") 1 ∷ []) ∷ (append (codes "f") (codes "d") ∷ []) ∷ []))
+        ≡ record { out = codes "bcad"; messages = codes "tail: 'f': file truncated\n" ∷ []; has_failed = false } }
+{}
+
+/// `tail -f -n 1 f g`: a header stands where the text of another name begins.
+fn of_two_names()
+    ensures { followed (record { by_name = false; start = tail_of 10 Unit.Lines false 1 }) true (codes "f" ∷ codes "g" ∷ []) (looks_after ((replace (codes "f") (codes "a\n") ∷ replace (codes "g") (codes "b\n") ∷ []) ∷ (append (codes "f") (codes "c\n") ∷ []) ∷ (append (codes "f") (codes "d\n") ∷ []) ∷ (append (codes "g") (codes "e\n") ∷ []) ∷ []))
+        ≡ record { out = codes "==> f <==\na\n\n==> g <==\nb\n\n==> f <==\nc\nd\n\n==> g <==\ne\n"; messages = []; has_failed = false } }
+{}
+
+/// The same, where the first call on `f` fails.
+fn of_one_that_breaks()
+    ensures { let first = replace (codes "f") (codes "a\n") ∷ replace (codes "g") (codes "b\n") ∷ [] in
+        let later = (append (codes "f") (codes "c\n") ∷ []) ∷ (append (codes "f") (codes "d\n") ∷ []) ∷ (append (codes "g") (codes "e\n") ∷ []) ∷ [] in
+        followed (record { by_name = false; start = tail_of 10 Unit.Lines false 1 }) true (codes "f" ∷ codes "g" ∷ []) (record { snapshot = seen_in (edited_by first empty_world); fates = unopened 0 0 ∷ [] } ∷ drop 1 (looks_after (first ∷ later)))
+        ≡ record { out = codes "==> g <==\nb\ne\n"; messages = codes "tail: cannot open 'f'\n" ∷ []; has_failed = true } }
+{}
+
+#[test]
+fn definitions_give_the_examples() {
+    by_name();
+    that_appears();
+    that_comes_again();
+    that_is_left();
+    that_is_missing();
+    that_is_truncated();
+    of_two_names();
+    of_one_that_breaks();
+}

@@ -1,0 +1,24 @@
+-- A watch over real files, where one of its names changes.
+use Rattle.std.proofs.Common.{◌≡◌, ℕ, Bool, false, IsTrue, List, ap, get_or, set}
+use Rattle.std.proofs.lemmas.Bool.{false≢true}
+use Rattle.ports_core.specs.Slot.{changed_at}
+use Rattle.watch_core.specs.Snapshot.{Snapshot}
+use Rattle.watch_core.specs.Watched.{Watched, Reopens, is_some, is_watchable, opens}
+use Rattle.watch_core.specs.DirWatchState.{DirWatchState}
+use Rattle.watch_core.proofs.NameLemmas.{name_changes, names_within}
+
+pub one_changes : (watch : DirWatchState) (names : List Watched) (turns place : ℕ) (change : Watched → Watched) (item new : Watched) → record { turns = turns; watched = names } ≡ watch → IsTrue (is_watchable watch.watched place)
+    → item ≡ get_or names place item → new ≡ change item → set names place new ≡ changed_at place change watch.watched
+one_changes watch names turns place change item new is can at changed =
+    let those : names ≡ watch.watched = ap (λ (all : DirWatchState). all.watched) is in
+    name_changes names watch.watched place change item new those (names_within names watch.watched place those can) at changed
+
+-- what was opened is not told
+pub opened_some : (watch : DirWatchState) (snapshot : Snapshot) (names : List Watched) (turns place : ℕ) (item new : Watched) (is_there : Bool) → record { turns = turns; watched = names } ≡ watch → IsTrue (is_watchable watch.watched place)
+    → item ≡ get_or names place item → new ≡ opens new.opened item → is_some new.opened ≡ is_there → Reopens false snapshot watch.watched (set names place new) place is_there
+opened_some watch snapshot names turns place item new is_there is can at changed found = record {
+  file = new.opened;
+  found = found;
+  names = one_changes watch names turns place (opens new.opened) item new is can at changed;
+  leads = λ told. absurd (false≢true told);
+}

@@ -1,0 +1,4 @@
+pub mod WorldLemmas
+pub mod NameLemmas
+pub mod MemWatchLemmas
+pub mod DirWatchLemmas

@@ -1,0 +1,66 @@
+-- Files under edits. Of a name that leads nowhere only a replacement does anything, and it makes a file that was not there before. A
+-- file to which no name leads any more keeps what it holds.
+use Rattle.std.specs.Prelude.{ℕ, List, [], ◌∷◌, ◌++◌, length, map, take, Option, Some, None, slice_index_or, bytes_eq, if◌then◌else◌}
+use Rattle.ports_core.specs.Slot.{changed_at}
+use Rattle.watch_core.specs.Snapshot.{Snapshot}
+
+pub data Edit : Type 0 where
+  -- bytes come to the end of the name's file
+  append : List ℕ → List ℕ → Edit
+  -- of the name's file the first n bytes are left, or all where it has no more
+  truncate : List ℕ → ℕ → Edit
+  -- the name leads to a new file, which holds these bytes
+  replace : List ℕ → List ℕ → Edit
+  -- the name leads nowhere
+  remove : List ℕ → Edit
+
+pub record Link : Type 0 where
+  pub name : List ℕ
+  pub file : Option ℕ
+
+-- the files, each at its identity, and where the names lead: of one name the first link counts
+pub record World : Type 0 where
+  pub links : List Link
+  pub files : List (List ℕ)
+
+abbrev pub empty_world : World
+empty_world = record { links = []; files = [] }
+
+abbrev pub led_to : List Link → List ℕ → Option ℕ
+led_to [] name = None
+led_to (link ∷ links) name = if bytes_eq link.name name then link.file else led_to links name
+
+-- what a file holds
+abbrev pub held_in : List (List ℕ) → ℕ → List ℕ
+held_in files file = slice_index_or files file []
+
+-- what this file holds is changed
+abbrev pub with_file : Option ℕ → (List ℕ → List ℕ) → World → World
+with_file None change world = world
+with_file (Some file) change world = record world { files = changed_at file change world.files }
+
+abbrev pub edited : Edit → World → World
+edited (append name bytes) world = with_file (led_to world.links name) (λ held. held ++ bytes) world
+edited (truncate name n) world = with_file (led_to world.links name) (λ held. take n held) world
+edited (replace name bytes) world = record { links = record { name = name; file = Some (length world.files) } ∷ world.links; files = world.files ++ bytes ∷ [] }
+edited (remove name) world = record world { links = record { name = name; file = None } ∷ world.links }
+
+abbrev pub edited_by : List Edit → World → World
+edited_by [] world = world
+edited_by (edit ∷ edits) world = edited_by edits (edited edit world)
+
+-- what a look sees of these files
+abbrev pub seen_in : World → Snapshot
+seen_in world = record { leads = led_to world.links; holds = held_in world.files }
+
+-- the files at each look, where a look comes after each of these lists of edits
+abbrev pub worlds_from : World → List (List Edit) → List World
+worlds_from world [] = []
+worlds_from world (edits ∷ looks) = edited_by edits world ∷ worlds_from (edited_by edits world) looks
+
+abbrev pub snapshots_from : World → List (List Edit) → List Snapshot
+snapshots_from world looks = map seen_in (worlds_from world looks)
+
+-- what the looks see; before the first edit there is no file
+abbrev pub snapshots_of : List (List Edit) → List Snapshot
+snapshots_of looks = snapshots_from empty_world looks

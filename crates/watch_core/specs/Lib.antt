@@ -1,0 +1,5 @@
+pub mod Snapshot
+pub mod Edits
+pub mod Watched
+pub mod MemWatchState
+pub mod DirWatchState

@@ -1,0 +1,68 @@
+-- The names that are watched: which file of each is open, and whether it broke.
+use Rattle.std.specs.Prelude.{◌≡◌, ℕ, Bool, true, false, not, ◌&&◌, List, [], Option, Some, None, length, drop, option_map, slice_index_or}
+use Rattle.ports_core.specs.Slot.{changed_at}
+use Rattle.ports_core.specs.Source.{Gave}
+use Rattle.watch_core.specs.Snapshot.{Snapshot}
+use Rattle.watch_core.specs.declared.watch.Seen.{Seen}
+
+pub record Watched : Type 0 where
+  pub name : List ℕ
+  -- the file that is open, by its identity
+  pub opened : Option ℕ
+  pub is_broken : Bool
+
+-- what stands at a place where no name was added
+abbrev pub no_name : Watched
+no_name = record { name = []; opened = None; is_broken = true }
+
+abbrev pub watched_at : List Watched → ℕ → Watched
+watched_at names place = slice_index_or names place no_name
+
+-- a name that was just added: no file of it is open
+abbrev pub added : List ℕ → Watched
+added name = record { name = name; opened = None; is_broken = false }
+
+-- this file is open, or none
+abbrev pub opens : Option ℕ → Watched → Watched
+opens file watched = record watched { opened = file }
+
+abbrev pub breaks : Watched → Watched
+breaks watched = record watched { is_broken = true }
+
+abbrev pub is_some : Option ℕ → Bool
+is_some None = false
+is_some (Some file) = true
+
+-- there is such a name, and it is not broken
+abbrev pub is_watchable : List Watched → ℕ → Bool
+is_watchable names place = not (watched_at names place).is_broken
+
+-- and a file of it is open
+abbrev pub is_readable : List Watched → ℕ → Bool
+is_readable names place = is_some (watched_at names place).opened && is_watchable names place
+
+-- a file as a look tells it: its identity, and how much it holds
+abbrev pub file_seen : Snapshot → ℕ → Seen
+file_seen snapshot file = record { id = file; len = length (snapshot.holds file) }
+
+-- this is what the name leads to
+abbrev pub Finds : Snapshot → List ℕ → Option Seen → Type 0
+Finds snapshot name found = found ≡ option_map (file_seen snapshot) (snapshot.leads name)
+
+-- what the open file holds
+abbrev pub open_contents : Snapshot → Watched → List ℕ
+open_contents snapshot watched = elim watched.opened [
+  | None ↦ []
+  | Some file ↦ snapshot.holds file
+]
+
+-- what the name leads to was opened in place of the file that was open; where it leads nowhere, none is open
+pub record Reopens (told : Bool) (snapshot : Snapshot) (old new : List Watched) (place : ℕ) (is_there : Bool) : Type 0 where
+  pub file : Option ℕ
+  pub found : is_some file ≡ is_there
+  pub names : new ≡ changed_at place (opens file) old
+  pub leads : told ≡ true → file ≡ snapshot.leads (watched_at old place).name
+
+-- a read from a place of the file on: it gave none only from its end on, or into no room
+abbrev pub GaveFrom : List ℕ → ℕ → List ℕ → List ℕ → ℕ → Type 0
+GaveFrom contents from old new n = Gave (record { bytes = drop from contents; breaks_off = false }) old new n

@@ -1,0 +1,232 @@
+ghost use Rattle.std.specs.Prelude.{◌≡◌, ◌≤◌, ◌<◌, ◌+◌, ◌*◌, ◌^◌, length, string_bytes, IfOk, OnOk, OnErr, IfSome, IfNone, OnSome};
+ghost use Rattle.watch_core.specs.Watched.{Watched, added, breaks, is_some, opens};
+
+use crate::Seen;
+use ports_core::MOST_BYTES;
+use std::alloc::{AllocError, Global};
+use std::fs::{File, Metadata};
+use std::io::ErrorKind;
+use std::marker::Model;
+use std::os::unix::fs::{FileExt, MetadataExt};
+use std::rt::Files;
+use std::{fs, io};
+
+/// A name that is watched, and the real file of it that is open.
+#[derive(Drop)]
+pub(crate) struct DirName {
+    name: String,
+    /// The identity of the open file, as it was told when the file was opened.
+    opened: Option<u128>,
+    /// The open file. None where none is open, and once the name is broken, so that the system has it back.
+    file: Option<File>,
+    is_broken: bool,
+    /// What the name led to when a change was last looked for.
+    led_to: Option<Seen>,
+    /// How many bytes the open file held then.
+    held: Option<u64>,
+}
+
+impl Model for DirName {
+    ghost Value = { Watched };
+
+    ghost view = { λ n. record { name = string_bytes n.name; opened = n.opened; is_broken = n.is_broken } };
+}
+
+impl DirName {
+    pub(crate) fn new(alloc: Global, name: &str) -> Result<Self, AllocError>
+        ensures { IfOk result (λ watched. watched ≡ added name.now) }
+    {
+        Ok(DirName {
+            name: String::from_str(alloc, name)?,
+            opened: None,
+            file: None,
+            is_broken: false,
+            led_to: None,
+            held: None,
+        })
+    }
+
+    /// The identity of the open file.
+    pub(crate) fn id(&self) -> Option<u128>
+        ensures { result ≡ self.now.opened }
+    {
+        self.opened
+    }
+
+    /// The file that the name leads to; none where it leads nowhere. Where that can't be told, the name is broken.
+    pub(crate) fn look(&mut self, files: &impl Files) -> io::Result<Option<Seen>>
+        ensures bound { IfOk result (λ found. IfSome found (λ file. file.len < 2 ^ 63)) }
+        ensures same { OnOk result (self.new ≡ self.old) }
+        ensures broke { OnErr result (self.new ≡ breaks self.old) }
+    {
+        match find(files, self.name.as_str()) {
+            Ok(found) => Ok(found),
+            Err(error) => {
+                self.break_off();
+                Err(error)
+            }
+        }
+    }
+
+    /// Opens the file that the name leads to, in place of the one that was open, and returns whether there is one. Where there
+    /// is one that can't be opened, the name is broken.
+    pub(crate) fn open(&mut self, files: &impl Files<File = File>) -> io::Result<bool>
+        ensures opened { OnOk result (self.new ≡ opens self.new.opened self.old) }
+        ensures found { IfOk result (λ is_there. is_some self.new.opened ≡ is_there) }
+        ensures broke { OnErr result (self.new ≡ breaks self.old) }
+    {
+        // It goes back to the system first, so that no two files of a name are open.
+        self.file = None;
+        match open_file(files, self.name.as_str()) {
+            Ok(Some(opened)) => {
+                self.opened = Some(opened.id);
+                self.file = Some(opened.file);
+                self.held = Some(opened.len);
+                Ok(true)
+            }
+            Ok(None) => {
+                self.opened = None;
+                self.held = None;
+                Ok(false)
+            }
+            Err(error) => {
+                self.break_off();
+                Err(error)
+            }
+        }
+    }
+
+    /// How many bytes the open file holds. Where that can't be told, the name is broken.
+    pub(crate) fn len(&mut self) -> Option<u64>
+        ensures bound { IfSome result (λ len. len < 2 ^ 63) }
+        ensures same { OnSome result (self.new ≡ self.old) }
+        ensures broke { IfNone result (self.new ≡ breaks self.old) }
+    {
+        let len = held_by(&self.file);
+        if len.is_none() {
+            self.break_off();
+        }
+        len
+    }
+
+    /// Reads the open file once from a place on, and returns how many bytes that gave. Where it fails, the name is broken.
+    pub(crate) fn read_at(&mut self, from: u64, buffer: &mut [u8]) -> Option<usize>
+        ensures bound { IfSome result (λ n. n ≤ length buffer.old) }
+        ensures same { OnSome result (self.new ≡ self.old) }
+        ensures broke { IfNone result (self.new ≡ breaks self.old) }
+    {
+        if let Some(file) = &self.file {
+            if let Some(n) = read_some(file, from, buffer) {
+                return Some(n);
+            }
+        }
+        self.break_off();
+        None
+    }
+
+    fn break_off(&mut self)
+        ensures { self.new ≡ breaks self.old }
+    {
+        self.file = None;
+        self.is_broken = true;
+    }
+
+    /// Whether the name leads elsewhere than at the call before, or its file or the open one has another length. A broken name
+    /// never has changed.
+    pub(crate) fn has_changed(&mut self, files: &impl Files) -> bool
+        ensures { self.new ≡ self.old }
+    {
+        if self.is_broken {
+            return false;
+        }
+        let led_to = find(files, self.name.as_str()).unwrap_or(None);
+        let held = held_by(&self.file);
+        let changed = led_to != self.led_to || held != self.held;
+        self.led_to = led_to;
+        self.held = held;
+        changed
+    }
+}
+
+/// A file that was just opened.
+#[derive(Drop)]
+struct Opened {
+    id: u128,
+    len: u64,
+    file: File,
+}
+
+/// The identity of a file: no two files of one system have the same device and the same number there.
+fn identity(device: u64, number: u64) -> u128
+    ensures { result ≡ device * 2 ^ 64 + number }
+{
+    device as u128 * 0x1_0000_0000_0000_0000 + number as u128
+}
+
+fn id_of(metadata: &Metadata) -> u128 {
+    identity(metadata.dev(), metadata.ino())
+}
+
+/// The file that a name leads to; none where it leads nowhere. A file that is longer than a watch tells is an error.
+fn find(files: &impl Files, name: &str) -> io::Result<Option<Seen>>
+    ensures { IfOk result (λ found. IfSome found (λ file. file.len < 2 ^ 63)) }
+{
+    match fs::metadata(files, name) {
+        Ok(metadata) => {
+            let len = metadata.len();
+            if len > MOST_BYTES {
+                return Err(io::Error::from(ErrorKind::FileTooLarge));
+            }
+            let id = id_of(&metadata);
+            Ok(Some(Seen { id, len }))
+        }
+        Err(error) if error.kind() == ErrorKind::NotFound => Ok(None),
+        Err(error) => Err(error),
+    }
+}
+
+/// Opens a file for reading. None where the name leads nowhere. Its identity is that of the file that was opened, where the name
+/// may lead elsewhere by then.
+fn open_file(files: &impl Files<File = File>, name: &str) -> io::Result<Option<Opened>> {
+    match fs::open(files, name) {
+        Ok(file) => {
+            let metadata = file.metadata()?;
+            Ok(Some(Opened {
+                id: id_of(&metadata),
+                len: metadata.len(),
+                file,
+            }))
+        }
+        Err(error) if error.kind() == ErrorKind::NotFound => Ok(None),
+        Err(error) => Err(error),
+    }
+}
+
+/// How many bytes the open file holds. None where none is open, where that can't be told, or where it is more than a watch tells.
+fn held_by(file: &Option<File>) -> Option<u64>
+    ensures { IfSome result (λ len. len < 2 ^ 63) }
+{
+    if let Some(file) = file {
+        if let Ok(metadata) = file.metadata() {
+            let len = metadata.len();
+            if len <= MOST_BYTES {
+                return Some(len);
+            }
+        }
+    }
+    None
+}
+
+/// Reads once, and again where the read was interrupted, and returns how many bytes that gave. None where it fails.
+fn read_some(file: &File, from: u64, buffer: &mut [u8]) -> Option<usize>
+    ensures { IfSome result (λ n. n ≤ length buffer.old) }
+{
+    for _ in 0..u64::MAX {
+        match file.read_at(buffer, from) {
+            Ok(n) => return Some(n),
+            Err(error) if error.kind() == ErrorKind::Interrupted => {}
+            Err(_) => return None,
+        }
+    }
+    None
+}

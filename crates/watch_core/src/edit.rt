@@ -1,0 +1,12 @@
+/// A change of the files between two looks. Of a name that leads nowhere only `Replace` does anything.
+#[derive(Clone, Copy, Debug, PartialEq, Eq)]
+pub enum Edit<'a> {
+    /// These bytes come to the end of the name's file.
+    Append(&'a str, &'a [u8]),
+    /// Of the name's file the first so many bytes are left, and all where it has no more.
+    Truncate(&'a str, usize),
+    /// The name leads to a new file, which holds these bytes.
+    Replace(&'a str, &'a [u8]),
+    /// The name leads nowhere.
+    Remove(&'a str),
+}

@@ -1,0 +1,18 @@
+//! What is watched when files are followed: names, the files that they lead to, and what comes to these.
+#![tactic(auto)]
+
+mod dir_name;
+mod dir_watch;
+#[cfg(test)]
+mod dir_watch_tests;
+mod edit;
+mod mem_watch;
+mod mem_world;
+#[cfg(test)]
+mod tests;
+mod watch;
+
+pub use dir_watch::DirWatch;
+pub use edit::Edit;
+pub use mem_watch::MemWatch;
+pub use watch::{Seen, Watch};

@@ -1,0 +1,115 @@
+ghost use Rattle.std.specs.Prelude.{◌≡◌, ◌≤◌, ◌<◌, ◌^◌, ◌++◌, ◌∷◌, [], ℕ, List, Bool, true, length, IfOk, IfErr, OnOk, IfSome, IsTrue};
+ghost use Rattle.ports_core.specs.Slot.{changed_at};
+ghost use Rattle.watch_core.specs.Snapshot.{Snapshot, latest};
+ghost use Rattle.watch_core.specs.Watched.{Watched, Reopens, Finds, GaveFrom, watched_at, added, breaks, is_watchable, is_readable, open_contents};
+
+use ports_core::Fault;
+
+/// The file that a name leads to.
+#[derive(Clone, Copy, Debug, PartialEq, Eq)]
+pub struct Seen {
+    /// Its identity: no other file has the same while this one is there.
+    pub id: u128,
+    /// How many bytes it holds, at most 2^63-1.
+    pub len: u64,
+}
+
+/// Names that are watched in looks, each by its number, from 0 in the order in which they were added. What the names lead to and
+/// what the files hold changes only as a look begins, with `turn`. Of each name one file may be open, which stays what it is when
+/// the name comes to lead elsewhere. A name breaks at its first failure and stays broken.
+pub trait Watch {
+    /// What each look so far could see, in order.
+    ghost seen: { Self → List Snapshot };
+
+    /// What the look of each number will see, from 0.
+    ghost shows: { Self → ℕ → Snapshot };
+
+    /// The names that were added, in order.
+    ghost watched: { Self → List Watched };
+
+    /// Whether the files tell their bytes. Where they don't, nothing is said of what is found and read.
+    ghost told: { Bool };
+
+    /// Begins a look over all names.
+    ///
+    /// # Errors
+    ///
+    /// `Memory`: nothing is changed.
+    fn turn(&mut self) -> Result<(), Fault>
+        ensures ok { OnOk result (seen self.new ≡ seen self.old ++ shows self.old (length (seen self.old)) ∷ []) }
+        ensures err { IfErr result (λ fault. (fault ≡ Fault.Memory) × (seen self.new ≡ seen self.old)) }
+        ensures watched { watched self.new ≡ watched self.old }
+        ensures shows { shows self.new ≡ shows self.old };
+
+    /// Adds a name, and gives its number. No file of it is open.
+    ///
+    /// # Errors
+    ///
+    /// `Memory`: nothing is changed.
+    fn add(&mut self, name: &str) -> Result<usize, Fault>
+        ensures ok { IfOk result (λ place. (place ≡ length (watched self.old)) × (watched self.new ≡ watched self.old ++ added name.now ∷ [])) }
+        ensures err { IfErr result (λ fault. (fault ≡ Fault.Memory) × (watched self.new ≡ watched self.old)) }
+        ensures seen { seen self.new ≡ seen self.old }
+        ensures shows { shows self.new ≡ shows self.old };
+
+    /// The file that the name leads to; none where it leads nowhere.
+    ///
+    /// # Errors
+    ///
+    /// `Open` where that can't be told: the name is broken.
+    fn look(&mut self, place: usize) -> Result<Option<Seen>, Fault>
+        requires { IsTrue (is_watchable (watched self.old) place) }
+        ensures ok { IfOk result (λ found. told ≡ true → Finds (latest (seen self.old)) (watched_at (watched self.old) place).name found) }
+        ensures bound { IfOk result (λ found. IfSome found (λ file. file.len < 2 ^ 63)) }
+        ensures same { OnOk result (watched self.new ≡ watched self.old) }
+        ensures err { IfErr result (λ fault. (fault ≡ Fault.Open place) × (watched self.new ≡ changed_at place breaks (watched self.old))) }
+        ensures seen { seen self.new ≡ seen self.old }
+        ensures shows { shows self.new ≡ shows self.old };
+
+    /// Opens the file that the name leads to, in place of the one that was open. False where it leads nowhere: no file of it is
+    /// open then.
+    ///
+    /// # Errors
+    ///
+    /// `Open` where there is a file that can't be opened: the name is broken.
+    fn reopen(&mut self, place: usize) -> Result<bool, Fault>
+        requires { IsTrue (is_watchable (watched self.old) place) }
+        ensures ok { IfOk result (Reopens told (latest (seen self.old)) (watched self.old) (watched self.new) place) }
+        ensures err { IfErr result (λ fault. (fault ≡ Fault.Open place) × (watched self.new ≡ changed_at place breaks (watched self.old))) }
+        ensures seen { seen self.new ≡ seen self.old }
+        ensures shows { shows self.new ≡ shows self.old };
+
+    /// The identity of the open file; none where none is open.
+    fn open_id(&self, place: usize) -> Option<u128>
+        ensures { result ≡ (watched_at (watched self.now) place).opened };
+
+    /// How many bytes the open file holds.
+    ///
+    /// # Errors
+    ///
+    /// `Read` where that can't be told: the name is broken.
+    fn open_len(&mut self, place: usize) -> Result<u64, Fault>
+        requires { IsTrue (is_readable (watched self.old) place) }
+        ensures ok { IfOk result (λ len. told ≡ true → len ≡ length (open_contents (latest (seen self.old)) (watched_at (watched self.old) place))) }
+        ensures bound { IfOk result (λ len. len < 2 ^ 63) }
+        ensures same { OnOk result (watched self.new ≡ watched self.old) }
+        ensures err { IfErr result (λ fault. (fault ≡ Fault.Read place) × (watched self.new ≡ changed_at place breaks (watched self.old))) }
+        ensures seen { seen self.new ≡ seen self.old }
+        ensures shows { shows self.new ≡ shows self.old };
+
+    /// Fills a beginning of the buffer with the open file's bytes from a place on, and returns how many there are: 0 only from
+    /// its end on, or for an empty buffer.
+    ///
+    /// # Errors
+    ///
+    /// `Read` where the file fails: the name is broken.
+    fn read_at(&mut self, place: usize, from: u64, buffer: &mut [u8]) -> Result<usize, Fault>
+        requires { IsTrue (is_readable (watched self.old) place) }
+        ensures bound { IfOk result (λ n. n ≤ length buffer.old) }
+        ensures bytes { IfOk result (λ n. told ≡ true → GaveFrom (open_contents (latest (seen self.old)) (watched_at (watched self.old) place)) from buffer.old buffer.new n) }
+        ensures length { length buffer.new ≡ length buffer.old }
+        ensures same { OnOk result (watched self.new ≡ watched self.old) }
+        ensures err { IfErr result (λ fault. (fault ≡ Fault.Read place) × (watched self.new ≡ changed_at place breaks (watched self.old))) }
+        ensures seen { seen self.new ≡ seen self.old }
+        ensures shows { shows self.new ≡ shows self.old };
+}
