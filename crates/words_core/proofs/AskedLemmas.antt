@@ -22,7 +22,7 @@ use Rattle.words_core.specs.Spelling.{mixed, onward, said, spelled, valued}
 use Rattle.words_core.specs.EndsWords.{ten_lines}
 use Rattle.words_core.specs.SplitWords.{least_width, then_check}
 use Rattle.words_core.specs.Words.{settings_for, settings_of}
-use Rattle.words_core.specs.Laws.{IsLetter, csplit_as, ends_as, plain_style, split_as}
+use Rattle.words_core.specs.Laws.{IsLetter, csplit_as, ends_as, plain_style, split_as, tail_as}
 use Rattle.words_core.proofs.ValueLemmas.{value_after_letter}
 
 -- a letter and its value, as all words after a tool's name
@@ -54,11 +54,11 @@ pub head_bytes : (value : List ℕ) (count : Count) → count_of value ≡ Ok co
 unfolding tools
 head_bytes value count is = ap (λ given. then_check given (settings_for tool.Head)) (one_given ends_table 99 Bytes Lines kind.Count kind.Count value (Counted count) c_is refl (ap (λ those. as_value (λ count. Counted count) (counted those)) is))
 
-pub tail_lines : (value : List ℕ) (count : Count) → count_of value ≡ Ok count → settings_of (codes "tail" ∷ codes "-n" ∷ value ∷ []) ≡ Ok (Tail (ends_as unit.Lines count headers.ForSeveral))
+pub tail_lines : (value : List ℕ) (count : Count) → count_of value ≡ Ok count → settings_of (codes "tail" ∷ codes "-n" ∷ value ∷ []) ≡ Ok (Tail (tail_as (ends_as unit.Lines count headers.ForSeveral)))
 unfolding tools
 tail_lines value count is = ap (λ given. then_check given (settings_for tool.Tail)) (one_given ends_table 110 Lines Lines kind.Count kind.Count value (Counted count) n_is refl (ap (λ those. as_value (λ count. Counted count) (counted those)) is))
 
-pub tail_bytes : (value : List ℕ) (count : Count) → count_of value ≡ Ok count → settings_of (codes "tail" ∷ codes "-c" ∷ value ∷ []) ≡ Ok (Tail (ends_as unit.Bytes count headers.ForSeveral))
+pub tail_bytes : (value : List ℕ) (count : Count) → count_of value ≡ Ok count → settings_of (codes "tail" ∷ codes "-c" ∷ value ∷ []) ≡ Ok (Tail (tail_as (ends_as unit.Bytes count headers.ForSeveral)))
 unfolding tools
 tail_bytes value count is = ap (λ given. then_check given (settings_for tool.Tail)) (one_given ends_table 99 Bytes Lines kind.Count kind.Count value (Counted count) c_is refl (ap (λ those. as_value (λ count. Counted count) (counted those)) is))
 
@@ -70,11 +70,11 @@ pub head_verbose : settings_of (codes "head" ∷ codes "-v" ∷ []) ≡ Ok (Head
 unfolding tools
 head_verbose = refl
 
-pub tail_quiet : settings_of (codes "tail" ∷ codes "-q" ∷ []) ≡ Ok (Tail (ends_as unit.Lines ten_lines.count headers.Never))
+pub tail_quiet : settings_of (codes "tail" ∷ codes "-q" ∷ []) ≡ Ok (Tail (tail_as (ends_as unit.Lines ten_lines.count headers.Never)))
 unfolding tools
 tail_quiet = refl
 
-pub tail_verbose : settings_of (codes "tail" ∷ codes "-v" ∷ []) ≡ Ok (Tail (ends_as unit.Lines ten_lines.count headers.Always))
+pub tail_verbose : settings_of (codes "tail" ∷ codes "-v" ∷ []) ≡ Ok (Tail (tail_as (ends_as unit.Lines ten_lines.count headers.Always)))
 unfolding tools
 tail_verbose = refl
 

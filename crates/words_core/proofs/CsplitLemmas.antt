@@ -92,7 +92,7 @@ given_anywhere after part test says (option ∷ options) asked =
     ∙ ap (λ those. has test options || those) (says asked option)
     ∙ other_order (part asked) (test option.choice) (has test options)
 
-or_false : (test : Bool) → test || false ≡ test
+pub or_false : (test : Bool) → test || false ≡ test
 or_false true = refl
 or_false false = refl
 

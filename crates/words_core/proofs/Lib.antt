@@ -4,4 +4,5 @@ pub mod CsplitLemmas
 pub mod LimitLemmas
 pub mod OperandLemmas
 pub mod SpellingLemmas
+pub mod TailLemmas
 pub mod ValueLemmas

@@ -1,5 +1,5 @@
 -- Whatever words spell, sizes, counts of files and widths are within their limits, and files that lines are dealt to have names.
-use Rattle.std.proofs.Common.{◌≡◌, refl, ℕ, ◌+◌, ◌==◌, ◌≤◌, Bool, true, false, arith, rules, tests, List, [], ◌∷◌, ◌++◌, Option, Some, None, Result, Ok, Err, IfOk, subst, if◌then◌else◌}
+use Rattle.std.proofs.Common.{◌≡◌, refl, ℕ, ◌+◌, ◌-◌, ◌^◌, ◌==◌, ◌≤◌, Bool, true, false, arith, rules, tests, List, [], ◌∷◌, ◌++◌, Option, Some, None, Result, Ok, Err, IfOk, subst, if◌then◌else◌}
 use Rattle.std.specs.Prelude.{⊤, fold}
 use Rattle.std.proofs.lemmas.Bool.Decides.{nat_tests}
 use Rattle.seg_core.specs.Count.{count_of, digits_of, is_number}
@@ -29,11 +29,12 @@ use Rattle.words_core.specs.declared.split_words.Suffix.{Suffix}
 use Rattle.words_core.specs.declared.csplit_words.CsplitOptions.{CsplitOptions}
 use Rattle.words_core.specs.declared.settings.Settings.{Settings}
 use Rattle.words_core.specs.Table.{OptionRow, ToolRow}
-use Rattle.words_core.specs.Value.{Meant, Nothing, Counted, Size, Files, Width, Text, Byte, byte_in, ending_in, not_zero, some, some_amount, up_to, counted, size_in, round_in, as_value, value_in}
+use Rattle.words_core.specs.Value.{Meant, Nothing, Counted, Size, Files, Width, Text, Byte, Following, Looks, byte_in, ending_in, followed_in, not_zero, some, some_amount, up_to, counted, size_in, round_in, as_value, value_in}
 use Rattle.words_core.specs.Given.{Given, GivenOption, GivenOperand, bare}
 use Rattle.words_core.specs.CsplitWords.{asked_of, csplit_after, csplit_asked, csplit_by, style_of, two_digits, with_digits}
 use Rattle.words_core.specs.Spelling.{Meaning, before, said, valued, attached, by_letter, lettered, option_lettered, cluster, after_equals, by_name, named, dashed, mixed, foremost, meaning_of, behind, onward, spelled, start_of, given_by}
 use Rattle.words_core.specs.SplitWords.{AreNamed, CanSplit, IsInLimits, IsWidth, names_all, least_width, free, dealt, way_of, sized, way_in, second_way, with_width, split_by, split_after, split_options, no_options, suffix_for, files_in, then_check, split_asked}
+use Rattle.words_core.specs.TailWords.{tail_asked}
 use Rattle.words_core.specs.Words.{CanRun, settings_for}
 
 -- a value, and all of them, within their limits
@@ -95,7 +96,7 @@ as_value-sound : {A : Type 0} (P : A → Type 0) (make : A → Meant) (value : R
 as_value-sound P make (Ok value) is sound = sound value is
 as_value-sound P make (Err fault) is sound = tt
 
-anything : {A : Type 0} (value : Result A UsageKind) → IfOk value (λ _. ⊤)
+anything : {A E : Type 0} (value : Result A E) → IfOk value (λ _. ⊤)
 anything (Ok value) = tt
 anything (Err fault) = tt
 
@@ -107,6 +108,8 @@ value-sound kind.Width text = as_value-sound (λ n. n ≤ 255) (λ width. Width 
 value-sound kind.Text text = tt
 value-sound kind.Byte text = as_value-sound (λ _. ⊤) (λ byte. Byte byte) (byte_in text) (anything (byte_in text)) (λ byte is. tt)
 value-sound kind.Ending text = as_value-sound (λ _. ⊤) (λ ending. Text ending) (ending_in text) (anything (ending_in text)) (λ ending is. tt)
+value-sound kind.Following text = as_value-sound (λ _. ⊤) (λ followed. Following followed) (followed_in text) (anything (followed_in text)) (λ followed is. tt)
+value-sound kind.Looks text = as_value-sound (λ _. ⊤) (λ looks. Looks looks) (some (up_to (2 ^ 63 - 1) (digits_of text))) (anything (some (up_to (2 ^ 63 - 1) (digits_of text)))) (λ looks is. tt)
 
 -- one word
 
@@ -209,6 +212,8 @@ way_in-limits choice (Counted count) is = omega arith
 way_in-limits choice (Width width) is = omega arith
 way_in-limits choice (Text text) is = omega arith
 way_in-limits choice (Byte byte) is = omega arith
+way_in-limits choice (Following followed) is = omega arith
+way_in-limits choice (Looks looks) is = omega arith
 
 second_way-sound : (asked : SplitOptions) (cut : Cut) (word : ℕ) (first : Option Cut) → IsAskedSoundly asked → IsInLimits cut → IfOk (second_way asked cut word first) IsAskedSoundly
 second_way-sound asked cut word None sound is = (is, sound.1)
@@ -222,6 +227,8 @@ with_width-sound asked (Size size) sound is = sound
 with_width-sound asked (Files files) sound is = sound
 with_width-sound asked (Text text) sound is = sound
 with_width-sound asked (Byte byte) sound is = sound
+with_width-sound asked (Following followed) sound is = sound
+with_width-sound asked (Looks looks) sound is = sound
 
 split_by-sound : (asked : SplitOptions) (choice : Choice) (value : Meant) (word : ℕ) → IsAskedSoundly asked → IsSound value → IfOk (split_by asked choice value word) IsAskedSoundly
 split_by-sound asked choice.Lines value word sound is = second_way-sound asked (way_in choice.Lines value) word asked.cut sound (way_in-limits choice.Lines value is)
@@ -308,17 +315,13 @@ both : {A : Type 0} (P Q : A → Type 0) (result : Result A Fault) → IfOk resu
 both P Q (Ok value) one other = (one, other)
 both P Q (Err fault) one other = tt
 
-all_files : (files : Result (List ℕ × List ℕ) Fault) → IfOk files (λ _. ⊤)
-all_files (Ok files) = tt
-all_files (Err fault) = tt
-
 asked-can : (given : Given) → AreSound given.options → IfOk (split_asked given) CanSplit
 asked-can given sound =
     then_check-kept IsAskedSoundly CanSplit (split_options given.options no_options) _ (split_options-sound given.options no_options (omega arith, omega arith) sound) (λ asked is.
     then_check-kept (λ suffix. AreNamed (way_of asked.cut) asked.alphabet suffix.width × IsWidth suffix.width) CanSplit (suffix_for (way_of asked.cut) asked.alphabet asked.width) _
     (both (λ suffix. AreNamed (way_of asked.cut) asked.alphabet suffix.width) (λ suffix. IsWidth suffix.width) (suffix_for (way_of asked.cut) asked.alphabet asked.width)
     (suffix-named (way_of asked.cut) asked.alphabet asked.width is.0) (suffix-width (way_of asked.cut) asked.alphabet asked.width is.1)) (λ suffix those.
-    then_check-kept (λ _. ⊤) CanSplit (files_in given.operands) _ (all_files (files_in given.operands)) (λ files _.
+    then_check-kept (λ _. ⊤) CanSplit (files_in given.operands) _ (anything (files_in given.operands)) (λ files _.
     record { cut = is.0; width = those.1; named = those.0 })))
 
 -- `csplit`: the least number of digits
@@ -345,7 +348,7 @@ csplit-can given sound = asked_of-few (style_of given.options) given.operands (c
 
 settled-can : (which : Tool) (given : Given) → AreSound given.options → IfOk (settings_for which given) CanRun
 settled-can tool.Head given sound = tt
-settled-can tool.Tail given sound = tt
+settled-can tool.Tail given sound = then_check-kept (λ asked. ⊤) CanRun (tail_asked given) _ (anything (tail_asked given)) (λ asked is. tt)
 settled-can tool.Split given sound = then_check-kept CanSplit CanRun (split_asked given) _ (asked-can given sound) (λ asked is. is)
 settled-can tool.Csplit given sound = then_check-kept (λ asked. asked.style.digits ≤ 255) CanRun (csplit_asked given) _ (csplit-can given sound) (λ asked is. is)
 settled-can tool.Tee given sound = tt

@@ -1,5 +1,5 @@
 -- The words of the laws: which options ask for what, and the operands among words.
-use Rattle.std.specs.Prelude.{◌≡◌, ◌≢◌, ℕ, ◌+◌, ◌<◌, Bool, true, false, List, [], ◌∷◌, ◌++◌, fold, codes, Some, Result}
+use Rattle.std.specs.Prelude.{◌≡◌, ◌≢◌, ℕ, ◌+◌, ◌-◌, ◌^◌, ◌<◌, Bool, true, false, List, [], ◌∷◌, ◌++◌, fold, codes, Some, None, Result}
 use Rattle.std.specs.List.{list_any}
 use Rattle.seg_core.specs.declared.count.Count.{Count}
 use Rattle.ends_core.specs.declared.unit.Unit.{Unit as Measured}
@@ -8,22 +8,25 @@ use Rattle.ports_core.specs.declared.fault.Fault.{Fault}
 use Rattle.split_core.specs.declared.cut.Cut.{Cut}
 use Rattle.csplit_core.specs.Output.{Style}
 use Rattle.words_core.specs.declared.table.Choice.{Choice}
-use Rattle.words_core.specs.declared.table.Choice.TheVariants.{Lines, Bytes, LineBytes, Files, Quiet, Verbose, SuffixLength, NumericSuffixes, HexSuffixes, ElideEmptyFiles, Prefix, Digits, KeepFiles, SuppressMatched, Append}
+use Rattle.words_core.specs.declared.table.Choice.TheVariants.{Lines, Bytes, LineBytes, Files, Quiet, Verbose, SuffixLength, NumericSuffixes, HexSuffixes, ElideEmptyFiles, Prefix, Digits, KeepFiles, SuppressMatched, Append, Follow, FollowNames, Retry, Looks as HowOften}
 use Rattle.words_core.specs.declared.table.Kind.{Kind}
 use Rattle.words_core.specs.declared.table.Takes.TheVariants as takes
 use Rattle.words_core.specs.declared.spelling.State.TheVariants.{Reading}
 use Rattle.words_core.specs.declared.ends_words.EndsOptions.{EndsOptions}
 use Rattle.words_core.specs.declared.split_words.SplitOptions.{SplitOptions}
+use Rattle.words_core.specs.declared.tail_words.FollowOptions.{FollowOptions}
 use Rattle.words_core.specs.declared.settings.Headers.{Headers}
 use Rattle.words_core.specs.CsplitAsked.{CsplitAsked}
 use Rattle.words_core.specs.EndsAsked.{EndsAsked}
 use Rattle.words_core.specs.SplitAsked.{SplitAsked}
-use Rattle.words_core.specs.Value.{Meant, Counted, Text, Width}
+use Rattle.words_core.specs.declared.settings.TailSettings.{TailSettings}
+use Rattle.words_core.specs.Value.{Meant, Counted, Text, Width, Looks}
 use Rattle.words_core.specs.Given.{Given, GivenOption, GivenOperand, one_option}
 use Rattle.words_core.specs.Spelling.{behind, is_equals, spelled}
 use Rattle.words_core.specs.Table.{OptionRow, option_named}
 use Rattle.words_core.specs.EndsWords.{ends_after, ten_lines}
 use Rattle.words_core.specs.SplitWords.{no_options, split_options}
+use Rattle.words_core.specs.TailWords.{follow_after, no_following}
 
 -- what options ask of `head` or `tail`, and of `split`
 
@@ -32,6 +35,9 @@ ends_of options = fold ends_after ten_lines options
 
 abbrev pub split_of : List GivenOption → Result SplitOptions Fault
 split_of options = split_options options no_options
+
+abbrev pub follow_of : List GivenOption → FollowOptions
+follow_of options = fold follow_after no_following options
 
 -- which unit is counted, and how many
 abbrev pub amount_of : EndsOptions → Measured × Count
@@ -54,6 +60,28 @@ heads choice = false
 
 abbrev pub is_headers : GivenOption → Bool
 is_headers option = heads option.choice
+
+-- whether it says what `tail` follows, and how often it looks
+
+abbrev pub says_followed : Choice → Bool
+says_followed Follow = true
+says_followed FollowNames = true
+says_followed choice = false
+
+abbrev pub is_following : GivenOption → Bool
+is_following option = says_followed option.choice
+
+abbrev pub counts_looks : Choice → Meant → Bool
+counts_looks HowOften (Looks looks) = true
+counts_looks choice value = false
+
+abbrev pub is_looks : GivenOption → Bool
+is_looks option = counts_looks option.choice option.value
+
+abbrev pub retries : Choice → Bool
+retries FollowNames = true
+retries Retry = true
+retries choice = false
 
 -- whether it is a way to split
 abbrev pub splits : Choice → Bool
@@ -154,6 +182,10 @@ pub record IsName (rows : List OptionRow) (name : List ℕ) (choice : Choice) (k
 
 abbrev pub ends_as : Measured → Count → Headers → EndsAsked
 ends_as unit count headers = record { unit = unit; count = count; headers = headers; delim = 10; names = codes "-" ∷ [] }
+
+-- the same of `tail`, where nothing is followed
+abbrev pub tail_as : EndsAsked → TailSettings
+tail_as ends = record { ends = ends; followed = None; looks = 2 ^ 63 - 1 }
 
 abbrev pub split_as : Cut → Alphabet → ℕ → Bool → Bool → SplitAsked
 split_as cut alphabet width auto elide = record { cut = cut; alphabet = alphabet; width = width; auto = auto; elide = elide; input = codes "-"; prefix = codes "x"; ending = []; delim = 10 }

@@ -8,6 +8,7 @@ pub mod Spelling
 pub mod SplitAsked
 pub mod SplitWords
 pub mod Table
+pub mod TailWords
 pub mod TeeAsked
 pub mod TeeWords
 pub mod Value

@@ -1,15 +1,18 @@
 -- What the value of an option says, or what is wrong with it, by its kind. A value that isn't of its form is told before one that
 -- is too large, and that before 0.
-use Rattle.std.specs.Prelude.{ℕ, ◌==◌, nat_le, List, [], ◌∷◌, Result, Ok, Err, if◌then◌else◌}
+use Rattle.std.specs.Prelude.{ℕ, ◌-◌, ◌^◌, ◌==◌, nat_le, codes, List, [], ◌∷◌, Result, Ok, Err, if◌then◌else◌}
 use Rattle.std.specs.List.{list_any}
+use Rattle.std.specs.Str.{bytes_eq}
 use Rattle.seg_core.specs.Count.{count_of, digits_of}
 use Rattle.seg_core.specs.declared.count.Count.{Count}
 use Rattle.seg_core.specs.declared.count.CountFault.{CountFault}
 use Rattle.seg_core.specs.declared.count.CountFault.TheVariants.{NoDigits, Suffix, TooLarge}
 use Rattle.ports_core.specs.declared.fault.UsageKind.{UsageKind}
-use Rattle.ports_core.specs.declared.fault.UsageKind.TheVariants.{BadNumber, NumberTooLarge, Zero, BadSeparator, BadSuffix}
+use Rattle.ports_core.specs.declared.fault.UsageKind.TheVariants.{BadNumber, NumberTooLarge, Zero, BadSeparator, BadSuffix, BadFollow}
 use Rattle.words_core.specs.declared.table.Kind.{Kind}
 use Rattle.words_core.specs.declared.table.Kind.TheVariants as kind
+use Rattle.words_core.specs.declared.value.Followed.{Followed}
+use Rattle.words_core.specs.declared.value.Followed.TheVariants as followed
 use Rattle.words_core.specs.declared.value.Value.{Value}
 use Rattle.words_core.specs.declared.value.Value.TheVariants as value
 
@@ -22,6 +25,8 @@ pub data Meant : Type 0 where
   Width : ℕ → Meant
   Text : List ℕ → Meant
   Byte : ℕ → Meant
+  Following : Followed → Meant
+  Looks : ℕ → Meant
 
 abbrev pub seen : Value → Meant
 seen value.Nothing = Nothing
@@ -31,6 +36,8 @@ seen (value.Files files) = Files files
 seen (value.Width width) = Width width
 seen (value.Text text) = Text text.now
 seen (value.Byte byte) = Byte byte
+seen (value.Following followed) = Following followed
+seen (value.Looks looks) = Looks looks
 
 abbrev pub seen_in : Result Value UsageKind → Result Meant UsageKind
 seen_in (Ok value) = Ok (seen value)
@@ -91,6 +98,12 @@ byte_in (byte ∷ next ∷ more ∷ text) = Err BadSeparator
 abbrev pub ending_in : List ℕ → Result (List ℕ) UsageKind
 ending_in text = if list_any (λ byte. byte == 47) text then Err BadSuffix else Ok text
 
+-- what is followed
+abbrev pub followed_in : List ℕ → Result Followed UsageKind
+followed_in text =
+    if bytes_eq text (codes "descriptor") then Ok followed.Descriptor
+    else (if bytes_eq text (codes "name") then Ok followed.Name else Err BadFollow)
+
 -- a value that was read, or what is wrong with it
 abbrev pub as_value : {A : Type 0} → (A → Meant) → Result A UsageKind → Result Meant UsageKind
 as_value make (Ok value) = Ok (make value)
@@ -105,3 +118,5 @@ value_in kind.Width text = as_value (λ width. Width width) (up_to 255 (digits_o
 value_in kind.Text text = Ok (Text text)
 value_in kind.Byte text = as_value (λ byte. Byte byte) (byte_in text)
 value_in kind.Ending text = as_value (λ ending. Text ending) (ending_in text)
+value_in kind.Following text = as_value (λ followed. Following followed) (followed_in text)
+value_in kind.Looks text = as_value (λ looks. Looks looks) (some (up_to (2 ^ 63 - 1) (digits_of text)))

@@ -1,5 +1,5 @@
 -- What a list of words asks for. The first word is the tool's name, and words are counted from there, from 0.
-use Rattle.std.specs.Prelude.{ℕ, ◌≤◌, List, [], ◌∷◌, Option, Some, None, option_map, Result, Ok, Err}
+use Rattle.std.specs.Prelude.{ℕ, ◌-◌, ◌^◌, ◌≤◌, Bool, true, false, List, [], ◌∷◌, Option, Some, None, option_map, Result, Ok, Err}
 use Rattle.ports_core.specs.declared.tool.Tool.{Tool}
 use Rattle.ports_core.specs.declared.tool.Tool.TheVariants as tool
 use Rattle.ports_core.specs.declared.fault.Fault.{Fault}
@@ -13,6 +13,7 @@ use Rattle.words_core.specs.Spelling.{given_by}
 use Rattle.words_core.specs.CsplitWords.{HasBadOperand, csplit_asked}
 use Rattle.words_core.specs.EndsWords.{ends_asked}
 use Rattle.words_core.specs.SplitWords.{CanSplit, split_asked, then_check}
+use Rattle.words_core.specs.TailWords.{tail_asked}
 use Rattle.words_core.specs.TeeWords.{tee_asked}
 
 -- the tool of this name
@@ -22,7 +23,7 @@ tool_named name = option_map (λ row. row.tool) (row_named tools name)
 -- what options and operands ask of a tool
 abbrev pub settings_for : Tool → Given → Result Settings Fault
 settings_for tool.Head given = Ok (Head (ends_asked given))
-settings_for tool.Tail given = Ok (Tail (ends_asked given))
+settings_for tool.Tail given = then_check (tail_asked given) (λ asked. Ok (Tail asked))
 settings_for tool.Split given = then_check (split_asked given) (λ asked. Ok (Split asked))
 settings_for tool.Csplit given = then_check (csplit_asked given) (λ asked. Ok (Csplit asked))
 settings_for tool.Tee given = Ok (Tee (tee_asked given))
@@ -37,6 +38,20 @@ tool_settings words (Some row) = then_check (given_by row words) (settings_for r
 abbrev pub settings_of : List (List ℕ) → Result Settings Fault
 settings_of [] = Err (Usage MissingTool 0)
 settings_of (name ∷ words) = tool_settings words (row_named tools name)
+
+-- whether inputs are followed, and how often they are looked at then
+
+abbrev pub is_followed : {A : Type 0} → Option A → Bool
+is_followed None = false
+is_followed (Some followed) = true
+
+abbrev pub follows : Settings → Bool
+follows (Tail asked) = is_followed asked.followed
+follows settings = false
+
+abbrev pub looks : Settings → ℕ
+looks (Tail asked) = asked.looks
+looks settings = 2 ^ 63 - 1
 
 -- What is asked for has operands that can't be read, and this fault tells the first: so it is of `csplit` alone.
 abbrev pub HasBadOperands : Settings → Fault → Type 0

@@ -1,5 +1,5 @@
 //! Laws of what words spell and ask for, with no code: each stands on the contract of a function whose body is empty.
-ghost use Rattle.std.specs.Prelude.{◌≡◌, ◌≢◌, ◌↔◌, ◌+◌, ◌≤◌, ◌<◌, ◌++◌, ℕ, List, [], ◌∷◌, Option, Some, None, Result, Ok, Err, IsOk, true, false, length, filter, codes};
+ghost use Rattle.std.specs.Prelude.{◌≡◌, ◌≢◌, ◌↔◌, ◌+◌, ◌-◌, ◌^◌, ◌≤◌, ◌<◌, ◌++◌, ℕ, List, [], ◌∷◌, Option, Some, None, Result, Ok, Err, IsOk, true, false, length, filter, codes};
 ghost use Rattle.std.specs.List.{list_any};
 ghost use Rattle.ports_core.specs.declared.fault.UsageKind.TheVariants.{TwoWays};
 ghost use Rattle.words_core.specs.declared.spelling.State.TheVariants.{Reading};
@@ -7,7 +7,7 @@ ghost use Rattle.words_core.specs.declared.split_words.SplitOptions.{SplitOption
 ghost use Rattle.seg_core.specs.Count.{count_of, digits_of, is_number};
 ghost use Rattle.words_core.specs.Given.{Given, GivenOption, one_option};
 ghost use Rattle.words_core.specs.CsplitWords.{style_of};
-ghost use Rattle.words_core.specs.Laws.{AreAmong, Gives, IsLetter, IsName, amount_of, appends, as_operands, csplit_as, drops_sizes, elides_files, ends_as, ends_of, has, is_alphabet, is_count, is_digits, is_headers, is_prefix, is_way, is_width, keeps_files, leaves_lines_out, plain_style, split_as, split_of};
+ghost use Rattle.words_core.specs.Laws.{AreAmong, Gives, IsLetter, IsName, amount_of, appends, as_operands, csplit_as, drops_sizes, elides_files, ends_as, ends_of, has, is_alphabet, is_count, is_digits, is_headers, is_prefix, is_way, is_width, follow_of, is_following, is_looks, keeps_files, leaves_lines_out, plain_style, retries, split_as, split_of, tail_as};
 ghost use Rattle.words_core.specs.Spelling.{behind, spelled};
 ghost use Rattle.words_core.specs.EndsWords.{ten_lines};
 ghost use Rattle.words_core.specs.SplitWords.{least_width, way_in};
@@ -34,6 +34,18 @@ pub fn last_of_ends_decides()
     ensures headers { (before after : List GivenOption) (option : GivenOption) → is_headers option ≡ true → list_any is_headers after ≡ false
         → (ends_of (before ++ option ∷ after)).headers ≡ (ends_of (option ∷ [])).headers }
     ensures no_headers { (options : List GivenOption) → list_any is_headers options ≡ false → (ends_of options).headers ≡ (ends_of []).headers }
+{}
+
+/// Of several options that say what `tail` follows the last decides, as if it stood alone, whatever options stand before it,
+/// and so does the last number of looks. A name that leads nowhere is looked for again where any option says so.
+pub fn last_of_tail_decides()
+    ensures followed { (before after : List GivenOption) (option : GivenOption) → is_following option ≡ true → list_any is_following after ≡ false
+        → (follow_of (before ++ option ∷ after)).followed ≡ (follow_of (option ∷ [])).followed }
+    ensures not_followed { (options : List GivenOption) → list_any is_following options ≡ false → (follow_of options).followed ≡ None }
+    ensures looks { (before after : List GivenOption) (option : GivenOption) → is_looks option ≡ true → list_any is_looks after ≡ false
+        → (follow_of (before ++ option ∷ after)).looks ≡ (follow_of (option ∷ [])).looks }
+    ensures no_looks { (options : List GivenOption) → list_any is_looks options ≡ false → (follow_of options).looks ≡ 2 ^ 63 - 1 }
+    ensures retry { (options : List GivenOption) → (follow_of options).retry ≡ has retries options }
 {}
 
 /// Of several options for the characters of suffixes the last decides, as if it stood alone, where `split` accepts
@@ -125,13 +137,13 @@ pub fn ends_options_ask()
     ensures head_bytes { (value : List ℕ) (count : Count) → count_of value ≡ Ok count
         → settings_of (codes "head" ∷ codes "-c" ∷ value ∷ []) ≡ Ok (Settings.Head (ends_as Unit.Bytes count Headers.ForSeveral)) }
     ensures tail_lines { (value : List ℕ) (count : Count) → count_of value ≡ Ok count
-        → settings_of (codes "tail" ∷ codes "-n" ∷ value ∷ []) ≡ Ok (Settings.Tail (ends_as Unit.Lines count Headers.ForSeveral)) }
+        → settings_of (codes "tail" ∷ codes "-n" ∷ value ∷ []) ≡ Ok (Settings.Tail (tail_as (ends_as Unit.Lines count Headers.ForSeveral))) }
     ensures tail_bytes { (value : List ℕ) (count : Count) → count_of value ≡ Ok count
-        → settings_of (codes "tail" ∷ codes "-c" ∷ value ∷ []) ≡ Ok (Settings.Tail (ends_as Unit.Bytes count Headers.ForSeveral)) }
+        → settings_of (codes "tail" ∷ codes "-c" ∷ value ∷ []) ≡ Ok (Settings.Tail (tail_as (ends_as Unit.Bytes count Headers.ForSeveral))) }
     ensures head_quiet { settings_of (codes "head" ∷ codes "-q" ∷ []) ≡ Ok (Settings.Head (ends_as Unit.Lines ten_lines.count Headers.Never)) }
     ensures head_verbose { settings_of (codes "head" ∷ codes "-v" ∷ []) ≡ Ok (Settings.Head (ends_as Unit.Lines ten_lines.count Headers.Always)) }
-    ensures tail_quiet { settings_of (codes "tail" ∷ codes "-q" ∷ []) ≡ Ok (Settings.Tail (ends_as Unit.Lines ten_lines.count Headers.Never)) }
-    ensures tail_verbose { settings_of (codes "tail" ∷ codes "-v" ∷ []) ≡ Ok (Settings.Tail (ends_as Unit.Lines ten_lines.count Headers.Always)) }
+    ensures tail_quiet { settings_of (codes "tail" ∷ codes "-q" ∷ []) ≡ Ok (Settings.Tail (tail_as (ends_as Unit.Lines ten_lines.count Headers.Never))) }
+    ensures tail_verbose { settings_of (codes "tail" ∷ codes "-v" ∷ []) ≡ Ok (Settings.Tail (tail_as (ends_as Unit.Lines ten_lines.count Headers.Always))) }
 {}
 
 /// What the options of `split` ask for, each alone (POSIX.1-2017, XCU split; GNU coreutils manual).

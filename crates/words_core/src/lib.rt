@@ -16,6 +16,7 @@ mod spelling_tests;
 mod split_tests;
 mod split_words;
 mod table;
+mod tail_words;
 #[cfg(test)]
 mod tee_tests;
 mod tee_words;
@@ -25,9 +26,10 @@ mod words;
 pub use csplit_settings::CsplitSettings;
 pub use laws::{
     csplit_options_ask, ends_options_ask, last_of_csplit_decides, last_of_ends_decides,
-    last_of_split_decides, number_comes_first, numbers_ask, one_way_at_most,
+    last_of_split_decides, last_of_tail_decides, number_comes_first, numbers_ask, one_way_at_most,
     operands_follow_the_end, operands_keep_their_order, options_stand_anywhere, split_options_ask,
     tee_options_ask, values_are_spelled_alike,
 };
-pub use settings::{EndsSettings, Headers, Settings, SplitSettings, TeeSettings};
+pub use settings::{EndsSettings, Headers, Settings, SplitSettings, TailSettings, TeeSettings};
+pub use value::Followed;
 pub use words::{find_tool, read_words};

@@ -5,6 +5,7 @@ ghost use Rattle.words_core.specs.SplitAsked.{SplitAsked};
 ghost use Rattle.words_core.specs.TeeAsked.{TeeAsked};
 
 use crate::csplit_settings::CsplitSettings;
+use crate::value::Followed;
 use ends_core::Unit;
 use ports_core::{Alphabet, Mode};
 use seg_core::count::Count;
@@ -16,8 +17,8 @@ use std::marker::Model;
 pub enum Settings<'a> {
     /// The first part of each input.
     Head(EndsSettings<'a>),
-    /// The last part of each input.
-    Tail(EndsSettings<'a>),
+    /// The last part of each input, and what follows it.
+    Tail(TailSettings<'a>),
     /// The input cut into files.
     Split(SplitSettings<'a>),
     /// The input cut into files where its lines match.
@@ -45,6 +46,17 @@ impl<'a> Model for EndsSettings<'a> {
     ghost Value = { EndsAsked };
 
     ghost view = { λ s. record { unit = s.unit; count = s.count; headers = s.headers; delim = s.delim; names = map (λ name. name.now) s.names.items } };
+}
+
+/// What `tail` is to write of its inputs.
+#[derive(Drop)]
+pub struct TailSettings<'a> {
+    /// What is written of each input at first.
+    pub ends: EndsSettings<'a>,
+    /// What is followed after that, if anything is.
+    pub followed: Option<Followed>,
+    /// How often inputs that are followed are looked at, 1 to 2^63-1.
+    pub looks: u64,
 }
 
 /// When a header with its name goes before an input.

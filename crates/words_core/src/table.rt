@@ -45,6 +45,14 @@ pub enum Choice {
     SuppressMatched,
     /// What files hold stays, and what is written goes after it.
     Append,
+    /// Following, in the way that the value says, or by descriptor where there is none.
+    Follow,
+    /// Following by name, also where a name leads nowhere for a while.
+    FollowNames,
+    /// A name that leads nowhere is looked for again.
+    Retry,
+    /// How often inputs are looked at.
+    Looks,
 }
 
 /// What the value of an option says.
@@ -64,6 +72,10 @@ pub enum Kind {
     Byte,
     /// A text without `/`.
     Ending,
+    /// `descriptor` or `name`.
+    Following,
+    /// How often inputs are looked at: digits, 1 to 2^63-1.
+    Looks,
 }
 
 /// Whether an option takes a value.

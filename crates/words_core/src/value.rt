@@ -2,7 +2,7 @@
 //! GNU's).
 ghost use Rattle.std.specs.Prelude.{◌≡◌, ◌≤◌, Ok, Err, IfOk, IfErr};
 ghost use Rattle.seg_core.specs.Count.{count_of, digits_of};
-ghost use Rattle.words_core.specs.Value.{byte_in, counted, ending_in, not_zero, number_fault, round_in, seen_in, size_in, up_to, value_in};
+ghost use Rattle.words_core.specs.Value.{byte_in, counted, ending_in, followed_in, not_zero, number_fault, round_in, seen_in, size_in, up_to, value_in};
 
 use crate::table::Kind;
 use ports_core::UsageKind;
@@ -26,6 +26,19 @@ pub enum Value<'a> {
     Text(&'a str),
     /// A byte.
     Byte(u8),
+    /// What is followed.
+    Following(Followed),
+    /// How often inputs are looked at, 1 to 2^63-1.
+    Looks(u64),
+}
+
+/// What `tail` follows.
+#[derive(Clone, Copy, Debug, PartialEq, Eq)]
+pub enum Followed {
+    /// The files that were opened at first, wherever their names lead.
+    Descriptor,
+    /// The files to which the names lead.
+    Name,
 }
 
 /// The greatest number of files that lines are dealt to.
@@ -34,12 +47,15 @@ const MOST_FILES: u64 = 65_535;
 /// The greatest width of a suffix.
 const WIDEST: u64 = 255;
 
+/// The greatest number of looks.
+pub const MOST_LOOKS: u64 = 9_223_372_036_854_775_807;
+
 /// Reads the value of an option.
 ///
 /// # Errors
 ///
-/// What is wrong with the value: it isn't of its kind's form, or else its number is too large, or else it is 0. A byte
-/// or an ending that isn't of its form has a fault of its own.
+/// What is wrong with the value: it isn't of its kind's form, or else its number is too large, or else it is 0. A byte,
+/// an ending or what is followed has a fault of its own where it isn't of its form.
 pub fn read_value(kind: Kind, text: &str) -> Result<Value<'_>, UsageKind>
     ensures { seen_in result ≡ value_in kind text.now }
 {
@@ -52,6 +68,8 @@ pub fn read_value(kind: Kind, text: &str) -> Result<Value<'_>, UsageKind>
         Kind::Text => Ok(Value::Text(text)),
         Kind::Byte => Ok(Value::Byte(read_byte(bytes)?)),
         Kind::Ending => Ok(Value::Text(read_ending(text)?)),
+        Kind::Following => Ok(Value::Following(read_followed(text)?)),
+        Kind::Looks => Ok(Value::Looks(not_zero(read_number(bytes, MOST_LOOKS)?)?)),
     }
 }
 
@@ -117,6 +135,19 @@ fn read_ending(text: &str) -> Result<&str, UsageKind>
         return Err(UsageKind::BadSuffix);
     }
     Ok(text)
+}
+
+/// Reads what is followed.
+fn read_followed(text: &str) -> Result<Followed, UsageKind>
+    ensures { result ≡ followed_in text.now }
+{
+    if text == "descriptor" {
+        return Ok(Followed::Descriptor);
+    }
+    if text == "name" {
+        return Ok(Followed::Name);
+    }
+    Err(UsageKind::BadFollow)
 }
 
 fn not_zero(number: u64) -> Result<u64, UsageKind>

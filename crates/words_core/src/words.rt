@@ -1,7 +1,7 @@
 //! The words of the command line, from the tool's name on (POSIX.1-2017, XBD 12.2).
 ghost use Rattle.std.specs.Prelude.{◌≡◌, map, IfOk, IfErr};
 ghost use Rattle.words_core.specs.Spelling.{IsRefused};
-ghost use Rattle.words_core.specs.Words.{CanRun, HasBadOperands, settings_for, settings_of, tool_named};
+ghost use Rattle.words_core.specs.Words.{CanRun, HasBadOperands, follows, looks, settings_for, settings_of, tool_named};
 
 use crate::csplit_words::settle_csplit;
 use crate::ends_words::settle_ends;
@@ -10,7 +10,9 @@ use crate::spelled::Spelled;
 use crate::spelling::read_given;
 use crate::split_words::settle_split;
 use crate::table::{all_tools, find_row};
+use crate::tail_words::settle_tail;
 use crate::tee_words::settle_tee;
+use crate::value::MOST_LOOKS;
 use ports_core::{Fault, Tool, UsageKind};
 use std::alloc::Global;
 
@@ -36,6 +38,28 @@ pub fn read_words<'a>(alloc: Global, words: &[&'a str]) -> Result<Settings<'a>, 
     settle(alloc, row.1, &spelled)
 }
 
+impl Settings<'_> {
+    /// Whether inputs are followed.
+    pub fn follows(&self) -> bool
+        ensures { result ≡ follows self.now }
+    {
+        match self {
+            Settings::Tail(settings) => settings.followed.is_some(),
+            _ => false,
+        }
+    }
+
+    /// How often inputs are looked at where they are followed, at most 2^63-1 times.
+    pub fn looks(&self) -> u64
+        ensures { result ≡ looks self.now }
+    {
+        match self {
+            Settings::Tail(settings) => settings.looks,
+            _ => MOST_LOOKS,
+        }
+    }
+}
+
 /// The tool of this name.
 pub fn find_tool(name: &str) -> Option<Tool>
     ensures { result ≡ tool_named name.now }
@@ -53,7 +77,7 @@ fn settle<'a>(alloc: Global, tool: Tool, spelled: &Spelled<'a>) -> Result<Settin
 {
     match tool {
         Tool::Head => Ok(Settings::Head(settle_ends(alloc, spelled)?)),
-        Tool::Tail => Ok(Settings::Tail(settle_ends(alloc, spelled)?)),
+        Tool::Tail => Ok(Settings::Tail(settle_tail(alloc, spelled)?)),
         Tool::Split => Ok(Settings::Split(settle_split(spelled)?)),
         Tool::Csplit => Ok(Settings::Csplit(settle_csplit(alloc, spelled)?)),
         Tool::Tee => Ok(Settings::Tee(settle_tee(alloc, spelled)?)),

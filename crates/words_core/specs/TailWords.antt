@@ -1,0 +1,71 @@
+-- What options and operands ask of `tail`, or what is wrong with them.
+use Rattle.std.specs.Prelude.{ℕ, ◌-◌, ◌^◌, Bool, true, false, List, [], ◌∷◌, fold, codes, Option, Some, None, Result, Ok, Err, if◌then◌else◌}
+use Rattle.std.specs.List.{list_any}
+use Rattle.std.specs.Str.{bytes_eq}
+use Rattle.ports_core.specs.declared.fault.Fault.{Fault}
+use Rattle.ports_core.specs.declared.fault.Fault.TheVariants.{Usage}
+use Rattle.ports_core.specs.declared.fault.UsageKind.TheVariants.{BadFollow}
+use Rattle.words_core.specs.declared.table.Choice.{Choice}
+use Rattle.words_core.specs.declared.table.Choice.TheVariants as choice
+use Rattle.words_core.specs.declared.tail_words.FollowOptions.{FollowOptions}
+use Rattle.words_core.specs.declared.value.Followed.{Followed}
+use Rattle.words_core.specs.declared.value.Followed.TheVariants.{Descriptor, Name}
+use Rattle.words_core.specs.EndsWords.{ends_asked}
+use Rattle.words_core.specs.Given.{Given, GivenOption, texts_of}
+use Rattle.words_core.specs.SplitWords.{then_check}
+use Rattle.words_core.specs.declared.settings.TailSettings.{TailSettings}
+use Rattle.words_core.specs.Value.{Meant, Following, Looks}
+
+-- without options nothing is followed
+abbrev pub no_following : FollowOptions
+no_following = record { followed = None; retry = false; looks = 2 ^ 63 - 1 }
+
+-- With one more option: the last that says what is followed decides, and so does the last number of looks.
+
+abbrev pub following : FollowOptions → Meant → FollowOptions
+following asked (Following followed) = record asked { followed = Some followed }
+following asked value = record asked { followed = Some Descriptor }
+
+abbrev pub looking : FollowOptions → Meant → FollowOptions
+looking asked (Looks looks) = record asked { looks = looks }
+looking asked value = asked
+
+abbrev pub follow_by : FollowOptions → Choice → Meant → FollowOptions
+follow_by asked choice.Follow value = following asked value
+follow_by asked choice.FollowNames value = record asked { followed = Some Name; retry = true }
+follow_by asked choice.Retry value = record asked { retry = true }
+follow_by asked choice.Looks value = looking asked value
+follow_by asked choice value = asked
+
+abbrev pub follow_after : FollowOptions → GivenOption → FollowOptions
+follow_after asked option = follow_by asked option.choice option.value
+
+-- whether standard input is among the operands
+abbrev pub has_hyphen : List (List ℕ) → Bool
+has_hyphen names = list_any (λ name. bytes_eq name (codes "-")) names
+
+abbrev pub bad_follow : {A : Type 0} → Result A Fault
+bad_follow = Err (Usage BadFollow 0)
+
+-- Standard input can't be followed. Where it would be alone, following by descriptor is dropped.
+
+abbrev pub by_descriptor : List (List ℕ) → Result (Option Followed) Fault
+by_descriptor [] = Ok None
+by_descriptor (name ∷ []) = if has_hyphen (name ∷ []) then Ok None else Ok (Some Descriptor)
+by_descriptor (name ∷ next ∷ names) = if has_hyphen (name ∷ next ∷ names) then bad_follow else Ok (Some Descriptor)
+
+abbrev pub by_name : List (List ℕ) → Result (Option Followed) Fault
+by_name [] = bad_follow
+by_name (name ∷ names) = if has_hyphen (name ∷ names) then bad_follow else Ok (Some Name)
+
+-- names are followed just where one that leads nowhere is looked for again
+abbrev pub followed_in : Option Followed → (retry : Bool) → List (List ℕ) → Result (Option Followed) Fault
+followed_in None false names = Ok None
+followed_in (Some Descriptor) false names = by_descriptor names
+followed_in (Some Name) true names = by_name names
+followed_in followed retry names = bad_follow
+
+abbrev pub tail_asked : Given → Result TailSettings Fault
+tail_asked given =
+    let asked = fold follow_after no_following given.options in
+    then_check (followed_in asked.followed asked.retry (texts_of given.operands)) (λ followed. Ok (record { ends = ends_asked given; followed = followed; looks = asked.looks }))

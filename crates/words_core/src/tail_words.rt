@@ -1,0 +1,166 @@
+//! What `tail` is asked for (POSIX.1-2017, XCU tail); `-F`, `--follow` and `--retry` are GNU's, `--looks` is of these tools.
+ghost use Rattle.std.specs.Prelude.{◌≡◌, fold, map, IfOk, IfErr};
+ghost use Rattle.words_core.specs.Given.{operand_seen, option_seen, texts_of};
+ghost use Rattle.words_core.specs.Spelling.{Reads};
+ghost use Rattle.words_core.specs.TailWords.{by_descriptor, by_name, follow_after, followed_in, following, has_hyphen, looking, no_following, tail_asked};
+ghost use Rattle.words_core.specs.Value.{seen};
+
+use crate::ends_words::settle_ends;
+use crate::settings::TailSettings;
+use crate::spelled::{Chosen, Operand, Spelled};
+use crate::table::Choice;
+use crate::value::{Followed, MOST_LOOKS, Value};
+use ports_core::{Fault, STANDARD_INPUT, UsageKind};
+use std::alloc::Global;
+
+/// What the options of `tail` ask for after the last part of each input.
+#[derive(Clone, Copy, Debug, PartialEq, Eq)]
+pub struct FollowOptions {
+    /// What is followed, if anything is.
+    pub followed: Option<Followed>,
+    /// Whether names that lead nowhere are looked for again.
+    pub retry: bool,
+    /// How often inputs are looked at.
+    pub looks: u64,
+}
+
+/// What is asked for without options.
+const NO_FOLLOWING: FollowOptions = FollowOptions {
+    followed: None,
+    retry: false,
+    looks: MOST_LOOKS,
+};
+
+/// What is wrong with what is to be followed.
+const BAD_FOLLOW: Fault = Fault::Usage(UsageKind::BadFollow, 0);
+
+impl FollowOptions {
+    /// The same, and what one more option asks for.
+    fn with(self, option: &Chosen<'_>) -> Self
+        ensures { result ≡ follow_after self (option_seen option.now) }
+    {
+        match option.choice {
+            Choice::Follow => self.following(option.value),
+            Choice::FollowNames => FollowOptions {
+                followed: Some(Followed::Name),
+                retry: true,
+                ..self
+            },
+            Choice::Retry => FollowOptions {
+                retry: true,
+                ..self
+            },
+            Choice::Looks => self.looking(option.value),
+            _ => self,
+        }
+    }
+
+    fn following(self, value: Value<'_>) -> Self
+        ensures { result ≡ following self (seen value.entry) }
+    {
+        match value {
+            Value::Following(followed) => FollowOptions {
+                followed: Some(followed),
+                ..self
+            },
+            _ => FollowOptions {
+                followed: Some(Followed::Descriptor),
+                ..self
+            },
+        }
+    }
+
+    fn looking(self, value: Value<'_>) -> Self
+        ensures { result ≡ looking self (seen value.entry) }
+    {
+        match value {
+            Value::Looks(looks) => FollowOptions { looks, ..self },
+            _ => self,
+        }
+    }
+}
+
+/// What words ask of `tail`.
+///
+/// # Errors
+///
+/// `Usage` with `BadFollow` where names are followed and not looked for again, or the reverse, or where standard input would
+/// be followed: by name, or beside other inputs. `Memory` where there is no room for the names.
+pub fn settle_tail<'a>(alloc: Global, spelled: &Spelled<'a>) -> Result<TailSettings<'a>, Fault>
+    ensures { Reads (tail_asked spelled.now) result }
+{
+    let options = choose_following(&spelled.options);
+    let followed = check_following(options.followed, options.retry, &spelled.operands)?;
+    Ok(TailSettings {
+        ends: settle_ends(alloc, spelled)?,
+        followed,
+        looks: options.looks,
+    })
+}
+
+/// What all options ask for: the last that says what is followed, and the last number of looks.
+fn choose_following(options: &[Chosen<'_>]) -> FollowOptions
+    ensures { result ≡ fold follow_after no_following (map option_seen options.now) }
+{
+    let mut asked = NO_FOLLOWING;
+    let mut left = options;
+    while let [option, rest @ ..] = left {
+        asked = asked.with(option);
+        left = rest;
+    }
+    asked
+}
+
+/// What is followed of these operands.
+fn check_following(
+    followed: Option<Followed>,
+    retry: bool,
+    operands: &[Operand<'_>],
+) -> Result<Option<Followed>, Fault>
+    ensures { result ≡ followed_in followed retry (texts_of (map operand_seen operands.now)) }
+{
+    match (followed, retry) {
+        (None, false) => Ok(None),
+        (Some(Followed::Descriptor), false) => follow_descriptors(operands),
+        (Some(Followed::Name), true) => follow_names(operands),
+        (None, true) | (Some(Followed::Descriptor), true) | (Some(Followed::Name), false) => {
+            Err(BAD_FOLLOW)
+        }
+    }
+}
+
+/// Follows files by descriptor, unless there is only standard input.
+fn follow_descriptors(operands: &[Operand<'_>]) -> Result<Option<Followed>, Fault>
+    ensures { result ≡ by_descriptor (texts_of (map operand_seen operands.now)) }
+{
+    match operands {
+        [] => Ok(None),
+        [_] if has_standard_input(operands) => Ok(None),
+        _ if has_standard_input(operands) => Err(BAD_FOLLOW),
+        _ => Ok(Some(Followed::Descriptor)),
+    }
+}
+
+/// Follows names, of which there has to be one at least.
+fn follow_names(operands: &[Operand<'_>]) -> Result<Option<Followed>, Fault>
+    ensures { result ≡ by_name (texts_of (map operand_seen operands.now)) }
+{
+    if operands.is_empty() || has_standard_input(operands) {
+        return Err(BAD_FOLLOW);
+    }
+    Ok(Some(Followed::Name))
+}
+
+/// Whether standard input is among the operands.
+fn has_standard_input(operands: &[Operand<'_>]) -> bool
+    ensures { result ≡ has_hyphen (texts_of (map operand_seen operands.now)) }
+{
+    let mut left = operands;
+    while let [operand, rest @ ..] = left {
+        if operand.text == STANDARD_INPUT {
+            return true;
+        }
+        left = rest;
+    }
+    false
+}
