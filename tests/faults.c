@@ -1,7 +1,10 @@
 /* Loaded before the C library, for tests: by the variable FAULT, every other read and write is interrupted ("interrupt"),
    each moves at most 7 bytes ("short"), or one call is disturbed, the one that FAULT_AT counts: a growth of memory is refused
-   ("memory"), a write fails ("write": no space), a read ("read": input error) or an open ("open": too many files); a read or
-   write is interrupted ("once"), or a write moves at most 7 bytes ("cut"). Then the file FAULT_MET is made. */
+   ("memory"), a write fails ("write": no space), a read ("read": input error), an open ("open": too many files), a close
+   ("close": input error) or a removal ("remove": not permitted); a read or write is interrupted ("once"), or a write moves at
+   most 7 bytes ("cut"). Then the file FAULT_MET is made.
+   Reads from a place, seeks and questions about a file: the first are interrupted and cut short as reads are; one of them all
+   fails ("look"), and before one of these or of the reads the file FAULT_FILE gets the length FAULT_LENGTH ("resize"). */
 #define _GNU_SOURCE
 #include <dlfcn.h>
 #include <errno.h>
@@ -9,6 +12,7 @@
 #include <stdarg.h>
 #include <stdlib.h>
 #include <string.h>
+#include <sys/stat.h>
 #include <sys/syscall.h>
 #include <unistd.h>
 
@@ -62,12 +66,46 @@ static int interrupted_once(void)
     return fails("once", &calls, EINTR);
 }
 
+static void resizes(void)
+{
+    static int calls;
+    const char *file = getenv("FAULT_FILE"), *length = getenv("FAULT_LENGTH");
+    if (file && length && fails("resize", &calls, 0))
+        syscall(SYS_truncate, file, atol(length));
+}
+
+/* Whether a look at a file fails: a read from a place, a seek, or a question about it. */
+static int looks_in_vain(void)
+{
+    static int calls;
+    resizes();
+    return fails("look", &calls, EIO);
+}
+
+ssize_t pread(int fd, void *buffer, size_t size, off_t place)
+{
+    if (interrupts() || interrupted_once() || looks_in_vain())
+        return -1;
+    return syscall(SYS_pread64, fd, buffer, fault_is("short") && size > 7 ? 7 : size, place);
+}
+
+off_t lseek(int fd, off_t place, int whence)
+{
+    return looks_in_vain() ? -1 : syscall(SYS_lseek, fd, place, whence);
+}
+
+int statx(int fd, const char *name, int flags, unsigned mask, struct statx *about)
+{
+    return looks_in_vain() ? -1 : syscall(SYS_statx, fd, name, flags, mask, about);
+}
+
 ssize_t read(int fd, void *buffer, size_t size)
 {
     static ssize_t (*next)(int, void *, size_t);
     static int calls;
     if (!next)
         next = dlsym(RTLD_NEXT, "read");
+    resizes();
     if (interrupts() || interrupted_once() || fails("read", &calls, EIO))
         return -1;
     return next(fd, buffer, fault_is("short") && size > 7 ? 7 : size);
@@ -82,6 +120,26 @@ ssize_t write(int fd, const void *buffer, size_t size)
     if (interrupts() || interrupted_once() || fails("write", &calls, ENOSPC))
         return -1;
     return next(fd, buffer, (fault_is("short") || fails("cut", &cuts, 0)) && size > 7 ? 7 : size);
+}
+
+int close(int fd)
+{
+    static int (*next)(int);
+    static int calls;
+    int failed;
+    if (!next)
+        next = dlsym(RTLD_NEXT, "close");
+    failed = fails("close", &calls, EIO);
+    return next(fd) || failed ? -1 : 0;
+}
+
+int unlink(const char *name)
+{
+    static int (*next)(const char *);
+    static int calls;
+    if (!next)
+        next = dlsym(RTLD_NEXT, "unlink");
+    return fails("remove", &calls, EPERM) ? -1 : next(name);
 }
 
 static int refuses(void)

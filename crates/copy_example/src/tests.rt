@@ -291,6 +291,18 @@ impl Inputs for CutIn {
         self.inputs.pieces(bits as usize + 1);
         self.inputs.read(slot, buffer)
     }
+
+    fn left(&self, slot: usize) -> Option<u64> {
+        self.inputs.left(slot)
+    }
+
+    fn read_at(&self, slot: usize, place: u64, buffer: &mut [u8]) -> bool {
+        self.inputs.read_at(slot, place, buffer)
+    }
+
+    fn skip(&mut self, slot: usize, count: u64, left: u64) -> bool {
+        self.inputs.skip(slot, count, left)
+    }
 }
 
 #[test]

@@ -1,4 +1,5 @@
 pub mod AdapterLemmas
 pub mod CsplitLemmas
 pub mod RunLemmas
+pub mod SkipLemmas
 pub mod SpeakerLemmas

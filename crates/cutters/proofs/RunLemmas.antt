@@ -19,7 +19,7 @@ use Rattle.run_core.specs.Task.{Task}
 use Rattle.run_core.proofs.NamesLemmas.{none_touched}
 use Rattle.seg_core.specs.declared.count.Count.{Count}
 use Rattle.ends_core.specs.declared.unit.Unit.{Unit as Counted}
-use Rattle.tee_core.specs.Run.{LeavesOf, EndsAs as TeeCopies}
+use Rattle.tee_core.specs.Run.{LeavesOf, all_copied, EndsAs as TeeCopies}
 use Rattle.tee_core.specs.Run as copies
 use Rattle.words_core.specs.EndsAsked.{EndsAsked}
 use Rattle.words_core.specs.Spelling.{IsRefused}
@@ -68,8 +68,9 @@ finds_standard told laid sources content there = record {
 pub tee_runs : (told_in told : Bool) (laid : ℕ → List ℕ → Option Content) (asked : TeeAsked) (mode : Mode) (items now : List (Bor (List ℕ))) (old sources : List Source) (new : List Slot) (status : ℕ) → now ≡ items
     → record { mode = mode; names = map (λ (name : Bor (List ℕ)). name.now) items } ≡ asked
     → OfContent told_in (source_at old 0).left (λ content. TeeCopies told_in told mode (map (λ (name : Bor (List ℕ)). name.now) now) content (source_at sources 0) new status × BreaksOnly told_in content (source_at sources 0))
+    → (told_in ≡ true → status ≡ 0 → new ≡ all_copied told mode (map (λ (name : Bor (List ℕ)). name.now) now) (source_at old 0).left.bytes)
     → RunsOver told_in (world_of laid old) (codes "-" ∷ []) (λ found. TeeEndsAs told_in told asked found sources new status)
-tee_runs told_in told laid asked mode items now old sources new status same is (content, there, (ends, breaks)) = (
+tee_runs told_in told laid asked mode items now old sources new status same is (content, there, (ends, breaks)) whole = (
   standard_input content ∷ [],
   finds_standard told_in laid old content there,
   record {
@@ -78,6 +79,9 @@ tee_runs told_in told laid asked mode items now old sources new status same is (
     ends = subst (λ (those : TeeAsked). TeeCopies told_in told those.mode those.names content (source_at sources 0) new status) is
         (subst (λ (those : List (Bor (List ℕ))). TeeCopies told_in told mode (map (λ (name : Bor (List ℕ)). name.now) those) content (source_at sources 0) new status) same ends);
     breaks = breaks;
+    whole = λ t well. subst (λ (those : TeeAsked). new ≡ all_copied told those.mode those.names content.bytes) is
+        (subst (λ (those : List (Bor (List ℕ))). new ≡ all_copied told mode (map (λ (name : Bor (List ℕ)). name.now) those) content.bytes) same
+        (whole t well ∙ ap (λ (those : Content). all_copied told mode (map (λ (name : Bor (List ℕ)). name.now) now) those.bytes) (sym (there t))));
   },
 )
 
@@ -105,14 +109,14 @@ unread_tee told_in told laid sources asked new error says slots =
     let (content, there, (leaves, breaks)) = unread_source told_in (source_at sources 0) in (
       standard_input content ∷ [],
       finds_standard told_in laid sources content there,
-      record { content = content; input = refl; ends = copies.no_room error (error, says, refl) leaves slots refl; breaks = breaks },
+      record { content = content; input = refl; ends = copies.no_room error (error, says, refl) leaves slots refl; breaks = breaks; whole = λ t well. absurd (cc) },
     )
 
 unread_settings : (told_in told : Bool) (laid : ℕ → List ℕ → Option Content) (sources : List Source) (settings : Settings) (new : List Slot) (error : Slot) → IsFresh sources
     → Says told (tool_of settings) (message_of (tool_of settings) Memory []) standard_error error → new ≡ streams_with error
     → RunsOver told_in (world_of laid sources) (names_of settings) (λ found. DoesAsked told_in told settings found sources new 1)
 unread_settings told_in told laid sources (Head asked) new error fresh says slots = unread_task told_in told laid sources (head_task asked) asked.names new error fresh says slots
-unread_settings told_in told laid sources (Tail asked) new error fresh says slots = unread_task told_in told laid sources (tail_task asked) asked.names new error fresh says slots
+unread_settings told_in told laid sources (Tail asked) new error fresh says slots = unread_task told_in told laid sources (tail_task asked.ends) asked.ends.names new error fresh says slots
 unread_settings told_in told laid sources (Split asked) new error fresh says slots = unread_task told_in told laid sources (split_task asked) (asked.input ∷ []) new error fresh says slots
 unread_settings told_in told laid sources (Csplit asked) new error fresh says slots =
     let untouched = none_touched told_in laid sources (asked.input ∷ []) fresh in

@@ -1,16 +1,15 @@
 -- The tool that runs is the one that the words name.
-use Rattle.std.proofs.Common.{◌≡◌, ℕ, List, [], ◌∷◌, Option, Some, None, option_map, Result, Ok, Err, ap}
+use Rattle.std.proofs.Common.{◌≡◌, ℕ, List, [], ◌∷◌, Option, Some, None, option_map, Result, Ok, Err, refl, sym, ◌∙◌, ap}
 use Rattle.ports_core.specs.declared.fault.Fault.{Fault}
 use Rattle.ports_core.specs.declared.tool.Tool.{Tool}
 use Rattle.ports_core.specs.declared.tool.Tool.TheVariants as tool
 use Rattle.words_core.specs.declared.settings.Settings.{Settings}
 use Rattle.words_core.specs.declared.settings.Settings.TheVariants.{Head, Tail, Split, Csplit, Tee}
-use Rattle.words_core.specs.CsplitAsked.{CsplitAsked}
 use Rattle.words_core.specs.CsplitWords.{csplit_asked}
 use Rattle.words_core.specs.Given.{Given}
 use Rattle.words_core.specs.Spelling.{given_by}
-use Rattle.words_core.specs.SplitAsked.{SplitAsked}
 use Rattle.words_core.specs.SplitWords.{split_asked, then_check}
+use Rattle.words_core.specs.TailWords.{tail_asked}
 use Rattle.words_core.specs.Table.{ToolRow, row_named, tools}
 use Rattle.words_core.specs.Words.{settings_for, settings_of, tool_settings}
 use Rattle.cutters.specs.Outcome.{speaker, or_cutters}
@@ -27,22 +26,18 @@ tool_in : Result Settings Fault → Tool
 tool_in (Ok settings) = tool_of settings
 tool_in (Err fault) = tool.Cutters
 
-by_split : (asked : Result SplitAsked Fault) (settings : Settings) → then_check asked (λ those. Ok (Split those)) ≡ Ok settings → tool.Split ≡ tool_of settings
+-- what is asked of a tool that may find more wrong with it
+by_check : {A : Type 0} (which : Tool) (make : A → Settings) → ((asked : A) → tool_of (make asked) ≡ which) → (asked : Result A Fault) (settings : Settings) → then_check asked (λ those. Ok (make those)) ≡ Ok settings → which ≡ tool_of settings
 unfolding tool_in
-by_split (Ok asked) settings is = ap tool_in is
-by_split (Err fault) settings is = absurd (cc)
-
-by_csplit : (asked : Result CsplitAsked Fault) (settings : Settings) → then_check asked (λ those. Ok (Csplit those)) ≡ Ok settings → tool.Csplit ≡ tool_of settings
-unfolding tool_in
-by_csplit (Ok asked) settings is = ap tool_in is
-by_csplit (Err fault) settings is = absurd (cc)
+by_check which make same (Ok asked) settings is = sym (same asked) ∙ ap tool_in is
+by_check which make same (Err fault) settings is = absurd (cc)
 
 by_tool : (which : Tool) (given : Given) (settings : Settings) → settings_for which given ≡ Ok settings → which ≡ tool_of settings
 unfolding tool_in
 by_tool tool.Head given settings is = ap tool_in is
-by_tool tool.Tail given settings is = ap tool_in is
-by_tool tool.Split given settings is = by_split (split_asked given) settings is
-by_tool tool.Csplit given settings is = by_csplit (csplit_asked given) settings is
+by_tool tool.Tail given settings is = by_check tool.Tail (λ asked. Tail asked) (λ asked. refl) (tail_asked given) settings is
+by_tool tool.Split given settings is = by_check tool.Split (λ asked. Split asked) (λ asked. refl) (split_asked given) settings is
+by_tool tool.Csplit given settings is = by_check tool.Csplit (λ asked. Csplit asked) (λ asked. refl) (csplit_asked given) settings is
 by_tool tool.Tee given settings is = ap tool_in is
 by_tool tool.Cutters given settings is = absurd (cc)
 

@@ -1,5 +1,5 @@
 -- What a whole run does, by its words.
-use Rattle.std.specs.Prelude.{◌≡◌, ℕ, Bool, List, [], ◌∷◌, Option, Some, None, Result, Ok, Err, ◌⊎◌, slice_index_or}
+use Rattle.std.specs.Prelude.{◌≡◌, ℕ, Bool, true, List, [], ◌∷◌, Option, Some, None, Result, Ok, Err, ◌⊎◌, slice_index_or}
 use Rattle.ports_core.specs.Slot.{Slot}
 use Rattle.ports_core.specs.Source.{Content, Source, source_at}
 use Rattle.ports_core.specs.Text.{message_of}
@@ -14,7 +14,7 @@ use Rattle.run_core.specs.Feeding.{BreaksOnly}
 use Rattle.run_core.specs.Input.{Input, standard_input}
 use Rattle.run_core.specs.Reading.{AreUntouched}
 use Rattle.run_core.specs.RunEnds.{EndsAs, standard_error, streams_with}
-use Rattle.tee_core.specs.Run.{EndsAs as TeeCopies}
+use Rattle.tee_core.specs.Run.{all_copied, EndsAs as TeeCopies}
 use Rattle.words_core.specs.declared.settings.Settings.{Settings}
 use Rattle.words_core.specs.declared.settings.Settings.TheVariants.{Head, Tail, Split, Csplit, Tee}
 use Rattle.words_core.specs.CsplitAsked.{CsplitAsked}
@@ -64,11 +64,13 @@ pub record TeeEndsAs (told_in told : Bool) (asked : TeeAsked) (inputs : List Inp
   pub input : inputs ≡ standard_input content ∷ []
   pub ends : TeeCopies told_in told asked.mode asked.names content (source_at sources 0) new status
   pub breaks : BreaksOnly told_in content (source_at sources 0)
+  -- where nothing broke: standard output and every file have the input's bytes
+  pub whole : told_in ≡ true → status ≡ 0 → new ≡ all_copied told asked.mode asked.names content.bytes
 
 -- a run did what these settings ask for
 abbrev pub DoesAsked : Bool → Bool → Settings → List Input → List Source → List Slot → ℕ → Type 0
 DoesAsked told_in told (Head asked) inputs sources new status = EndsAs told_in told (head_task asked) inputs sources new status
-DoesAsked told_in told (Tail asked) inputs sources new status = EndsAs told_in told (tail_task asked) inputs sources new status
+DoesAsked told_in told (Tail asked) inputs sources new status = EndsAs told_in told (tail_task asked.ends) inputs sources new status
 DoesAsked told_in told (Split asked) inputs sources new status = EndsAs told_in told (split_task asked) inputs sources new status
 DoesAsked told_in told (Csplit asked) inputs sources new status = CsplitEndsAs told_in told asked inputs sources new status
 DoesAsked told_in told (Tee asked) inputs sources new status = TeeEndsAs told_in told asked inputs sources new status

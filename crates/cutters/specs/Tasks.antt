@@ -104,7 +104,7 @@ csplit_task asked operands = record {
 -- The names of its inputs. `tee` reads standard input alone, whatever its files are called.
 abbrev pub names_of : Settings → List (List ℕ)
 names_of (Head asked) = asked.names
-names_of (Tail asked) = asked.names
+names_of (Tail asked) = asked.ends.names
 names_of (Split asked) = asked.input ∷ []
 names_of (Csplit asked) = asked.input ∷ []
 names_of (Tee asked) = codes "-" ∷ []

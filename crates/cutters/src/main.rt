@@ -3,9 +3,15 @@
 
 mod args;
 mod csplit;
+#[cfg(test)]
+mod csplit_run_tests;
 mod ends;
 #[cfg(test)]
 mod ends_tests;
+#[cfg(test)]
+mod left;
+#[cfg(test)]
+mod refused_tests;
 mod run;
 mod split;
 #[cfg(test)]

@@ -65,13 +65,16 @@ fn run_tool<I: Inputs, O: Outs>(
             inputs,
             outs,
         ),
-        Settings::Tail(settings) => run_inputs(
-            alloc,
-            &TailAdapter { settings },
-            &settings.names,
-            inputs,
-            outs,
-        ),
+        Settings::Tail(settings) => {
+            let ends = &settings.ends;
+            run_inputs(
+                alloc,
+                &TailAdapter { settings: ends },
+                &ends.names,
+                inputs,
+                outs,
+            )
+        }
         Settings::Split(settings) => run_inputs(
             alloc,
             &SplitAdapter { settings },

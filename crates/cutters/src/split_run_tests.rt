@@ -1,81 +1,19 @@
 //! Whole runs of `split` over memory, which no clause can show to succeed: files with their names, messages and
 //! status. What is wanted of runs without a fault is what GNU's split makes of the same words and bytes.
-ghost use Rattle.std.specs.Prelude.{◌≡◌, IfOk};
-ghost use Rattle.ports_core.specs.Slot.{streams};
-ghost use Rattle.ports_core.specs.Source.{IsFresh};
-
-use crate::run::run;
+use crate::left::{Left, NOTHING, broken_at, check, check_over, limited};
 use crate::tests::{File, inputs_of};
-use ports_core::{Fault, MemIn, MemOut, Outs};
-use std::alloc::Global;
-use std::process::Abort;
+use ports_core::MemOut;
 use std::test::Fail;
 
-/// What a run is to leave.
-#[derive(Clone, Copy)]
-struct Left<'a> {
-    files: &'a [File<'a>],
-    messages: &'a [u8],
-    status: u8,
-}
+/// Words, an input, and the files that are made of it.
+type Row<'a> = (&'a [&'a str], &'a [u8], &'a [File<'a>]);
 
-/// Runs the words over these inputs and outputs.
-fn check_over(
-    rt: &impl Abort,
-    alloc: Global,
-    words: &[&str],
-    mut inputs: MemIn,
-    mut outs: MemOut,
-    left: &Left<'_>,
-) -> Result<(), Fault>
-    requires inputs { IsFresh inputs.sources }
-    requires outputs { outs ≡ streams }
-{
-    let status = run(alloc, words, &mut inputs, &mut outs);
-    let mut slot: usize = 2;
-    'files: for file in left.files {
-        assert_eq!(rt; outs.name(slot), file.0);
-        assert_eq!(rt; outs.bytes(slot), file.1);
-        slot = slot.saturating_add(1);
-    }
-    assert_eq!(rt; outs.name(slot), "");
-    assert!(rt; outs.bytes(0).is_empty());
-    assert_eq!(rt; outs.bytes(1), left.messages);
-    assert_eq!(rt; status, left.status);
-    Ok(())
-}
-
-/// Runs the words over an input that comes whole, and once more over one that comes byte by byte.
-fn check(
-    rt: &impl Abort,
-    alloc: Global,
-    words: &[&str],
-    input: &[u8],
-    left: &Left<'_>,
-) -> Result<(), Fault> {
-    let files: &[File<'_>] = &[("f", b"1\n2\n3")];
-    let inputs = inputs_of(alloc, files, input)?;
-    check_over(rt, alloc, words, inputs, MemOut::new(alloc)?, left)?;
-    let mut inputs = inputs_of(alloc, files, input)?;
-    inputs.pieces(1);
-    check_over(rt, alloc, words, inputs, MemOut::new(alloc)?, left)
-}
-
-/// Standard input with these bytes, and the file `f`. Input number `slot` breaks off after `at` bytes.
-fn broken_at(alloc: Global, bytes: &[u8], slot: usize, at: usize) -> Result<MemIn, Fault>
-    ensures { IfOk result (λ inputs. IsFresh inputs.sources) }
-{
-    let mut inputs = inputs_of(alloc, &[("f", b"1\n2\n3")], bytes)?;
-    match inputs.break_at(slot, at) {
-        Ok(()) => Ok(inputs),
-        Err(fault) => Err(fault),
-    }
-}
+/// Five lines, the last of them open.
+const LINES: &[u8] = b"a\nb\nc\nd\ne";
 
 #[test]
 fn cuts_into_files(rt: HostRuntime) -> Result<(), Fail> {
-    let lines = b"a\nb\nc\nd\ne";
-    let rows: [(&[&str], &[u8], &[File<'static>]); 18] = [
+    let rows: [Row<'static>; 18] = [
         (
             &["split", "-t", ",", "-l", "1"],
             b"a,b,c",
@@ -98,15 +36,15 @@ fn cuts_into_files(rt: HostRuntime) -> Result<(), Fail> {
         ),
         (
             &["split", "-l", "2"],
-            lines,
+            LINES,
             &[("xaa", b"a\nb\n"), ("xab", b"c\nd\n"), ("xac", b"e")],
         ),
         (
             &["split", "-4"],
-            lines,
+            LINES,
             &[("xaa", b"a\nb\nc\nd\n"), ("xab", b"e")],
         ),
-        (&["split"], lines, &[("xaa", lines)]),
+        (&["split"], LINES, &[("xaa", LINES)]),
         (
             &["split", "-b", "3", "-", "p"],
             b"abcdefg",
@@ -159,8 +97,7 @@ fn cuts_into_files(rt: HostRuntime) -> Result<(), Fail> {
     for row in rows {
         let left = Left {
             files: row.2,
-            messages: b"",
-            status: 0,
+            ..NOTHING
         };
         check(&rt, rt.alloc(), row.0, row.1, &left)?;
     }
@@ -182,16 +119,13 @@ fn tells_that_the_names_ran_out(rt: HostRuntime) -> Result<(), Fail> {
         ("x9", b"j"),
     ];
     let words: &[&str] = &["split", "-d", "-a", "1", "-b", "1"];
-    let whole = Left {
-        files,
-        messages: b"",
-        status: 0,
-    };
+    let whole = Left { files, ..NOTHING };
     check(&rt, rt.alloc(), words, b"abcdefghij", &whole)?;
     let short = Left {
         files,
         messages: b"split: output file suffixes exhausted\n",
         status: 1,
+        ..NOTHING
     };
     check(&rt, rt.alloc(), words, b"abcdefghijk", &short)?;
     check(&rt, rt.alloc(), words, b"abcdefghijklmnop", &short)?;
@@ -205,12 +139,14 @@ fn tells_of_its_input(rt: HostRuntime) -> Result<(), Fail> {
         files: &[],
         messages: b"split: cannot open 'g'\n",
         status: 1,
+        ..NOTHING
     };
     check(&rt, alloc, &["split", "-n", "r/2", "g"], b"a\n", &missing)?;
     let broken = Left {
         files: &[("xaa", b"a\n"), ("xab", b"b")],
         messages: b"split: cannot read 'standard input'\n",
         status: 1,
+        ..NOTHING
     };
     let inputs = broken_at(alloc, b"a\nb\nc\n", 0, 3)?;
     check_over(
@@ -225,6 +161,7 @@ fn tells_of_its_input(rt: HostRuntime) -> Result<(), Fail> {
         files: &[("xaa", b"1\n")],
         messages: b"split: cannot read 'f'\n",
         status: 1,
+        ..NOTHING
     };
     let inputs = broken_at(alloc, b"", 1, 2)?;
     check_over(
@@ -258,6 +195,7 @@ fn tells_a_break_where_the_names_sufficed(rt: HostRuntime) -> Result<(), Fail> {
         files,
         messages: b"split: cannot read 'standard input'\n",
         status: 1,
+        ..NOTHING
     };
     let inputs = broken_at(alloc, b"abcdefghijklm", 0, 10)?;
     check_over(&rt, alloc, words, inputs, MemOut::new(alloc)?, &broken)?;
@@ -265,6 +203,7 @@ fn tells_a_break_where_the_names_sufficed(rt: HostRuntime) -> Result<(), Fail> {
         files,
         messages: b"split: output file suffixes exhausted\n",
         status: 1,
+        ..NOTHING
     };
     let inputs = broken_at(alloc, b"abcdefghijklm", 0, 11)?;
     check_over(&rt, alloc, words, inputs, MemOut::new(alloc)?, &short)?;
@@ -279,15 +218,16 @@ fn an_output_that_fails_ends_the_run(rt: HostRuntime) -> Result<(), Fail> {
         files: &[("xaa", b"a\n"), ("xab", b"b")],
         messages: b"split: cannot write 'xab'\n",
         status: 1,
+        ..NOTHING
     };
-    let mut outs = MemOut::new(alloc)?;
-    outs.limit(3, 1)?;
+    let outs = limited(alloc, 3, 1)?;
     let inputs = inputs_of(alloc, &[], b"a\nb\nc\n")?;
     check_over(&rt, alloc, words, inputs, outs, &cut)?;
     let unopened = Left {
         files: &[("xaa", b"a\n"), ("xab", b"")],
         messages: b"split: cannot open 'xab'\n",
         status: 1,
+        ..NOTHING
     };
     let mut outs = MemOut::new(alloc)?;
     // The calls are an open, a write, a close, and the next open.
@@ -298,6 +238,7 @@ fn an_output_that_fails_ends_the_run(rt: HostRuntime) -> Result<(), Fail> {
         files: &[("xaa", b""), ("xab", b"")],
         messages: b"split: cannot open 'xab'\n",
         status: 1,
+        ..NOTHING
     };
     let mut outs = MemOut::new(alloc)?;
     outs.fail_at(2);
@@ -313,9 +254,9 @@ fn broken_standard_error_keeps_the_files(rt: HostRuntime) -> Result<(), Fail> {
         files: &[("xaa", b"a")],
         messages: b"split: ",
         status: 1,
+        ..NOTHING
     };
-    let mut outs = MemOut::new(alloc)?;
-    outs.limit(1, 7)?;
+    let outs = limited(alloc, 1, 7)?;
     let inputs = broken_at(alloc, b"ab", 0, 1)?;
     check_over(&rt, alloc, &["split"], inputs, outs, &left)?;
     Ok(())

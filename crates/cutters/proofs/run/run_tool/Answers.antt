@@ -25,17 +25,17 @@ returns-in-Head-clause-untouched g c none =
 
 pub returns-in-Tail-clause-ends : goal.returns-in-Tail-clause-ends
 returns-in-Tail-clause-ends g c =
-    let names = ends_names _ _ _ _ _ _ _ c.deref-in-Tail.ensures.value c.settings-in-Tail.view_is in
+    let names = ends_names _ _ _ _ _ _ _ c.deref-in-Tail.ensures.value c.ends.view_is in
     for_settings _ _ _ _ (Tail c.in-Tail.settings) _ _ _ c.in-Tail.is (runs_names _ _ _ _ _ names c.run_inputs-in-Tail.ensures.ends)
 
 pub returns-in-Tail-clause-opened : goal.returns-in-Tail-clause-opened
 returns-in-Tail-clause-opened g c =
-    let names = ends_names _ _ _ _ _ _ _ c.deref-in-Tail.ensures.value c.settings-in-Tail.view_is in
+    let names = ends_names _ _ _ _ _ _ _ c.deref-in-Tail.ensures.value c.ends.view_is in
     counts_for _ _ (Tail c.in-Tail.settings) _ c.in-Tail.is names c.run_inputs-in-Tail.ensures.opened
 
 pub returns-in-Tail-clause-untouched : goal.returns-in-Tail-clause-untouched
 returns-in-Tail-clause-untouched g c none =
-    let names = ends_names _ _ _ _ _ _ _ c.deref-in-Tail.ensures.value c.settings-in-Tail.view_is in
+    let names = ends_names _ _ _ _ _ _ _ c.deref-in-Tail.ensures.value c.ends.view_is in
     c.run_inputs-in-Tail.ensures.untouched (ap has_dash names ∙ sym (ap (λ (those : Settings). has_dash (names_of those)) c.in-Tail.is) ∙ none)
 
 pub returns-in-Split-clause-ends : goal.returns-in-Split-clause-ends
@@ -64,7 +64,7 @@ returns-in-Csplit-clause-untouched g c none =
 
 pub returns-in-Tee-clause-ends : goal.returns-in-Tee-clause-ends
 returns-in-Tee-clause-ends g c =
-    for_settings _ _ _ _ (Tee c.in-Tee.settings) _ _ _ c.in-Tee.is (tee_runs _ _ _ _ _ _ _ (g.I.Inputs.sources c.args.inputs.now) (g.I.Inputs.sources c.run_tee.new.inputs) _ _ c.deref-in-Tee.ensures.value c.settings-in-Tee.view_is c.run_tee.ensures.ends)
+    for_settings _ _ _ _ (Tee c.in-Tee.settings) _ _ _ c.in-Tee.is (tee_runs _ _ _ _ _ _ _ (g.I.Inputs.sources c.args.inputs.now) (g.I.Inputs.sources c.run_tee.new.inputs) _ _ c.deref-in-Tee.ensures.value c.settings-in-Tee.view_is c.run_tee.ensures.ends c.run_tee.ensures.whole)
 
 pub returns-in-Tee-clause-opened : goal.returns-in-Tee-clause-opened
 returns-in-Tee-clause-opened g c = counts_for _ _ (Tee c.in-Tee.settings) _ c.in-Tee.is refl (tee_counts _ _ c.requires.inputs c.run_tee.ensures.others)

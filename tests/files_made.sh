@@ -1,0 +1,110 @@
+# What tests/split and tests/csplit share. Each sets `tool` and `here`, and reads this file. Then it stands in a folder of its
+# own that is removed again, `program` is built, and a C compiler's `faults.so` is there if `has_faults`.
+set -u
+work=$(mktemp -d)
+trap 'rm -rf "$work"' EXIT
+cd "$work" || exit 1
+passed=0
+failed=0
+"$here/../build" cutters || { echo "0 passed, 1 failed"; exit 1; }
+program=$here/../crates/cutters/out/cutters
+: >printed
+
+# judge NAME CONDITION..: counts whether this holds, and says what failed.
+judge() {
+    local name=$1
+    shift
+    if "$@"; then
+        passed=$((passed + 1))
+    else
+        failed=$((failed + 1))
+        echo "failed: $name: status $status, said: $(head -n 2 err); $(head -n 3 differs 2>/dev/null)"
+    fi
+}
+
+# is_left WANTED-STATUS WANTED-MESSAGES: whether the command just run left this in `status` and `err`, in `out` what is in
+# `printed`, and in the folder `made` what is in the folder `wanted`.
+is_left() {
+    [ "$status" = "$1" ] && [ "$(cat err)" = "$2" ] && cmp -s out printed && diff -r wanted made >differs
+}
+
+# row NAME WANTED-STATUS WANTED-MESSAGES: checks what the command just run left.
+row() {
+    judge "$1" is_left "$2" "$3"
+}
+
+# fresh: empties both folders. Nothing is to be printed.
+fresh() {
+    rm -rf wanted made
+    mkdir wanted made
+    : >differs
+    : >printed
+}
+
+# want NAME TEXT: puts a file into the folder `wanted`.
+want() {
+    printf "$2" >"wanted/$1"
+}
+
+# cut_up WORD..: runs the tool with these words in the folder `made`.
+cut_up() {
+    (cd made && "$program" "$tool" "$@") >out 2>err; status=$?
+}
+
+# try NAME WANTED-STATUS WANTED-MESSAGES WORD..: runs it, and checks what it left.
+try() {
+    local name=$1 wanted=$2 messages=$3
+    shift 3
+    cut_up "$@"
+    row "$name" "$wanted" "$messages"
+}
+
+# same WORD..: the program must do what the system's tool does for these words.
+same() {
+    fresh
+    (cd wanted && LC_ALL=C "$tool" "$@") >printed
+    try "$*, as the system's" 0 '' "$@"
+}
+
+# begins: whether each file that was made is a beginning of the wanted one with its name, and so is what was printed.
+begins() {
+    local name
+    head -c "$(wc -c <out)" printed | cmp -s - out || return 1
+    for name in made/*; do
+        [ -e "$name" ] || continue
+        [ -e "wanted/${name#made/}" ] && head -c "$(wc -c <"$name")" "wanted/${name#made/}" | cmp -s - "$name" || return 1
+    done
+}
+
+# is_sound MESSAGES LEAVES: whether the run ended with status 1, a line that MESSAGES (an extended pattern) matches, and the
+# files that the command LEAVES finds right; or nothing is lost.
+is_sound() {
+    { [ "$status" = 1 ] && grep -qxE "$1" err && "$2"; } || is_left 0 ''
+}
+
+# disturbs KIND MESSAGES LEAVES WORD..: refuses each growth of memory in turn, or fails, interrupts or cuts short each call of
+# a kind in turn (faults.c). Each run is sound, and the last one meets no disturbed call.
+disturbs() {
+    local kind=$1 messages=$2 leaves=$3 at=1
+    shift 3
+    while [ "$at" -lt 400 ]; do
+        rm -rf made met; mkdir made
+        LD_PRELOAD=$work/faults.so FAULT=$kind FAULT_AT=$at FAULT_MET=$work/met cut_up "$@"
+        [ -e met ] || break
+        judge "$kind $at of $*" is_sound "$messages" "$leaves"
+        at=$((at + 1))
+    done
+    row "$kind of $*, no call left to disturb" 0 ''
+}
+
+# end: the last line, and the status.
+end() {
+    echo "$passed passed, $failed failed"
+    [ "$failed" = 0 ]
+}
+
+has_faults() {
+    command -v cc >/dev/null && cc -shared -fPIC -O1 -o faults.so "$here/faults.c" -ldl 2>cc.log && return
+    echo 'no C compiler: interrupted and refused calls are not tried'
+    return 1
+}
