@@ -77,7 +77,7 @@ impl Head {
         ensures err { IfErr result (λ fault. (fault ≡ Fault.Memory) × (but_last ≡ true)) }
     {
         if but_last {
-            return match Kept::open(alloc, unit, count, delim) {
+            return match Kept::open(alloc, unit, count, delim, 0) {
                 Ok(kept) => Ok(Head {
                     engine: Guarded::new(HeadStage {
                         way: Way::ButLast(kept),

@@ -19,7 +19,8 @@ use std::marker::Model;
 
 /// Writes the last lines or bytes of an input at its end, or all from the nth on, those of each piece as it comes
 /// (POSIX.1-2017, XCU tail). From the nth on it takes no memory. For the last it takes as much as the last lines or
-/// bytes of what came in, and of bytes no more is asked for once as many came in as are kept.
+/// bytes of what came in, or of bytes as many as it was told are coming, and of bytes no more is asked for once as many
+/// came in as are kept.
 #[derive(Drop)]
 pub struct Tail {
     engine: Guarded<TailStage>,
@@ -75,6 +76,32 @@ impl Tail {
         ensures bound { IfOk result (λ tail. tail.fed < 2 ^ 63) }
         ensures err { IfErr result (λ fault. (fault ≡ Fault.Memory) × (from_nth ≡ false)) }
     {
+        Tail::open_for(alloc, unit, from_nth, count, delim, 0)
+    }
+
+    /// The same tail, of an input that says that it has `coming` bytes. Where the last bytes are asked for, it has room for
+    /// as many of these as it keeps, where there is memory for them now.
+    ///
+    /// # Errors
+    ///
+    /// `Memory` where there is no room for what waits: only where the last are asked for.
+    pub fn open_for(
+        alloc: Global,
+        unit: Unit,
+        from_nth: bool,
+        count: u64,
+        delim: u8,
+        coming: u64,
+    ) -> Result<Tail, Fault>
+        ensures holds { IfOk result (λ tail. HoldsIn Holds tail []) }
+        ensures unit { IfOk result (λ tail. tail.stage.unit ≡ unit) }
+        ensures delim { IfOk result (λ tail. unit ≡ Unit.Lines → tail.stage.delim ≡ delim) }
+        ensures from_nth { IfOk result (λ tail. tail.stage.from_nth ≡ from_nth) }
+        ensures count { IfOk result (λ tail. tail.stage.count ≡ count) }
+        ensures does { IfOk result (λ tail. work tail.stage ≡ tail_work delim unit from_nth count) }
+        ensures bound { IfOk result (λ tail. tail.fed < 2 ^ 63) }
+        ensures err { IfErr result (λ fault. (fault ≡ Fault.Memory) × (from_nth ≡ false)) }
+    {
         if from_nth {
             return Ok(Tail {
                 engine: Guarded::new(TailStage {
@@ -89,7 +116,7 @@ impl Tail {
                 }),
             });
         }
-        match Kept::open(alloc, unit, count, delim) {
+        match Kept::open(alloc, unit, count, delim, coming) {
             Ok(kept) => Ok(Tail {
                 engine: Guarded::new(TailStage {
                     way: Way::Last(kept),

@@ -11,8 +11,8 @@ use std::marker::Model;
 const FIRST_ROOM: usize = 65_536;
 
 /// A window over bytes: it keeps the last `most` of what came in. It takes as much memory as it
-/// holds bytes, and up to twice that while it grows, but room for `most` bytes at most; once it has
-/// held `most` bytes it asks for no memory again.
+/// holds bytes, and up to twice that while it grows, or as much as it is told is coming, but room
+/// for `most` bytes at most; once it has held `most` bytes it asks for no memory again.
 #[derive(Drop)]
 pub struct ByteWindow {
     alloc: Global,
@@ -43,7 +43,20 @@ impl ByteWindow {
         ensures ok { IfOk result (λ window. window ≡ record { most = most; held = []; grown = (0 == most) }) }
         ensures err { IfErr result (λ fault. fault ≡ Fault.Memory) }
     {
-        match HeapCircularBuffer::with_capacity(alloc, 0) {
+        ByteWindow::with_room(alloc, most, 0)
+    }
+
+    /// The same window, with room for the next `coming` bytes where there is memory for them now.
+    /// It asks for more only once more came in.
+    ///
+    /// # Errors
+    ///
+    /// `Memory` where there is no room for a window without bytes.
+    pub fn with_room(alloc: Global, most: u64, coming: u64) -> Result<Self, Fault>
+        ensures ok { IfOk result (λ window. window ≡ record { most = most; held = []; grown = (0 == most) }) }
+        ensures err { IfErr result (λ fault. fault ≡ Fault.Memory) }
+    {
+        match empty_ring(alloc, coming.min(most) as usize) {
             Ok(ring) => Ok(ByteWindow {
                 alloc,
                 most,
@@ -140,6 +153,16 @@ impl ByteWindow {
         self.ring.fill_from_slice(piece);
         self.grown = self.grown || needed as u64 == self.most;
         Ok(())
+    }
+}
+
+// A ring without bytes, and with this much room or none.
+fn empty_ring(alloc: Global, room: usize) -> Result<HeapCircularBuffer<u8>, AllocError>
+    ensures { IfOk result (λ ring. (ring.items ≡ []) × (ring.capacity ≤ room)) }
+{
+    match HeapCircularBuffer::with_capacity(alloc, room) {
+        Ok(ring) => Ok(ring),
+        Err(AllocError) => HeapCircularBuffer::with_capacity(alloc, 0),
     }
 }
 
