@@ -36,7 +36,13 @@ impl Adapter for CopyAdapter {
         "newline"
     }
 
-    fn open<O: Outs>(&self, alloc: Global, outs: &mut O) -> Result<Guarded<Copier>, Fault> {
+    fn open<O: Outs>(
+        &self,
+        alloc: Global,
+        coming: u64,
+        outs: &mut O,
+    ) -> Result<Guarded<Copier>, Fault> {
+        let _ = coming;
         let _ = alloc;
         Ok(Guarded::new(Copier::open(self.keep, outs)?))
     }

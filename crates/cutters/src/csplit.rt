@@ -37,7 +37,13 @@ impl<'a, 'b> Adapter for CsplitAdapter<'a, 'b> {
         }
     }
 
-    fn open<O: Outs>(&self, alloc: Global, outs: &mut O) -> Result<Csplitter<'a>, Fault> {
+    fn open<O: Outs>(
+        &self,
+        alloc: Global,
+        coming: u64,
+        outs: &mut O,
+    ) -> Result<Csplitter<'a>, Fault> {
+        let _ = coming;
         let settings = self.settings;
         let style = settings.style.try_clone(alloc)?;
         Csplitter::open(alloc, self.operands, style, outs)

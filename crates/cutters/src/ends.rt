@@ -42,7 +42,8 @@ impl<'a, 'b> Adapter for HeadAdapter<'a, 'b> {
         ""
     }
 
-    fn open<O: Outs>(&self, alloc: Global, outs: &mut O) -> Result<Head, Fault> {
+    fn open<O: Outs>(&self, alloc: Global, coming: u64, outs: &mut O) -> Result<Head, Fault> {
+        let _ = coming;
         let _ = outs;
         let settings = self.settings;
         let Count { sign, amount } = settings.count;
@@ -68,11 +69,12 @@ impl<'a, 'b> Adapter for TailAdapter<'a, 'b> {
         ""
     }
 
-    fn open<O: Outs>(&self, alloc: Global, outs: &mut O) -> Result<Tail, Fault> {
+    fn open<O: Outs>(&self, alloc: Global, coming: u64, outs: &mut O) -> Result<Tail, Fault> {
         let _ = outs;
         let settings = self.settings;
         let Count { sign, amount } = settings.count;
-        Tail::open(alloc, settings.unit, is_plus(sign), amount, settings.delim)
+        let from_nth = is_plus(sign);
+        Tail::open_for(alloc, settings.unit, from_nth, amount, settings.delim, coming)
     }
 
     /// Of the last lines or bytes nothing before them is needed.

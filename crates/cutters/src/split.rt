@@ -35,7 +35,8 @@ impl<'a, 'b> Adapter for SplitAdapter<'a, 'b> {
         ""
     }
 
-    fn open<O: Outs>(&self, alloc: Global, outs: &mut O) -> Result<Splitter, Fault> {
+    fn open<O: Outs>(&self, alloc: Global, coming: u64, outs: &mut O) -> Result<Splitter, Fault> {
+        let _ = coming;
         let settings = self.settings;
         let names = Names::new(
             alloc,

@@ -28,13 +28,14 @@ pub trait Adapter {
     fn subject<'a>(&'a self, verdict: &Fault) -> &'a str
         ensures { result.now ≡ (task self.now).subject verdict.now };
 
-    /// Opens an engine for one input.
+    /// Opens an engine for one input, which says that it has `coming` bytes; 0 where it doesn't say. It may have more or
+    /// fewer.
     ///
     /// # Errors
     ///
     /// `Memory` where there is no room for it, `Open` where one of its first files can't be opened, `Write` where an output
     /// broke; each only where the task says that opening may need it. No file is left then, if the work clears them.
-    fn open<O: Outs>(&self, alloc: Global, outs: &mut O) -> Result<Self::Driven, Fault>
+    fn open<O: Outs>(&self, alloc: Global, coming: u64, outs: &mut O) -> Result<Self::Driven, Fault>
         requires streams { 2 ≤ length (O.slots outs.old) }
         requires output { IsTrue (is_writable (O.slots outs.old) 0) }
         ensures ok { IfOk result (Opens Self.Driven.Holds Self.Driven.Owns Self.Driven.work Self.Driven.Ready Self.Driven.fed (task self.now).work O.told (O.slots outs.old) (O.slots outs.new)) }

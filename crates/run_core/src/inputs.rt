@@ -300,10 +300,21 @@ fn feed_source<A: Adapter, I: Inputs, O: Outs>(
     ensures others { KeepsOther source (I.sources inputs.old) (I.sources inputs.new) }
     ensures laid { I.laid inputs.new ≡ I.laid inputs.old }
 {
-    let mut engine = job.adapter.open(job.alloc, outs)?;
+    let coming = coming_from(source, inputs);
+    let mut engine = job.adapter.open(job.alloc, coming, outs)?;
     match source {
         Some(slot) => feed_slot(job, &mut engine, slot, buffer, inputs, outs),
         None => feed_nothing(&mut engine, outs),
+    }
+}
+
+/// How many bytes a source says that it has left; 0 where it doesn't say.
+fn coming_from<I: Inputs>(source: Option<usize>, inputs: &I) -> u64
+    requires input { IfSome source (λ slot. IsTrue (is_readable (I.sources inputs.now) slot)) }
+{
+    match source {
+        Some(slot) => inputs.left(slot).unwrap_or(0),
+        None => 0,
     }
 }
 
