@@ -9,3 +9,5 @@ pub mod GiveLemmas
 pub mod CatchLemmas
 pub mod ChangeLemmas
 pub mod AgainLemmas
+pub mod ReadLemmas
+pub mod StartLemmas
