@@ -11,3 +11,4 @@ pub mod ChangeLemmas
 pub mod AgainLemmas
 pub mod ReadLemmas
 pub mod StartLemmas
+pub mod FirstLemmas
