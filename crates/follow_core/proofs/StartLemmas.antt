@@ -131,19 +131,19 @@ all_wanted delim count wanted end x is front some =
     few_last delim count x (omega (arith, all, is, some))
 
 -- after the first lines of a block
-pub passed_in : (delim left at size end : ℕ) (x block : List ℕ) → block ≡ take size (drop at x) → EndsAt delim left block end → drop (at + end) x ≡ after_lines delim left (drop at x)
-passed_in delim left at size end x block are ends =
+pub passed_in : (delim left at size end : ℕ) (x block rest : List ℕ) → block ≡ take size (drop at x) → EndsAt delim left block end → rest ≡ after_lines delim left (drop at x) → drop (at + end) x ≡ rest
+passed_in delim left at size end x block rest are ends is =
     let all : drop at x ≡ block ++ drop (at + size) x = block_then x at size ∙ ap (λ those. those ++ drop (at + size) x) (sym are) in
     sym (drop-drop end at x) ∙ ap (drop end) all ∙ drop-append-le end block (drop (at + size) x) ends.within
     ∙ ap (λ those. those ++ drop (at + size) x) (sym (joined-lines_of delim (drop end block)) ∙ ap joined (EndsAt-rest delim left block end ends))
-    ∙ after_lines-append delim left block (drop (at + size) x) (EndsAt-enough delim left block end ends) ∙ ap (after_lines delim left) (sym all)
+    ∙ after_lines-append delim left block (drop (at + size) x) (EndsAt-enough delim left block end ends) ∙ ap (after_lines delim left) (sym all) ∙ sym is
 
 -- a block that has fewer lines is passed
-pub passed_by : (delim left at size found : ℕ) (x block : List ℕ) → block ≡ take size (drop at x) → FallsShort delim left block found → after_lines delim left (drop at x) ≡ after_lines delim (left - found) (drop (at + size) x)
-passed_by delim left at size found x block are short =
+pub passed_by : (delim left at size found : ℕ) (x block rest : List ℕ) → block ≡ take size (drop at x) → FallsShort delim left block found → rest ≡ after_lines delim left (drop at x) → rest ≡ after_lines delim (left - found) (drop (at + size) x)
+passed_by delim left at size found x block rest are short is =
     let all : drop at x ≡ block ++ drop (at + size) x = block_then x at size ∙ ap (λ those. those ++ drop (at + size) x) (sym are) in
     let counted = short.counted in let fewer = short.fewer in
-    ap (after_lines delim left) all ∙ behind_of-append delim Lines left block (drop (at + size) x)
+    is ∙ ap (after_lines delim left) all ∙ behind_of-append delim Lines left block (drop (at + size) x)
     ∙ ap (λ none. none ++ after_lines delim (left - delimiters delim block) (drop (at + size) x)) (after_lines-past delim left block (omega (arith, counted, fewer)))
     ∙ ap (λ n. after_lines delim (left - n) (drop (at + size) x)) (sym counted)
 

@@ -12,3 +12,5 @@ pub mod Giving
 pub mod Catching
 pub mod Changing
 pub mod Again
+pub mod Sharing
+pub mod First

@@ -1,16 +1,57 @@
-//! The first look at the open file of a name.
+//! The first look at a name.
 ghost use Rattle.std.specs.Prelude.{◌≡◌, ◌≤◌, ◌<◌, ◌^◌, [], ℕ, true, length, IsTrue, IfOk};
 ghost use Rattle.ends_core.specs.Ends.{tail_of};
 ghost use Rattle.watch_core.specs.Snapshot.{latest};
-ghost use Rattle.watch_core.specs.Watched.{is_readable, open_contents, watched_at};
+ghost use Rattle.watch_core.specs.Watched.{is_readable, is_watchable, open_contents, watched_at};
 ghost use Rattle.follow_core.specs.Giving.{Ends};
 ghost use Rattle.follow_core.specs.Catching.{CanPrint, Keeps, UnlessOver};
+ghost use Rattle.follow_core.specs.Changing.{Follows};
+ghost use Rattle.follow_core.specs.First.{LooksFirst};
 
 use crate::copying::{Stop, copy};
 use crate::printer::Printer;
 use crate::start::Start;
 use ports_core::Outs;
 use watch_core::Watch;
+
+/// Looks at a name for the first time: opens the file that it leads to, and writes its header, where headers are written, and the part
+/// of it that the first look writes. Returns how long the file is; none where the name leads nowhere.
+///
+/// # Errors
+///
+/// `Broke` where a call on the name failed, `Over` where standard output broke or memory was wanting.
+pub(crate) fn look_first<W: Watch, O: Outs>(
+    start: Start,
+    watch: &mut W,
+    place: usize,
+    name: &str,
+    printer: &mut Printer,
+    buffer: &mut [u8],
+    outs: &mut O,
+) -> Result<Option<u64>, Stop>
+    requires watchable { IsTrue (is_watchable (W.watched watch.old) place) }
+    requires name { (watched_at (W.watched watch.old) place).name ≡ name.now }
+    requires can { CanPrint (O.slots outs.old) }
+    requires room { 0 < length buffer.old }
+    ensures looks { LooksFirst W.told O.told (tail_of start.delim start.unit start.from_nth start.count) (latest (W.seen watch.old)) place name.now printer.old (O.slots outs.old) printer.new (O.slots outs.new) result }
+    ensures follows { Follows W.told ((latest (W.seen watch.old)).leads name.now) place (W.watched watch.old) (W.watched watch.new) result }
+    ensures can { UnlessOver result (CanPrint (O.slots outs.new)) }
+    ensures seen { W.seen watch.new ≡ W.seen watch.old }
+    ensures shows { W.shows watch.new ≡ W.shows watch.old }
+{
+    match watch.reopen(place) {
+        Ok(true) => {}
+        Ok(false) => return Ok(None),
+        Err(fault) => return Err(Stop::Broke(fault)),
+    }
+    if let Err(fault) = printer.open(name, outs) {
+        return Err(Stop::Over(fault));
+    }
+    match write_start(start, watch, place, name, printer, buffer, outs) {
+        Ok(len) => Ok(Some(len)),
+        Err(stop) => Err(stop),
+    }
+}
 
 /// Writes the part of the open file that the first look writes. Returns how long the file is.
 ///
