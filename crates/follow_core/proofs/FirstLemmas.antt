@@ -75,10 +75,14 @@ opened_gives told printer after name bytes lines old mid new first gives = recor
 } where
   both : (output error : Slot) (others : List Slot) → (error_after : Slot) × SaysAll told Tail lines error error_after × (new ≡ adds (told_of told (text_under (opened_under printer name) name bytes)) (adds (told_of told (opening_under printer name)) output) ∷ error_after ∷ others)
       → (error_after : Slot) × SaysAll told Tail lines error error_after × (new ≡ adds (told_of told (share_text printer.headers printer.last (opened_share name bytes lines))) output ∷ error_after ∷ others)
-  both output error others (error_after, said, is) = (error_after, said, is ∙ ap (λ slot. slot ∷ error_after ∷ others)
-      (ap (λ text. adds (told_of told text) (adds (told_of told (opening_under printer name)) output)) (opened_text printer name bytes)
-      ∙ adds_both told (opening_under printer name) bytes output
-      ∙ ap (λ text. adds (told_of told text) output) (share_bytes printer name bytes lines)))
+  both output error others (error_after, said, is) = (
+    error_after,
+    said,
+    is ∙ ap (λ slot. slot ∷ error_after ∷ others)
+        (ap (λ text. adds (told_of told text) (adds (told_of told (opening_under printer name)) output)) (opened_text printer name bytes)
+        ∙ adds_both told (opening_under printer name) bytes output
+        ∙ ap (λ text. adds (told_of told text) output) (share_bytes printer name bytes lines)),
+  )
 
 opened_halts : (told : Bool) (printer : PrinterState) (name bytes : List ℕ) (lines : List (List ℕ)) (old mid new : List Slot) (why : Fault) → mid ≡ with_written 0 (told_of told (opening_under printer name)) old
     → Halts told (opened_under printer name) name bytes lines mid new why → SharedShort told printer (opened_share name bytes lines) old new why
@@ -87,9 +91,13 @@ opened_halts told printer name bytes lines old mid new why first halts = record 
 } where
   both : (output error : Slot) (others : List Slot) → (error_after : Slot) × SaysAll told Tail lines error error_after × Short told (text_under (opened_under printer name) name bytes) (adds (told_of told (opening_under printer name)) output ∷ error_after ∷ others) new why
       → (error_after : Slot) × SaysAll told Tail lines error error_after × Short told (share_text printer.headers printer.last (opened_share name bytes lines)) (output ∷ error_after ∷ others) new why
-  both output error others (error_after, said, short) = (error_after, said, subst (λ text. Short told text (output ∷ error_after ∷ others) new why) (share_bytes printer name bytes lines)
-      (short_after told (opening_under printer name) bytes (output ∷ error_after ∷ others) _ new why refl
-      (subst (λ text. Short told text (adds (told_of told (opening_under printer name)) output ∷ error_after ∷ others) new why) (opened_text printer name bytes) short)))
+  both output error others (error_after, said, short) = (
+    error_after,
+    said,
+    subst (λ text. Short told text (output ∷ error_after ∷ others) new why) (share_bytes printer name bytes lines)
+        (short_after told (opening_under printer name) bytes (output ∷ error_after ∷ others) _ new why refl
+        (subst (λ text. Short told text (adds (told_of told (opening_under printer name)) output ∷ error_after ∷ others) new why) (opened_text printer name bytes) short)),
+  )
 
 some_of : (file : Option ℕ) → is_some file ≡ true → (id : ℕ) × (file ≡ Some id)
 some_of None some = absurd (false≢true some)
@@ -137,7 +145,11 @@ pub looks_opened : (told_in told : Bool) (start : List ℕ → List ℕ) (snapsh
     → LooksFirst told_in told start snapshot place name printer old after new (Ok (Some len))
 looks_opened told_in told start snapshot place name contents printer after old mid new len found same first long (whole _ bytes lines are gives) =
     opened bytes lines len (λ is. let holds = held_file snapshot name contents (found is).0 (found is).1 (same is) in record {
-      file = (found is).0; leads = (found is).1; part = (are is).0 ∙ ap start holds; long = long is ∙ ap length holds; quiet = (are is).1;
+      file = (found is).0;
+      leads = (found is).1;
+      part = (are is).0 ∙ ap start holds;
+      long = long is ∙ ap length holds;
+      quiet = (are is).1;
     }) (opened_gives told printer after name bytes lines old mid new first gives)
 
 -- or a beginning of it
@@ -148,9 +160,15 @@ pub looks_stopped : (told_in told : Bool) (start : List ℕ → List ℕ) (snaps
 looks_stopped told_in told start snapshot place name contents printer after old mid new watched watched_new _ found same first keeps (broke why bytes lines are gives) =
     subst (λ those. LooksFirst told_in told start snapshot place name printer old after new (Err (Broke those))) (sym keeps.0)
     (unread bytes lines (λ is. record {
-      file = (found is).0; leads = (found is).1; part = subst (λ those. IsFront bytes (start those)) (held_file snapshot name contents (found is).0 (found is).1 (same is)) (are is).0; quiet = no_lines lines (are is).1;
+      file = (found is).0;
+      leads = (found is).1;
+      part = subst (λ those. IsFront bytes (start those)) (held_file snapshot name contents (found is).0 (found is).1 (same is)) (are is).0;
+      quiet = no_lines lines (are is).1;
     }) (opened_gives told printer after name bytes lines old mid new first gives))
 looks_stopped told_in told start snapshot place name contents printer after old mid new watched watched_new _ found same first keeps (ends_over why bytes lines are halts) =
     over why bytes lines (λ is. record {
-      file = (found is).0; leads = (found is).1; part = subst (λ those. IsFront bytes (start those)) (held_file snapshot name contents (found is).0 (found is).1 (same is)) (are is).0; quiet = no_lines lines (are is).1;
+      file = (found is).0;
+      leads = (found is).1;
+      part = subst (λ those. IsFront bytes (start those)) (held_file snapshot name contents (found is).0 (found is).1 (same is)) (are is).0;
+      quiet = no_lines lines (are is).1;
     }) (opened_halts told printer name bytes lines old mid new why first halts)

@@ -12,7 +12,7 @@ invariant-loop-end g l = let contents = open_contents (latest (g.W.Watch.seen l.
   seen : g.W.Watch.seen l.watch ≡ g.W.Watch.seen l.fn.watch;
   watched : g.W.Watch.watched l.watch ≡ g.W.Watch.watched l.fn.watch;
   shows : g.W.Watch.shows l.watch ≡ g.W.Watch.shows l.fn.watch;
-  room : 0 < length l.buffer
+  room : 0 < length l.buffer;
 }
 
 abbrev pub decreases-loop-end : goal.decreases-loop-end

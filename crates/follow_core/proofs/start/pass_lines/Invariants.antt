@@ -10,7 +10,7 @@ invariant-loop-at g l = let contents = open_contents (latest (g.W.Watch.seen l.f
   seen : g.W.Watch.seen l.watch ≡ g.W.Watch.seen l.fn.watch;
   watched : g.W.Watch.watched l.watch ≡ g.W.Watch.watched l.fn.watch;
   shows : g.W.Watch.shows l.watch ≡ g.W.Watch.shows l.fn.watch;
-  room : 0 < length l.buffer
+  room : 0 < length l.buffer;
 }
 
 abbrev pub decreases-loop-at : goal.decreases-loop-at
