@@ -12,3 +12,4 @@ pub mod AgainLemmas
 pub mod ReadLemmas
 pub mod StartLemmas
 pub mod FirstLemmas
+pub mod FirstShareLemmas
