@@ -5,7 +5,7 @@ use Rattle.std.proofs.Math.Seq.{take-append_seam}
 use Rattle.std.proofs.Common.{arith, ◌≤◌}
 use Rattle.ports_core.specs.Text.{message_of}
 use Rattle.ports_core.specs.declared.tool.Tool.TheVariants.{Tail}
-use Rattle.ports_core.specs.declared.fault.Fault.TheVariants.{Read}
+use Rattle.ports_core.specs.declared.fault.Fault.TheVariants.{Open, Read}
 use Rattle.watch_core.specs.Snapshot.{Snapshot}
 use Rattle.follow_core.specs.Version.{Entry, version_in, entries_of, entries_led}
 use Rattle.follow_core.specs.Run.{name_text}
@@ -52,3 +52,7 @@ pub share_unread : (ways : Ways) (name bytes : List ℕ) (lines : List (List ℕ
 share_unread ways name bytes lines look front =
     ap (λ those. record { name = name; is_opened = true; bytes = those; messages = message_of Tail (Read 0) name ∷ []; has_failed = true }) (ap (take (length bytes)) (gain_first ways name look front.file front.leads) ∙ front_taken bytes (ways.start (look.snapshot.holds front.file)) front.part)
     ∙ ap (λ those. record { name = name; is_opened = true; bytes = bytes; messages = those ++ message_of Tail (Read 0) name ∷ []; has_failed = true }) (sym front.quiet)
+
+-- a call that opens it failed at once
+pub share_unopened : (ways : Ways) (name : List ℕ) (look : Look) → share_by ways name [] look (unopened 0 0) ≡ record { name = name; is_opened = false; bytes = []; messages = message_of Tail (Open 0) name ∷ []; has_failed = true }
+share_unopened ways name look = refl

@@ -13,3 +13,4 @@ pub mod ReadLemmas
 pub mod StartLemmas
 pub mod FirstLemmas
 pub mod FirstShareLemmas
+pub mod MeetLemmas

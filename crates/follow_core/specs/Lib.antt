@@ -14,3 +14,4 @@ pub mod Changing
 pub mod Again
 pub mod Sharing
 pub mod First
+pub mod Looked

@@ -7,6 +7,7 @@ mod changing;
 mod copying;
 mod first;
 mod laws;
+mod meeting;
 mod notice;
 mod printer;
 mod reading;
