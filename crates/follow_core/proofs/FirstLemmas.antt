@@ -1,5 +1,5 @@
 -- What the first look at a file gives.
-use Rattle.std.proofs.Common.{◌≡◌, ℕ, Bool, true, false, not, ◌&&◌, List, [], ◌∷◌, ◌++◌, length, Option, Some, None, Result, Ok, Err, refl, sym, ◌∙◌, ap, subst}
+use Rattle.std.proofs.Common.{◌≡◌, ℕ, Bool, true, false, not, ◌&&◌, List, [], ◌∷◌, ◌++◌, length, Option, Some, None, Ok, Err, refl, sym, ◌∙◌, ap, subst}
 use Rattle.std.proofs.lemmas.Bool.{false≢true}
 use Rattle.ports_core.specs.Slot.{adds, told_of, with_written}
 use Rattle.ports_core.specs.Message.{SaysAll}
@@ -19,7 +19,7 @@ use Rattle.follow_core.specs.Giving.{Ends, Gives, Halts, IsFront, whole, broke, 
 use Rattle.follow_core.specs.Catching.{Keeps}
 use Rattle.follow_core.specs.Changing.{held_at}
 use Rattle.follow_core.specs.Sharing.{Shared, SharedShort}
-use Rattle.follow_core.specs.First.{FrontOf, LooksFirst, StartOf, opened_share, nowhere, opened, over, unopened, unread}
+use Rattle.follow_core.specs.First.{LooksFirst, opened_share, nowhere, opened, over, unopened, unread}
 use Rattle.follow_core.proofs.CatchLemmas.{copied_ends, due_as, stops_ends}
 use Rattle.follow_core.proofs.GiveLemmas.{adds_both, front_nil}
 use Rattle.follow_core.proofs.PrintLemmas.{itself, short_after, short_more}

@@ -1,17 +1,17 @@
 -- What the first look gives of a name, as its share.
-use Rattle.std.proofs.Common.{◌≡◌, ℕ, Bool, true, false, List, [], ◌∷◌, ◌++◌, length, take, drop, map, Option, Some, None, refl, sym, ◌∙◌, ap, subst}
+use Rattle.std.proofs.Common.{◌≡◌, ℕ, true, false, List, [], ◌∷◌, ◌++◌, length, take, drop, map, Option, Some, None, refl, sym, ◌∙◌, ap}
 use Rattle.std.proofs.lemmas.List.{append-nil, drop_all}
 use Rattle.std.proofs.Math.Seq.{take-append_seam}
-use Rattle.std.proofs.Common.{arith, ◌≤◌}
+use Rattle.std.proofs.Common.{arith}
 use Rattle.ports_core.specs.Text.{message_of}
 use Rattle.ports_core.specs.declared.tool.Tool.TheVariants.{Tail}
 use Rattle.ports_core.specs.declared.fault.Fault.TheVariants.{Open, Read}
 use Rattle.watch_core.specs.Snapshot.{Snapshot}
-use Rattle.follow_core.specs.Version.{Entry, version_in, entries_of, entries_led}
+use Rattle.follow_core.specs.Version.{version_in, entries_led}
 use Rattle.follow_core.specs.Run.{name_text}
 use Rattle.follow_core.specs.Notice.{is_missing, notice_of, notices_of}
 use Rattle.follow_core.specs.Look.{Ways, Look, sound, unopened, unread, entries_in}
-use Rattle.follow_core.specs.Share.{Share, gain, missing_share, share_by, told_at_look}
+use Rattle.follow_core.specs.Share.{gain, missing_share, share_by, told_at_look}
 use Rattle.follow_core.specs.Giving.{IsFront}
 use Rattle.follow_core.specs.First.{FrontOf, StartOf, opened_share}
 

@@ -1,7 +1,7 @@
 -- Where the last lines of a text begin, and those after the first n.
-use Rattle.std.proofs.Common.{◌≡◌, ℕ, ◌+◌, ◌-◌, ◌<◌, ◌≤◌, ◌==◌, zero, suc, Bool, true, false, List, [], ◌∷◌, ◌++◌, length, take, drop, refl, sym, ◌∙◌, ap, subst, arith, length-append, if◌then◌else◌}
+use Rattle.std.proofs.Common.{◌≡◌, ℕ, ◌+◌, ◌-◌, ◌<◌, ◌≤◌, ◌==◌, zero, suc, Bool, true, false, List, [], ◌∷◌, ◌++◌, length, take, drop, refl, sym, ◌∙◌, ap, arith, length-append, if◌then◌else◌}
 use Rattle.std.proofs.Math.Seq.{take-add}
-use Rattle.std.proofs.lemmas.List.{append-nil, drop_all, drop_at, drop-append-le, drop-drop, drop-take, length-drop, length-take, take-append-drop, take-append-le, take-take}
+use Rattle.std.proofs.lemmas.List.{drop_all, drop_at, drop-append-le, drop-drop, drop-take, length-drop, length-take, take-append-drop, take-append-le, take-take}
 use Rattle.std.specs.Prelude.{min}
 use Rattle.std.specs.List.{onto_first}
 use Rattle.seg_core.specs.Line.{BeginsAt, EndsAt, FallsShort, after_lines, delimiters, ends_with, joined, last_lines, line_count, lines_of}

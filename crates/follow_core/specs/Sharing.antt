@@ -1,6 +1,6 @@
 -- How what a look gives for a name comes to the outputs: text to standard output, under a header where one is due, and lines to
 -- standard error.
-use Rattle.std.specs.Prelude.{◌≡◌, ℕ, Bool, List, ◌∷◌}
+use Rattle.std.specs.Prelude.{◌≡◌, Bool, List, ◌∷◌}
 use Rattle.ports_core.specs.Slot.{Slot, adds, told_of}
 use Rattle.ports_core.specs.Message.{SaysAll}
 use Rattle.ports_core.specs.declared.tool.Tool.TheVariants.{Tail}

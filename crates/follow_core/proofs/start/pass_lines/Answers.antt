@@ -1,8 +1,8 @@
-use Rattle.std.proofs.Common.{◌≡◌, ◌∙◌, ◌-◌, ◌++◌, ℕ, List, ap, arith, drop, length, subst, sym, take}
+use Rattle.std.proofs.Common.{◌≡◌, ◌∙◌, ◌-◌, ◌++◌, ap, arith, drop, take}
 use Rattle.seg_core.specs.Line.{after_lines}
 use Rattle.watch_core.specs.Snapshot.{latest}
 use Rattle.watch_core.specs.Watched.{open_contents, watched_at}
-use Rattle.follow_core.proofs.StartLemmas.{block_read, passed_all, passed_by, passed_in, room_kept}
+use Rattle.follow_core.proofs.StartLemmas.{block_read, passed_by, passed_in, room_kept}
 use Rattle.follow_core.proofs.start.pass_lines.Goals as goal
 
 pub returns-in-Ends-clause-part : goal.returns-in-Ends-clause-part
