@@ -74,7 +74,7 @@ pub line_due : (name : List ℕ) (position len : ℕ) → len < position → not
 line_due name position len less = ap (λ t. if t then notice_of Truncated name ∷ [] else []) (sym (lt-ltb len position less))
 
 -- copying, as one call of these
-copied_ends : {T : Type 0} (told_in told : Bool) (printer after : PrinterState) (name due : List ℕ) (old new : List Slot) (value : T) → Copied told_in told printer name due old after new → Ends {T = T} told_in told printer name due [] old after new (Ok value)
+pub copied_ends : {T : Type 0} (told_in told : Bool) (printer after : PrinterState) (name due : List ℕ) (old new : List Slot) (value : T) → Copied told_in told printer name due old after new → Ends {T = T} told_in told printer name due [] old after new (Ok value)
 copied_ends told_in told printer after name due old new value copied = whole value copied.bytes [] (λ is. (copied.are is, refl)) (gives_put told printer after name copied.bytes old new copied.put)
 
 pub stops_ends : {T : Type 0} (told_in told : Bool) (printer after : PrinterState) (name due : List ℕ) (place : ℕ) (watched watched_new : List Watched) (old new : List Slot) (stop : Stop) → Stops told_in told printer name due place watched old after watched_new new stop → Ends {T = T} told_in told printer name due [] old after new (Err stop)

@@ -16,7 +16,7 @@ use Rattle.follow_core.proofs.PrintLemmas.{under_append, last_append, under_nil,
 adds-nil : (told : Bool) (slot : Slot) → adds (told_of told []) slot ≡ slot
 adds-nil told slot = ap (λ bytes. record slot { written = slot.written ++ bytes }) (told_of-nil told) ∙ ap (λ written. record slot { written = written }) (append-nil slot.written)
 
-adds_both : (told : Bool) (first second : List ℕ) (slot : Slot) → adds (told_of told second) (adds (told_of told first) slot) ≡ adds (told_of told (first ++ second)) slot
+pub adds_both : (told : Bool) (first second : List ℕ) (slot : Slot) → adds (told_of told second) (adds (told_of told first) slot) ≡ adds (told_of told (first ++ second)) slot
 adds_both told first second slot = ap (λ written. record slot { written = written }) (append_assoc slot.written (told_of told first) (told_of told second) ∙ ap (λ bytes. slot.written ++ bytes) (sym (told_of-append told first second)))
 
 pub gives_nothing : (told : Bool) (printer : PrinterState) (name : List ℕ) (slots : List Slot) → Gives told printer name [] [] slots printer slots

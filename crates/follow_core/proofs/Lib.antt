@@ -9,3 +9,8 @@ pub mod GiveLemmas
 pub mod CatchLemmas
 pub mod ChangeLemmas
 pub mod AgainLemmas
+pub mod ReadLemmas
+pub mod StartLemmas
+pub mod FirstLemmas
+pub mod FirstShareLemmas
+pub mod MeetLemmas

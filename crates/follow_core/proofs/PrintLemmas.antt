@@ -26,7 +26,7 @@ short_more told text more old new _ (no_room n within is) = no_room n (let a : l
 pub short_later : (told : Bool) (first text : List ℕ) (old mid new : List Slot) (n : ℕ) → mid ≡ with_written 0 (told_of told first) old → BrokeAfter told mid new 0 text n → Short told (first ++ text) old new (fault.Write 0)
 short_later told first text old mid new n one cut = broke (length first + n) (subst (λ rest. BrokeAfter told old new 0 (first ++ rest) (length first + n)) (append-nil text) (broke_later told old mid new first text [] n one cut))
 
-itself : (name : List ℕ) → bytes_eq name name ≡ true
+pub itself : (name : List ℕ) → bytes_eq name name ≡ true
 itself name = (bytes_eq-Decides name name).1 refl
 
 -- bytes in two pieces are bytes in one

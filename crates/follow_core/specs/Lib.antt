@@ -12,3 +12,6 @@ pub mod Giving
 pub mod Catching
 pub mod Changing
 pub mod Again
+pub mod Sharing
+pub mod First
+pub mod Looked

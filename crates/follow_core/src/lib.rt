@@ -5,11 +5,15 @@ mod again;
 mod catching;
 mod changing;
 mod copying;
+mod first;
 mod laws;
+mod meeting;
 mod notice;
 mod printer;
+mod reading;
 #[cfg(test)]
 mod row_tests;
+mod start;
 
 pub use laws::{looks_agree, one_look_more, text_goes_on};
 pub use notice::{Notice, notice_line};

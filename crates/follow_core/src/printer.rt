@@ -1,7 +1,7 @@
 //! Where the bytes of followed names go, under headers.
 ghost use Rattle.std.specs.Prelude.{◌≡◌, ◌≤◌, ◌++◌, [], ℕ, List, Option, Some, false, IsTrue, IfErr, OnOk, string_bytes, option_map};
 ghost use Rattle.ports_core.specs.Slot.{is_writable, with_written, told_of};
-ghost use Rattle.follow_core.specs.Printing.{PrinterState, Short, text_under, front_under, printer_under, header_under, is_due};
+ghost use Rattle.follow_core.specs.Printing.{PrinterState, Short, text_under, front_under, printer_under, header_under, is_due, opened_under, opening_under};
 ghost use Rattle.follow_core.specs.Followed.{is_last, is_none};
 
 use ports_core::{Fault, Outs, header, write_whole};
@@ -73,12 +73,30 @@ impl Printer {
         self.headers && !bytes.is_empty() && !self.is_last(name)
     }
 
+    /// Writes the header of a name whose file was opened first, if headers are written.
+    ///
+    /// # Errors
+    ///
+    /// `Memory` where there is no room for the header, `Write(0)` where standard output broke.
+    pub(crate) fn open<O: Outs>(&mut self, name: &str, outs: &mut O) -> Result<(), Fault>
+        requires { IsTrue (is_writable (O.slots outs.old) 0) }
+        ensures out { OnOk result (O.slots outs.new ≡ with_written 0 (told_of O.told (opening_under self.old name.now)) (O.slots outs.old)) }
+        ensures last { OnOk result (self.new ≡ opened_under self.old name.now) }
+        ensures writable { OnOk result (IsTrue (is_writable (O.slots outs.new) 0)) }
+        ensures short { IfErr result (Short O.told (opening_under self.old name.now) (O.slots outs.old) (O.slots outs.new)) }
+    {
+        if !self.headers {
+            return Ok(());
+        }
+        self.show(name, outs)
+    }
+
     /// Writes the header of a name.
     ///
     /// # Errors
     ///
     /// `Memory` where there is no room for the header, `Write(0)` where standard output broke.
-    pub(crate) fn show<O: Outs>(&mut self, name: &str, outs: &mut O) -> Result<(), Fault>
+    fn show<O: Outs>(&mut self, name: &str, outs: &mut O) -> Result<(), Fault>
         requires { IsTrue (is_writable (O.slots outs.old) 0) }
         ensures out { OnOk result (O.slots outs.new ≡ with_written 0 (told_of O.told (header_under self.old name.now)) (O.slots outs.old)) }
         ensures last { OnOk result (self.new ≡ record self.old { last = Some name.now }) }

@@ -1,0 +1,146 @@
+//! Where the first look begins to write of a file.
+ghost use Rattle.std.specs.Prelude.{◌≡◌, ◌≤◌, ◌<◌, ◌-◌, ◌^◌, ℕ, true, false, length, drop, IsTrue, IfOk, IfErr, OnOk};
+ghost use Rattle.seg_core.specs.Line.{after_lines, last_lines};
+ghost use Rattle.ends_core.specs.Ends.{tail_of};
+ghost use Rattle.ports_core.specs.Slot.{changed_at};
+ghost use Rattle.watch_core.specs.Snapshot.{latest};
+ghost use Rattle.watch_core.specs.Watched.{breaks, is_readable, open_contents, watched_at};
+
+use crate::reading::read_block;
+use ends_core::Unit;
+use ports_core::Fault;
+use seg_core::line::reach;
+use seg_core::line_back::reach_back;
+use seg_core::line_reach::{Reach, ReachBack};
+use watch_core::Watch;
+
+/// Which part of a file the first look writes: the last lines or bytes, or all from the nth on.
+#[derive(Clone, Copy, Debug, PartialEq, Eq)]
+pub struct Start {
+    /// What is counted: lines or bytes.
+    pub unit: Unit,
+    /// Whether the count is the number of the first one that is written; 0 is read as 1.
+    pub from_nth: bool,
+    /// The count.
+    pub count: u64,
+    /// The byte with which lines end.
+    pub delim: u8,
+}
+
+impl Start {
+    /// Where this part begins in an open file of so many bytes. Lines are looked for from the end, or from the front
+    /// where the nth begins the part; bytes are not looked for.
+    ///
+    /// # Errors
+    ///
+    /// `Read` where the file fails: the name is broken.
+    pub(crate) fn find<W: Watch>(
+        self,
+        watch: &mut W,
+        place: usize,
+        len: u64,
+        buffer: &mut [u8],
+    ) -> Result<u64, Fault>
+        requires readable { IsTrue (is_readable (W.watched watch.old) place) }
+        requires room { 0 < length buffer.old }
+        requires bound { len < 2 ^ 63 }
+        requires whole { W.told ≡ true → len ≡ length (open_contents (latest (W.seen watch.old)) (watched_at (W.watched watch.old) place)) }
+        ensures within { IfOk result (λ from. from ≤ len) }
+        ensures part { IfOk result (λ from. W.told ≡ true → let contents = open_contents (latest (W.seen watch.old)) (watched_at (W.watched watch.old) place) in drop from contents ≡ tail_of self.delim self.unit self.from_nth self.count contents) }
+        ensures same { OnOk result (W.watched watch.new ≡ W.watched watch.old) }
+        ensures err { IfErr result (λ fault. (fault ≡ Fault.Read place) × (W.watched watch.new ≡ changed_at place breaks (W.watched watch.old))) }
+        ensures seen { W.seen watch.new ≡ W.seen watch.old }
+        ensures shows { W.shows watch.new ≡ W.shows watch.old }
+    {
+        match (self.unit, self.from_nth) {
+            (Unit::Bytes, false) => Ok(len.saturating_sub(self.count)),
+            (Unit::Bytes, true) => Ok(self.count.saturating_sub(1).min(len)),
+            (Unit::Lines, false) => {
+                find_last_lines(watch, place, self.count, self.delim, len, buffer)
+            }
+            (Unit::Lines, true) => {
+                let before = self.count.saturating_sub(1);
+                pass_lines(watch, place, before, self.delim, len, buffer)
+            }
+        }
+    }
+}
+
+/// Where the last lines of a file begin. It is looked for from the end: a delimiter that is the last byte ends the last line, and so
+/// many lines before that are looked for as are wanted.
+fn find_last_lines<W: Watch>(
+    watch: &mut W,
+    place: usize,
+    count: u64,
+    delim: u8,
+    len: u64,
+    buffer: &mut [u8],
+) -> Result<u64, Fault>
+    requires readable { IsTrue (is_readable (W.watched watch.old) place) }
+    requires room { 0 < length buffer.old }
+    requires bound { len < 2 ^ 63 }
+    requires whole { W.told ≡ true → len ≡ length (open_contents (latest (W.seen watch.old)) (watched_at (W.watched watch.old) place)) }
+    ensures within { IfOk result (λ from. from ≤ len) }
+    ensures part { IfOk result (λ from. W.told ≡ true → let contents = open_contents (latest (W.seen watch.old)) (watched_at (W.watched watch.old) place) in drop from contents ≡ last_lines delim count contents) }
+    ensures same { OnOk result (W.watched watch.new ≡ W.watched watch.old) }
+    ensures err { IfErr result (λ fault. (fault ≡ Fault.Read place) × (W.watched watch.new ≡ changed_at place breaks (W.watched watch.old))) }
+    ensures seen { W.seen watch.new ≡ W.seen watch.old }
+    ensures shows { W.shows watch.new ≡ W.shows watch.old }
+{
+    if count == 0 {
+        return Ok(len);
+    }
+    let mut end = len.saturating_sub(1);
+    let mut wanted = count;
+    while 0 < end {
+        let size = end.min(buffer.len() as u64) as usize;
+        let from = end - size as u64;
+        let n = match read_block(watch, place, from, &mut buffer[..size]) {
+            Ok(n) => n,
+            Err(fault) => return Err(fault),
+        };
+        match reach_back(&buffer[..n], wanted, delim) {
+            ReachBack::Begins(at) => return Ok(from + at as u64),
+            ReachBack::Short(found) => wanted -= found as u64,
+        }
+        end = from;
+    }
+    Ok(0)
+}
+
+/// Where the lines of a file begin that come after this number of them.
+fn pass_lines<W: Watch>(
+    watch: &mut W,
+    place: usize,
+    count: u64,
+    delim: u8,
+    len: u64,
+    buffer: &mut [u8],
+) -> Result<u64, Fault>
+    requires readable { IsTrue (is_readable (W.watched watch.old) place) }
+    requires room { 0 < length buffer.old }
+    requires bound { len < 2 ^ 63 }
+    requires whole { W.told ≡ true → len ≡ length (open_contents (latest (W.seen watch.old)) (watched_at (W.watched watch.old) place)) }
+    ensures within { IfOk result (λ from. from ≤ len) }
+    ensures part { IfOk result (λ from. W.told ≡ true → let contents = open_contents (latest (W.seen watch.old)) (watched_at (W.watched watch.old) place) in drop from contents ≡ after_lines delim count contents) }
+    ensures same { OnOk result (W.watched watch.new ≡ W.watched watch.old) }
+    ensures err { IfErr result (λ fault. (fault ≡ Fault.Read place) × (W.watched watch.new ≡ changed_at place breaks (W.watched watch.old))) }
+    ensures seen { W.seen watch.new ≡ W.seen watch.old }
+    ensures shows { W.shows watch.new ≡ W.shows watch.old }
+{
+    let mut at = 0;
+    let mut left = count;
+    while at < len {
+        let size = (len - at).min(buffer.len() as u64) as usize;
+        let n = match read_block(watch, place, at, &mut buffer[..size]) {
+            Ok(n) => n,
+            Err(fault) => return Err(fault),
+        };
+        match reach(&buffer[..n], left, delim) {
+            Reach::Ends(end) => return Ok(at + end as u64),
+            Reach::Short(found) => left -= found as u64,
+        }
+        at += size as u64;
+    }
+    Ok(len)
+}
