@@ -74,7 +74,14 @@ impl<'a, 'b> Adapter for TailAdapter<'a, 'b> {
         let settings = self.settings;
         let Count { sign, amount } = settings.count;
         let from_nth = is_plus(sign);
-        Tail::open_for(alloc, settings.unit, from_nth, amount, settings.delim, coming)
+        Tail::open_for(
+            alloc,
+            settings.unit,
+            from_nth,
+            amount,
+            settings.delim,
+            coming,
+        )
     }
 
     /// Of the last lines or bytes nothing before them is needed.
