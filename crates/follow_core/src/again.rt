@@ -16,8 +16,8 @@ use ports_core::Outs;
 use std::alloc::Global;
 use watch_core::Watch;
 
-/// Looks again at a name of whose open file so much was seen: writes what came to the file, and follows the name to where it
-/// leads, if names are followed. Returns how much of the file that is open then was seen.
+/// Looks again at a name of whose open file `position` bytes were seen: writes what came to the file, and follows the name to where
+/// it leads, if names are followed. Returns how much of the file that is open then was seen.
 ///
 /// # Errors
 ///

@@ -17,7 +17,7 @@ use watch_core::Watch;
 
 /// How a name came through a look.
 pub(crate) enum Came {
-    /// So much of its open file was seen; 0 where none is open.
+    /// No call on it failed. Holds how many bytes of its open file were seen; 0 where none is open.
     Through(u64),
     /// It led nowhere at the first look, which was told.
     Missing,

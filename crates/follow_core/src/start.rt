@@ -28,8 +28,8 @@ pub struct Start {
 }
 
 impl Start {
-    /// Where this part begins in an open file of so many bytes. Lines are looked for from the end, or from the front
-    /// where the nth begins the part; bytes are not looked for.
+    /// Where this part begins in an open file of `len` bytes. Lines are looked for from the end, or from the front
+    /// where the nth begins the part; bytes are not looked for. It takes no memory.
     ///
     /// # Errors
     ///
@@ -66,8 +66,8 @@ impl Start {
     }
 }
 
-/// Where the last lines of a file begin. It is looked for from the end: a delimiter that is the last byte ends the last line, and so
-/// many lines before that are looked for as are wanted.
+/// Where the last `count` lines of a file of `len` bytes begin. The place is looked for from the end, by the delimiters before the last
+/// byte: each of them ends a line after which another one follows.
 fn find_last_lines<W: Watch>(
     watch: &mut W,
     place: usize,
@@ -108,7 +108,7 @@ fn find_last_lines<W: Watch>(
     Ok(0)
 }
 
-/// Where the lines of a file begin that come after this number of them.
+/// Where the lines of a file of `len` bytes begin that come after its first `count`.
 fn pass_lines<W: Watch>(
     watch: &mut W,
     place: usize,

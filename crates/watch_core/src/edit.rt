@@ -3,7 +3,7 @@
 pub enum Edit<'a> {
     /// These bytes come to the end of the name's file.
     Append(&'a str, &'a [u8]),
-    /// Of the name's file the first so many bytes are left, and all where it has no more.
+    /// Of the name's file this number of bytes is left, from its front, and all where it has no more.
     Truncate(&'a str, usize),
     /// The name leads to a new file, which holds these bytes.
     Replace(&'a str, &'a [u8]),
