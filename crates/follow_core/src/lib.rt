@@ -11,6 +11,7 @@ mod meeting;
 mod notice;
 mod printer;
 mod reading;
+mod revisit;
 #[cfg(test)]
 mod row_tests;
 mod start;

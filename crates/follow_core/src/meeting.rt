@@ -5,7 +5,7 @@ ghost use Rattle.ends_core.specs.Ends.{tail_of};
 ghost use Rattle.watch_core.specs.Snapshot.{latest};
 ghost use Rattle.watch_core.specs.Watched.{is_watchable, watched_at};
 ghost use Rattle.follow_core.specs.Catching.{CanPrint};
-ghost use Rattle.follow_core.specs.Looked.{Looked, StoppedFirst};
+ghost use Rattle.follow_core.specs.Looked.{IsThere, Leaves, Looked, Stopped};
 
 use crate::copying::Stop;
 use crate::first::look_first;
@@ -46,7 +46,9 @@ pub(crate) fn meet<W: Watch, O: Outs>(
     requires can { CanPrint (O.slots outs.old) }
     requires room { 0 < length buffer.old }
     ensures looked { IfOk result (λ came. (by_name : Bool) → Looked W.told O.told (record { by_name = by_name; start = tail_of start.delim start.unit start.from_nth start.count }) [] (latest (W.seen watch.old)) name.now printer.old (O.slots outs.old) printer.new (O.slots outs.new) came) }
-    ensures stopped { IfErr result (StoppedFirst W.told O.told (tail_of start.delim start.unit start.from_nth start.count) (latest (W.seen watch.old)) name.now printer.old (O.slots outs.old) (O.slots outs.new)) }
+    ensures stopped { IfErr result (λ why. (by_name : Bool) → Stopped W.told O.told (record { by_name = by_name; start = tail_of start.delim start.unit start.from_nth start.count }) [] (latest (W.seen watch.old)) name.now printer.old (O.slots outs.old) (O.slots outs.new) why) }
+    ensures leaves { IfOk result (Leaves W.told (latest (W.seen watch.old)) ((latest (W.seen watch.old)).leads name.now) place (W.watched watch.old) (W.watched watch.new)) }
+    ensures there { IfOk result (IsThere W.told ((latest (W.seen watch.old)).leads name.now)) }
     ensures can { OnOk result (CanPrint (O.slots outs.new)) }
     ensures seen { W.seen watch.new ≡ W.seen watch.old }
     ensures shows { W.shows watch.new ≡ W.shows watch.old }
