@@ -21,10 +21,10 @@ notices-append last [] more = refl
 notices-append last (entry ∷ entries) more = ap (λ x. notices_between last entry ++ x) (notices-append entry entries more) ∙ sym (append_assoc (notices_between last entry) (notices_later entry entries) _)
 
 -- entries that are there, told apart from none
-record Some_entries (entries : List Entry) : Type 0 where
-  first : Entry
-  rest : List Entry
-  are : entries ≡ first ∷ rest
+pub record Some_entries (entries : List Entry) : Type 0 where
+  pub first : Entry
+  pub rest : List Entry
+  pub are : entries ≡ first ∷ rest
 
 some_front : (entry : Entry) (entries more : List Entry) → entries ≡ entry ∷ [] → Some_entries (entries ++ more)
 some_front entry entries more is = record { first = entry; rest = more; are = ap (λ x. x ++ more) is }
@@ -33,7 +33,7 @@ first_some : (snapshot : Snapshot) (led : Option ℕ) (more : List Entry) → So
 first_some snapshot None more = record { first = gap; rest = more; are = refl }
 first_some snapshot (Some file) more = record { first = version_in snapshot file; rest = more; are = refl }
 
-some_at : (by_name : Bool) (name : List ℕ) (first : Snapshot) (snaps : List Snapshot) → Some_entries (entries_of by_name name (first ∷ snaps))
+pub some_at : (by_name : Bool) (name : List ℕ) (first : Snapshot) (snaps : List Snapshot) → Some_entries (entries_of by_name name (first ∷ snaps))
 some_at by_name name first snaps = first_some first (first.leads name) _
 
 later_told : (entries more : List Entry) → Some_entries entries → drop (length (notices_of entries)) (notices_of (entries ++ more)) ≡ notices_later (last_of entries) more
@@ -49,7 +49,7 @@ not_missing entries more some = rw some.are (by some.first) where
   by (version v) = refl
   by gap = refl
 
-entries_more : (ways : Ways) (name : List ℕ) (before : Look) (looks : List Look) (look : Look) → entries_in ways name ((before ∷ looks) ++ look ∷ []) ≡ entries_in ways name (before ∷ looks) ++ entries_at_look ways.by_name name (open_after ways.by_name name (snapshots (before ∷ looks))) look.snapshot
+pub entries_more : (ways : Ways) (name : List ℕ) (before : Look) (looks : List Look) (look : Look) → entries_in ways name ((before ∷ looks) ++ look ∷ []) ≡ entries_in ways name (before ∷ looks) ++ entries_at_look ways.by_name name (open_after ways.by_name name (snapshots (before ∷ looks))) look.snapshot
 entries_more ways name before looks look =
     ap (entries_of ways.by_name name) (map-append (λ (l : Look). l.snapshot) (before ∷ looks) (look ∷ []))
     ∙ entries-append ways.by_name name before.snapshot (snapshots looks) look.snapshot

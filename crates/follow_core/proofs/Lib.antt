@@ -11,6 +11,8 @@ pub mod ChangeLemmas
 pub mod AgainLemmas
 pub mod ReadLemmas
 pub mod StartLemmas
+pub mod EntryLemmas
+pub mod VisitLemmas
 pub mod FirstLemmas
 pub mod FirstShareLemmas
 pub mod MeetLemmas

@@ -15,3 +15,5 @@ pub mod Again
 pub mod Sharing
 pub mod First
 pub mod Looked
+pub mod Standing
+pub mod Visited

@@ -1,21 +1,38 @@
 -- How what a look gives for a name comes to the outputs: text to standard output, under a header where one is due, and lines to
 -- standard error.
-use Rattle.std.specs.Prelude.{◌≡◌, Bool, List, ◌∷◌}
+use Rattle.std.specs.Prelude.{◌≡◌, ℕ, Bool, List, ◌∷◌}
 use Rattle.ports_core.specs.Slot.{Slot, adds, told_of}
 use Rattle.ports_core.specs.Message.{SaysAll}
 use Rattle.ports_core.specs.declared.tool.Tool.TheVariants.{Tail}
 use Rattle.ports_core.specs.declared.fault.Fault.{Fault}
-use Rattle.follow_core.specs.Followed.{header_after, share_text}
+use Rattle.follow_core.specs.Followed.{header_after, last_header_from, messages_of, share_text, text_from}
 use Rattle.follow_core.specs.Printing.{PrinterState, Short}
 use Rattle.follow_core.specs.Share.{Share}
 
--- all of it came there, and no other output changed
+-- this text came to standard output, and these lines to standard error; no other output changed
+abbrev pub Wrote : Bool → List ℕ → List (List ℕ) → List Slot → List Slot → Type 0
+Wrote told text lines old new = (output error : Slot) (others : List Slot) → old ≡ output ∷ error ∷ others
+    → (error_after : Slot) × SaysAll told Tail lines error error_after × (new ≡ adds (told_of told text) output ∷ error_after ∷ others)
+
+-- these lines did, and a beginning of the text, before standard output broke or memory was wanting
+abbrev pub WroteShort : Bool → List ℕ → List (List ℕ) → List Slot → List Slot → Fault → Type 0
+WroteShort told text lines old new fault = (output error : Slot) (others : List Slot) → old ≡ output ∷ error ∷ others
+    → (error_after : Slot) × SaysAll told Tail lines error error_after × Short told text (output ∷ error_after ∷ others) new fault
+
+-- all of a share came there
 pub record Shared (told : Bool) (printer : PrinterState) (share : Share) (old : List Slot) (after : PrinterState) (new : List Slot) : Type 0 where
   pub printer_is : after ≡ record printer { last = header_after printer.headers printer.last share }
-  pub slots : (output error : Slot) (others : List Slot) → old ≡ output ∷ error ∷ others
-      → (error_after : Slot) × SaysAll told Tail share.messages error error_after × (new ≡ adds (told_of told (share_text printer.headers printer.last share)) output ∷ error_after ∷ others)
+  pub slots : Wrote told (share_text printer.headers printer.last share) share.messages old new
 
--- a beginning of the text came there, before standard output broke or memory was wanting
+-- a beginning of it did
 pub record SharedShort (told : Bool) (printer : PrinterState) (share : Share) (old new : List Slot) (fault : Fault) : Type 0 where
-  pub slots : (output error : Slot) (others : List Slot) → old ≡ output ∷ error ∷ others
-      → (error_after : Slot) × SaysAll told Tail share.messages error error_after × Short told (share_text printer.headers printer.last share) (output ∷ error_after ∷ others) new fault
+  pub slots : WroteShort told (share_text printer.headers printer.last share) share.messages old new fault
+
+-- all shares came there, one after another
+pub record AllShared (told : Bool) (printer : PrinterState) (shares : List Share) (old : List Slot) (after : PrinterState) (new : List Slot) : Type 0 where
+  pub printer_is : after ≡ record printer { last = last_header_from printer.headers printer.last shares }
+  pub slots : Wrote told (text_from printer.headers printer.last shares) (messages_of shares) old new
+
+-- a beginning of them did
+pub record AllShort (told : Bool) (printer : PrinterState) (shares : List Share) (old new : List Slot) (fault : Fault) : Type 0 where
+  pub slots : WroteShort told (text_from printer.headers printer.last shares) (messages_of shares) old new fault

@@ -8,6 +8,7 @@ mod copying;
 mod first;
 mod laws;
 mod meeting;
+mod name;
 mod notice;
 mod printer;
 mod reading;
