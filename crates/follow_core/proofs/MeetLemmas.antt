@@ -26,7 +26,7 @@ adds-nil : (told : Bool) (slot : Slot) → adds (told_of told []) slot ≡ slot
 adds-nil told slot = ap (λ bytes. record slot { written = slot.written ++ bytes }) (told_of-nil told) ∙ ap (λ written. record slot { written = written }) (append-nil slot.written)
 
 -- a line is told after a share
-told_after : (told : Bool) (printer after : PrinterState) (share : Share) (line : List ℕ) (old mid new : List Slot) → Shared told printer share old after mid → SaysOn told Tail line mid new
+pub told_after : (told : Bool) (printer after : PrinterState) (share : Share) (line : List ℕ) (old mid new : List Slot) → Shared told printer share old after mid → SaysOn told Tail line mid new
     → Shared told printer (record share { messages = share.messages ++ line ∷ []; has_failed = true }) old after new
 told_after told printer after share line old mid new shared says = record {
   printer_is = shared.printer_is;
@@ -43,7 +43,7 @@ told_after told printer after share line old mid new shared says = record {
 abbrev empty_share : List ℕ → Share
 empty_share name = record { name = name; is_opened = false; bytes = []; messages = []; has_failed = false }
 
-empty_shared : (told : Bool) (printer after : PrinterState) (name : List ℕ) (old new : List Slot) → after ≡ printer → new ≡ old → Shared told printer (empty_share name) old after new
+pub empty_shared : (told : Bool) (printer after : PrinterState) (name : List ℕ) (old new : List Slot) → after ≡ printer → new ≡ old → Shared told printer (empty_share name) old after new
 empty_shared told printer after name old new same_printer same = record {
   printer_is = same_printer ∙ by printer.headers printer.last;
   slots = λ output error others is. (error, refl, same ∙ is ∙ ap (λ slot. slot ∷ error ∷ others) (sym (ap (λ text. adds (told_of told text) output) (text printer.headers printer.last) ∙ adds-nil told output)));

@@ -1,6 +1,7 @@
 -- A visit of one name.
-use Rattle.std.proofs.Common.{◌≡◌, ℕ, zero, suc, Bool, true, false, not, ◌||◌, IsTrue, List, [], ◌∷◌, ◌++◌, length, Option, Some, None, slice_index_or, refl, sym, ◌∙◌, ap, subst, inl, inr, if◌then◌else◌}
+use Rattle.std.proofs.Common.{◌≡◌, ℕ, zero, suc, Bool, true, false, not, ◌||◌, IsTrue, List, [], ◌∷◌, ◌++◌, length, map, Option, Some, None, slice_index_or, refl, sym, ◌∙◌, ap, subst, inl, inr, if◌then◌else◌}
 use Rattle.std.proofs.lemmas.Bool.{false≢true}
+use Rattle.std.proofs.lemmas.List.{map-append}
 use Rattle.ports_core.specs.Slot.{Slot, changed_at}
 use Rattle.ports_core.specs.declared.fault.Fault.{Fault}
 use Rattle.ports_core.proofs.SlotLemmas.{changed_at-again, length-changed_at}
@@ -13,15 +14,19 @@ use Rattle.follow_core.specs.declared.name.Standing.TheVariants.{New, Followed, 
 use Rattle.follow_core.specs.declared.start.Start.{Start}
 use Rattle.follow_core.specs.Again.{StandsAt}
 use Rattle.follow_core.specs.Changing.{held_at}
-use Rattle.follow_core.specs.Gain.{file_of, last_of, seen_length}
+use Rattle.follow_core.specs.Gain.{file_of, gains_later, last_of, seen_length}
+use Rattle.follow_core.specs.Notice.{notice_of, notices_later}
+use Rattle.follow_core.specs.Run.{AreKept}
 use Rattle.follow_core.specs.Look.{Fate, Look, Ways, entries_in, fate_at, is_dropped, is_first, is_sound, snapshots, sound}
-use Rattle.follow_core.specs.Looked.{IsReady, IsThere, Leaves, Looked, Stopped, came_through, has_failed}
+use Rattle.follow_core.specs.Looked.{IsLater, IsReady, IsThere, Leaves, Looked, Stopped, came_through, has_failed}
 use Rattle.follow_core.specs.Printing.{PrinterState}
-use Rattle.follow_core.specs.Share.{no_share, share_by, share_of}
+use Rattle.follow_core.specs.Share.{Share, no_share, share_by, share_of}
 use Rattle.follow_core.specs.Standing.{CanVisit, IsFollowed, IsLeft, IsMissed, KeepsBytes, NameState, Stands, standing_after}
-use Rattle.follow_core.specs.Version.{open_after, open_after_look}
+use Rattle.follow_core.specs.Version.{Entry, version, gap, entries_at_look, entries_of, open_after, open_after_look}
 use Rattle.follow_core.specs.Visited.{KeepsOthers, Visited, ways_of}
 use Rattle.follow_core.proofs.ChangeLemmas.{opened_there}
+use Rattle.follow_core.proofs.LaterLemmas.{later_share}
+use Rattle.follow_core.proofs.MeetLemmas.{empty_shared}
 use Rattle.follow_core.proofs.EntryLemmas.{dropped_more, first_last, last_file, last_later}
 
 changed_elsewhere : {X : Type 0} (default : X) (place other : ℕ) (change : X → X) (xs : List X) → (other ≡ place → ⊥) → slice_index_or (changed_at place change xs) other default ≡ slice_index_or xs other default
@@ -153,11 +158,11 @@ visited_by told_in told ways looks snapshot place name printer after slots slots
 
 -- a later look
 
-followed_at : (told : Bool) (ways : Ways) (looks : List Look) (place : ℕ) (name : List ℕ) (watched : Watched) (standing : Standing) (position : ℕ) → standing ≡ Followed position → Stands told ways looks place name watched standing → IsFollowed told ways looks place name watched position
+pub followed_at : (told : Bool) (ways : Ways) (looks : List Look) (place : ℕ) (name : List ℕ) (watched : Watched) (standing : Standing) (position : ℕ) → standing ≡ Followed position → Stands told ways looks place name watched standing → IsFollowed told ways looks place name watched position
 followed_at told ways looks place name watched standing position followed stands = subst (λ those. Stands told ways looks place name watched those) followed stands
 
 later_stands : (told : Bool) (ways : Ways) (before : Look) (looks : List Look) (snapshot : Snapshot) (place : ℕ) (name : List ℕ) (position : ℕ) (old new : List Watched) (came : Came) (look : Look) (fate : Fate) → look.snapshot ≡ snapshot → IsFollowed told ways (before ∷ looks) place name (watched_at old place) position
-    → Leaves told snapshot (open_after_look ways.by_name name (watched_at old place).opened snapshot) place old new came → (came ≡ Missing → ⊥) → is_sound fate ≡ came_through came → fate_at place look ≡ fate
+    → Leaves told snapshot (open_after_look ways.by_name name (watched_at old place).opened snapshot) place old new came → IsLater came → is_sound fate ≡ came_through came → fate_at place look ≡ fate
     → Stands told ways ((before ∷ looks) ++ look ∷ []) place name (watched_at new place) (standing_after ways.by_name came)
 later_stands told ways before looks snapshot place name position old new (Through len) look fate seen followed (file, is, are) there through at =
     let now = opened_now place file old new is followed.unbroken in
@@ -175,8 +180,111 @@ later_stands told ways before looks snapshot place name position old new (Throug
         };
       there = λ t way. ap (λ (w : Watched). is_some w.opened) now ∙ ap is_some (are t).0 ∙ ap (λ by_name. is_some (open_after_look by_name name (watched_at old place).opened snapshot)) way ∙ followed.there t way;
     }
-later_stands told ways before looks snapshot place name position old new Missing look fate seen followed leaves there through at = absurd (there refl)
+later_stands told ways before looks snapshot place name position old new Missing look fate seen followed leaves there through at = absurd there
 later_stands told ways before looks snapshot place name position old new Dropped look fate seen followed leaves there through at = record {
   begun = refl;
   why = inl (dropped_more place (before ∷ looks) look ∙ ap (λ those. those || not (is_sound (fate_at place look))) followed.kept ∙ fate_sound place look fate false at through);
 }
+
+later_share_of : (ways : Ways) (before : Look) (looks : List Look) (look : Look) (place : ℕ) (name : List ℕ) (fate : Fate) → is_dropped place (before ∷ looks) ≡ false → fate_at place look ≡ fate → share_by ways name (before ∷ looks) look fate ≡ share_of ways (before ∷ looks) look place name
+later_share_of ways before looks look place name fate kept at =
+    ap (share_by ways name (before ∷ looks) look) (sym at)
+    ∙ ap (λ test. if test then no_share name else share_by ways name (before ∷ looks) look (fate_at place look)) (sym kept)
+
+-- the callee's clause, at the looks that were made
+pub later_visited : (told_in told by_name : Bool) (ways : Ways) (snapshot : Snapshot) (place : ℕ) (name text : List ℕ) (position : ℕ) (printer after : PrinterState) (slots slots_new : List Slot) (old new : List Watched) (came : Came) (looks : List Look) → text ≡ name → ways.by_name ≡ by_name → IsFollowed told_in ways looks place name (watched_at old place) position → KeepsBytes told_in ways looks snapshot name
+    → ((ways : Ways) (before : Look) (looks : List Look) → ways.by_name ≡ by_name → (told_in ≡ true → IsReady ways (before ∷ looks) snapshot text (watched_at old place).opened position) → Looked told_in told ways (before ∷ looks) snapshot text printer slots after slots_new came)
+    → ((ways : Ways) (before : Look) (looks : List Look) → ways.by_name ≡ by_name → (told_in ≡ true → IsReady ways (before ∷ looks) snapshot text (watched_at old place).opened position) → Leaves told_in snapshot (open_after_look by_name text (watched_at old place).opened snapshot) place old new came)
+    → IsLater came
+    → Visited told_in told ways looks snapshot place name printer slots after slots_new (watched_at new place) (standing_after by_name came) (has_failed came)
+later_visited told_in told by_name ways snapshot place name text position printer after slots slots_new old new came [] same way followed keeps looked leaves later = absurd (false≢true (sym followed.begun))
+later_visited told_in told by_name ways snapshot place name text position printer after slots slots_new old new came (before ∷ looks) same way followed keeps looked leaves later =
+    let ready : told_in ≡ true → IsReady ways (before ∷ looks) snapshot text (watched_at old place).opened position = λ t.
+        subst (λ those. IsReady ways (before ∷ looks) snapshot those (watched_at old place).opened position) (sym same) (record { stands = followed.stands t; kept = keeps t }) in
+    let one : Looked told_in told ways (before ∷ looks) snapshot name printer slots after slots_new came = subst (λ those. Looked told_in told ways (before ∷ looks) snapshot those printer slots after slots_new came) same (looked ways before looks way ready) in
+    let left : Leaves told_in snapshot (open_after_look ways.by_name name (watched_at old place).opened snapshot) place old new came =
+        subst (λ those. Leaves told_in snapshot (open_after_look those name (watched_at old place).opened snapshot) place old new came) (sym way)
+        (subst (λ those. Leaves told_in snapshot (open_after_look by_name those (watched_at old place).opened snapshot) place old new came) same (leaves ways before looks way ready)) in
+    record {
+      fate = one.fate;
+      share = one.share;
+      is_share = λ is fates at. one.is_share is fates ∙ later_share_of ways before looks (record { snapshot = snapshot; fates = fates }) place name one.fate followed.kept at;
+      is_failed = one.failed;
+      shared = one.shared;
+      stands = λ fates at. subst (λ those. Stands told_in ways ((before ∷ looks) ++ record { snapshot = snapshot; fates = fates } ∷ []) place name (watched_at new place) (standing_after those came)) way
+          (later_stands told_in ways before looks snapshot place name position old new came (record { snapshot = snapshot; fates = fates }) one.fate refl followed left later one.through at);
+    }
+
+pub later_stopped : (told_in told by_name : Bool) (ways : Ways) (snapshot : Snapshot) (place : ℕ) (name text : List ℕ) (position : ℕ) (watched : Watched) (printer : PrinterState) (slots slots_new : List Slot) (why : Fault) (looks : List Look) → text ≡ name → ways.by_name ≡ by_name → IsFollowed told_in ways looks place name watched position → KeepsBytes told_in ways looks snapshot name
+    → ((ways : Ways) (before : Look) (looks : List Look) → ways.by_name ≡ by_name → (told_in ≡ true → IsReady ways (before ∷ looks) snapshot text watched.opened position) → Stopped told_in told ways (before ∷ looks) snapshot text printer slots slots_new why)
+    → (is_dropped place looks ≡ false) × Stopped told_in told ways looks snapshot name printer slots slots_new why
+later_stopped told_in told by_name ways snapshot place name text position watched printer slots slots_new why [] same way followed keeps stopped = absurd (false≢true (sym followed.begun))
+later_stopped told_in told by_name ways snapshot place name text position watched printer slots slots_new why (before ∷ looks) same way followed keeps stopped = (
+  followed.kept,
+  subst (λ those. Stopped told_in told ways (before ∷ looks) snapshot those printer slots slots_new why) same
+  (stopped ways before looks way (λ t. subst (λ those. IsReady ways (before ∷ looks) snapshot those watched.opened position) (sym same) (record { stands = followed.stands t; kept = keeps t }))),
+)
+
+-- a name that is looked at no more
+
+no_last : (last : Entry) → None ≡ file_of last → last ≡ gap
+no_last gap is = refl
+no_last (version v) is = absurd (false≢true (ap is_some is))
+
+abbrev share_from : List ℕ → Entry → List Entry → Share
+share_from name entry entries = record { name = name; is_opened = false; bytes = gains_later entry entries; messages = map (λ notice. notice_of notice name) (notices_later entry entries); has_failed = false }
+
+missed_share : (told : Bool) (ways : Ways) (before : Look) (looks : List Look) (look : Look) (place : ℕ) (name : List ℕ) → told ≡ true → IsMissed told ways (before ∷ looks) name → fate_at place look ≡ sound → AreKept (entries_in ways name ((before ∷ looks) ++ look ∷ []))
+    → (dropped : Bool) → is_dropped place (before ∷ looks) ≡ dropped → no_share name ≡ share_of ways (before ∷ looks) look place name
+missed_share told ways before looks look place name t missed fine kept true dropped =
+    sym (ap (λ test. if test then no_share name else share_by ways name (before ∷ looks) look (fate_at place look)) dropped)
+missed_share told ways before looks look place name t missed fine kept false dropped =
+    let last = last_of (entries_in ways name (before ∷ looks)) in
+    let opened = open_after ways.by_name name (snapshots (before ∷ looks)) in
+    let none : last ≡ gap = no_last last (sym (missed.unopened t) ∙ last_file ways name before looks) in
+    let entries : entries_at_look ways.by_name name opened look.snapshot ≡ gap ∷ [] = ap (λ by_name. entries_at_look by_name name opened look.snapshot) missed.way ∙ ap (λ file. entries_at_look false name file look.snapshot) (missed.unopened t) in
+    sym (later_share ways name before looks look place dropped fine kept
+    ∙ ap (λ those. share_from name those (entries_at_look ways.by_name name opened look.snapshot)) none ∙ ap (share_from name gap) entries)
+
+-- fates don't matter for what was seen
+same_entries : (ways : Ways) (name : List ℕ) (looks : List Look) (snapshot : Snapshot) (fates others : List Fate) → entries_in ways name (looks ++ record { snapshot = snapshot; fates = fates } ∷ []) ≡ entries_in ways name (looks ++ record { snapshot = snapshot; fates = others } ∷ [])
+same_entries ways name looks snapshot fates others =
+    ap (entries_of ways.by_name name) (map-append (λ (l : Look). l.snapshot) looks (record { snapshot = snapshot; fates = fates } ∷ []) ∙ sym (map-append (λ (l : Look). l.snapshot) looks (record { snapshot = snapshot; fates = others } ∷ [])))
+
+left_share : (told : Bool) (ways : Ways) (looks : List Look) (look : Look) (place : ℕ) (name : List ℕ) → told ≡ true → IsLeft told ways looks place name → fate_at place look ≡ sound → AreKept (entries_in ways name (looks ++ look ∷ [])) → no_share name ≡ share_of ways looks look place name
+left_share told ways [] look place name t left fine kept = absurd (false≢true (sym left.begun))
+left_share told ways (before ∷ looks) look place name t left fine kept = elim left.why [
+  | inl dropped ↦ sym (ap (λ test. if test then no_share name else share_by ways name (before ∷ looks) look (fate_at place look)) dropped)
+  | inr missed ↦ missed_share told ways before looks look place name t missed fine kept (is_dropped place (before ∷ looks)) refl
+]
+
+still_left : (told : Bool) (ways : Ways) (looks : List Look) (look : Look) (place : ℕ) (name : List ℕ) → IsLeft told ways looks place name → IsLeft told ways (looks ++ look ∷ []) place name
+still_left told ways [] look place name left = absurd (false≢true (sym left.begun))
+still_left told ways (before ∷ looks) look place name left = record {
+  begun = refl;
+  why = elim left.why [
+    | inl dropped ↦ inl (dropped_more place (before ∷ looks) look ∙ ap (λ those. those || not (is_sound (fate_at place look))) dropped)
+    | inr missed ↦ inr (record {
+      way = missed.way;
+      unopened = λ t. last_file ways name before (looks ++ look ∷ [])
+          ∙ (last_later ways name before looks look None (sym (missed.unopened t) ∙ last_file ways name before looks)).0
+          ∙ ap (λ by_name. open_after_look by_name name None look.snapshot) missed.way;
+    })
+  ];
+}
+
+left_at : (told : Bool) (ways : Ways) (looks : List Look) (place : ℕ) (name : List ℕ) (watched : Watched) (standing : Standing) → standing ≡ Left → Stands told ways looks place name watched standing → IsLeft told ways looks place name
+left_at told ways looks place name watched standing left stands = subst (λ those. Stands told ways looks place name watched those) left stands
+
+pub left_visited : (told_in told : Bool) (ways : Ways) (snapshot : Snapshot) (place : ℕ) (name : List ℕ) (printer : PrinterState) (slots : List Slot) (watched : Watched) (standing : Standing) (looks : List Look) → standing ≡ Left → Stands told_in ways looks place name watched standing → KeepsBytes told_in ways looks snapshot name
+    → Visited told_in told ways looks snapshot place name printer slots printer slots watched standing false
+left_visited told_in told ways snapshot place name printer slots watched standing looks is stands keeps =
+    let left = left_at told_in ways looks place name watched standing is stands in
+    record {
+      fate = sound;
+      share = no_share name;
+      is_share = λ t fates at. left_share told_in ways looks (record { snapshot = snapshot; fates = fates }) place name t left at (subst AreKept (same_entries ways name looks snapshot [] fates) (keeps t));
+      is_failed = refl;
+      shared = empty_shared told printer printer name slots slots refl refl;
+      stands = λ fates at. subst (λ those. Stands told_in ways (looks ++ record { snapshot = snapshot; fates = fates } ∷ []) place name watched those) (sym is) (still_left told_in ways looks (record { snapshot = snapshot; fates = fates }) place name left);
+    }

@@ -64,6 +64,12 @@ IsThere told led (Through len) = told ≡ true → is_some led ≡ true
 IsThere told led Missing = Unit {0}
 IsThere told led Dropped = Unit {0}
 
+-- a later look doesn't find a name missing: it tells that it became so
+abbrev pub IsLater : Came → Type 0
+IsLater (Through len) = Unit {0}
+IsLater Missing = ⊥
+IsLater Dropped = Unit {0}
+
 -- A name stands so before a later look: this file of it is open, and this much of that was seen. A file that is appended to keeps its
 -- bytes.
 pub record IsReady (ways : Ways) (looks : List Look) (snapshot : Snapshot) (name : List ℕ) (opened : Option ℕ) (position : ℕ) : Type 0 where

@@ -16,6 +16,7 @@ mod revisit;
 #[cfg(test)]
 mod row_tests;
 mod start;
+mod visiting;
 
 pub use laws::{looks_agree, one_look_more, text_goes_on};
 pub use notice::{Notice, notice_line};

@@ -1,10 +1,10 @@
 //! A later look at a name, and what is told where that fails.
-ghost use Rattle.std.specs.Prelude.{◌≡◌, ◌<◌, ◌∷◌, ℕ, List, true, length, IsTrue, IfOk, IfErr, OnOk};
+ghost use Rattle.std.specs.Prelude.{◌≡◌, ◌<◌, ◌∷◌, ℕ, List, false, true, length, IsTrue, IfOk, IfErr, OnOk};
 ghost use Rattle.watch_core.specs.Snapshot.{latest};
 ghost use Rattle.watch_core.specs.Watched.{is_watchable, watched_at};
 ghost use Rattle.follow_core.specs.Catching.{CanPrint};
 ghost use Rattle.follow_core.specs.Look.{Look, Ways};
-ghost use Rattle.follow_core.specs.Looked.{IsReady, Leaves, Looked, Stopped};
+ghost use Rattle.follow_core.specs.Looked.{IsLater, IsReady, Leaves, Looked, Stopped};
 ghost use Rattle.follow_core.specs.Version.{open_after_look};
 
 use crate::again::look_again;
@@ -42,6 +42,8 @@ pub(crate) fn revisit<W: Watch, O: Outs>(
         → Stopped W.told O.told ways (before ∷ looks) (latest (W.seen watch.old)) name.now printer.old (O.slots outs.old) (O.slots outs.new) why) }
     ensures leaves { IfOk result (λ came. (ways : Ways) (before : Look) (looks : List Look) → ways.by_name ≡ by_name → (W.told ≡ true → IsReady ways (before ∷ looks) (latest (W.seen watch.old)) name.now (watched_at (W.watched watch.old) place).opened position)
         → Leaves W.told (latest (W.seen watch.old)) (open_after_look by_name name.now (watched_at (W.watched watch.old) place).opened (latest (W.seen watch.old))) place (W.watched watch.old) (W.watched watch.new) came) }
+    ensures keeps { IfOk result (Leaves false (latest (W.seen watch.old)) ((latest (W.seen watch.old)).leads name.now) place (W.watched watch.old) (W.watched watch.new)) }
+    ensures later { IfOk result IsLater }
     ensures can { OnOk result (CanPrint (O.slots outs.new)) }
     ensures seen { W.seen watch.new ≡ W.seen watch.old }
     ensures shows { W.shows watch.new ≡ W.shows watch.old }
