@@ -13,7 +13,7 @@ use Rattle.follow_core.specs.Copying.{PutOut}
 use Rattle.follow_core.specs.Giving.{IsFront, Gives, Halts, Ends, whole, broke, over}
 use Rattle.follow_core.proofs.PrintLemmas.{under_append, last_append, under_nil, last_nil, short_after}
 
-adds-nil : (told : Bool) (slot : Slot) → adds (told_of told []) slot ≡ slot
+pub adds-nil : (told : Bool) (slot : Slot) → adds (told_of told []) slot ≡ slot
 adds-nil told slot = ap (λ bytes. record slot { written = slot.written ++ bytes }) (told_of-nil told) ∙ ap (λ written. record slot { written = written }) (append-nil slot.written)
 
 pub adds_both : (told : Bool) (first second : List ℕ) (slot : Slot) → adds (told_of told second) (adds (told_of told first) slot) ≡ adds (told_of told (first ++ second)) slot

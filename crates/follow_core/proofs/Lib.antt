@@ -13,6 +13,7 @@ pub mod ReadLemmas
 pub mod StartLemmas
 pub mod EntryLemmas
 pub mod VisitLemmas
+pub mod VisitAllLemmas
 pub mod FirstLemmas
 pub mod FirstShareLemmas
 pub mod MeetLemmas

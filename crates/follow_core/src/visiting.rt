@@ -47,7 +47,7 @@ pub(crate) fn visit_all<W: Watch, O: Outs>(
     let mut place = 0;
     while place < names.len() {
         match names[place].visit(alloc, by_name, start, watch, place, printer, buffer, outs) {
-            Ok(failed) => has_failed = has_failed || failed,
+            Ok(failed) => has_failed |= failed,
             Err(fault) => return Err(fault),
         }
         place += 1;

@@ -1,0 +1,259 @@
+-- A look at one name after another.
+use Rattle.std.proofs.Common.{◌≡◌, ℕ, zero, suc, ◌<◌, ◌≤◌, ◌+◌, Bool, true, false, ◌||◌, List, [], ◌∷◌, ◌++◌, length, map, take, set, get_or, Option, slice_index_or, refl, sym, ◌∙◌, ap, subst, arith, append_assoc, inl, inr, ◌⊎◌, if◌then◌else◌}
+use Rattle.std.proofs.lemmas.List.{append-nil, get_or-map, get_or-set_other, get_or-set_same, length-append, length-map, length-set, length-take-le, take_all, get_or_past}
+use Rattle.std.proofs.Math.Seq.{get_or-append_seam, map-set_same, take-suc}
+use Rattle.ports_core.specs.Slot.{Slot, adds, told_of}
+use Rattle.ports_core.specs.Message.{SaysAll}
+use Rattle.ports_core.proofs.MessageLemmas.{says_behind}
+use Rattle.ports_core.specs.declared.tool.Tool.TheVariants.{Tail}
+use Rattle.ports_core.specs.declared.fault.Fault.{Fault}
+use Rattle.watch_core.specs.Snapshot.{Snapshot}
+use Rattle.watch_core.specs.Watched.{Watched, watched_at}
+use Rattle.follow_core.specs.Followed.{any_failed, header_after, last_header_from, messages_of, share_text, text_from}
+use Rattle.follow_core.specs.Look.{Fate, Look, Ways, fate_at, is_dropped, sound}
+use Rattle.follow_core.specs.Looked.{BeginsShare, Stopped}
+use Rattle.follow_core.specs.Printing.{PrinterState, Short}
+use Rattle.follow_core.specs.Share.{Share, share_by, share_of, no_share, shares_at_look, shares_at_look_from}
+use Rattle.follow_core.specs.Sharing.{AllShared, AllShort, Shared, SharedShort, Wrote, WroteShort}
+use Rattle.follow_core.specs.Standing.{AllKeep, AllStand, CanVisit, KeepsBytes, NameState, Stands, no_state, state_at, texts}
+use Rattle.follow_core.specs.Visited.{KeepsOthers, StoppedAt, Visited, VisitedAll, VisitedUpTo}
+use Rattle.follow_core.proofs.GiveLemmas.{adds_both, adds-nil}
+use Rattle.follow_core.proofs.PrintLemmas.{short_after}
+use Rattle.follow_core.proofs.ShareLemmas.{failed-append, last-append, messages-append, text-append}
+
+pub wrote_both : (told : Bool) (text more : List ℕ) (lines further : List (List ℕ)) (old mid new : List Slot) → Wrote told text lines old mid → Wrote told more further mid new → Wrote told (text ++ more) (lines ++ further) old new
+wrote_both told text more lines further old mid new first second = λ output error others is. both output error others (first output error others is) where
+  both : (output error : Slot) (others : List Slot) → (mid_error : Slot) × SaysAll told Tail lines error mid_error × (mid ≡ adds (told_of told text) output ∷ mid_error ∷ others)
+      → (last : Slot) × SaysAll told Tail (lines ++ further) error last × (new ≡ adds (told_of told (text ++ more)) output ∷ last ∷ others)
+  both output error others (mid_error, said, are) = joined (second _ mid_error others are) where
+    joined : (last : Slot) × SaysAll told Tail further mid_error last × (new ≡ adds (told_of told more) (adds (told_of told text) output) ∷ last ∷ others)
+        → (last : Slot) × SaysAll told Tail (lines ++ further) error last × (new ≡ adds (told_of told (text ++ more)) output ∷ last ∷ others)
+    joined (last, said_more, is) = (last, says_behind told Tail lines further error mid_error last said said_more, is ∙ ap (λ slot. slot ∷ last ∷ others) (adds_both told text more output))
+
+pub wrote_short : (told : Bool) (text more : List ℕ) (lines further : List (List ℕ)) (old mid new : List Slot) (why : Fault) → Wrote told text lines old mid → WroteShort told more further mid new why → WroteShort told (text ++ more) (lines ++ further) old new why
+wrote_short told text more lines further old mid new why first second = λ output error others is. both output error others (first output error others is) where
+  both : (output error : Slot) (others : List Slot) → (mid_error : Slot) × SaysAll told Tail lines error mid_error × (mid ≡ adds (told_of told text) output ∷ mid_error ∷ others)
+      → (last : Slot) × SaysAll told Tail (lines ++ further) error last × Short told (text ++ more) (output ∷ last ∷ others) new why
+  both output error others (mid_error, said, are) = joined (second _ mid_error others are) where
+    joined : (last : Slot) × SaysAll told Tail further mid_error last × Short told more (adds (told_of told text) output ∷ last ∷ others) new why
+        → (last : Slot) × SaysAll told Tail (lines ++ further) error last × Short told (text ++ more) (output ∷ last ∷ others) new why
+    joined (last, said_more, short) = (last, says_behind told Tail lines further error mid_error last said said_more, short_after told text more (output ∷ last ∷ others) _ new why refl short)
+
+wrote_as : (told : Bool) (text other : List ℕ) (lines those : List (List ℕ)) (old new : List Slot) → text ≡ other → lines ≡ those → Wrote told text lines old new → Wrote told other those old new
+wrote_as told text other lines those old new same also wrote = subst (λ t. Wrote told t those old new) same (subst (λ l. Wrote told text l old new) also wrote)
+
+short_as : (told : Bool) (text other : List ℕ) (lines those : List (List ℕ)) (old new : List Slot) (why : Fault) → text ≡ other → lines ≡ those → WroteShort told text lines old new why → WroteShort told other those old new why
+short_as told text other lines those old new why same also wrote = subst (λ t. WroteShort told t those old new why) same (subst (λ l. WroteShort told text l old new why) also wrote)
+
+pub nothing_shared : (told : Bool) (printer : PrinterState) (slots : List Slot) → AllShared told printer [] slots printer slots
+nothing_shared told printer slots = record {
+  printer_is = refl;
+  slots = λ output error others is. (error, refl, is ∙ ap (λ slot. slot ∷ error ∷ others) (sym (adds-nil told output)));
+}
+
+-- the text and the lines of one share more
+text_one : (printer mid : PrinterState) (shares : List Share) (share : Share) → mid ≡ record printer { last = last_header_from printer.headers printer.last shares }
+    → text_from printer.headers printer.last shares ++ share_text mid.headers mid.last share ≡ text_from printer.headers printer.last (shares ++ share ∷ [])
+text_one printer mid shares share is =
+    ap (λ (p : PrinterState). text_from printer.headers printer.last shares ++ share_text p.headers p.last share) is
+    ∙ ap (λ rest. text_from printer.headers printer.last shares ++ rest) (sym (append-nil _))
+    ∙ sym (text-append printer.headers printer.last shares (share ∷ []))
+
+lines_one : (shares : List Share) (share : Share) → messages_of shares ++ share.messages ≡ messages_of (shares ++ share ∷ [])
+lines_one shares share = ap (λ rest. messages_of shares ++ rest) (sym (append-nil share.messages)) ∙ sym (messages-append shares (share ∷ []))
+
+pub shared_more : (told : Bool) (printer mid after : PrinterState) (shares : List Share) (share : Share) (old now new : List Slot) → AllShared told printer shares old mid now → Shared told mid share now after new → AllShared told printer (shares ++ share ∷ []) old after new
+shared_more told printer mid after shares share old now new all one = record {
+  printer_is = one.printer_is ∙ ap (λ (p : PrinterState). record p { last = header_after p.headers p.last share }) all.printer_is
+      ∙ ap (λ last. record printer { last = last }) (sym (last-append printer.headers printer.last shares (share ∷ [])));
+  slots = wrote_as told (text_from printer.headers printer.last shares ++ share_text mid.headers mid.last share) (text_from printer.headers printer.last (shares ++ share ∷ [])) (messages_of shares ++ share.messages) (messages_of (shares ++ share ∷ [])) old new
+      (text_one printer mid shares share all.printer_is) (lines_one shares share) (wrote_both told _ _ _ _ old now new all.slots one.slots);
+}
+
+pub shared_short : (told : Bool) (printer mid : PrinterState) (shares : List Share) (share : Share) (old now new : List Slot) (why : Fault) → AllShared told printer shares old mid now → SharedShort told mid share now new why → AllShort told printer (shares ++ share ∷ []) old new why
+shared_short told printer mid shares share old now new why all one = record {
+  slots = short_as told (text_from printer.headers printer.last shares ++ share_text mid.headers mid.last share) (text_from printer.headers printer.last (shares ++ share ∷ [])) (messages_of shares ++ share.messages) (messages_of (shares ++ share ∷ [])) old new why
+      (text_one printer mid shares share all.printer_is) (lines_one shares share) (wrote_short told _ _ _ _ old now new why all.slots one.slots);
+}
+
+-- names that were not looked at yet
+
+pub visited_none : (told_in told : Bool) (ways : Ways) (looks : List Look) (snapshot : Snapshot) (names : List NameState) (printer : PrinterState) (slots : List Slot) (watched : List Watched) → AllStand told_in ways looks names watched
+    → VisitedUpTo told_in told ways looks snapshot 0 names printer slots printer slots watched names false
+visited_none told_in told ways looks snapshot names printer slots watched stand = record {
+  fates = [];
+  shares = [];
+  count = refl;
+  are = λ t later. refl;
+  is_failed = refl;
+  shared = nothing_shared told printer slots;
+  same = refl;
+  done = λ later other below. absurd (omega arith);
+  rest = λ other above within. stand other within;
+}
+
+-- one name more
+
+shares_one : (ways : Ways) (looks : List Look) (look : Look) (from : ℕ) (names : List (List ℕ)) (name : List ℕ) → shares_at_look_from ways looks look from (names ++ name ∷ []) ≡ shares_at_look_from ways looks look from names ++ share_of ways looks look (from + length names) name ∷ []
+shares_one ways looks look from [] name = ap (λ place. share_of ways looks look place name ∷ []) (omega arith)
+shares_one ways looks look from (first ∷ names) name =
+    ap (λ rest. share_of ways looks look from first ∷ rest) (shares_one ways looks look (from + 1) names name
+    ∙ ap (λ place. shares_at_look_from ways looks look (from + 1) names ++ share_of ways looks look place name ∷ []) (omega arith))
+
+fate_there : (snapshot : Snapshot) (fates : List Fate) (fate : Fate) (later : List Fate) (place : ℕ) → length fates ≡ place → fate_at place (record { snapshot = snapshot; fates = fates ++ fate ∷ later }) ≡ fate
+fate_there snapshot fates fate later place count = ap (λ n. slice_index_or (fates ++ fate ∷ later) n sound) (sym count) ∙ get_or-append_seam fates fate later sound
+
+text_there : (names now : List NameState) (place : ℕ) → texts now ≡ texts names → place < length now → get_or (texts names) place [] ≡ (state_at now place).text
+text_there names now place same within = ap (λ those. get_or those place []) (sym same) ∙ get_or-map (λ (n : NameState). n.text) now place no_state [] within
+
+stands_same : (told : Bool) (ways : Ways) (looks : List Look) (place : ℕ) (name other : NameState) (watched those : Watched) → name ≡ other → watched ≡ those → Stands told ways looks place name.text watched name.standing → Stands told ways looks place other.text those other.standing
+stands_same told ways looks place name other watched those is same stands =
+    subst (λ (n : NameState). Stands told ways looks place n.text those n.standing) is (subst (λ w. Stands told ways looks place name.text w name.standing) same stands)
+
+pub state_there : (names : List NameState) (place : ℕ) (default : NameState) → place < length names → get_or names place default ≡ state_at names place
+state_there [] place default within = absurd (omega arith)
+state_there (first ∷ names) zero default within = refl
+state_there (first ∷ names) (suc place) default within = state_there names place default (omega arith)
+
+pub texts_set : (names : List NameState) (place : ℕ) (default one : NameState) → place < length names → one.text ≡ (get_or names place default).text → texts (set names place one) ≡ texts names
+texts_set names place default one within same = map-set_same (λ (n : NameState). n.text) names place one default same
+
+length_texts : (names now : List NameState) → texts now ≡ texts names → length (texts names) ≡ length now
+length_texts names now same = ap length (sym same) ∙ length-map now (λ (n : NameState). n.text)
+
+-- the shares of the names before a place, and of the one at it
+shares_next : (ways : Ways) (looks : List Look) (look : Look) (names now : List NameState) (place : ℕ) → texts now ≡ texts names → place < length now
+    → shares_at_look_from ways looks look 0 (take place (texts names)) ++ share_of ways looks look place (state_at now place).text ∷ [] ≡ shares_at_look_from ways looks look 0 (take (suc place) (texts names))
+shares_next ways looks look names now place same within =
+    let count : length (take place (texts names)) ≡ place = length-take-le place (texts names) (subst (λ n. place ≤ n) (sym (length_texts names now same)) (omega arith)) in
+    let below : place < length (texts names) = subst (λ n. place < n) (sym (length_texts names now same)) within in
+    ap (λ name. shares_at_look_from ways looks look 0 (take place (texts names)) ++ share_of ways looks look place name ∷ []) (sym (text_there names now place same within))
+    ∙ ap (λ n. shares_at_look_from ways looks look 0 (take place (texts names)) ++ share_of ways looks look n (get_or (texts names) place []) ∷ []) (sym count ∙ omega arith)
+    ∙ sym (shares_one ways looks look 0 (take place (texts names)) (get_or (texts names) place []))
+    ∙ ap (shares_at_look_from ways looks look 0) (sym (take-suc (texts names) place [] below))
+
+failed_one : (shares : List Share) (share : Share) (before failed : Bool) → any_failed shares ≡ before → share.has_failed ≡ failed → any_failed (shares ++ share ∷ []) ≡ (before || failed)
+failed_one shares share before failed is one = failed-append shares (share ∷ []) ∙ ap (λ first. first || (share.has_failed || false)) is ∙ ap (λ last. before || (last || false)) one ∙ ap (λ last. before || last) (none failed) where
+  none : (a : Bool) → (a || false) ≡ a
+  none true = refl
+  none false = refl
+
+equal_or_not : (a b : ℕ) → (a ≡ b) ⊎ (a ≡ b → ⊥)
+equal_or_not zero zero = inl refl
+equal_or_not zero (suc b) = inr (λ same. omega arith)
+equal_or_not (suc a) zero = inr (λ same. omega arith)
+equal_or_not (suc a) (suc b) = elim (equal_or_not a b) [
+  | inl same ↦ inl (ap suc same)
+  | inr differ ↦ inr (λ same. differ (omega arith))
+]
+
+pub visited_more : (told_in told : Bool) (ways : Ways) (looks : List Look) (snapshot snapshot_now : Snapshot) (names now : List NameState) (default one : NameState) (place : ℕ) (printer mid after : PrinterState) (old slots new : List Slot) (watched watched_new : List Watched) (before failed : Bool)
+    → place < length now → one.text ≡ (get_or now place default).text → KeepsOthers place watched watched_new → snapshot_now ≡ snapshot → AllKeep told_in ways looks snapshot (texts names)
+    → VisitedUpTo told_in told ways looks snapshot place names printer old mid slots watched now before
+    → (Stands told_in ways looks place (get_or now place default).text (watched_at watched place) (get_or now place default).standing → KeepsBytes told_in ways looks snapshot_now (get_or now place default).text → Visited told_in told ways looks snapshot_now place (get_or now place default).text mid slots after new (watched_at watched_new place) one.standing failed)
+    → (next : ℕ) → suc place ≡ next → VisitedUpTo told_in told ways looks snapshot next names printer old after new watched_new (set now place one) (before || failed)
+visited_more told_in told ways looks snapshot snapshot_now names now default one place printer mid after old slots new watched watched_new before failed within same keeps seen keep sofar visit next is = subst (λ n. VisitedUpTo told_in told ways looks snapshot n names printer old after new watched_new (set now place one) (before || failed)) is (record {
+  fates = sofar.fates ++ visited.fate ∷ [];
+  shares = sofar.shares ++ visited.share ∷ [];
+  count = length-append sofar.fates (visited.fate ∷ []) ∙ ap (λ n. n + 1) sofar.count ∙ omega arith;
+  are = λ t later. subst (λ those. sofar.shares ++ visited.share ∷ [] ≡ shares_at_look_from ways looks (record { snapshot = snapshot; fates = those }) 0 (take (suc place) (texts names))) (sym (append_assoc sofar.fates (visited.fate ∷ []) later)) (both t later);
+  is_failed = failed_one sofar.shares visited.share before failed sofar.is_failed visited.is_failed;
+  shared = shared_more told printer mid after sofar.shares visited.share old slots new sofar.shared visited.shared;
+  same = texts_set now place default one within same ∙ sofar.same;
+  done = λ later other below. subst (λ those. Stands told_in ways (looks ++ record { snapshot = snapshot; fates = those } ∷ []) other (state_at (set now place one) other).text (watched_at watched_new other) (state_at (set now place one) other).standing) (sym (append_assoc sofar.fates (visited.fate ∷ []) later)) (there later other below (equal_or_not other place));
+  rest = λ other above inside. stands_same told_in ways looks other (state_at now other) (state_at (set now place one) other) (watched_at watched other) (watched_at watched_new other) (sym (get_or-set_other now place other one no_state (differs other above))) (sym (keeps.others other (differs other above)))
+      (sofar.rest other (omega arith) (subst (λ n. other < n) (length-set now place one) inside));
+}) where
+  item : NameState
+  item = get_or now place default
+
+  found : item ≡ state_at now place
+  found = state_there now place default within
+
+  keeps_item : KeepsBytes told_in ways looks snapshot_now item.text
+  keeps_item = subst (λ (s : Snapshot). KeepsBytes told_in ways looks s item.text) (sym seen)
+      (subst (KeepsBytes told_in ways looks snapshot) (text_there names now place sofar.same within ∙ ap (λ (n : NameState). n.text) (sym found)) (keep place))
+
+  visited : Visited told_in told ways looks snapshot place item.text mid slots after new (watched_at watched_new place) one.standing failed
+  visited = subst (λ (s : Snapshot). Visited told_in told ways looks s place item.text mid slots after new (watched_at watched_new place) one.standing failed) seen
+      (visit (subst (λ (n : NameState). Stands told_in ways looks place n.text (watched_at watched place) n.standing) (sym found) (sofar.rest place (omega arith) within)) keeps_item)
+
+  both : told_in ≡ true → (later : List Fate) → sofar.shares ++ visited.share ∷ [] ≡ shares_at_look_from ways looks (record { snapshot = snapshot; fates = sofar.fates ++ visited.fate ∷ later }) 0 (take (suc place) (texts names))
+  both t later =
+      let look : Look = record { snapshot = snapshot; fates = sofar.fates ++ visited.fate ∷ later } in
+      ap (λ front. front ++ visited.share ∷ []) (sofar.are t (visited.fate ∷ later))
+      ∙ ap (λ share. shares_at_look_from ways looks look 0 (take place (texts names)) ++ share ∷ []) (visited.is_share t (sofar.fates ++ visited.fate ∷ later) (fate_there snapshot sofar.fates visited.fate later place sofar.count))
+      ∙ ap (λ (n : NameState). shares_at_look_from ways looks look 0 (take place (texts names)) ++ share_of ways looks look place n.text ∷ []) found
+      ∙ shares_next ways looks look names now place sofar.same within
+
+  differs : (other : ℕ) → suc place ≤ other → other ≡ place → ⊥
+  differs other above at = omega arith
+
+  there : (later : List Fate) (other : ℕ) → other < suc place → (other ≡ place) ⊎ (other ≡ place → ⊥) → Stands told_in ways (looks ++ record { snapshot = snapshot; fates = sofar.fates ++ visited.fate ∷ later } ∷ []) other (state_at (set now place one) other).text (watched_at watched_new other) (state_at (set now place one) other).standing
+  there later other below (inr elsewhere) = stands_same told_in ways (looks ++ record { snapshot = snapshot; fates = sofar.fates ++ visited.fate ∷ later } ∷ []) other (state_at now other) (state_at (set now place one) other) (watched_at watched other) (watched_at watched_new other) (sym (get_or-set_other now place other one no_state elsewhere)) (sym (keeps.others other elsewhere))
+      (sofar.done (visited.fate ∷ later) other (omega arith))
+  there later other below (inl at) = subst (λ n. Stands told_in ways (looks ++ record { snapshot = snapshot; fates = sofar.fates ++ visited.fate ∷ later } ∷ []) n (state_at (set now place one) n).text (watched_at watched_new n) (state_at (set now place one) n).standing) (sym at)
+      (subst (λ (n : NameState). Stands told_in ways (looks ++ record { snapshot = snapshot; fates = sofar.fates ++ visited.fate ∷ later } ∷ []) place n.text (watched_at watched_new place) n.standing) (sym (get_or-set_same now place one no_state within))
+      (subst (λ name. Stands told_in ways (looks ++ record { snapshot = snapshot; fates = sofar.fates ++ visited.fate ∷ later } ∷ []) place name (watched_at watched_new place) one.standing) (sym same)
+      (visited.stands (sofar.fates ++ visited.fate ∷ later) (fate_there snapshot sofar.fates visited.fate later place sofar.count))))
+
+-- all names
+
+pub visited_all : (told_in told : Bool) (ways : Ways) (looks : List Look) (snapshot : Snapshot) (names now : List NameState) (place : ℕ) (printer after : PrinterState) (old new : List Slot) (watched : List Watched) (failed : Bool) → place ≡ length now
+    → VisitedUpTo told_in told ways looks snapshot place names printer old after new watched now failed → VisitedAll told_in told ways looks snapshot names printer old after new watched now failed
+visited_all told_in told ways looks snapshot names now place printer after old new watched failed end sofar = record {
+  fates = sofar.fates;
+  shares = sofar.shares;
+  are = λ t. sofar.are t [] ∙ ap (λ those. shares_at_look_from ways looks (record { snapshot = snapshot; fates = those }) 0 (take place (texts names))) (append-nil sofar.fates)
+      ∙ ap (shares_at_look_from ways looks (record { snapshot = snapshot; fates = sofar.fates }) 0) (take_all place (texts names) (subst (λ n. n ≤ place) (sym (length_texts names now sofar.same)) (omega arith)));
+  is_failed = sofar.is_failed;
+  shared = sofar.shared;
+  same = sofar.same;
+  stand = λ other within. subst (λ those. Stands told_in ways (looks ++ record { snapshot = snapshot; fates = those } ∷ []) other (state_at now other).text (watched_at watched other) (state_at now other).standing) (append-nil sofar.fates) (sofar.done [] other (omega arith));
+}
+
+-- a look that was stopped at a name
+pub visited_short : (told_in told : Bool) (ways : Ways) (looks : List Look) (snapshot snapshot_now : Snapshot) (names now : List NameState) (default : NameState) (place : ℕ) (printer mid : PrinterState) (old slots new : List Slot) (watched : List Watched) (before : Bool) (why : Fault)
+    → place < length now → snapshot_now ≡ snapshot → AllKeep told_in ways looks snapshot (texts names)
+    → VisitedUpTo told_in told ways looks snapshot place names printer old mid slots watched now before
+    → (Stands told_in ways looks place (get_or now place default).text (watched_at watched place) (get_or now place default).standing → KeepsBytes told_in ways looks snapshot_now (get_or now place default).text → (is_dropped place looks ≡ false) × Stopped told_in told ways looks snapshot_now (get_or now place default).text mid slots new why)
+    → StoppedAt told_in told ways looks snapshot (texts names) printer old new why
+visited_short told_in told ways looks snapshot snapshot_now names now default place printer mid old slots new watched before why within seen keep sofar stop = record {
+  fates = sofar.fates;
+  place = place;
+  shares = sofar.shares;
+  share = stopped.1.share;
+  within = subst (λ n. place < n) (sym (length_texts names now sofar.same)) within;
+  are = λ t. sofar.are t [] ∙ ap (λ those. shares_at_look_from ways looks (record { snapshot = snapshot; fates = those }) 0 (take place (texts names))) (append-nil sofar.fates);
+  begins = λ t. subst (BeginsShare stopped.1.share) (share_is t) (stopped.1.begins t sofar.fates);
+  short = shared_short told printer mid sofar.shares stopped.1.share old slots new why sofar.shared stopped.1.short;
+} where
+  item : NameState
+  item = get_or now place default
+
+  found : item ≡ state_at now place
+  found = state_there now place default within
+
+  keeps_item : KeepsBytes told_in ways looks snapshot_now item.text
+  keeps_item = subst (λ (s : Snapshot). KeepsBytes told_in ways looks s item.text) (sym seen)
+      (subst (KeepsBytes told_in ways looks snapshot) (text_there names now place sofar.same within ∙ ap (λ (n : NameState). n.text) (sym found)) (keep place))
+
+  stopped : (is_dropped place looks ≡ false) × Stopped told_in told ways looks snapshot item.text mid slots new why
+  stopped = subst (λ (s : Snapshot). (is_dropped place looks ≡ false) × Stopped told_in told ways looks s item.text mid slots new why) seen
+      (stop (subst (λ (n : NameState). Stands told_in ways looks place n.text (watched_at watched place) n.standing) (sym found) (sofar.rest place (omega arith) within)) keeps_item)
+
+  look : Look
+  look = record { snapshot = snapshot; fates = sofar.fates }
+
+  share_is : told_in ≡ true → share_by ways item.text looks look sound ≡ share_of ways looks look place (get_or (texts names) place [])
+  share_is t =
+      ap (share_by ways item.text looks look) (sym (get_or_past sofar.fates place sound (omega arith)))
+      ∙ ap (λ test. if test then no_share item.text else share_by ways item.text looks look (fate_at place look)) (sym stopped.0)
+      ∙ ap (share_of ways looks look place) (ap (λ (n : NameState). n.text) found ∙ sym (text_there names now place sofar.same within))
+
+pub next_ready : (names : List NameState) (one : NameState) (place : ℕ) (watched watched_new : List Watched) → place < length names → ((other : ℕ) → other < length names → CanVisit (state_at names other) (watched_at watched other)) → KeepsOthers place watched watched_new → CanVisit one (watched_at watched_new place)
+    → (other : ℕ) → other < length (set names place one) → CanVisit (state_at (set names place one) other) (watched_at watched_new other)
+next_ready names one place watched watched_new within ready keeps can other inside = by (equal_or_not other place) where
+  by : (other ≡ place) ⊎ (other ≡ place → ⊥) → CanVisit (state_at (set names place one) other) (watched_at watched_new other)
+  by (inl at) = subst (λ n. CanVisit (state_at (set names place one) n) (watched_at watched_new n)) (sym at) (subst (λ (n : NameState). CanVisit n (watched_at watched_new place)) (sym (get_or-set_same names place one no_state within)) can)
+  by (inr elsewhere) = subst (λ (n : NameState). CanVisit n (watched_at watched_new other)) (sym (get_or-set_other names place other one no_state elsewhere)) (subst (CanVisit (state_at names other)) (sym (keeps.others other elsewhere)) (ready other (subst (λ n. other < n) (length-set names place one) inside)))
