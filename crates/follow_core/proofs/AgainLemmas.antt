@@ -109,41 +109,39 @@ pub keeps_follows : (T U : Type 0) (told : Bool) (led : Option ℕ) (place : ℕ
 keeps_follows T U told led place old new (Broke why) keeps = ((watched_at old place).opened, keeps.1 ∙ ap (changed_at place breaks) (sym (opens_same old place)), inr keeps.0)
 keeps_follows T U told led place old new (Over why) keeps = tt
 
-pub ends_none : (told_in told : Bool) (printer : PrinterState) (name : List ℕ) (last : Entry) (opened : Option ℕ) (snapshot : Snapshot) (position : ℕ) (slots : List Slot) → opened ≡ None → StandsAt last opened position
+pub ends_none : (told_in told : Bool) (printer : PrinterState) (name : List ℕ) (last : Entry) (opened : Option ℕ) (snapshot : Snapshot) (position : ℕ) (slots : List Slot) → opened ≡ None → (told_in ≡ true → StandsAt last opened position)
     → Ends {T = ℕ} told_in told printer name (bytes_open last snapshot opened) (lines_open name last snapshot opened) slots printer slots (Ok position)
 ends_none told_in told printer name last opened snapshot position slots none stands =
-    let due = none_due name last opened snapshot position none stands in
-    due_as told_in told printer printer name [] (bytes_open last snapshot opened) [] (lines_open name last snapshot opened) slots slots (Ok position) (λ is. (due.0, due.1)) (nothing_due told_in told printer name slots position)
+    due_as told_in told printer printer name [] (bytes_open last snapshot opened) [] (lines_open name last snapshot opened) slots slots (Ok position) (λ is. let due = none_due name last opened snapshot position none (stands is) in (due.0, due.1)) (nothing_due told_in told printer name slots position)
 
-pub ends_some : (told_in told : Bool) (printer after : PrinterState) (name contents : List ℕ) (last : Entry) (opened : Option ℕ) (snapshot : Snapshot) (position id : ℕ) (old new : List Slot) (result : Result ℕ Stop) → opened ≡ Some id → contents ≡ held_at snapshot opened → StandsAt last opened position
+pub ends_some : (told_in told : Bool) (printer after : PrinterState) (name contents : List ℕ) (last : Entry) (opened : Option ℕ) (snapshot : Snapshot) (position id : ℕ) (old new : List Slot) (result : Result ℕ Stop) → opened ≡ Some id → contents ≡ held_at snapshot opened → (told_in ≡ true → StandsAt last opened position)
     → Ends {T = ℕ} told_in told printer name (bytes_past position contents) (lines_past name position (length contents)) old after new result
     → Ends {T = ℕ} told_in told printer name (bytes_open last snapshot opened) (lines_open name last snapshot opened) old after new result
 ends_some told_in told printer after name contents last opened snapshot position id old new result some are stands =
-    let due = dues_open name last opened snapshot position (ap is_some some) stands in
     due_as told_in told printer after name (bytes_past position contents) (bytes_open last snapshot opened) (lines_past name position (length contents)) (lines_open name last snapshot opened) old new result
-    (λ is. (ap (bytes_past position) are ∙ due.0, ap (λ those. lines_past name position (length those)) are ∙ due.1))
+    (λ is. let due = dues_open name last opened snapshot position (ap is_some some) (stands is) in (ap (bytes_past position) are ∙ due.0, ap (λ those. lines_past name position (length those)) are ∙ due.1))
 
 pub len_some : (told : Bool) (opened : Option ℕ) (position seen len : ℕ) (result : Result ℕ Stop) → seen ≡ len → IfOk result (λ n. told ≡ true → n ≡ seen) → IfOk result (λ n. told ≡ true → (last : Entry) → StandsAt last opened position → n ≡ len)
 len_some told opened position seen len (Ok n) same is = λ t last stands. is t ∙ same
 len_some told opened position seen len (Err stop) same is = tt
 
 -- what stops catching up stops the look
-pub stopped_again : (by_name told_in told : Bool) (printer after : PrinterState) (name : List ℕ) (last : Entry) (opened : Option ℕ) (snapshot : Snapshot) (position : ℕ) (old new : List Slot) (stop : Stop) → StandsAt last opened position
+pub stopped_again : (by_name told_in told : Bool) (printer after : PrinterState) (name : List ℕ) (last : Entry) (opened : Option ℕ) (snapshot : Snapshot) (position : ℕ) (old new : List Slot) (stop : Stop) → (told_in ≡ true → StandsAt last opened position)
     → Ends {T = ℕ} told_in told printer name (bytes_open last snapshot opened) (lines_open name last snapshot opened) old after new (Err stop)
     → Ends {T = ℕ} told_in told printer name (bytes_again by_name name last snapshot opened) (lines_again by_name name last snapshot opened) old after new (Err stop)
 stopped_again true told_in told printer after name last opened snapshot position old new stop stands ends =
-    due_as told_in told printer after name _ (bytes_again true name last snapshot opened) _ (lines_again true name last snapshot opened) old new (Err stop) (λ is. both_dues name last opened snapshot position stands)
+    due_as told_in told printer after name _ (bytes_again true name last snapshot opened) _ (lines_again true name last snapshot opened) old new (Err stop) (λ is. both_dues name last opened snapshot position (stands is))
     (stops_early told_in told printer after name (bytes_open last snapshot opened) (bytes_led snapshot opened (snapshot.leads name)) (lines_open name last snapshot opened) (lines_led name snapshot opened (snapshot.leads name)) old new stop ends)
 stopped_again false told_in told printer after name last opened snapshot position old new stop stands ends =
-    due_as told_in told printer after name _ (bytes_again false name last snapshot opened) _ (lines_again false name last snapshot opened) old new (Err stop) (λ is. open_dues name last opened snapshot position stands) ends
+    due_as told_in told printer after name _ (bytes_again false name last snapshot opened) _ (lines_again false name last snapshot opened) old new (Err stop) (λ is. open_dues name last opened snapshot position (stands is)) ends
 
 -- where names aren't followed it is the look
-pub caught_again : (by_name told_in told : Bool) (printer after : PrinterState) (name : List ℕ) (last : Entry) (opened : Option ℕ) (snapshot : Snapshot) (position : ℕ) (old new : List Slot) (result : Result ℕ Stop) → by_name ≡ false → StandsAt last opened position
+pub caught_again : (by_name told_in told : Bool) (printer after : PrinterState) (name : List ℕ) (last : Entry) (opened : Option ℕ) (snapshot : Snapshot) (position : ℕ) (old new : List Slot) (result : Result ℕ Stop) → by_name ≡ false → (told_in ≡ true → StandsAt last opened position)
     → Ends {T = ℕ} told_in told printer name (bytes_open last snapshot opened) (lines_open name last snapshot opened) old after new result
     → Ends {T = ℕ} told_in told printer name (bytes_again by_name name last snapshot opened) (lines_again by_name name last snapshot opened) old after new result
 caught_again by_name told_in told printer after name last opened snapshot position old new result is stands ends =
     subst (λ way. Ends {T = ℕ} told_in told printer name (bytes_again way name last snapshot opened) (lines_again way name last snapshot opened) old after new result) (sym is)
-    (due_as told_in told printer after name _ (bytes_again false name last snapshot opened) _ (lines_again false name last snapshot opened) old new result (λ t. open_dues name last opened snapshot position stands) ends)
+    (due_as told_in told printer after name _ (bytes_again false name last snapshot opened) _ (lines_again false name last snapshot opened) old new result (λ t. open_dues name last opened snapshot position (stands t)) ends)
 
 pub caught_follows : (by_name told : Bool) (name : List ℕ) (snapshot : Snapshot) (place len : ℕ) (old new : List Watched) → by_name ≡ false → new ≡ old → Follows {T = ℕ} told (open_after_look by_name name (watched_at old place).opened snapshot) place old new (Ok len)
 caught_follows by_name told name snapshot place len old new is same =
@@ -154,14 +152,14 @@ pub caught_len : (by_name told : Bool) (name : List ℕ) (snapshot : Snapshot) (
 caught_len by_name told name snapshot opened position len is long t last stands = long t last stands ∙ sym (ap (λ way. length (held_at snapshot (open_after_look way name opened snapshot))) is)
 
 -- and where they are, the look goes on to where the name leads
-pub led_again : (by_name told_in told : Bool) (printer mid after : PrinterState) (name : List ℕ) (last : Entry) (snapshot snapshot_mid : Snapshot) (place position len : ℕ) (watched watched_mid : List Watched) (old now new : List Slot) (result : Result ℕ Stop) → by_name ≡ true → snapshot_mid ≡ snapshot → watched_mid ≡ watched → StandsAt last (watched_at watched place).opened position
+pub led_again : (by_name told_in told : Bool) (printer mid after : PrinterState) (name : List ℕ) (last : Entry) (snapshot snapshot_mid : Snapshot) (place position len : ℕ) (watched watched_mid : List Watched) (old now new : List Slot) (result : Result ℕ Stop) → by_name ≡ true → snapshot_mid ≡ snapshot → watched_mid ≡ watched → (told_in ≡ true → StandsAt last (watched_at watched place).opened position)
     → Ends {T = ℕ} told_in told printer name (bytes_open last snapshot (watched_at watched place).opened) (lines_open name last snapshot (watched_at watched place).opened) old mid now (Ok len)
     → Ends {T = ℕ} told_in told mid name (bytes_led snapshot_mid (watched_at watched_mid place).opened (snapshot_mid.leads name)) (lines_led name snapshot_mid (watched_at watched_mid place).opened (snapshot_mid.leads name)) now after new result
     → Ends {T = ℕ} told_in told printer name (bytes_again by_name name last snapshot (watched_at watched place).opened) (lines_again by_name name last snapshot (watched_at watched place).opened) old after new result
 led_again by_name told_in told printer mid after name last snapshot snapshot_mid place position len watched watched_mid old now new result is seen same stands first second =
     let opened = (watched_at watched place).opened in
     subst (λ way. Ends {T = ℕ} told_in told printer name (bytes_again way name last snapshot opened) (lines_again way name last snapshot opened) old after new result) (sym is)
-    (due_as told_in told printer after name _ (bytes_again true name last snapshot opened) _ (lines_again true name last snapshot opened) old new result (λ t. both_dues name last opened snapshot position stands)
+    (due_as told_in told printer after name _ (bytes_again true name last snapshot opened) _ (lines_again true name last snapshot opened) old new result (λ t. both_dues name last opened snapshot position (stands t))
     (goes_after told_in told printer mid after name (bytes_open last snapshot opened) (bytes_led snapshot opened (snapshot.leads name)) (lines_open name last snapshot opened) (lines_led name snapshot opened (snapshot.leads name)) old now new len result first
     (subst (λ (those : Snapshot). Ends {T = ℕ} told_in told mid name (bytes_led those opened (those.leads name)) (lines_led name those opened (those.leads name)) now after new result) seen
     (subst (λ (those : List Watched). Ends {T = ℕ} told_in told mid name (bytes_led snapshot_mid (watched_at those place).opened (snapshot_mid.leads name)) (lines_led name snapshot_mid (watched_at those place).opened (snapshot_mid.leads name)) now after new result) same second))))

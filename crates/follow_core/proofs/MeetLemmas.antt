@@ -11,15 +11,15 @@ use Rattle.ports_core.specs.declared.fault.Fault.{Fault}
 use Rattle.ports_core.specs.declared.fault.Fault.TheVariants.{Open, Read}
 use Rattle.watch_core.specs.Snapshot.{Snapshot}
 use Rattle.follow_core.specs.declared.copying.Stop.{Stop}
-use Rattle.follow_core.specs.declared.copying.Stop.TheVariants.{Broke}
+use Rattle.follow_core.specs.declared.copying.Stop.TheVariants.{Broke, Over}
 use Rattle.follow_core.specs.declared.meeting.Came.TheVariants.{Through, Missing, Dropped}
 use Rattle.follow_core.specs.Followed.{header_after, share_text}
 use Rattle.follow_core.specs.Printing.{PrinterState}
-use Rattle.follow_core.specs.Look.{Ways, sound, unopened as not_opened, unread as not_read}
-use Rattle.follow_core.specs.Share.{Share, missing_share}
+use Rattle.follow_core.specs.Look.{Fate, Ways, sound, unopened as not_opened, unread as not_read}
+use Rattle.follow_core.specs.Share.{Share, missing_share, share_by}
 use Rattle.follow_core.specs.Sharing.{Shared}
-use Rattle.follow_core.specs.First.{LooksFirst, opened_share, nowhere, opened, unopened, unread}
-use Rattle.follow_core.specs.Looked.{Looked}
+use Rattle.follow_core.specs.First.{FrontOf, LooksFirst, StartOf, opened_share, nowhere, opened, over, unopened, unread}
+use Rattle.follow_core.specs.Looked.{BeginsShare, Looked, Stopped}
 use Rattle.follow_core.proofs.FirstShareLemmas.{share_missing, share_opened, share_unopened, share_unread}
 
 adds-nil : (told : Bool) (slot : Slot) → adds (told_of told []) slot ≡ slot
@@ -109,3 +109,26 @@ meets_none told_in told ways snapshot place name printer after old mid new found
 pub meets_failure : (told_in told : Bool) (ways : Ways) (snapshot : Snapshot) (place : ℕ) (name : List ℕ) (printer after : PrinterState) (old mid new : List Slot) (stop : Stop) (why : Fault) → stop ≡ Broke why → LooksFirst told_in told ways.start snapshot place name printer old after mid (Err stop)
     → SaysOn told Tail (message_of Tail why name) mid new → Looked told_in told ways [] snapshot name printer old after new Dropped
 meets_failure told_in told ways snapshot place name printer after old mid new stop why is looks = meets_broken told_in told ways snapshot place name printer after old mid new why (subst (λ those. LooksFirst told_in told ways.start snapshot place name printer old after mid (Err those)) is looks)
+
+-- what was given before the first look was stopped begins the name's share
+front_begins : (ways : Ways) (snapshot : Snapshot) (name bytes : List ℕ) (lines : List (List ℕ)) (fates : List Fate) → FrontOf ways.start snapshot name bytes lines → BeginsShare (opened_share name bytes lines) (share_by ways name [] (record { snapshot = snapshot; fates = fates }) sound)
+front_begins ways snapshot name bytes lines fates front =
+    let whole : StartOf ways.start snapshot name (ways.start (snapshot.holds front.file)) [] (length (snapshot.holds front.file)) = record { file = front.file; leads = front.leads; part = refl; long = refl; quiet = refl } in
+    subst (BeginsShare (opened_share name bytes lines)) (sym (share_opened ways name (ways.start (snapshot.holds front.file)) [] (record { snapshot = snapshot; fates = fates }) (length (snapshot.holds front.file)) whole)) (record {
+      name = refl;
+      opened = refl;
+      bytes = front.part;
+      messages = ([], sym (ap (λ those. those ++ []) front.quiet));
+    })
+
+meets_stop : (told_in told : Bool) (ways : Ways) (snapshot : Snapshot) (place : ℕ) (name : List ℕ) (printer after : PrinterState) (old new : List Slot) (why : Fault) → LooksFirst told_in told ways.start snapshot place name printer old after new (Err (Over why))
+    → Stopped told_in told ways [] snapshot name printer old new why
+meets_stop told_in told ways snapshot place name printer after old new _ (over why bytes lines are short) = record {
+  share = opened_share name bytes lines;
+  begins = λ is fates. front_begins ways snapshot name bytes lines fates (are is);
+  short = short;
+}
+
+pub meets_over : (told_in told : Bool) (ways : Ways) (snapshot : Snapshot) (place : ℕ) (name : List ℕ) (printer after : PrinterState) (old new : List Slot) (stop : Stop) (why : Fault) → stop ≡ Over why → LooksFirst told_in told ways.start snapshot place name printer old after new (Err stop)
+    → Stopped told_in told ways [] snapshot name printer old new why
+meets_over told_in told ways snapshot place name printer after old new stop why is looks = meets_stop told_in told ways snapshot place name printer after old new why (subst (λ those. LooksFirst told_in told ways.start snapshot place name printer old after new (Err those)) is looks)

@@ -38,7 +38,7 @@ pub(crate) fn look_again<W: Watch, O: Outs>(
     requires can { CanPrint (O.slots outs.old) }
     requires room { 0 < length buffer.old }
     ensures ends { let snapshot = latest (W.seen watch.old) in let opened = (watched_at (W.watched watch.old) place).opened in
-        (last : Entry) → StandsAt last opened position → Ends W.told O.told printer.old name.now (bytes_again by_name name.now last snapshot opened) (lines_again by_name name.now last snapshot opened) (O.slots outs.old) printer.new (O.slots outs.new) result }
+        (last : Entry) → (W.told ≡ true → StandsAt last opened position) → Ends W.told O.told printer.old name.now (bytes_again by_name name.now last snapshot opened) (lines_again by_name name.now last snapshot opened) (O.slots outs.old) printer.new (O.slots outs.new) result }
     ensures len { let snapshot = latest (W.seen watch.old) in let opened = (watched_at (W.watched watch.old) place).opened in
         IfOk result (λ len. W.told ≡ true → (last : Entry) → StandsAt last opened position → len ≡ length (held_at snapshot (open_after_look by_name name.now opened snapshot))) }
     ensures follows { Follows W.told (open_after_look by_name name.now (watched_at (W.watched watch.old) place).opened (latest (W.seen watch.old))) place (W.watched watch.old) (W.watched watch.new) result }
@@ -75,7 +75,7 @@ fn catch_up_open<W: Watch, O: Outs>(
     requires can { CanPrint (O.slots outs.old) }
     requires room { 0 < length buffer.old }
     ensures ends { let snapshot = latest (W.seen watch.old) in let opened = (watched_at (W.watched watch.old) place).opened in
-        (last : Entry) → StandsAt last opened position → Ends W.told O.told printer.old name.now (bytes_open last snapshot opened) (lines_open name.now last snapshot opened) (O.slots outs.old) printer.new (O.slots outs.new) result }
+        (last : Entry) → (W.told ≡ true → StandsAt last opened position) → Ends W.told O.told printer.old name.now (bytes_open last snapshot opened) (lines_open name.now last snapshot opened) (O.slots outs.old) printer.new (O.slots outs.new) result }
     ensures len { let snapshot = latest (W.seen watch.old) in let opened = (watched_at (W.watched watch.old) place).opened in
         IfOk result (λ len. W.told ≡ true → (last : Entry) → StandsAt last opened position → len ≡ length (held_at snapshot opened)) }
     ensures keeps { Keeps place (W.watched watch.old) (W.watched watch.new) result }
