@@ -1,12 +1,12 @@
 -- The last entry of a name: the file that is open, and how much of it was seen.
 use Rattle.std.proofs.Common.{◌≡◌, ℕ, ◌==◌, Bool, true, false, not, ◌||◌, List, [], ◌∷◌, ◌++◌, length, Option, Some, None, refl, sym, ◌∙◌, ap, subst, append_assoc, if◌then◌else◌}
 use Rattle.std.proofs.lemmas.Bool.{eqb-true}
-use Rattle.std.proofs.lemmas.List.{append-nil}
+use Rattle.std.proofs.lemmas.List.{append-nil, map-append}
 use Rattle.watch_core.specs.Snapshot.{Snapshot}
 use Rattle.follow_core.specs.Version.{Entry, gap, version_in, entries_at_look, entries_led, entries_later, entries_of, entries_open, open_after, open_after_later, open_after_look}
 use Rattle.follow_core.specs.Gain.{file_of, last_from, last_of, seen_length}
 use Rattle.follow_core.specs.Changing.{held_at}
-use Rattle.follow_core.specs.Look.{Look, Ways, entries_in, fate_at, is_dropped, is_sound, snapshots}
+use Rattle.follow_core.specs.Look.{Fate, Look, Ways, entries_in, fate_at, is_dropped, is_sound, snapshots}
 use Rattle.follow_core.proofs.LaterLemmas.{Some_entries, entries_more, open_step, some_at}
 
 last_from-append : (last : Entry) (entries more : List Entry) → last_from last (entries ++ more) ≡ last_from (last_from last entries) more
@@ -58,9 +58,9 @@ pub last_later : (ways : Ways) (name : List ℕ) (before : Look) (looks : List L
 last_later ways name before looks look opened is =
     let last = last_of (entries_in ways name (before ∷ looks)) in
     let more : last_of (entries_in ways name ((before ∷ looks) ++ look ∷ [])) ≡ last_from last (entries_at_look ways.by_name name opened look.snapshot) =
-        ap last_of (entries_more ways name before looks look)
-        ∙ last_more (entries_in ways name (before ∷ looks)) _ (some_at ways.by_name name before.snapshot (snapshots looks))
-        ∙ ap (λ those. last_from last (entries_at_look ways.by_name name those look.snapshot)) (last_file ways name before looks ∙ sym is) in
+    ap last_of (entries_more ways name before looks look)
+    ∙ last_more (entries_in ways name (before ∷ looks)) _ (some_at ways.by_name name before.snapshot (snapshots looks))
+    ∙ ap (λ those. last_from last (entries_at_look ways.by_name name those look.snapshot)) (last_file ways name before looks ∙ sym is) in
     (ap file_of more ∙ sym (open_step ways.by_name name opened look.snapshot last is), ap seen_length more ∙ seen_step ways.by_name name opened look.snapshot last)
 
 pub dropped_more : (place : ℕ) (looks : List Look) (look : Look) → is_dropped place (looks ++ look ∷ []) ≡ (is_dropped place looks || not (is_sound (fate_at place look)))
@@ -72,3 +72,8 @@ dropped_more place (first ∷ looks) look = ap (λ rest. not (is_sound (fate_at 
   by : (a b c : Bool) → (a || (b || c)) ≡ ((a || b) || c)
   by true b c = refl
   by false b c = refl
+
+-- fates don't matter for what was seen
+pub same_entries : (ways : Ways) (name : List ℕ) (looks : List Look) (snapshot : Snapshot) (fates others : List Fate) → entries_in ways name (looks ++ record { snapshot = snapshot; fates = fates } ∷ []) ≡ entries_in ways name (looks ++ record { snapshot = snapshot; fates = others } ∷ [])
+same_entries ways name looks snapshot fates others =
+    ap (entries_of ways.by_name name) (map-append (λ (l : Look). l.snapshot) looks (record { snapshot = snapshot; fates = fates } ∷ []) ∙ sym (map-append (λ (l : Look). l.snapshot) looks (record { snapshot = snapshot; fates = others } ∷ [])))

@@ -43,7 +43,7 @@ share_opened ways name bytes lines look len start =
     (ap (λ those. record { name = name; is_opened = true; bytes = those; messages = told_at_look ways name [] look; has_failed = false }) (gain_first ways name look start.file start.leads ∙ sym start.part)
     ∙ ap (λ those. record { name = name; is_opened = true; bytes = bytes; messages = those; has_failed = false }) (quiet_first ways name look (Some start.file) start.leads ∙ sym start.quiet))
 
-front_taken : (bytes whole : List ℕ) → IsFront bytes whole → take (length bytes) whole ≡ bytes
+pub front_taken : {X : Type 0} (bytes whole : List X) → IsFront bytes whole → take (length bytes) whole ≡ bytes
 front_taken bytes whole (rest, is) = ap (take (length bytes)) is ∙ take-append_seam bytes rest
 
 -- of one that could not be read a beginning, and the message

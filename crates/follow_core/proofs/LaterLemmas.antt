@@ -8,7 +8,7 @@ use Rattle.follow_core.specs.Run.{AreKept, name_text}
 use Rattle.follow_core.specs.Gain.{file_of, last_of, last_from, gains_later, gains_after}
 use Rattle.follow_core.specs.Notice.{notice_of, notices_of, notices_later, notices_between, is_missing}
 use Rattle.follow_core.specs.Look.{Ways, Look, sound, fate_at, is_dropped, snapshots, entries_in}
-use Rattle.follow_core.specs.Share.{share_of, gain, told_at_look}
+use Rattle.follow_core.specs.Share.{Share, share_of, gain, told_at_look}
 use Rattle.follow_core.proofs.RunLemmas.{gain_is}
 use Rattle.follow_core.proofs.ShareLemmas.{entries-append}
 
@@ -63,22 +63,28 @@ tells_later : (ways : Ways) (name : List ℕ) (looks : List Look) (look : Look) 
 tells_later ways name looks look more is some =
     ap (map (λ notice. notice_of notice name)) (ap (λ entries. drop (length (notices_of (entries_in ways name looks))) (notices_of entries)) is ∙ later_told (entries_in ways name looks) more some)
 
--- The share of a name at a later look, from the last that was seen of it and the file that is open.
+-- what a later look adds to a name's text and tells of it, from the last that was seen of it and the file that is open
+pub gain_more : (ways : Ways) (name : List ℕ) (before : Look) (looks : List Look) (look : Look) → AreKept (entries_in ways name ((before ∷ looks) ++ look ∷ []))
+    → gain ways name (before ∷ looks) look ≡ gains_later (last_of (entries_in ways name (before ∷ looks))) (entries_at_look ways.by_name name (open_after ways.by_name name (snapshots (before ∷ looks))) look.snapshot)
+gain_more ways name before looks look all = gain_later ways name (before ∷ looks) look _ (entries_more ways name before looks look) (some_at ways.by_name name before.snapshot (snapshots looks)) all
+
+pub told_more : (ways : Ways) (name : List ℕ) (before : Look) (looks : List Look) (look : Look)
+    → told_at_look ways name (before ∷ looks) look ≡ map (λ notice. notice_of notice name) (notices_later (last_of (entries_in ways name (before ∷ looks))) (entries_at_look ways.by_name name (open_after ways.by_name name (snapshots (before ∷ looks))) look.snapshot))
+told_more ways name before looks look = tells_later ways name (before ∷ looks) look _ (entries_more ways name before looks look) (some_at ways.by_name name before.snapshot (snapshots looks))
+
+-- a share of a later look
+abbrev pub again_share : List ℕ → List ℕ → List (List ℕ) → Share
+again_share name bytes lines = record { name = name; is_opened = false; bytes = bytes; messages = lines; has_failed = false }
+
 pub later_share : (ways : Ways) (name : List ℕ) (before : Look) (looks : List Look) (look : Look) (place : ℕ)
     → is_dropped place (before ∷ looks) ≡ false → fate_at place look ≡ sound
     → AreKept (entries_in ways name ((before ∷ looks) ++ look ∷ []))
-    → share_of ways (before ∷ looks) look place name ≡ record {
-      name = name;
-      is_opened = false;
-      bytes = gains_later (last_of (entries_in ways name (before ∷ looks))) (entries_at_look ways.by_name name (open_after ways.by_name name (snapshots (before ∷ looks))) look.snapshot);
-      messages = map (λ notice. notice_of notice name) (notices_later (last_of (entries_in ways name (before ∷ looks))) (entries_at_look ways.by_name name (open_after ways.by_name name (snapshots (before ∷ looks))) look.snapshot));
-      has_failed = false;
-    }
+    → share_of ways (before ∷ looks) look place name ≡ again_share name
+    (gains_later (last_of (entries_in ways name (before ∷ looks))) (entries_at_look ways.by_name name (open_after ways.by_name name (snapshots (before ∷ looks))) look.snapshot))
+    (map (λ notice. notice_of notice name) (notices_later (last_of (entries_in ways name (before ∷ looks))) (entries_at_look ways.by_name name (open_after ways.by_name name (snapshots (before ∷ looks))) look.snapshot)))
 later_share ways name before looks look place kept fine all = rw (kept, fine)
-    (ap (λ bytes. record { name = name; is_opened = false; bytes = bytes; messages = told_at_look ways name (before ∷ looks) look; has_failed = false })
-    (gain_later ways name (before ∷ looks) look _ (entries_more ways name before looks look) (some_at ways.by_name name before.snapshot (snapshots looks)) all)
-    ∙ ap (λ told. record { name = name; is_opened = false; bytes = gains_later (last_of (entries_in ways name (before ∷ looks))) (entries_at_look ways.by_name name (open_after ways.by_name name (snapshots (before ∷ looks))) look.snapshot); messages = told; has_failed = false })
-    (tells_later ways name (before ∷ looks) look _ (entries_more ways name before looks look) (some_at ways.by_name name before.snapshot (snapshots looks))))
+    (ap (λ bytes. again_share name bytes (told_at_look ways name (before ∷ looks) look)) (gain_more ways name before looks look all)
+    ∙ ap (again_share name _) (told_more ways name before looks look))
 
 pub open_step : (by_name : Bool) (name : List ℕ) (opened : Option ℕ) (snapshot : Snapshot) (last : Entry) → opened ≡ file_of last → open_after_look by_name name opened snapshot ≡ file_of (last_from last (entries_at_look by_name name opened snapshot))
 open_step true name opened snapshot last is = by opened (snapshot.leads name) where

@@ -17,3 +17,4 @@ pub mod VisitAllLemmas
 pub mod FirstLemmas
 pub mod FirstShareLemmas
 pub mod MeetLemmas
+pub mod RevisitLemmas

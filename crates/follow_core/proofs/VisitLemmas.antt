@@ -1,7 +1,6 @@
 -- A visit of one name.
 use Rattle.std.proofs.Common.{◌≡◌, ℕ, zero, suc, Bool, true, false, not, ◌||◌, IsTrue, List, [], ◌∷◌, ◌++◌, length, map, Option, Some, None, slice_index_or, refl, sym, ◌∙◌, ap, subst, inl, inr, if◌then◌else◌}
 use Rattle.std.proofs.lemmas.Bool.{false≢true}
-use Rattle.std.proofs.lemmas.List.{map-append}
 use Rattle.ports_core.specs.Slot.{Slot, changed_at}
 use Rattle.ports_core.specs.declared.fault.Fault.{Fault}
 use Rattle.ports_core.proofs.SlotLemmas.{changed_at-again, length-changed_at}
@@ -22,12 +21,12 @@ use Rattle.follow_core.specs.Looked.{IsLater, IsReady, IsThere, Leaves, Looked, 
 use Rattle.follow_core.specs.Printing.{PrinterState}
 use Rattle.follow_core.specs.Share.{Share, no_share, share_by, share_of}
 use Rattle.follow_core.specs.Standing.{CanVisit, IsFollowed, IsLeft, IsMissed, KeepsBytes, NameState, Stands, standing_after}
-use Rattle.follow_core.specs.Version.{Entry, version, gap, entries_at_look, entries_of, open_after, open_after_look}
+use Rattle.follow_core.specs.Version.{Entry, version, gap, entries_at_look, open_after, open_after_look}
 use Rattle.follow_core.specs.Visited.{KeepsOthers, Visited, ways_of}
 use Rattle.follow_core.proofs.ChangeLemmas.{opened_there}
-use Rattle.follow_core.proofs.LaterLemmas.{later_share}
+use Rattle.follow_core.proofs.LaterLemmas.{again_share, later_share}
 use Rattle.follow_core.proofs.MeetLemmas.{empty_shared}
-use Rattle.follow_core.proofs.EntryLemmas.{dropped_more, first_last, last_file, last_later}
+use Rattle.follow_core.proofs.EntryLemmas.{dropped_more, first_last, last_file, last_later, same_entries}
 
 changed_elsewhere : {X : Type 0} (default : X) (place other : ℕ) (change : X → X) (xs : List X) → (other ≡ place → ⊥) → slice_index_or (changed_at place change xs) other default ≡ slice_index_or xs other default
 changed_elsewhere default place other change [] differs = refl
@@ -173,11 +172,11 @@ later_stands told ways before looks snapshot place name position old new (Throug
       kept = dropped_more place (before ∷ looks) look ∙ ap (λ those. those || not (is_sound (fate_at place look))) followed.kept ∙ fate_sound place look fate true at through;
       begun = refl;
       stands = λ t.
-        let last = last_later ways name before looks look (watched_at old place).opened (followed.stands t).file in
-        record {
-          file = ap (λ (w : Watched). w.opened) now ∙ (are t).0 ∙ led ∙ sym last.0;
-          seen = (are t).1 ∙ ap (λ (s : Snapshot). length (held_at s (open_after_look ways.by_name name (watched_at old place).opened s))) (sym seen) ∙ sym last.1;
-        };
+          let last = last_later ways name before looks look (watched_at old place).opened (followed.stands t).file in
+          record {
+            file = ap (λ (w : Watched). w.opened) now ∙ (are t).0 ∙ led ∙ sym last.0;
+            seen = (are t).1 ∙ ap (λ (s : Snapshot). length (held_at s (open_after_look ways.by_name name (watched_at old place).opened s))) (sym seen) ∙ sym last.1;
+          };
       there = λ t way. ap (λ (w : Watched). is_some w.opened) now ∙ ap is_some (are t).0 ∙ ap (λ by_name. is_some (open_after_look by_name name (watched_at old place).opened snapshot)) way ∙ followed.there t way;
     }
 later_stands told ways before looks snapshot place name position old new Missing look fate seen followed leaves there through at = absurd there
@@ -200,11 +199,11 @@ pub later_visited : (told_in told by_name : Bool) (ways : Ways) (snapshot : Snap
 later_visited told_in told by_name ways snapshot place name text position printer after slots slots_new old new came [] same way followed keeps looked leaves later = absurd (false≢true (sym followed.begun))
 later_visited told_in told by_name ways snapshot place name text position printer after slots slots_new old new came (before ∷ looks) same way followed keeps looked leaves later =
     let ready : told_in ≡ true → IsReady ways (before ∷ looks) snapshot text (watched_at old place).opened position = λ t.
-        subst (λ those. IsReady ways (before ∷ looks) snapshot those (watched_at old place).opened position) (sym same) (record { stands = followed.stands t; kept = keeps t }) in
+    subst (λ those. IsReady ways (before ∷ looks) snapshot those (watched_at old place).opened position) (sym same) (record { stands = followed.stands t; kept = keeps t }) in
     let one : Looked told_in told ways (before ∷ looks) snapshot name printer slots after slots_new came = subst (λ those. Looked told_in told ways (before ∷ looks) snapshot those printer slots after slots_new came) same (looked ways before looks way ready) in
     let left : Leaves told_in snapshot (open_after_look ways.by_name name (watched_at old place).opened snapshot) place old new came =
-        subst (λ those. Leaves told_in snapshot (open_after_look those name (watched_at old place).opened snapshot) place old new came) (sym way)
-        (subst (λ those. Leaves told_in snapshot (open_after_look by_name those (watched_at old place).opened snapshot) place old new came) same (leaves ways before looks way ready)) in
+    subst (λ those. Leaves told_in snapshot (open_after_look those name (watched_at old place).opened snapshot) place old new came) (sym way)
+    (subst (λ those. Leaves told_in snapshot (open_after_look by_name those (watched_at old place).opened snapshot) place old new came) same (leaves ways before looks way ready)) in
     record {
       fate = one.fate;
       share = one.share;
@@ -222,7 +221,7 @@ later_stopped told_in told by_name ways snapshot place name text position watche
 later_stopped told_in told by_name ways snapshot place name text position watched printer slots slots_new why (before ∷ looks) same way followed keeps stopped = (
   followed.kept,
   subst (λ those. Stopped told_in told ways (before ∷ looks) snapshot those printer slots slots_new why) same
-  (stopped ways before looks way (λ t. subst (λ those. IsReady ways (before ∷ looks) snapshot those watched.opened position) (sym same) (record { stands = followed.stands t; kept = keeps t }))),
+      (stopped ways before looks way (λ t. subst (λ those. IsReady ways (before ∷ looks) snapshot those watched.opened position) (sym same) (record { stands = followed.stands t; kept = keeps t }))),
 )
 
 -- a name that is looked at no more
@@ -232,7 +231,7 @@ no_last gap is = refl
 no_last (version v) is = absurd (false≢true (ap is_some is))
 
 abbrev share_from : List ℕ → Entry → List Entry → Share
-share_from name entry entries = record { name = name; is_opened = false; bytes = gains_later entry entries; messages = map (λ notice. notice_of notice name) (notices_later entry entries); has_failed = false }
+share_from name entry entries = again_share name (gains_later entry entries) (map (λ notice. notice_of notice name) (notices_later entry entries))
 
 missed_share : (told : Bool) (ways : Ways) (before : Look) (looks : List Look) (look : Look) (place : ℕ) (name : List ℕ) → told ≡ true → IsMissed told ways (before ∷ looks) name → fate_at place look ≡ sound → AreKept (entries_in ways name ((before ∷ looks) ++ look ∷ []))
     → (dropped : Bool) → is_dropped place (before ∷ looks) ≡ dropped → no_share name ≡ share_of ways (before ∷ looks) look place name
@@ -245,11 +244,6 @@ missed_share told ways before looks look place name t missed fine kept false dro
     let entries : entries_at_look ways.by_name name opened look.snapshot ≡ gap ∷ [] = ap (λ by_name. entries_at_look by_name name opened look.snapshot) missed.way ∙ ap (λ file. entries_at_look false name file look.snapshot) (missed.unopened t) in
     sym (later_share ways name before looks look place dropped fine kept
     ∙ ap (λ those. share_from name those (entries_at_look ways.by_name name opened look.snapshot)) none ∙ ap (share_from name gap) entries)
-
--- fates don't matter for what was seen
-same_entries : (ways : Ways) (name : List ℕ) (looks : List Look) (snapshot : Snapshot) (fates others : List Fate) → entries_in ways name (looks ++ record { snapshot = snapshot; fates = fates } ∷ []) ≡ entries_in ways name (looks ++ record { snapshot = snapshot; fates = others } ∷ [])
-same_entries ways name looks snapshot fates others =
-    ap (entries_of ways.by_name name) (map-append (λ (l : Look). l.snapshot) looks (record { snapshot = snapshot; fates = fates } ∷ []) ∙ sym (map-append (λ (l : Look). l.snapshot) looks (record { snapshot = snapshot; fates = others } ∷ [])))
 
 left_share : (told : Bool) (ways : Ways) (looks : List Look) (look : Look) (place : ℕ) (name : List ℕ) → told ≡ true → IsLeft told ways looks place name → fate_at place look ≡ sound → AreKept (entries_in ways name (looks ++ look ∷ [])) → no_share name ≡ share_of ways looks look place name
 left_share told ways [] look place name t left fine kept = absurd (false≢true (sym left.begun))

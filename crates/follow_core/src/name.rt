@@ -143,7 +143,16 @@ impl Name {
         ensures seen { W.seen watch.new ≡ W.seen watch.old }
         ensures shows { W.shows watch.new ≡ W.shows watch.old }
     {
-        match meet(alloc, start, watch, place, self.text(), printer, buffer, outs) {
+        match meet(
+            alloc,
+            start,
+            watch,
+            place,
+            self.text(),
+            printer,
+            buffer,
+            outs,
+        ) {
             Ok(came) => Ok(self.leave(by_name, came)),
             Err(fault) => Err(fault),
         }
@@ -181,7 +190,15 @@ impl Name {
         ensures shows { W.shows watch.new ≡ W.shows watch.old }
     {
         match revisit(
-            alloc, by_name, watch, place, self.text(), position, printer, buffer, outs,
+            alloc,
+            by_name,
+            watch,
+            place,
+            self.text(),
+            position,
+            printer,
+            buffer,
+            outs,
         ) {
             Ok(came) => Ok(self.leave(by_name, came)),
             Err(fault) => Err(fault),

@@ -48,7 +48,9 @@ pub(crate) fn revisit<W: Watch, O: Outs>(
     ensures seen { W.seen watch.new ≡ W.seen watch.old }
     ensures shows { W.shows watch.new ≡ W.shows watch.old }
 {
-    match look_again(alloc, by_name, watch, place, name, position, printer, buffer, outs) {
+    match look_again(
+        alloc, by_name, watch, place, name, position, printer, buffer, outs,
+    ) {
         Ok(len) => Ok(Came::Through(len)),
         Err(Stop::Broke(fault)) => {
             say(alloc, Tool::Tail, &fault, name, outs);
