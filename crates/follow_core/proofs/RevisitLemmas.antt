@@ -1,5 +1,5 @@
 -- A later look at a name, with what is told of it.
-use Rattle.std.proofs.Common.{◌≡◌, ℕ, Bool, true, false, List, [], ◌∷◌, ◌++◌, length, take, Option, Some, Result, Ok, Err, refl, sym, ◌∙◌, ap, subst, inl, inr, ◌⊎◌, if◌then◌else◌}
+use Rattle.std.proofs.Common.{◌≡◌, ℕ, Bool, true, false, List, [], ◌∷◌, ◌++◌, length, take, Option, Some, Ok, Err, refl, sym, ◌∙◌, ap, subst, inl, inr, ◌⊎◌, if◌then◌else◌}
 use Rattle.ports_core.specs.Slot.{Slot}
 use Rattle.ports_core.specs.Text.{message_of}
 use Rattle.ports_core.specs.Message.{SaysOn}
@@ -13,14 +13,13 @@ use Rattle.follow_core.specs.declared.meeting.Came.TheVariants.{Through, Dropped
 use Rattle.watch_core.specs.Watched.{Watched}
 use Rattle.follow_core.specs.Again.{StandsAt, bytes_again, lines_again}
 use Rattle.follow_core.specs.Changing.{Follows}
-use Rattle.follow_core.specs.Gain.{gains_later, last_of}
+use Rattle.follow_core.specs.Gain.{last_of}
 use Rattle.follow_core.specs.Giving.{Ends, Gives, Halts, IsFront, broke, over, whole}
 use Rattle.follow_core.specs.Look.{Fate, Look, Ways, entries_in, snapshots, sound, unopened as not_opened, unread as not_read}
-use Rattle.follow_core.specs.Looked.{BeginsShare, IsReady, Looked, Stopped}
-use Rattle.follow_core.specs.Notice.{notice_of, notices_later}
-use Rattle.follow_core.specs.Printing.{PrinterState, is_due, printer_under}
+use Rattle.follow_core.specs.Looked.{IsReady, Looked, Stopped}
+use Rattle.follow_core.specs.Printing.{PrinterState, is_due}
 use Rattle.follow_core.specs.Run.{AreKept}
-use Rattle.follow_core.specs.Share.{Share, gain, share_by, told_at_look}
+use Rattle.follow_core.specs.Share.{Share, gain, told_at_look}
 use Rattle.follow_core.specs.Sharing.{Shared, SharedShort}
 use Rattle.follow_core.specs.Version.{Entry, open_after}
 use Rattle.follow_core.proofs.EntryLemmas.{last_file, same_entries}

@@ -1,5 +1,5 @@
 -- A look at one name after another.
-use Rattle.std.proofs.Common.{◌≡◌, ℕ, zero, suc, ◌<◌, ◌≤◌, ◌+◌, Bool, true, false, ◌||◌, List, [], ◌∷◌, ◌++◌, length, map, take, set, get_or, Option, slice_index_or, refl, sym, ◌∙◌, ap, subst, arith, append_assoc, inl, inr, ◌⊎◌, if◌then◌else◌}
+use Rattle.std.proofs.Common.{◌≡◌, ℕ, zero, suc, ◌<◌, ◌≤◌, ◌+◌, Bool, true, false, ◌||◌, List, [], ◌∷◌, ◌++◌, length, take, set, get_or, slice_index_or, refl, sym, ◌∙◌, ap, subst, arith, append_assoc, inl, inr, ◌⊎◌, if◌then◌else◌}
 use Rattle.std.proofs.lemmas.List.{append-nil, get_or-map, get_or-set_other, get_or-set_same, length-append, length-map, length-set, length-take-le, take_all, get_or_past}
 use Rattle.std.proofs.Math.Seq.{get_or-append_seam, map-set_same, take-suc}
 use Rattle.ports_core.specs.Slot.{Slot, adds, told_of}
@@ -13,7 +13,7 @@ use Rattle.follow_core.specs.Followed.{any_failed, header_after, last_header_fro
 use Rattle.follow_core.specs.Look.{Fate, Look, Ways, fate_at, is_dropped, sound}
 use Rattle.follow_core.specs.Looked.{BeginsShare, Stopped}
 use Rattle.follow_core.specs.Printing.{PrinterState, Short}
-use Rattle.follow_core.specs.Share.{Share, share_by, share_of, no_share, shares_at_look, shares_at_look_from}
+use Rattle.follow_core.specs.Share.{Share, share_by, share_of, no_share, shares_at_look_from}
 use Rattle.follow_core.specs.Sharing.{AllShared, AllShort, Shared, SharedShort, Wrote, WroteShort}
 use Rattle.follow_core.specs.Standing.{AllKeep, AllStand, CanVisit, KeepsBytes, NameState, Stands, no_state, state_at, texts}
 use Rattle.follow_core.specs.Visited.{KeepsOthers, StoppedAt, Visited, VisitedAll, VisitedUpTo}

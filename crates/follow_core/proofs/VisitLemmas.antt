@@ -1,5 +1,5 @@
 -- A visit of one name.
-use Rattle.std.proofs.Common.{◌≡◌, ℕ, zero, suc, Bool, true, false, not, ◌||◌, IsTrue, List, [], ◌∷◌, ◌++◌, length, map, Option, Some, None, slice_index_or, refl, sym, ◌∙◌, ap, subst, inl, inr, if◌then◌else◌}
+use Rattle.std.proofs.Common.{◌≡◌, ℕ, zero, suc, Bool, true, false, not, ◌||◌, IsTrue, List, [], ◌∷◌, ◌++◌, length, map, Option, None, slice_index_or, refl, sym, ◌∙◌, ap, subst, inl, inr, if◌then◌else◌}
 use Rattle.std.proofs.lemmas.Bool.{false≢true}
 use Rattle.ports_core.specs.Slot.{Slot, changed_at}
 use Rattle.ports_core.specs.declared.fault.Fault.{Fault}
@@ -11,12 +11,11 @@ use Rattle.follow_core.specs.declared.meeting.Came.TheVariants.{Through, Missing
 use Rattle.follow_core.specs.declared.name.Standing.{Standing}
 use Rattle.follow_core.specs.declared.name.Standing.TheVariants.{New, Followed, Left}
 use Rattle.follow_core.specs.declared.start.Start.{Start}
-use Rattle.follow_core.specs.Again.{StandsAt}
 use Rattle.follow_core.specs.Changing.{held_at}
-use Rattle.follow_core.specs.Gain.{file_of, gains_later, last_of, seen_length}
+use Rattle.follow_core.specs.Gain.{file_of, gains_later, last_of}
 use Rattle.follow_core.specs.Notice.{notice_of, notices_later}
 use Rattle.follow_core.specs.Run.{AreKept}
-use Rattle.follow_core.specs.Look.{Fate, Look, Ways, entries_in, fate_at, is_dropped, is_first, is_sound, snapshots, sound}
+use Rattle.follow_core.specs.Look.{Fate, Look, Ways, entries_in, fate_at, is_dropped, is_sound, snapshots, sound}
 use Rattle.follow_core.specs.Looked.{IsLater, IsReady, IsThere, Leaves, Looked, Stopped, came_through, has_failed}
 use Rattle.follow_core.specs.Printing.{PrinterState}
 use Rattle.follow_core.specs.Share.{Share, no_share, share_by, share_of}

@@ -1,4 +1,4 @@
-use Rattle.std.proofs.Common.{◌≡◌, refl, sym, ◌∙◌, ap, subst}
+use Rattle.std.proofs.Common.{sym, subst}
 use Rattle.watch_core.specs.Snapshot.{latest}
 use Rattle.watch_core.specs.Watched.{watched_at}
 use Rattle.follow_core.specs.Standing.{CanVisit}
