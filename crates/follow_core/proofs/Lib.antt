@@ -18,3 +18,4 @@ pub mod FirstLemmas
 pub mod FirstShareLemmas
 pub mod MeetLemmas
 pub mod RevisitLemmas
+pub mod FollowLemmas

@@ -39,10 +39,10 @@ wrote_short told text more lines further old mid new why first second = λ outpu
         → (last : Slot) × SaysAll told Tail (lines ++ further) error last × Short told (text ++ more) (output ∷ last ∷ others) new why
     joined (last, said_more, short) = (last, says_behind told Tail lines further error mid_error last said said_more, short_after told text more (output ∷ last ∷ others) _ new why refl short)
 
-wrote_as : (told : Bool) (text other : List ℕ) (lines those : List (List ℕ)) (old new : List Slot) → text ≡ other → lines ≡ those → Wrote told text lines old new → Wrote told other those old new
+pub wrote_as : (told : Bool) (text other : List ℕ) (lines those : List (List ℕ)) (old new : List Slot) → text ≡ other → lines ≡ those → Wrote told text lines old new → Wrote told other those old new
 wrote_as told text other lines those old new same also wrote = subst (λ t. Wrote told t those old new) same (subst (λ l. Wrote told text l old new) also wrote)
 
-short_as : (told : Bool) (text other : List ℕ) (lines those : List (List ℕ)) (old new : List Slot) (why : Fault) → text ≡ other → lines ≡ those → WroteShort told text lines old new why → WroteShort told other those old new why
+pub short_as : (told : Bool) (text other : List ℕ) (lines those : List (List ℕ)) (old new : List Slot) (why : Fault) → text ≡ other → lines ≡ those → WroteShort told text lines old new why → WroteShort told other those old new why
 short_as told text other lines those old new why same also wrote = subst (λ t. WroteShort told t those old new why) same (subst (λ l. WroteShort told text l old new why) also wrote)
 
 pub nothing_shared : (told : Bool) (printer : PrinterState) (slots : List Slot) → AllShared told printer [] slots printer slots
@@ -118,7 +118,7 @@ state_there (first ∷ names) (suc place) default within = state_there names pla
 pub texts_set : (names : List NameState) (place : ℕ) (default one : NameState) → place < length names → one.text ≡ (get_or names place default).text → texts (set names place one) ≡ texts names
 texts_set names place default one within same = map-set_same (λ (n : NameState). n.text) names place one default same
 
-length_texts : (names now : List NameState) → texts now ≡ texts names → length (texts names) ≡ length now
+pub length_texts : (names now : List NameState) → texts now ≡ texts names → length (texts names) ≡ length now
 length_texts names now same = ap length (sym same) ∙ length-map now (λ (n : NameState). n.text)
 
 -- the shares of the names before a place, and of the one at it

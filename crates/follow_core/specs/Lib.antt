@@ -17,3 +17,4 @@ pub mod First
 pub mod Looked
 pub mod Standing
 pub mod Visited
+pub mod FollowState

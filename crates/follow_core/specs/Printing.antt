@@ -1,5 +1,5 @@
 -- How bytes of a name come to standard output, under headers.
-use Rattle.std.specs.Prelude.{◌≡◌, ℕ, ◌≤◌, Bool, not, ◌&&◌, List, [], ◌++◌, Option, Some, length, take, if◌then◌else◌}
+use Rattle.std.specs.Prelude.{◌≡◌, ℕ, ◌≤◌, Bool, not, ◌&&◌, List, [], ◌++◌, Option, Some, None, length, take, if◌then◌else◌}
 use Rattle.ports_core.specs.Slot.{Slot, with_written, told_of}
 use Rattle.ports_core.specs.Write.{BrokeAfter}
 use Rattle.ports_core.specs.Text.{header_of}
@@ -11,6 +11,10 @@ pub record PrinterState : Type 0 where
   pub headers : Bool
   -- the name that the last header was of
   pub last : Option (List ℕ)
+
+-- before anything was written
+abbrev pub fresh_printer : Bool → PrinterState
+fresh_printer headers = record { headers = headers; last = None }
 
 -- the header of a name
 abbrev pub header_under : PrinterState → List ℕ → List ℕ

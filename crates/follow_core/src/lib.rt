@@ -1,11 +1,13 @@
 //! `tail` that follows files: what it writes and says of names that are watched.
 #![tactic(auto)]
 
+mod adding;
 mod again;
 mod catching;
 mod changing;
 mod copying;
 mod first;
+mod follow;
 mod laws;
 mod meeting;
 mod name;
@@ -18,5 +20,7 @@ mod row_tests;
 mod start;
 mod visiting;
 
+pub use follow::{Follow, Stage};
 pub use laws::{looks_agree, one_look_more, text_goes_on};
 pub use notice::{Notice, notice_line};
+pub use start::Start;

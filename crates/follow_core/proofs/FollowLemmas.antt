@@ -1,0 +1,214 @@
+-- A look at all names more, and one that was stopped.
+use Rattle.std.proofs.Common.{◌≡◌, ℕ, zero, suc, ◌<◌, ◌≤◌, ◌+◌, Bool, true, false, not, ◌||◌, ◌&&◌, List, [], ◌∷◌, ◌++◌, None, Option, length, map, take, drop, slice_index_or, refl, sym, ◌∙◌, ap, subst, arith, inl, inr, ◌⊎◌, if◌then◌else◌}
+use Rattle.std.proofs.lemmas.List.{append-nil, length-map}
+use Rattle.std.proofs.Math.Seq.{take-length}
+use Rattle.ports_core.specs.Slot.{Slot, adds, told_of, with_written}
+use Rattle.ports_core.specs.Message.{SaysAll}
+use Rattle.ports_core.specs.declared.tool.Tool.TheVariants.{Tail}
+use Rattle.ports_core.specs.declared.fault.Fault.{Fault}
+use Rattle.ports_core.specs.declared.fault.Fault.TheVariants as fault
+use Rattle.watch_core.specs.Snapshot.{Snapshot, latest}
+use Rattle.watch_core.specs.Watched.{Watched, added, is_some, watched_at}
+use Rattle.follow_core.specs.declared.name.Standing.{Standing}
+use Rattle.follow_core.specs.declared.name.Standing.TheVariants.{New, Followed, Left}
+use Rattle.follow_core.specs.declared.follow.Stage.{Stage}
+use Rattle.follow_core.specs.declared.follow.Stage.TheVariants.{Fresh, Looking, Over}
+use Rattle.follow_core.specs.Followed.{any_failed, last_header_from, messages_of, text_from}
+use Rattle.follow_core.specs.FollowState.{AllReady, Begun, CanLook, FollowState, Halted, Holds, LooksOn, StandsIn, StopsOn, new_state, nothing, opened_follow, up_to}
+use Rattle.follow_core.specs.Look.{Fate, Look, Ways}
+use Rattle.follow_core.specs.Printing.{PrinterState, Short, fresh_printer, no_room}
+use Rattle.follow_core.specs.Share.{Share, shares_at_look, shares_of}
+use Rattle.follow_core.specs.Sharing.{AllShared, AllShort, Wrote, WroteShort}
+use Rattle.follow_core.specs.Standing.{AllKeep, AllStand, CanVisit, NameState, Stands, state_at, texts}
+use Rattle.follow_core.specs.Visited.{StoppedAt, VisitedAll, ways_of}
+use Rattle.follow_core.proofs.ShareLemmas.{failed-append, last-append, messages-append, shares_more, text-append}
+use Rattle.follow_core.proofs.VisitAllLemmas.{nothing_shared, short_as, wrote_as, wrote_both, wrote_short}
+
+-- further shares
+
+text_all : (printer mid : PrinterState) (shares more : List Share) → mid ≡ record printer { last = last_header_from printer.headers printer.last shares }
+    → text_from printer.headers printer.last shares ++ text_from mid.headers mid.last more ≡ text_from printer.headers printer.last (shares ++ more)
+text_all printer mid shares more is =
+    ap (λ (p : PrinterState). text_from printer.headers printer.last shares ++ text_from p.headers p.last more) is ∙ sym (text-append printer.headers printer.last shares more)
+
+all_both : (told : Bool) (printer mid after : PrinterState) (shares more : List Share) (old now new : List Slot) → AllShared told printer shares old mid now → AllShared told mid more now after new → AllShared told printer (shares ++ more) old after new
+all_both told printer mid after shares more old now new all rest = record {
+  printer_is = rest.printer_is ∙ ap (λ (p : PrinterState). record p { last = last_header_from p.headers p.last more }) all.printer_is
+      ∙ ap (λ last. record printer { last = last }) (sym (last-append printer.headers printer.last shares more));
+  slots = wrote_as told (text_from printer.headers printer.last shares ++ text_from mid.headers mid.last more) (text_from printer.headers printer.last (shares ++ more)) (messages_of shares ++ messages_of more) (messages_of (shares ++ more)) old new
+      (text_all printer mid shares more all.printer_is) (sym (messages-append shares more)) (wrote_both told _ _ _ _ old now new all.slots rest.slots);
+}
+
+all_halt : (told : Bool) (printer mid : PrinterState) (shares more : List Share) (old now new : List Slot) (why : Fault) → AllShared told printer shares old mid now → AllShort told mid more now new why → AllShort told printer (shares ++ more) old new why
+all_halt told printer mid shares more old now new why all rest = record {
+  slots = short_as told (text_from printer.headers printer.last shares ++ text_from mid.headers mid.last more) (text_from printer.headers printer.last (shares ++ more)) (messages_of shares ++ messages_of more) (messages_of (shares ++ more)) old new why
+      (text_all printer mid shares more all.printer_is) (sym (messages-append shares more)) (wrote_short told _ _ _ _ old now new why all.slots rest.slots);
+}
+
+-- memory was wanting after all of them
+wrote_stop : (told : Bool) (text : List ℕ) (lines : List (List ℕ)) (old new : List Slot) → Wrote told text lines old new → WroteShort told text lines old new fault.Memory
+wrote_stop told text lines old new wrote = λ output error others is. by output error others (wrote output error others is) where
+  by : (output error : Slot) (others : List Slot) → (error_after : Slot) × SaysAll told Tail lines error error_after × (new ≡ adds (told_of told text) output ∷ error_after ∷ others)
+      → (error_after : Slot) × SaysAll told Tail lines error error_after × Short told text (output ∷ error_after ∷ others) new fault.Memory
+  by output error others (error_after, said, are) = (error_after, said, no_room (length text) (omega arith) (are ∙ ap (λ those. adds (told_of told those) output ∷ error_after ∷ others) (sym (take-length text))))
+
+all_stop : (told : Bool) (printer after : PrinterState) (shares : List Share) (old new : List Slot) → AllShared told printer shares old after new → AllShort told printer (shares ++ []) old new fault.Memory
+all_stop told printer after shares old new all = subst (λ those. AllShort told printer those old new fault.Memory) (sym (append-nil shares)) (record { slots = wrote_stop told _ _ old new all.slots })
+
+-- names that are looked at
+
+stand_in : (told_in told : Bool) (ways : Ways) (headers : Bool) (names : List (List ℕ)) (looks : List Look) (first : List Slot) (follow : FollowState) (watched : List Watched) (slots : List Slot) → follow.stage ≡ Looking → Holds told_in told ways headers names looks first follow watched slots
+    → AllStand told_in (ways_of follow.by_name follow.start) looks follow.names watched
+stand_in told_in told ways headers names looks first follow watched slots looking holds =
+    subst (λ way. AllStand told_in way looks follow.names watched) holds.asked (subst (StandsIn told_in ways looks follow.names watched) looking holds.stand)
+
+keep_in : (told_in told : Bool) (ways : Ways) (headers : Bool) (names : List (List ℕ)) (looks : List Look) (snapshot : Snapshot) (first : List Slot) (follow : FollowState) (watched : List Watched) (slots : List Slot) → Holds told_in told ways headers names looks first follow watched slots
+    → AllKeep told_in ways looks snapshot names → AllKeep told_in (ways_of follow.by_name follow.start) looks snapshot (texts follow.names)
+keep_in told_in told ways headers names looks snapshot first follow watched slots holds keep =
+    subst (λ way. AllKeep told_in way looks snapshot (texts follow.names)) holds.asked (subst (AllKeep told_in ways looks snapshot) (sym holds.same) keep)
+
+-- a look at all names was made
+abbrev pub Visits : (told_in told : Bool) → Snapshot → FollowState → List Watched → List Slot → FollowState → List Watched → List Slot → Bool → Type 0
+Visits told_in told snapshot old watched slots new watched_new slots_new failed = (looks : List Look) → AllStand told_in (ways_of old.by_name old.start) looks old.names watched → AllKeep told_in (ways_of old.by_name old.start) looks snapshot (texts old.names)
+    → VisitedAll told_in told (ways_of old.by_name old.start) looks snapshot old.names old.printer slots new.printer slots_new watched_new new.names failed
+
+-- it was stopped
+abbrev pub Halts : (told_in told : Bool) → Snapshot → FollowState → List Watched → List Slot → List Slot → Fault → Type 0
+Halts told_in told snapshot old watched slots slots_new why = (looks : List Look) → AllStand told_in (ways_of old.by_name old.start) looks old.names watched → AllKeep told_in (ways_of old.by_name old.start) looks snapshot (texts old.names)
+    → StoppedAt told_in told (ways_of old.by_name old.start) looks snapshot (texts old.names) old.printer slots slots_new why
+
+pub visits_at : (told_in told : Bool) (snapshot seen : Snapshot) (old new : FollowState) (names names_new : List NameState) (watched mid watched_new : List Watched) (slots slots_new : List Slot) (failed : Bool) → names ≡ old.names → names_new ≡ new.names → mid ≡ watched → seen ≡ snapshot
+    → ((looks : List Look) → AllStand told_in (ways_of old.by_name old.start) looks names mid → AllKeep told_in (ways_of old.by_name old.start) looks seen (texts names)
+    → VisitedAll told_in told (ways_of old.by_name old.start) looks seen names old.printer slots new.printer slots_new watched_new names_new failed)
+    → Visits told_in told snapshot old watched slots new watched_new slots_new failed
+visits_at told_in told snapshot seen old new names names_new watched mid watched_new slots slots_new failed same also is at visits =
+    subst (λ those. V those new.names watched snapshot) same (subst (λ those. V names those watched snapshot) also (subst (λ those. V names names_new those snapshot) is (subst (λ s. V names names_new mid s) at visits))) where
+  V : List NameState → List NameState → List Watched → Snapshot → Type 0
+  V these after those s = (looks : List Look) → AllStand told_in (ways_of old.by_name old.start) looks these those → AllKeep told_in (ways_of old.by_name old.start) looks s (texts these)
+      → VisitedAll told_in told (ways_of old.by_name old.start) looks s these old.printer slots new.printer slots_new watched_new after failed
+
+pub halts_at : (told_in told : Bool) (snapshot seen : Snapshot) (old : FollowState) (names : List NameState) (watched mid : List Watched) (slots slots_new : List Slot) (why : Fault) → names ≡ old.names → mid ≡ watched → seen ≡ snapshot
+    → ((looks : List Look) → AllStand told_in (ways_of old.by_name old.start) looks names mid → AllKeep told_in (ways_of old.by_name old.start) looks seen (texts names)
+    → StoppedAt told_in told (ways_of old.by_name old.start) looks seen (texts names) old.printer slots slots_new why)
+    → Halts told_in told snapshot old watched slots slots_new why
+halts_at told_in told snapshot seen old names watched mid slots slots_new why same is at halts =
+    subst (λ those. H those watched snapshot) same (subst (λ those. H names those snapshot) is (subst (λ s. H names mid s) at halts)) where
+  H : List NameState → List Watched → Snapshot → Type 0
+  H these those s = (looks : List Look) → AllStand told_in (ways_of old.by_name old.start) looks these those → AllKeep told_in (ways_of old.by_name old.start) looks s (texts these)
+      → StoppedAt told_in told (ways_of old.by_name old.start) looks s (texts these) old.printer slots slots_new why
+
+pub look_made : (told_in told : Bool) (snapshot : Snapshot) (old new : FollowState) (watched watched_new : List Watched) (slots slots_new : List Slot) (failed : Bool) → old.stage ≡ Looking
+    → new.by_name ≡ old.by_name → new.start ≡ old.start → new.stage ≡ Looking → new.has_failed ≡ (old.has_failed || failed) → Visits told_in told snapshot old watched slots new watched_new slots_new failed → LooksOn told_in told snapshot old watched slots new watched_new slots_new
+look_made told_in told snapshot old new watched watched_new slots slots_new failed looking by_name start looking_new has_failed visits ways headers names looks first holds keep = (visited.fates, record {
+  asked = holds.asked ∙ ap (λ way. ways_of way old.start) (sym by_name) ∙ ap (ways_of new.by_name) (sym start);
+  same = visited.same ∙ holds.same;
+  stand = subst (StandsIn told_in ways after new.names watched_new) (sym looking_new) visited.stand;
+  shares = holds.shares ++ visited.shares;
+  are = λ t. ap (λ those. those ++ visited.shares) (holds.are t) ∙ ap (λ those. shares_of ways names looks ++ those) (visited.are t ∙ ap (λ those. shares_at_look ways those looks look) holds.same) ∙ sym (shares_more ways names looks look);
+  shared = all_both told (fresh_printer headers) old.printer new.printer holds.shares visited.shares first slots slots_new holds.shared visited.shared;
+  failed = failed-append holds.shares visited.shares ∙ ap (λ before. before || any_failed visited.shares) holds.failed ∙ ap (λ now. old.has_failed || now) visited.is_failed ∙ sym has_failed;
+}) where
+  visited : VisitedAll told_in told ways looks snapshot old.names old.printer slots new.printer slots_new watched_new new.names failed
+  visited = subst (λ way. VisitedAll told_in told way looks snapshot old.names old.printer slots new.printer slots_new watched_new new.names failed) (sym holds.asked)
+      (visits looks (stand_in told_in told ways headers names looks first old watched slots looking holds) (keep_in told_in told ways headers names looks snapshot first old watched slots holds keep))
+
+  look : Look
+  look = record { snapshot = snapshot; fates = visited.fates }
+
+  after : List Look
+  after = looks ++ look ∷ []
+
+pub look_stopped : (told_in told : Bool) (snapshot : Snapshot) (old : FollowState) (watched : List Watched) (slots slots_new : List Slot) (why : Fault) → old.stage ≡ Looking → Halts told_in told snapshot old watched slots slots_new why → StopsOn told_in told snapshot old watched slots slots_new why
+look_stopped told_in told snapshot old watched slots slots_new why looking halts ways headers names looks first holds keep = record {
+  shares = holds.shares;
+  more = stopped.shares ++ stopped.share ∷ [];
+  are = holds.are;
+  begun = up_to stopped.fates stopped.place stopped.shares stopped.share stopped.within stopped.are stopped.begins;
+  short = all_halt told (fresh_printer headers) old.printer holds.shares (stopped.shares ++ stopped.share ∷ []) first slots slots_new why holds.shared stopped.short;
+} where
+  stopped : StoppedAt told_in told ways looks snapshot names old.printer slots slots_new why
+  stopped = subst (λ those. StoppedAt told_in told ways looks snapshot those old.printer slots slots_new why) holds.same
+      (subst (λ way. StoppedAt told_in told way looks snapshot (texts old.names) old.printer slots slots_new why) (sym holds.asked)
+      (halts looks (stand_in told_in told ways headers names looks first old watched slots looking holds) (keep_in told_in told ways headers names looks snapshot first old watched slots holds keep)))
+
+-- there was no memory to begin one
+pub look_refused : (told_in told : Bool) (snapshot : Snapshot) (old : FollowState) (watched : List Watched) (slots slots_new : List Slot) (why : Fault) → why ≡ fault.Memory → slots_new ≡ slots → StopsOn told_in told snapshot old watched slots slots_new why
+look_refused told_in told snapshot old watched slots slots_new why is same ways headers names looks first holds keep = record {
+  shares = holds.shares;
+  more = [];
+  are = holds.are;
+  begun = nothing;
+  short = subst (AllShort told (fresh_printer headers) (holds.shares ++ []) first slots_new) (sym is) (subst (λ those. AllShort told (fresh_printer headers) (holds.shares ++ []) first those fault.Memory) (sym same) (all_stop told (fresh_printer headers) old.printer holds.shares first slots holds.shared));
+}
+
+-- names that were added
+
+added_there : (names : List (List ℕ)) (place : ℕ) → place < length (map new_state names) → (state_at (map new_state names) place ≡ new_state (slice_index_or names place [])) × (watched_at (map added names) place ≡ added (slice_index_or names place []))
+added_there [] place within = absurd (omega arith)
+added_there (name ∷ names) zero within = (refl, refl)
+added_there (name ∷ names) (suc place) within = added_there names place (omega arith)
+
+added_stand : (told : Bool) (ways : Ways) (names : List (List ℕ)) → AllStand told ways [] (map new_state names) (map added names)
+added_stand told ways names place within = by (added_there names place within) where
+  by : (state_at (map new_state names) place ≡ new_state (slice_index_or names place [])) × (watched_at (map added names) place ≡ added (slice_index_or names place []))
+      → Stands told ways [] place (state_at (map new_state names) place).text (watched_at (map added names) place) (state_at (map new_state names) place).standing
+  by (state, watched) = subst (λ (n : NameState). Stands told ways [] place n.text (watched_at (map added names) place) n.standing) (sym state)
+      (subst (λ w. Stands told ways [] place (slice_index_or names place []) w (new_state (slice_index_or names place [])).standing) (sym watched) (refl, refl))
+
+texts_new : (names : List NameState) (place : ℕ) → place < length names → watched_at (map added (texts names)) place ≡ added (state_at names place).text
+texts_new [] place within = absurd (omega arith)
+texts_new (name ∷ names) zero within = refl
+texts_new (name ∷ names) (suc place) within = texts_new names place (omega arith)
+
+can_at : (text : List ℕ) (standing : Standing) → CanVisit (record { text = text; standing = standing }) (added text)
+can_at text New = (refl, refl)
+can_at text (Followed position) = (refl, refl)
+can_at text Left = tt
+
+added_ready : (names : List NameState) → AllReady names (map added (texts names))
+added_ready names place within = subst (CanVisit (state_at names place)) (sym (texts_new names place within)) (can_at (state_at names place).text (state_at names place).standing)
+
+pub names_ready : (names : List NameState) (watched : List Watched) → watched ≡ map added (texts names) → AllReady names watched
+names_ready names watched is = subst (AllReady names) (sym is) (added_ready names)
+
+-- following stands as before, but that its names are watched
+pub record IsAdded (old mid : FollowState) (watched watched_mid : List Watched) : Type 0 where
+  pub fresh : old.stage ≡ Fresh
+  pub mid_is : mid ≡ record old { stage = Looking }
+  pub watched_is : watched_mid ≡ map added (texts old.names)
+
+held_added : (told_in told : Bool) (ways : Ways) (headers : Bool) (names : List (List ℕ)) (looks : List Look) (first : List Slot) (old mid : FollowState) (watched watched_mid : List Watched) (slots : List Slot) → IsAdded old mid watched watched_mid
+    → Holds told_in told ways headers names looks first old watched slots → Holds told_in told ways headers names looks first mid watched_mid slots
+held_added told_in told ways headers names looks first old mid watched watched_mid slots is holds =
+    subst (λ (f : FollowState). Holds told_in told ways headers names looks first f watched_mid slots) (sym is.mid_is) (record {
+      asked = holds.asked;
+      same = holds.same;
+      stand = subst (λ those. AllStand told_in ways those old.names watched_mid) (sym new.0)
+          (subst (λ those. AllStand told_in ways [] those watched_mid) (sym new.1) (subst (AllStand told_in ways [] (map new_state (texts old.names))) (sym is.watched_is) (added_stand told_in ways (texts old.names))));
+      shares = holds.shares;
+      are = holds.are;
+      shared = holds.shared;
+      failed = holds.failed;
+    }) where
+  new : (looks ≡ []) × (old.names ≡ map new_state (texts old.names))
+  new = subst (StandsIn told_in ways looks old.names watched) is.fresh holds.stand
+
+pub first_made : (told_in told : Bool) (snapshot snapshot_mid : Snapshot) (old mid new : FollowState) (watched watched_mid watched_new : List Watched) (slots slots_new : List Slot) → IsAdded old mid watched watched_mid → snapshot_mid ≡ snapshot
+    → LooksOn told_in told snapshot_mid mid watched_mid slots new watched_new slots_new → LooksOn told_in told snapshot old watched slots new watched_new slots_new
+first_made told_in told snapshot snapshot_mid old mid new watched watched_mid watched_new slots slots_new is same looks_on = subst (λ s. LooksOn told_in told s old watched slots new watched_new slots_new) same
+    (λ ways headers names looks first holds keep. looks_on ways headers names looks first (held_added told_in told ways headers names looks first old mid watched watched_mid slots is holds) keep)
+
+pub first_stopped : (told_in told : Bool) (snapshot snapshot_mid : Snapshot) (old mid : FollowState) (watched watched_mid : List Watched) (slots slots_new : List Slot) (why : Fault) → IsAdded old mid watched watched_mid → snapshot_mid ≡ snapshot
+    → StopsOn told_in told snapshot_mid mid watched_mid slots slots_new why → StopsOn told_in told snapshot old watched slots slots_new why
+first_stopped told_in told snapshot snapshot_mid old mid watched watched_mid slots slots_new why is same stops = subst (λ s. StopsOn told_in told s old watched slots slots_new why) same
+    (λ ways headers names looks first holds keep. stops ways headers names looks first (held_added told_in told ways headers names looks first old mid watched watched_mid slots is holds) keep)
+
+-- following that was over is never held
+pub over_stops : (told_in told : Bool) (snapshot : Snapshot) (old : FollowState) (watched : List Watched) (slots slots_new : List Slot) (why : Fault) → old.stage ≡ Over → StopsOn told_in told snapshot old watched slots slots_new why
+over_stops told_in told snapshot old watched slots slots_new why over ways headers names looks first holds keep = absurd (subst (StandsIn told_in ways looks old.names watched) over holds.stand)
+
+-- the snapshot of the look that was begun
+pub latest-last : (snapshots : List Snapshot) (snapshot : Snapshot) → latest (snapshots ++ snapshot ∷ []) ≡ snapshot
+latest-last [] snapshot = refl
+latest-last (one ∷ []) snapshot = refl
+latest-last (one ∷ two ∷ snapshots) snapshot = latest-last (two ∷ snapshots) snapshot

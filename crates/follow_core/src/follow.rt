@@ -1,0 +1,180 @@
+//! Following: looks at names, one after another.
+ghost use Rattle.std.specs.Prelude.{◌≡◌, ◌<◌, ◌∷◌, ◌++◌, [], ℕ, Bool, List, true, length, map, Err, IfOk, IfErr, OnOk};
+ghost use Rattle.ports_core.specs.Slot.{Slot};
+ghost use Rattle.watch_core.specs.Watched.{Watched};
+ghost use Rattle.follow_core.specs.Catching.{CanPrint};
+ghost use Rattle.follow_core.specs.FollowState.{AllReady, CanLook, FollowState, Holds, LooksOn, StopsOn, is_alive, opened_follow};
+ghost use Rattle.follow_core.specs.Look.{Look, Ways};
+
+use crate::adding::{add_all, new_names};
+use crate::name::Name;
+use crate::printer::Printer;
+use crate::start::Start;
+use crate::visiting::visit_all;
+use ports_core::{Fault, Outs};
+use std::alloc::Global;
+use std::marker::Model;
+use watch_core::Watch;
+
+/// How many bytes are read at once, at the most.
+const PIECE: usize = 65_536;
+
+/// Where following stands.
+#[derive(Clone, Copy, Debug, PartialEq, Eq)]
+pub enum Stage {
+    /// No look was made yet.
+    Fresh,
+    /// The names are watched, and were looked at.
+    Looking,
+    /// A fault ended it.
+    Over,
+}
+
+/// `tail` that follows files (POSIX.1-2017, XCU tail, `-f`; GNU's `--follow=name` too): one look after another writes to standard
+/// output what came to each name since the look before, and tells on standard error what changed. The first look writes the end of
+/// each file, or what comes from a place on.
+///
+/// It keeps the names and one buffer of 65,536 bytes; of a file only how many bytes were seen.
+#[derive(Drop)]
+pub struct Follow {
+    alloc: Global,
+    by_name: bool,
+    start: Start,
+    names: Vec<Name>,
+    printer: Printer,
+    stage: Stage,
+    has_failed: bool,
+    buffer: Vec<u8>,
+}
+
+impl Model for Follow {
+    ghost Value = { FollowState };
+
+    ghost view = { λ f. record { by_name = f.by_name; start = f.start; names = f.names.items; printer = f.printer; stage = f.stage; has_failed = f.has_failed } };
+
+    ghost invariant = { λ f. 0 < length f.buffer.items };
+}
+
+impl Follow {
+    /// Following of these names, of which there may be none: by name, so that the file to which a name leads is read, or by the file
+    /// that is open since the first look; with a header before each stretch of text or without. Nothing is opened before the first
+    /// look.
+    ///
+    /// # Errors
+    ///
+    /// `Memory` where there is no room for the names and the buffer.
+    pub fn open(
+        alloc: Global,
+        names: &[&str],
+        start: Start,
+        by_name: bool,
+        headers: bool,
+    ) -> Result<Self, Fault>
+        ensures ok { IfOk result (λ follow. follow ≡ opened_follow by_name start headers (map (λ name. name.now) names.now)) }
+        ensures err { IfErr result (λ fault. fault ≡ Fault.Memory) }
+    {
+        Ok(Follow {
+            alloc,
+            by_name,
+            start,
+            names: new_names(alloc, names)?,
+            printer: Printer::new(alloc, headers),
+            stage: Stage::Fresh,
+            has_failed: false,
+            buffer: vec![in alloc; 0u8; PIECE]?,
+        })
+    }
+
+    /// Makes a look. The first one adds the names to what is watched; all looks take the same `watch`, on which nobody else calls.
+    ///
+    /// A name that can't be looked at, opened or read is told on standard error and dropped, and the others go on. A message that can't
+    /// be written is passed over.
+    ///
+    /// # Errors
+    ///
+    /// `Write(0)` where standard output broke, `Memory` where there was none for a name, a look, a header or a line that tells what
+    /// changed. Either ends following: a later look is `Failed`, and does nothing.
+    pub fn look<W: Watch, O: Outs>(&mut self, watch: &mut W, outs: &mut O) -> Result<(), Fault>
+        requires { CanLook self.old (W.watched watch.old) (O.slots outs.old) }
+        ensures looked { OnOk result (LooksOn W.told O.told (W.shows watch.old (length (W.seen watch.old))) self.old (W.watched watch.old) (O.slots outs.old) self.new (W.watched watch.new) (O.slots outs.new)) }
+        ensures stopped { IfErr result (StopsOn W.told O.told (W.shows watch.old (length (W.seen watch.old))) self.old (W.watched watch.old) (O.slots outs.old) (O.slots outs.new)) }
+        ensures seen { OnOk result (W.seen watch.new ≡ W.seen watch.old ++ W.shows watch.old (length (W.seen watch.old)) ∷ []) }
+        ensures stage { OnOk result (self.new.stage ≡ Stage.Looking) }
+        ensures can { OnOk result (CanLook self.new (W.watched watch.new) (O.slots outs.new)) }
+        ensures err { IfErr result (λ _. self.new.stage ≡ Stage.Over) }
+        ensures over { self.old.stage ≡ Stage.Over → (result ≡ Err Fault.Failed) × (O.slots outs.new ≡ O.slots outs.old) × (W.watched watch.new ≡ W.watched watch.old) × (W.seen watch.new ≡ W.seen watch.old) }
+        ensures shows { W.shows watch.new ≡ W.shows watch.old }
+    {
+        let looked = match self.stage {
+            Stage::Fresh => self.look_first(watch, outs),
+            Stage::Looking => self.look_on(watch, outs),
+            Stage::Over => Err(Fault::Failed),
+        };
+        if looked.is_err() {
+            self.stage = Stage::Over;
+        }
+        looked
+    }
+
+    /// The first look: the names are added before it.
+    ///
+    /// # Errors
+    ///
+    /// As `look`.
+    fn look_first<W: Watch, O: Outs>(&mut self, watch: &mut W, outs: &mut O) -> Result<(), Fault>
+        requires fresh { self.old.stage ≡ Stage.Fresh }
+        requires unwatched { W.watched watch.old ≡ [] }
+        requires can { CanPrint (O.slots outs.old) }
+        ensures looked { OnOk result (LooksOn W.told O.told (W.shows watch.old (length (W.seen watch.old))) self.old (W.watched watch.old) (O.slots outs.old) self.new (W.watched watch.new) (O.slots outs.new)) }
+        ensures stopped { IfErr result (StopsOn W.told O.told (W.shows watch.old (length (W.seen watch.old))) self.old (W.watched watch.old) (O.slots outs.old) (O.slots outs.new)) }
+        ensures seen { OnOk result (W.seen watch.new ≡ W.seen watch.old ++ W.shows watch.old (length (W.seen watch.old)) ∷ []) }
+        ensures stage { OnOk result (self.new.stage ≡ Stage.Looking) }
+        ensures ready { OnOk result (AllReady self.new.names (W.watched watch.new)) }
+        ensures can { OnOk result (CanPrint (O.slots outs.new)) }
+        ensures shows { W.shows watch.new ≡ W.shows watch.old }
+    {
+        if let Err(fault) = add_all(&self.names, watch) {
+            return Err(fault);
+        }
+        self.stage = Stage::Looking;
+        self.look_on(watch, outs)
+    }
+
+    /// A look at names that are watched.
+    ///
+    /// # Errors
+    ///
+    /// As `look`.
+    fn look_on<W: Watch, O: Outs>(&mut self, watch: &mut W, outs: &mut O) -> Result<(), Fault>
+        requires looking { self.old.stage ≡ Stage.Looking }
+        requires ready { AllReady self.old.names (W.watched watch.old) }
+        requires can { CanPrint (O.slots outs.old) }
+        ensures looked { OnOk result (LooksOn W.told O.told (W.shows watch.old (length (W.seen watch.old))) self.old (W.watched watch.old) (O.slots outs.old) self.new (W.watched watch.new) (O.slots outs.new)) }
+        ensures stopped { IfErr result (StopsOn W.told O.told (W.shows watch.old (length (W.seen watch.old))) self.old (W.watched watch.old) (O.slots outs.old) (O.slots outs.new)) }
+        ensures seen { OnOk result (W.seen watch.new ≡ W.seen watch.old ++ W.shows watch.old (length (W.seen watch.old)) ∷ []) }
+        ensures stage { OnOk result (self.new.stage ≡ Stage.Looking) }
+        ensures ready { OnOk result (AllReady self.new.names (W.watched watch.new)) }
+        ensures can { OnOk result (CanPrint (O.slots outs.new)) }
+        ensures shows { W.shows watch.new ≡ W.shows watch.old }
+    {
+        if let Err(fault) = watch.turn() {
+            return Err(fault);
+        }
+        match visit_all(
+            self.alloc,
+            self.by_name,
+            self.start,
+            &mut self.names,
+            watch,
+            &mut self.printer,
+            &mut self.buffer,
+            outs,
+        ) {
+            Ok(failed) => {
+                self.has_failed |= failed;
+                Ok(())
+            }
+            Err(fault) => Err(fault),
+        }
+    }
+}
