@@ -105,15 +105,36 @@ impl Follow {
         ensures over { self.old.stage ≡ Stage.Over → (result ≡ Err Fault.Failed) × (O.slots outs.new ≡ O.slots outs.old) × (W.watched watch.new ≡ W.watched watch.old) × (W.seen watch.new ≡ W.seen watch.old) }
         ensures shows { W.shows watch.new ≡ W.shows watch.old }
     {
-        let looked = match self.stage {
+        match self.make_look(watch, outs) {
+            Ok(()) => Ok(()),
+            Err(fault) => {
+                self.stage = Stage::Over;
+                Err(fault)
+            }
+        }
+    }
+
+    /// Makes a look, and leaves it to the caller to end following after a fault.
+    ///
+    /// # Errors
+    ///
+    /// As `look`.
+    fn make_look<W: Watch, O: Outs>(&mut self, watch: &mut W, outs: &mut O) -> Result<(), Fault>
+        requires { CanLook self.old (W.watched watch.old) (O.slots outs.old) }
+        ensures looked { OnOk result (LooksOn W.told O.told (W.shows watch.old (length (W.seen watch.old))) self.old (W.watched watch.old) (O.slots outs.old) self.new (W.watched watch.new) (O.slots outs.new)) }
+        ensures stopped { IfErr result (StopsOn W.told O.told (W.shows watch.old (length (W.seen watch.old))) self.old (W.watched watch.old) (O.slots outs.old) (O.slots outs.new)) }
+        ensures seen { OnOk result (W.seen watch.new ≡ W.seen watch.old ++ W.shows watch.old (length (W.seen watch.old)) ∷ []) }
+        ensures stage { OnOk result (self.new.stage ≡ Stage.Looking) }
+        ensures ready { OnOk result (AllReady self.new.names (W.watched watch.new)) }
+        ensures can { OnOk result (CanPrint (O.slots outs.new)) }
+        ensures over { self.old.stage ≡ Stage.Over → (result ≡ Err Fault.Failed) × (O.slots outs.new ≡ O.slots outs.old) × (W.watched watch.new ≡ W.watched watch.old) × (W.seen watch.new ≡ W.seen watch.old) }
+        ensures shows { W.shows watch.new ≡ W.shows watch.old }
+    {
+        match self.stage {
             Stage::Fresh => self.look_first(watch, outs),
             Stage::Looking => self.look_on(watch, outs),
             Stage::Over => Err(Fault::Failed),
-        };
-        if looked.is_err() {
-            self.stage = Stage::Over;
         }
-        looked
     }
 
     /// The first look: the names are added before it.
