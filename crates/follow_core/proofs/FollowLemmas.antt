@@ -1,5 +1,6 @@
 -- A look at all names more, and one that was stopped.
 use Rattle.std.proofs.Common.{◌≡◌, ℕ, zero, suc, ◌<◌, ◌≤◌, ◌+◌, Bool, true, false, not, ◌||◌, ◌&&◌, List, [], ◌∷◌, ◌++◌, None, Option, length, map, take, drop, slice_index_or, refl, sym, ◌∙◌, ap, subst, arith, inl, inr, ◌⊎◌, if◌then◌else◌}
+use Rattle.std.proofs.lemmas.Bool.{false≢true}
 use Rattle.std.proofs.lemmas.List.{append-nil, length-map}
 use Rattle.std.proofs.Math.Seq.{take-length}
 use Rattle.ports_core.specs.Slot.{Slot, adds, told_of, with_written}
@@ -14,13 +15,15 @@ use Rattle.follow_core.specs.declared.name.Standing.TheVariants.{New, Followed, 
 use Rattle.follow_core.specs.declared.follow.Stage.{Stage}
 use Rattle.follow_core.specs.declared.follow.Stage.TheVariants.{Fresh, Looking, Over}
 use Rattle.follow_core.specs.Followed.{any_failed, last_header_from, messages_of, text_from}
-use Rattle.follow_core.specs.FollowState.{AllReady, Begun, CanLook, FollowState, Halted, Holds, LooksOn, StandsIn, StopsOn, new_state, nothing, opened_follow, up_to}
-use Rattle.follow_core.specs.Look.{Fate, Look, Ways}
+use Rattle.follow_core.specs.FollowState.{AllReady, Begun, CanLook, FollowState, Halted, Holds, LooksOn, StandsIn, StopsOn, goes_on_at, is_alive, is_alive_from, new_state, nothing, opened_follow, up_to}
+use Rattle.follow_core.specs.Look.{Fate, Look, Ways, is_dropped, snapshots}
 use Rattle.follow_core.specs.Printing.{PrinterState, Short, fresh_printer, no_room}
 use Rattle.follow_core.specs.Share.{Share, shares_at_look, shares_of}
 use Rattle.follow_core.specs.Sharing.{AllShared, AllShort, Wrote, WroteShort}
-use Rattle.follow_core.specs.Standing.{AllKeep, AllStand, CanVisit, NameState, Stands, state_at, texts}
+use Rattle.follow_core.specs.Standing.{AllKeep, AllStand, CanVisit, IsFollowed, NameState, Stands, any_goes_on, goes_on_as, state_at, texts}
+use Rattle.follow_core.specs.Version.{open_after}
 use Rattle.follow_core.specs.Visited.{StoppedAt, VisitedAll, ways_of}
+use Rattle.follow_core.proofs.EntryLemmas.{last_file}
 use Rattle.follow_core.proofs.ShareLemmas.{failed-append, last-append, messages-append, shares_more, text-append}
 use Rattle.follow_core.proofs.VisitAllLemmas.{nothing_shared, short_as, wrote_as, wrote_both, wrote_short}
 
@@ -212,3 +215,59 @@ pub latest-last : (snapshots : List Snapshot) (snapshot : Snapshot) → latest (
 latest-last [] snapshot = refl
 latest-last (one ∷ []) snapshot = refl
 latest-last (one ∷ two ∷ snapshots) snapshot = latest-last (two ∷ snapshots) snapshot
+
+-- whether a further look can give something
+
+or_none : (a : Bool) → (a || false) ≡ a
+or_none true = refl
+or_none false = refl
+
+and_none : (a : Bool) → (a && false) ≡ false
+and_none true = refl
+and_none false = refl
+
+open_there : (ways : Ways) (looks : List Look) (place : ℕ) (name : List ℕ) (watched : Watched) (position : ℕ) → IsFollowed true ways looks place name watched position → (by_name : Bool) → ways.by_name ≡ by_name → (by_name || is_some (open_after ways.by_name name (snapshots looks))) ≡ true
+open_there ways looks place name watched position followed true is = refl
+open_there ways [] place name watched position followed false is = absurd (false≢true (sym followed.begun))
+open_there ways (before ∷ looks) place name watched position followed false is =
+    ap is_some (last_file ways name before looks ∙ sym (followed.stands refl).file) ∙ followed.there refl is
+
+goes_on_there : (ways : Ways) (looks : List Look) (place : ℕ) (name : List ℕ) (watched : Watched) (standing : Standing) → Stands true ways looks place name watched standing → goes_on_as ways.by_name standing ≡ goes_on_at ways looks place name
+goes_on_there ways looks place name watched New stands =
+    sym (ap (λ those. goes_on_at ways those place name) stands.0 ∙ or_none ways.by_name)
+goes_on_there ways looks place name watched (Followed position) stands =
+    sym (ap (λ dropped. not dropped && (ways.by_name || is_some (open_after ways.by_name name (snapshots looks)))) stands.kept ∙ open_there ways looks place name watched position stands ways.by_name refl)
+goes_on_there ways looks place name watched Left stands = elim stands.why [
+  | inl dropped ↦ sym (ap (λ those. not those && (ways.by_name || is_some (open_after ways.by_name name (snapshots looks)))) dropped)
+  | inr missed ↦ sym (ap (λ by_name. not (is_dropped place looks) && (by_name || is_some (open_after ways.by_name name (snapshots looks)))) missed.way
+      ∙ ap (λ file. not (is_dropped place looks) && is_some file) (missed.unopened refl) ∙ and_none (not (is_dropped place looks)))
+]
+
+alive_from : (ways : Ways) (looks : List Look) (from : ℕ) (names : List NameState) → ((place : ℕ) → place < length names → goes_on_as ways.by_name (state_at names place).standing ≡ goes_on_at ways looks (from + place) (state_at names place).text) → any_goes_on ways.by_name names ≡ is_alive_from ways looks from (texts names)
+alive_from ways looks from [] all = refl
+alive_from ways looks from (name ∷ names) all =
+    ap (λ rest. goes_on_as ways.by_name name.standing || rest) (alive_from ways looks (1 + from) names (λ place within. all (suc place) (omega arith) ∙ ap (λ at. goes_on_at ways looks at (state_at names place).text) (omega arith)))
+    ∙ ap (λ one. one || is_alive_from ways looks (1 + from) (texts names)) (all 0 (omega arith) ∙ ap (λ at. goes_on_at ways looks at name.text) (omega arith))
+
+new_at : (names : List (List ℕ)) (place : ℕ) → place < length names → (state_at (map new_state names) place).standing ≡ New
+new_at [] place within = absurd (omega arith)
+new_at (name ∷ names) zero within = refl
+new_at (name ∷ names) (suc place) within = new_at names place (omega arith)
+
+new_there : (names : List NameState) (place : ℕ) → place < length names → names ≡ map new_state (texts names) → (state_at names place).standing ≡ New
+new_there names place within new = ap (λ (those : List NameState). (state_at those place).standing) new ∙ new_at (texts names) place (subst (λ n. place < n) (sym (length-map names (λ (n : NameState). n.text))) within)
+
+fresh_alive : (ways : Ways) (looks : List Look) (names : List NameState) → looks ≡ [] → names ≡ map new_state (texts names) → (place : ℕ) → place < length names → goes_on_as ways.by_name (state_at names place).standing ≡ goes_on_at ways looks place (state_at names place).text
+fresh_alive ways looks names none new place within =
+    subst (λ (those : List Look). goes_on_as ways.by_name (state_at names place).standing ≡ goes_on_at ways those place (state_at names place).text) (sym none)
+    (ap (goes_on_as ways.by_name) (new_there names place within new) ∙ sym (or_none ways.by_name))
+
+pub alive_is : (told : Bool) (ways : Ways) (headers : Bool) (names : List (List ℕ)) (looks : List Look) (first slots : List Slot) (follow : FollowState) (watched : List Watched) → Holds true told ways headers names looks first follow watched slots → any_goes_on follow.by_name follow.names ≡ is_alive ways names looks
+alive_is told ways headers names looks first slots follow watched holds =
+    ap (λ (way : Ways). any_goes_on way.by_name follow.names) (sym holds.asked)
+    ∙ alive_from ways looks 0 follow.names (λ place within. stage follow.stage holds.stand place within ∙ ap (λ at. goes_on_at ways looks at (state_at follow.names place).text) (omega arith))
+    ∙ ap (λ those. is_alive ways those looks) holds.same where
+  stage : (stage : Stage) → StandsIn true ways looks follow.names watched stage → (place : ℕ) → place < length follow.names → goes_on_as ways.by_name (state_at follow.names place).standing ≡ goes_on_at ways looks place (state_at follow.names place).text
+  stage Fresh stand = fresh_alive ways looks follow.names stand.0 stand.1
+  stage Looking stand = λ place within. goes_on_there ways looks place (state_at follow.names place).text (watched_at watched place) (state_at follow.names place).standing (stand place within)
+  stage Over stand = absurd stand

@@ -1,5 +1,5 @@
 -- How a name stands between two looks.
-use Rattle.std.specs.Prelude.{◌≡◌, ◌<◌, ℕ, Bool, true, false, List, [], ◌∷◌, ◌++◌, None, ◌⊎◌, length, map, slice_index_or, if◌then◌else◌}
+use Rattle.std.specs.Prelude.{◌≡◌, ◌<◌, ℕ, Bool, true, false, ◌||◌, List, [], ◌∷◌, ◌++◌, None, ◌⊎◌, length, map, slice_index_or, if◌then◌else◌}
 use Rattle.watch_core.specs.Snapshot.{Snapshot}
 use Rattle.watch_core.specs.Watched.{Watched, added, is_some, watched_at}
 use Rattle.follow_core.specs.declared.meeting.Came.{Came}
@@ -76,7 +76,13 @@ standing_after by_name (Through len) = Followed len
 standing_after by_name Missing = if by_name then Followed 0 else Left
 standing_after by_name Dropped = Left
 
-abbrev pub is_followed : Standing → Bool
-is_followed New = false
-is_followed (Followed position) = true
-is_followed Left = false
+-- a further look can give something of it
+abbrev pub goes_on_as : (by_name : Bool) → Standing → Bool
+goes_on_as by_name New = by_name
+goes_on_as by_name (Followed position) = true
+goes_on_as by_name Left = false
+
+-- of one of these names
+abbrev pub any_goes_on : (by_name : Bool) → List NameState → Bool
+any_goes_on by_name [] = false
+any_goes_on by_name (name ∷ names) = goes_on_as by_name name.standing || any_goes_on by_name names

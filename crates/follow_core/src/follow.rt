@@ -5,6 +5,7 @@ ghost use Rattle.watch_core.specs.Watched.{Watched};
 ghost use Rattle.follow_core.specs.Catching.{CanPrint};
 ghost use Rattle.follow_core.specs.FollowState.{AllReady, CanLook, FollowState, Holds, LooksOn, StopsOn, is_alive, opened_follow};
 ghost use Rattle.follow_core.specs.Look.{Look, Ways};
+ghost use Rattle.follow_core.specs.Standing.{any_goes_on};
 
 use crate::adding::{add_all, new_names};
 use crate::name::Name;
@@ -114,6 +115,21 @@ impl Follow {
         }
     }
 
+    /// Whether a further look can give something: some name was not dropped and is followed by name or has its file open.
+    pub fn alive(&self) -> bool
+        ensures { (told : Bool) (ways : Ways) (headers : Bool) (names : List (List ℕ)) (looks : List Look) (first slots : List Slot) (watched : List Watched)
+            → Holds true told ways headers names looks first self.now watched slots → result ≡ is_alive ways names looks }
+    {
+        any_goes_on(&self.names, self.by_name)
+    }
+
+    /// Whether a name was missing at the first look, or a call on one failed: the status is 1 then.
+    pub fn failed(&self) -> bool
+        ensures { result ≡ self.now.has_failed }
+    {
+        self.has_failed
+    }
+
     /// Makes a look, and leaves it to the caller to end following after a fault.
     ///
     /// # Errors
@@ -198,4 +214,18 @@ impl Follow {
             Err(fault) => Err(fault),
         }
     }
+}
+
+/// Whether a further look can give something of one of the names.
+fn any_goes_on(names: &[Name], by_name: bool) -> bool
+    ensures { result ≡ any_goes_on by_name names.now }
+{
+    let mut left = names;
+    while let [name, rest @ ..] = left {
+        if name.goes_on(by_name) {
+            return true;
+        }
+        left = rest;
+    }
+    false
 }

@@ -5,7 +5,7 @@ ghost use Rattle.watch_core.specs.Watched.{watched_at};
 ghost use Rattle.follow_core.specs.Catching.{CanPrint};
 ghost use Rattle.follow_core.specs.Look.{Look, Ways, is_dropped};
 ghost use Rattle.follow_core.specs.Looked.{Stopped, has_failed};
-ghost use Rattle.follow_core.specs.Standing.{CanVisit, KeepsBytes, NameState, Stands, is_followed, standing_after};
+ghost use Rattle.follow_core.specs.Standing.{CanVisit, KeepsBytes, NameState, Stands, goes_on_as, standing_after};
 ghost use Rattle.follow_core.specs.Visited.{KeepsOthers, Visited, ways_of};
 
 use crate::meeting::{Came, meet};
@@ -63,11 +63,15 @@ impl Name {
         self.text.as_str()
     }
 
-    /// Whether it is looked at again.
-    pub(crate) fn is_followed(&self) -> bool
-        ensures { result ≡ is_followed self.now.standing }
+    /// Whether a further look can give something of it, where it is followed by name or by its open file.
+    pub(crate) fn goes_on(&self, by_name: bool) -> bool
+        ensures { result ≡ goes_on_as by_name self.now.standing }
     {
-        matches!(self.standing, Standing::Followed(_))
+        match self.standing {
+            Standing::New => by_name,
+            Standing::Followed(_) => true,
+            Standing::Left => false,
+        }
     }
 
     /// Looks at the name: opens its file at the first look, and writes what came to it, with the messages of what changed or failed.
