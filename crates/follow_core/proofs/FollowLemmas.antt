@@ -86,9 +86,9 @@ pub visits_at : (told_in told : Bool) (snapshot seen : Snapshot) (old new : Foll
     → Visits told_in told snapshot old watched slots new watched_new slots_new failed
 visits_at told_in told snapshot seen old new names names_new watched mid watched_new slots slots_new failed same also is at visits =
     subst (λ those. V those new.names watched snapshot) same (subst (λ those. V names those watched snapshot) also (subst (λ those. V names names_new those snapshot) is (subst (λ s. V names names_new mid s) at visits))) where
-  V : List NameState → List NameState → List Watched → Snapshot → Type 0
-  V these after those s = (looks : List Look) → AllStand told_in (ways_of old.by_name old.start) looks these those → AllKeep told_in (ways_of old.by_name old.start) looks s (texts these)
-      → VisitedAll told_in told (ways_of old.by_name old.start) looks s these old.printer slots new.printer slots_new watched_new after failed
+      V : List NameState → List NameState → List Watched → Snapshot → Type 0
+      V these after those s = (looks : List Look) → AllStand told_in (ways_of old.by_name old.start) looks these those → AllKeep told_in (ways_of old.by_name old.start) looks s (texts these)
+          → VisitedAll told_in told (ways_of old.by_name old.start) looks s these old.printer slots new.printer slots_new watched_new after failed
 
 pub halts_at : (told_in told : Bool) (snapshot seen : Snapshot) (old : FollowState) (names : List NameState) (watched mid : List Watched) (slots slots_new : List Slot) (why : Fault) → names ≡ old.names → mid ≡ watched → seen ≡ snapshot
     → ((looks : List Look) → AllStand told_in (ways_of old.by_name old.start) looks names mid → AllKeep told_in (ways_of old.by_name old.start) looks seen (texts names)
@@ -96,21 +96,24 @@ pub halts_at : (told_in told : Bool) (snapshot seen : Snapshot) (old : FollowSta
     → Halts told_in told snapshot old watched slots slots_new why
 halts_at told_in told snapshot seen old names watched mid slots slots_new why same is at halts =
     subst (λ those. H those watched snapshot) same (subst (λ those. H names those snapshot) is (subst (λ s. H names mid s) at halts)) where
-  H : List NameState → List Watched → Snapshot → Type 0
-  H these those s = (looks : List Look) → AllStand told_in (ways_of old.by_name old.start) looks these those → AllKeep told_in (ways_of old.by_name old.start) looks s (texts these)
-      → StoppedAt told_in told (ways_of old.by_name old.start) looks s (texts these) old.printer slots slots_new why
+      H : List NameState → List Watched → Snapshot → Type 0
+      H these those s = (looks : List Look) → AllStand told_in (ways_of old.by_name old.start) looks these those → AllKeep told_in (ways_of old.by_name old.start) looks s (texts these)
+          → StoppedAt told_in told (ways_of old.by_name old.start) looks s (texts these) old.printer slots slots_new why
 
 pub look_made : (told_in told : Bool) (snapshot : Snapshot) (old new : FollowState) (watched watched_new : List Watched) (slots slots_new : List Slot) (failed : Bool) → old.stage ≡ Looking
     → new.by_name ≡ old.by_name → new.start ≡ old.start → new.stage ≡ Looking → new.has_failed ≡ (old.has_failed || failed) → Visits told_in told snapshot old watched slots new watched_new slots_new failed → LooksOn told_in told snapshot old watched slots new watched_new slots_new
-look_made told_in told snapshot old new watched watched_new slots slots_new failed looking by_name start looking_new has_failed visits ways headers names looks first holds keep = (visited.fates, record {
-  asked = holds.asked ∙ ap (λ way. ways_of way old.start) (sym by_name) ∙ ap (ways_of new.by_name) (sym start);
-  same = visited.same ∙ holds.same;
-  stand = subst (StandsIn told_in ways after new.names watched_new) (sym looking_new) visited.stand;
-  shares = holds.shares ++ visited.shares;
-  are = λ t. ap (λ those. those ++ visited.shares) (holds.are t) ∙ ap (λ those. shares_of ways names looks ++ those) (visited.are t ∙ ap (λ those. shares_at_look ways those looks look) holds.same) ∙ sym (shares_more ways names looks look);
-  shared = all_both told (fresh_printer headers) old.printer new.printer holds.shares visited.shares first slots slots_new holds.shared visited.shared;
-  failed = failed-append holds.shares visited.shares ∙ ap (λ before. before || any_failed visited.shares) holds.failed ∙ ap (λ now. old.has_failed || now) visited.is_failed ∙ sym has_failed;
-}) where
+look_made told_in told snapshot old new watched watched_new slots slots_new failed looking by_name start looking_new has_failed visits ways headers names looks first holds keep = (
+  visited.fates,
+  record {
+    asked = holds.asked ∙ ap (λ way. ways_of way old.start) (sym by_name) ∙ ap (ways_of new.by_name) (sym start);
+    same = visited.same ∙ holds.same;
+    stand = subst (StandsIn told_in ways after new.names watched_new) (sym looking_new) visited.stand;
+    shares = holds.shares ++ visited.shares;
+    are = λ t. ap (λ those. those ++ visited.shares) (holds.are t) ∙ ap (λ those. shares_of ways names looks ++ those) (visited.are t ∙ ap (λ those. shares_at_look ways those looks look) holds.same) ∙ sym (shares_more ways names looks look);
+    shared = all_both told (fresh_printer headers) old.printer new.printer holds.shares visited.shares first slots slots_new holds.shared visited.shared;
+    failed = failed-append holds.shares visited.shares ∙ ap (λ before. before || any_failed visited.shares) holds.failed ∙ ap (λ now. old.has_failed || now) visited.is_failed ∙ sym has_failed;
+  },
+) where
   visited : VisitedAll told_in told ways looks snapshot old.names old.printer slots new.printer slots_new watched_new new.names failed
   visited = subst (λ way. VisitedAll told_in told way looks snapshot old.names old.printer slots new.printer slots_new watched_new new.names failed) (sym holds.asked)
       (visits looks (stand_in told_in told ways headers names looks first old watched slots looking holds) (keep_in told_in told ways headers names looks snapshot first old watched slots holds keep))
@@ -193,8 +196,8 @@ held_added told_in told ways headers names looks first old mid watched watched_m
       shared = holds.shared;
       failed = holds.failed;
     }) where
-  new : (looks ≡ []) × (old.names ≡ map new_state (texts old.names))
-  new = subst (StandsIn told_in ways looks old.names watched) is.fresh holds.stand
+      new : (looks ≡ []) × (old.names ≡ map new_state (texts old.names))
+      new = subst (StandsIn told_in ways looks old.names watched) is.fresh holds.stand
 
 pub first_made : (told_in told : Bool) (snapshot snapshot_mid : Snapshot) (old mid new : FollowState) (watched watched_mid watched_new : List Watched) (slots slots_new : List Slot) → IsAdded old mid watched watched_mid → snapshot_mid ≡ snapshot
     → LooksOn told_in told snapshot_mid mid watched_mid slots new watched_new slots_new → LooksOn told_in told snapshot old watched slots new watched_new slots_new
@@ -267,7 +270,7 @@ alive_is told ways headers names looks first slots follow watched holds =
     ap (λ (way : Ways). any_goes_on way.by_name follow.names) (sym holds.asked)
     ∙ alive_from ways looks 0 follow.names (λ place within. stage follow.stage holds.stand place within ∙ ap (λ at. goes_on_at ways looks at (state_at follow.names place).text) (omega arith))
     ∙ ap (λ those. is_alive ways those looks) holds.same where
-  stage : (stage : Stage) → StandsIn true ways looks follow.names watched stage → (place : ℕ) → place < length follow.names → goes_on_as ways.by_name (state_at follow.names place).standing ≡ goes_on_at ways looks place (state_at follow.names place).text
-  stage Fresh stand = fresh_alive ways looks follow.names stand.0 stand.1
-  stage Looking stand = λ place within. goes_on_there ways looks place (state_at follow.names place).text (watched_at watched place) (state_at follow.names place).standing (stand place within)
-  stage Over stand = absurd stand
+      stage : (stage : Stage) → StandsIn true ways looks follow.names watched stage → (place : ℕ) → place < length follow.names → goes_on_as ways.by_name (state_at follow.names place).standing ≡ goes_on_at ways looks place (state_at follow.names place).text
+      stage Fresh stand = fresh_alive ways looks follow.names stand.0 stand.1
+      stage Looking stand = λ place within. goes_on_there ways looks place (state_at follow.names place).text (watched_at watched place) (state_at follow.names place).standing (stand place within)
+      stage Over stand = absurd stand
