@@ -13,10 +13,11 @@ use Rattle.follow_core.specs.declared.copying.Stop.{Stop}
 use Rattle.follow_core.specs.declared.copying.Stop.TheVariants.{Broke, Over}
 use Rattle.follow_core.specs.declared.notice.Notice.TheVariants.{Truncated}
 use Rattle.follow_core.specs.Notice.{notice_of}
-use Rattle.follow_core.specs.Printing.{PrinterState, text_under}
+use Rattle.follow_core.specs.Printing.{PrinterState, Short, no_room, text_under, broke as short_broke}
+use Rattle.follow_core.specs.Sharing.{WroteShort}
 use Rattle.follow_core.specs.Copying.{Copied, Stops, read_broke, over as copy_over}
-use Rattle.follow_core.specs.Giving.{IsFront, Gives, Ends, whole, broke, over}
-use Rattle.follow_core.specs.Catching.{CanPrint, Keeps, UnlessOver, bytes_past, lines_past}
+use Rattle.follow_core.specs.Giving.{IsFront, Gives, Halts, Ends, whole, broke, over}
+use Rattle.follow_core.specs.Catching.{CanGoOn, CanPrint, HasError, Keeps, bytes_past, lines_past}
 use Rattle.follow_core.proofs.PrintLemmas.{no_memory}
 use Rattle.follow_core.proofs.GiveLemmas.{gives_nothing, gives_put, gives_line, halts_short, front_nil, stops_early, goes_after}
 
@@ -28,10 +29,30 @@ gives_can told printer after name bytes lines (output ∷ error ∷ others) new 
   by : (last : Slot) × SaysAll told Tail lines error last × (new ≡ adds (told_of told (text_under printer name bytes)) output ∷ last ∷ others) → CanPrint new
   by (last, said, is) = subst CanPrint (sym is) (can.0, ap is_open (all_said_state told Tail lines error last said) ∙ can.1)
 
-pub ends_can : {T : Type 0} (told_in told : Bool) (printer after : PrinterState) (name due : List ℕ) (lines : List (List ℕ)) (old new : List Slot) (result : Result T Stop) → Ends {T = T} told_in told printer name due lines old after new result → CanPrint old → UnlessOver result (CanPrint new)
+short_error : (told : Bool) (text : List ℕ) (output error : Slot) (others new : List Slot) (why : Fault) → Short told text (output ∷ error ∷ others) new why → is_open error.state ≡ true → HasError new
+short_error told text output error others new _ (short_broke n part) can = subst HasError (sym part.slots) can
+short_error told text output error others new _ (no_room n within is) can = subst HasError (sym is) can
+
+pub short_can : (told : Bool) (text : List ℕ) (old new : List Slot) (why : Fault) → Short told text old new why → CanPrint old → HasError new
+short_can told text [] new why short can = absurd (false≢true can.0)
+short_can told text (output ∷ []) new why short can = absurd (false≢true can.1)
+short_can told text (output ∷ error ∷ others) new why short can = short_error told text output error others new why short can.1
+
+-- standard error is open where a beginning was written
+pub wrote_error : (told : Bool) (text : List ℕ) (lines : List (List ℕ)) (old new : List Slot) (why : Fault) → WroteShort told text lines old new why → CanPrint old → HasError new
+wrote_error told text lines [] new why short can = absurd (false≢true can.0)
+wrote_error told text lines (output ∷ []) new why short can = absurd (false≢true can.1)
+wrote_error told text lines (output ∷ error ∷ others) new why short can = by (short output error others refl) where
+  by : (last : Slot) × SaysAll told Tail lines error last × Short told text (output ∷ last ∷ others) new why → HasError new
+  by (last, said, part) = short_error told text output last others new why part (ap is_open (all_said_state told Tail lines error last said) ∙ can.1)
+
+halts_error : (told : Bool) (printer : PrinterState) (name bytes : List ℕ) (lines : List (List ℕ)) (old new : List Slot) (why : Fault) → Halts told printer name bytes lines old new why → CanPrint old → HasError new
+halts_error told printer name bytes lines old new why halts can = wrote_error told (text_under printer name bytes) lines old new why halts.slots can
+
+pub ends_can : {T : Type 0} (told_in told : Bool) (printer after : PrinterState) (name due : List ℕ) (lines : List (List ℕ)) (old new : List Slot) (result : Result T Stop) → Ends {T = T} told_in told printer name due lines old after new result → CanPrint old → CanGoOn result new
 ends_can told_in told printer after name due lines old new _ (whole value bytes said are gives) can = gives_can told printer after name bytes said old new gives can
 ends_can told_in told printer after name due lines old new _ (broke why bytes said are gives) can = gives_can told printer after name bytes said old new gives can
-ends_can told_in told printer after name due lines old new _ (over why bytes said are halts) can = tt
+ends_can told_in told printer after name due lines old new _ (over why bytes said are halts) can = halts_error told printer name bytes said old new why halts can
 
 -- what is due may be said in another way
 pub due_as : {T : Type 0} (told_in told : Bool) (printer after : PrinterState) (name due other : List ℕ) (lines more : List (List ℕ)) (old new : List Slot) (result : Result T Stop) → (told_in ≡ true → (due ≡ other) × (lines ≡ more))

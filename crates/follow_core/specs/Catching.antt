@@ -9,9 +9,13 @@ use Rattle.follow_core.specs.declared.copying.Stop.TheVariants.{Broke, Over}
 use Rattle.follow_core.specs.declared.notice.Notice.TheVariants.{Truncated}
 use Rattle.follow_core.specs.Notice.{notice_of}
 
--- standard output can be written, and standard error is open, broken or not
+-- standard error is open, broken or not
+abbrev pub HasError : List Slot → Type 0
+HasError slots = is_open (slot_at slots 1).state ≡ true
+
+-- and standard output can be written
 abbrev pub CanPrint : List Slot → Type 0
-CanPrint slots = IsTrue (is_writable slots 0) × (is_open (slot_at slots 1).state ≡ true)
+CanPrint slots = IsTrue (is_writable slots 0) × HasError slots
 
 -- what an open file has past this position; all that it has where it is shorter
 abbrev pub bytes_past : ℕ → List ℕ → List ℕ
@@ -26,11 +30,11 @@ abbrev pub as_stop : {T : Type 0} → Result T Fault → Result T Stop
 as_stop (Ok value) = Ok value
 as_stop (Err why) = Err (Over why)
 
--- so long as following isn't over
-abbrev pub UnlessOver : {T : Type 0} → Result T Stop → Type 0 → Type 0
-UnlessOver (Ok value) P = P
-UnlessOver (Err (Broke why)) P = P
-UnlessOver (Err (Over why)) P = Unit {0}
+-- how the outputs can be used after a call; where following is over, a message can still be said
+abbrev pub CanGoOn : {T : Type 0} → Result T Stop → List Slot → Type 0
+CanGoOn (Ok value) slots = CanPrint slots
+CanGoOn (Err (Broke why)) slots = CanPrint slots
+CanGoOn (Err (Over why)) slots = HasError slots
 
 -- the call changed no name, but that this one broke where the call failed
 abbrev pub Keeps : {T : Type 0} → ℕ → List Watched → List Watched → Result T Stop → Type 0

@@ -4,7 +4,7 @@ ghost use Rattle.watch_core.specs.Snapshot.{latest};
 ghost use Rattle.watch_core.specs.Watched.{is_watchable, watched_at};
 ghost use Rattle.follow_core.specs.Version.{Entry, open_after_look};
 ghost use Rattle.follow_core.specs.Giving.{Ends};
-ghost use Rattle.follow_core.specs.Catching.{CanPrint, Keeps, UnlessOver};
+ghost use Rattle.follow_core.specs.Catching.{CanPrint, Keeps, CanGoOn};
 ghost use Rattle.follow_core.specs.Changing.{Follows, held_at};
 ghost use Rattle.follow_core.specs.Again.{StandsAt, bytes_again, bytes_open, lines_again, lines_open};
 
@@ -42,7 +42,7 @@ pub(crate) fn look_again<W: Watch, O: Outs>(
     ensures len { let snapshot = latest (W.seen watch.old) in let opened = (watched_at (W.watched watch.old) place).opened in
         IfOk result (λ len. W.told ≡ true → (last : Entry) → StandsAt last opened position → len ≡ length (held_at snapshot (open_after_look by_name name.now opened snapshot))) }
     ensures follows { Follows W.told (open_after_look by_name name.now (watched_at (W.watched watch.old) place).opened (latest (W.seen watch.old))) place (W.watched watch.old) (W.watched watch.new) result }
-    ensures can { UnlessOver result (CanPrint (O.slots outs.new)) }
+    ensures can { CanGoOn result (O.slots outs.new) }
     ensures seen { W.seen watch.new ≡ W.seen watch.old }
     ensures shows { W.shows watch.new ≡ W.shows watch.old }
 {
@@ -79,7 +79,7 @@ fn catch_up_open<W: Watch, O: Outs>(
     ensures len { let snapshot = latest (W.seen watch.old) in let opened = (watched_at (W.watched watch.old) place).opened in
         IfOk result (λ len. W.told ≡ true → (last : Entry) → StandsAt last opened position → len ≡ length (held_at snapshot opened)) }
     ensures keeps { Keeps place (W.watched watch.old) (W.watched watch.new) result }
-    ensures can { UnlessOver result (CanPrint (O.slots outs.new)) }
+    ensures can { CanGoOn result (O.slots outs.new) }
     ensures seen { W.seen watch.new ≡ W.seen watch.old }
     ensures shows { W.shows watch.new ≡ W.shows watch.old }
 {

@@ -1,11 +1,11 @@
 //! One look at the open file of a name.
-ghost use Rattle.std.specs.Prelude.{◌≡◌, ◌≤◌, ◌<◌, ◌^◌, ◌∷◌, [], ℕ, Bool, true, length, nat_lt, if◌then◌else◌, IsTrue, IfOk, OnOk};
+ghost use Rattle.std.specs.Prelude.{◌≡◌, ◌≤◌, ◌<◌, ◌^◌, ◌∷◌, [], ℕ, Bool, true, length, nat_lt, if◌then◌else◌, IsTrue, IfOk, IfErr, OnOk};
 ghost use Rattle.watch_core.specs.Snapshot.{latest};
 ghost use Rattle.watch_core.specs.Watched.{is_readable, open_contents, watched_at};
 ghost use Rattle.follow_core.specs.Notice.{notice_of};
 ghost use Rattle.follow_core.specs.Printing.{PrinterState};
 ghost use Rattle.follow_core.specs.Giving.{Ends};
-ghost use Rattle.follow_core.specs.Catching.{CanPrint, Keeps, UnlessOver, as_stop, bytes_past, lines_past};
+ghost use Rattle.follow_core.specs.Catching.{CanGoOn, CanPrint, HasError, Keeps, as_stop, bytes_past, lines_past};
 
 use crate::copying::{Stop, copy};
 use crate::notice::{Notice, notice_line};
@@ -37,7 +37,7 @@ pub(crate) fn catch_up<W: Watch, O: Outs>(
         Ends W.told O.told printer.old name.now (bytes_past position contents) (lines_past name.now position (length contents)) (O.slots outs.old) printer.new (O.slots outs.new) result }
     ensures len { IfOk result (λ len. W.told ≡ true → len ≡ length (open_contents (latest (W.seen watch.old)) (watched_at (W.watched watch.old) place))) }
     ensures keeps { Keeps place (W.watched watch.old) (W.watched watch.new) result }
-    ensures can { UnlessOver result (CanPrint (O.slots outs.new)) }
+    ensures can { CanGoOn result (O.slots outs.new) }
     ensures seen { W.seen watch.new ≡ W.seen watch.old }
     ensures shows { W.shows watch.new ≡ W.shows watch.old }
 {
@@ -71,6 +71,7 @@ fn begin_at<O: Outs>(
     ensures ends { (told_in : Bool) (printer : PrinterState) → Ends told_in O.told printer name.now [] (lines_past name.now position len) (O.slots outs.old) printer (O.slots outs.new) (as_stop result) }
     ensures from { IfOk result (λ from. from ≡ (if nat_lt len position then 0 else position)) }
     ensures can { OnOk result (CanPrint (O.slots outs.new)) }
+    ensures error { IfErr result (λ _. HasError (O.slots outs.new)) }
 {
     if len >= position {
         return Ok(position);
@@ -95,6 +96,7 @@ pub(crate) fn tell<O: Outs>(
     requires can { CanPrint (O.slots outs.old) }
     ensures ends { (told_in : Bool) (printer : PrinterState) → Ends told_in O.told printer name.now [] (notice_of found name.now ∷ []) (O.slots outs.old) printer (O.slots outs.new) (as_stop result) }
     ensures can { OnOk result (CanPrint (O.slots outs.new)) }
+    ensures error { IfErr result (λ _. HasError (O.slots outs.new)) }
 {
     match notice_line(alloc, found, name) {
         Ok(line) => {

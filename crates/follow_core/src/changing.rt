@@ -3,7 +3,7 @@ ghost use Rattle.std.specs.Prelude.{◌≡◌, ◌<◌, ◌^◌, ◌∷◌, [], 
 ghost use Rattle.watch_core.specs.Snapshot.{latest};
 ghost use Rattle.watch_core.specs.Watched.{is_watchable, open_contents, watched_at};
 ghost use Rattle.follow_core.specs.Giving.{Ends};
-ghost use Rattle.follow_core.specs.Catching.{CanPrint, UnlessOver};
+ghost use Rattle.follow_core.specs.Catching.{CanPrint, CanGoOn};
 ghost use Rattle.follow_core.specs.Changing.{Follows, bytes_led, change_between, held_at, lines_led};
 
 use crate::catching::{catch_up, tell};
@@ -38,7 +38,7 @@ pub(crate) fn follow_name<W: Watch, O: Outs>(
         Ends W.told O.told printer.old name.now (bytes_led snapshot opened (snapshot.leads name.now)) (lines_led name.now snapshot opened (snapshot.leads name.now)) (O.slots outs.old) printer.new (O.slots outs.new) result }
     ensures len { IfOk result (λ len. W.told ≡ true → let snapshot = latest (W.seen watch.old) in position ≡ length (held_at snapshot (watched_at (W.watched watch.old) place).opened) → len ≡ length (held_at snapshot (snapshot.leads name.now))) }
     ensures follows { Follows W.told ((latest (W.seen watch.old)).leads name.now) place (W.watched watch.old) (W.watched watch.new) result }
-    ensures can { UnlessOver result (CanPrint (O.slots outs.new)) }
+    ensures can { CanGoOn result (O.slots outs.new) }
     ensures seen { W.seen watch.new ≡ W.seen watch.old }
     ensures shows { W.shows watch.new ≡ W.shows watch.old }
 {

@@ -4,7 +4,7 @@ ghost use Rattle.ends_core.specs.Ends.{tail_of};
 ghost use Rattle.watch_core.specs.Snapshot.{latest};
 ghost use Rattle.watch_core.specs.Watched.{is_readable, is_watchable, open_contents, watched_at};
 ghost use Rattle.follow_core.specs.Giving.{Ends};
-ghost use Rattle.follow_core.specs.Catching.{CanPrint, Keeps, UnlessOver};
+ghost use Rattle.follow_core.specs.Catching.{CanPrint, Keeps, CanGoOn};
 ghost use Rattle.follow_core.specs.Changing.{Follows};
 ghost use Rattle.follow_core.specs.First.{LooksFirst};
 
@@ -35,7 +35,7 @@ pub(crate) fn look_first<W: Watch, O: Outs>(
     requires room { 0 < length buffer.old }
     ensures looks { LooksFirst W.told O.told (tail_of start.delim start.unit start.from_nth start.count) (latest (W.seen watch.old)) place name.now printer.old (O.slots outs.old) printer.new (O.slots outs.new) result }
     ensures follows { Follows W.told ((latest (W.seen watch.old)).leads name.now) place (W.watched watch.old) (W.watched watch.new) result }
-    ensures can { UnlessOver result (CanPrint (O.slots outs.new)) }
+    ensures can { CanGoOn result (O.slots outs.new) }
     ensures seen { W.seen watch.new ≡ W.seen watch.old }
     ensures shows { W.shows watch.new ≡ W.shows watch.old }
 {
@@ -74,7 +74,7 @@ pub(crate) fn write_start<W: Watch, O: Outs>(
         Ends W.told O.told printer.old name.now (tail_of start.delim start.unit start.from_nth start.count contents) [] (O.slots outs.old) printer.new (O.slots outs.new) result }
     ensures len { IfOk result (λ len. W.told ≡ true → len ≡ length (open_contents (latest (W.seen watch.old)) (watched_at (W.watched watch.old) place))) }
     ensures keeps { Keeps place (W.watched watch.old) (W.watched watch.new) result }
-    ensures can { UnlessOver result (CanPrint (O.slots outs.new)) }
+    ensures can { CanGoOn result (O.slots outs.new) }
     ensures seen { W.seen watch.new ≡ W.seen watch.old }
     ensures shows { W.shows watch.new ≡ W.shows watch.old }
 {

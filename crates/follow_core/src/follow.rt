@@ -2,7 +2,7 @@
 ghost use Rattle.std.specs.Prelude.{◌≡◌, ◌<◌, ◌∷◌, ◌++◌, [], ℕ, Bool, List, true, length, map, Err, IfOk, IfErr, OnOk};
 ghost use Rattle.ports_core.specs.Slot.{Slot};
 ghost use Rattle.watch_core.specs.Watched.{Watched};
-ghost use Rattle.follow_core.specs.Catching.{CanPrint};
+ghost use Rattle.follow_core.specs.Catching.{CanPrint, HasError};
 ghost use Rattle.follow_core.specs.FollowState.{AllReady, CanLook, FollowState, Holds, LooksOn, StopsOn, is_alive, opened_follow};
 ghost use Rattle.follow_core.specs.Look.{Look, Ways};
 ghost use Rattle.follow_core.specs.Standing.{any_goes_on};
@@ -101,6 +101,7 @@ impl Follow {
         ensures stopped { IfErr result (StopsOn W.told O.told (W.shows watch.old (length (W.seen watch.old))) self.old (W.watched watch.old) (O.slots outs.old) (O.slots outs.new)) }
         ensures seen { OnOk result (W.seen watch.new ≡ W.seen watch.old ++ W.shows watch.old (length (W.seen watch.old)) ∷ []) }
         ensures stage { OnOk result (self.new.stage ≡ Stage.Looking) }
+        ensures error { HasError (O.slots outs.old) → HasError (O.slots outs.new) }
         ensures can { OnOk result (CanLook self.new (W.watched watch.new) (O.slots outs.new)) }
         ensures err { IfErr result (λ _. self.new.stage ≡ Stage.Over) }
         ensures over { self.old.stage ≡ Stage.Over → (result ≡ Err Fault.Failed) × (O.slots outs.new ≡ O.slots outs.old) × (W.watched watch.new ≡ W.watched watch.old) × (W.seen watch.new ≡ W.seen watch.old) }
@@ -143,6 +144,7 @@ impl Follow {
         ensures stage { OnOk result (self.new.stage ≡ Stage.Looking) }
         ensures ready { OnOk result (AllReady self.new.names (W.watched watch.new)) }
         ensures can { OnOk result (CanPrint (O.slots outs.new)) }
+        ensures error { HasError (O.slots outs.old) → HasError (O.slots outs.new) }
         ensures over { self.old.stage ≡ Stage.Over → (result ≡ Err Fault.Failed) × (O.slots outs.new ≡ O.slots outs.old) × (W.watched watch.new ≡ W.watched watch.old) × (W.seen watch.new ≡ W.seen watch.old) }
         ensures shows { W.shows watch.new ≡ W.shows watch.old }
     {
@@ -168,6 +170,7 @@ impl Follow {
         ensures stage { OnOk result (self.new.stage ≡ Stage.Looking) }
         ensures ready { OnOk result (AllReady self.new.names (W.watched watch.new)) }
         ensures can { OnOk result (CanPrint (O.slots outs.new)) }
+        ensures error { IfErr result (λ _. HasError (O.slots outs.new)) }
         ensures shows { W.shows watch.new ≡ W.shows watch.old }
     {
         if let Err(fault) = add_all(&self.names, watch) {
@@ -192,6 +195,7 @@ impl Follow {
         ensures stage { OnOk result (self.new.stage ≡ Stage.Looking) }
         ensures ready { OnOk result (AllReady self.new.names (W.watched watch.new)) }
         ensures can { OnOk result (CanPrint (O.slots outs.new)) }
+        ensures error { IfErr result (λ _. HasError (O.slots outs.new)) }
         ensures shows { W.shows watch.new ≡ W.shows watch.old }
     {
         if let Err(fault) = watch.turn() {

@@ -4,7 +4,7 @@ ghost use Rattle.ports_core.specs.Slot.{changed_at};
 ghost use Rattle.ends_core.specs.Ends.{tail_of};
 ghost use Rattle.watch_core.specs.Snapshot.{latest};
 ghost use Rattle.watch_core.specs.Watched.{is_watchable, watched_at};
-ghost use Rattle.follow_core.specs.Catching.{CanPrint};
+ghost use Rattle.follow_core.specs.Catching.{CanPrint, HasError};
 ghost use Rattle.follow_core.specs.Looked.{IsThere, Leaves, Looked, Stopped};
 
 use crate::copying::Stop;
@@ -50,6 +50,7 @@ pub(crate) fn meet<W: Watch, O: Outs>(
     ensures leaves { IfOk result (Leaves W.told (latest (W.seen watch.old)) ((latest (W.seen watch.old)).leads name.now) place (W.watched watch.old) (W.watched watch.new)) }
     ensures there { IfOk result (IsThere W.told ((latest (W.seen watch.old)).leads name.now)) }
     ensures can { OnOk result (CanPrint (O.slots outs.new)) }
+    ensures error { IfErr result (λ _. HasError (O.slots outs.new)) }
     ensures seen { W.seen watch.new ≡ W.seen watch.old }
     ensures shows { W.shows watch.new ≡ W.shows watch.old }
 {

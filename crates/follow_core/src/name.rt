@@ -2,7 +2,7 @@
 ghost use Rattle.std.specs.Prelude.{◌≡◌, ◌<◌, List, false, length, string_bytes, IfOk, IfErr, OnOk};
 ghost use Rattle.watch_core.specs.Snapshot.{latest};
 ghost use Rattle.watch_core.specs.Watched.{watched_at};
-ghost use Rattle.follow_core.specs.Catching.{CanPrint};
+ghost use Rattle.follow_core.specs.Catching.{CanPrint, HasError};
 ghost use Rattle.follow_core.specs.Look.{Look, Ways, is_dropped};
 ghost use Rattle.follow_core.specs.Looked.{Stopped, has_failed};
 ghost use Rattle.follow_core.specs.Standing.{CanVisit, KeepsBytes, NameState, Stands, goes_on_as, standing_after};
@@ -102,6 +102,7 @@ impl Name {
         ensures ready { OnOk result (CanVisit self.new (watched_at (W.watched watch.new) place)) }
         ensures others { OnOk result (KeepsOthers place (W.watched watch.old) (W.watched watch.new)) }
         ensures can { OnOk result (CanPrint (O.slots outs.new)) }
+        ensures error { IfErr result (λ _. HasError (O.slots outs.new)) }
         ensures seen { W.seen watch.new ≡ W.seen watch.old }
         ensures shows { W.shows watch.new ≡ W.shows watch.old }
     {
@@ -144,6 +145,7 @@ impl Name {
         ensures ready { OnOk result (CanVisit self.new (watched_at (W.watched watch.new) place)) }
         ensures others { OnOk result (KeepsOthers place (W.watched watch.old) (W.watched watch.new)) }
         ensures can { OnOk result (CanPrint (O.slots outs.new)) }
+        ensures error { IfErr result (λ _. HasError (O.slots outs.new)) }
         ensures seen { W.seen watch.new ≡ W.seen watch.old }
         ensures shows { W.shows watch.new ≡ W.shows watch.old }
     {
@@ -190,6 +192,7 @@ impl Name {
         ensures ready { OnOk result (CanVisit self.new (watched_at (W.watched watch.new) place)) }
         ensures others { OnOk result (KeepsOthers place (W.watched watch.old) (W.watched watch.new)) }
         ensures can { OnOk result (CanPrint (O.slots outs.new)) }
+        ensures error { IfErr result (λ _. HasError (O.slots outs.new)) }
         ensures seen { W.seen watch.new ≡ W.seen watch.old }
         ensures shows { W.shows watch.new ≡ W.shows watch.old }
     {

@@ -2,7 +2,7 @@
 ghost use Rattle.std.specs.Prelude.{◌≡◌, ◌<◌, ◌∷◌, ℕ, List, false, true, length, IsTrue, IfOk, IfErr, OnOk};
 ghost use Rattle.watch_core.specs.Snapshot.{latest};
 ghost use Rattle.watch_core.specs.Watched.{is_watchable, watched_at};
-ghost use Rattle.follow_core.specs.Catching.{CanPrint};
+ghost use Rattle.follow_core.specs.Catching.{CanPrint, HasError};
 ghost use Rattle.follow_core.specs.Look.{Look, Ways};
 ghost use Rattle.follow_core.specs.Looked.{IsLater, IsReady, Leaves, Looked, Stopped};
 ghost use Rattle.follow_core.specs.Version.{open_after_look};
@@ -45,6 +45,7 @@ pub(crate) fn revisit<W: Watch, O: Outs>(
     ensures keeps { IfOk result (Leaves false (latest (W.seen watch.old)) ((latest (W.seen watch.old)).leads name.now) place (W.watched watch.old) (W.watched watch.new)) }
     ensures later { IfOk result IsLater }
     ensures can { OnOk result (CanPrint (O.slots outs.new)) }
+    ensures error { IfErr result (λ _. HasError (O.slots outs.new)) }
     ensures seen { W.seen watch.new ≡ W.seen watch.old }
     ensures shows { W.shows watch.new ≡ W.shows watch.old }
 {

@@ -2,7 +2,7 @@
 ghost use Rattle.std.specs.Prelude.{◌≡◌, ◌<◌, ◌≤◌, ℕ, List, length, IfOk, IfErr, OnOk};
 ghost use Rattle.watch_core.specs.Snapshot.{latest};
 ghost use Rattle.watch_core.specs.Watched.{watched_at};
-ghost use Rattle.follow_core.specs.Catching.{CanPrint};
+ghost use Rattle.follow_core.specs.Catching.{CanPrint, HasError};
 ghost use Rattle.follow_core.specs.Look.{Look};
 ghost use Rattle.follow_core.specs.Standing.{AllKeep, AllStand, CanVisit, state_at, texts};
 ghost use Rattle.follow_core.specs.Visited.{StoppedAt, VisitedAll, ways_of};
@@ -40,6 +40,7 @@ pub(crate) fn visit_all<W: Watch, O: Outs>(
     ensures texts { texts names.new ≡ texts names.old }
     ensures ready { OnOk result ((place : ℕ) → place < length names.new → CanVisit (state_at names.new place) (watched_at (W.watched watch.new) place)) }
     ensures can { OnOk result (CanPrint (O.slots outs.new)) }
+    ensures error { IfErr result (λ _. HasError (O.slots outs.new)) }
     ensures seen { W.seen watch.new ≡ W.seen watch.old }
     ensures shows { W.shows watch.new ≡ W.shows watch.old }
 {

@@ -4,6 +4,7 @@ use Rattle.watch_core.specs.Snapshot.{latest}
 use Rattle.watch_core.specs.Watched.{open_contents, watched_at}
 use Rattle.follow_core.specs.Giving.{Ends}
 use Rattle.follow_core.specs.Printing.{PrinterState}
+use Rattle.follow_core.proofs.CatchLemmas.{short_can}
 use Rattle.follow_core.proofs.ChangeLemmas.{contents_led, follows_broken, readable_there}
 use Rattle.follow_core.proofs.FirstLemmas.{header_short, led_broken, led_file, led_nowhere, looks_opened, looks_stopped}
 use Rattle.follow_core.proofs.first.look_first.Goals as goal
@@ -51,3 +52,6 @@ returns-in-Err-write_start-clause-looks g c =
     (contents_led g.W.Watch.told snapshot (latest (g.W.Watch.seen c.reopen.new.self)) old new c.args.place c.args.name.now c.in-Ok-true.field-0 (ap latest c.reopen.ensures.seen) c.requires.watchable c.in-Ok-true.ensures.ok c.requires.name)
     c.in_default.ensures.out c.in-Err-write_start.ensures.keeps
     (subst (λ (p : PrinterState). Ends {T = ℕ} g.W.Watch.told g.O.Outs.told p c.args.name.now (tail_of c.args.start.delim c.args.start.unit c.args.start.from_nth c.args.start.count (open_contents (latest (g.W.Watch.seen c.reopen.new.self)) (watched_at new c.args.place))) [] (g.O.Outs.slots c.open.new.outs) c.write_start.new.printer (g.O.Outs.slots c.write_start.new.outs) (Err c.in-Err-write_start.stop)) c.in_default.ensures.last c.in-Err-write_start.ensures.ends)
+
+pub returns-in-Err-open-clause-can : goal.returns-in-Err-open-clause-can
+returns-in-Err-open-clause-can g c = short_can g.O.Outs.told _ (g.O.Outs.slots c.args.outs.now) (g.O.Outs.slots c.open.new.outs) c.in-Err-open.fault c.in-Err-open.ensures.short c.requires.can
