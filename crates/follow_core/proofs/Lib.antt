@@ -19,3 +19,4 @@ pub mod FirstShareLemmas
 pub mod MeetLemmas
 pub mod RevisitLemmas
 pub mod FollowLemmas
+pub mod EndingLemmas

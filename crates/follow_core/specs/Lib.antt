@@ -18,3 +18,4 @@ pub mod Looked
 pub mod Standing
 pub mod Visited
 pub mod FollowState
+pub mod Ending

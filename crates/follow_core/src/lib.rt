@@ -17,10 +17,12 @@ mod reading;
 mod revisit;
 #[cfg(test)]
 mod row_tests;
+mod run;
 mod start;
 mod visiting;
 
 pub use follow::{Follow, Stage};
 pub use laws::{looks_agree, one_look_more, text_goes_on};
 pub use notice::{Notice, notice_line};
+pub use run::run_follow;
 pub use start::Start;

@@ -1,0 +1,156 @@
+-- One look after another.
+use Rattle.std.proofs.Common.{◌≡◌, ℕ, zero, suc, ◌<◌, ◌≤◌, ◌+◌, Bool, true, false, List, [], ◌∷◌, ◌++◌, length, map, take, slice_index_or, refl, sym, ◌∙◌, ap, subst, arith, inl, inr, ◌⊎◌, if◌then◌else◌}
+use Rattle.std.proofs.lemmas.List.{length-append, map-append, take-append-le, take_all}
+use Rattle.std.proofs.Math.Seq.{take-append_seam}
+use Rattle.ports_core.specs.Message.{SaysOn, output_named}
+use Rattle.ports_core.specs.Slot.{Slot, streams}
+use Rattle.ports_core.specs.Text.{message_of}
+use Rattle.ports_core.specs.declared.fault.Fault.{Fault}
+use Rattle.ports_core.specs.declared.tool.Tool.TheVariants.{Tail}
+use Rattle.watch_core.specs.Snapshot.{Snapshot}
+use Rattle.watch_core.specs.Watched.{Watched}
+use Rattle.follow_core.specs.declared.start.Start.{Start}
+use Rattle.follow_core.specs.Ending.{FollowEndsAs, KeptIn, Leaves, LookedAll, Made, StoppedIn, looked, seen_first}
+use Rattle.follow_core.specs.Followed.{made_of}
+use Rattle.follow_core.specs.FollowState.{FollowState, Halted, Holds, LooksOn, StopsOn, is_alive, new_state, opened_follow}
+use Rattle.follow_core.specs.Look.{Fate, Look, Ways, entries_in, snapshots}
+use Rattle.follow_core.specs.Run.{AreKept}
+use Rattle.follow_core.specs.Standing.{AllKeep, NameState, texts}
+use Rattle.follow_core.specs.Version.{entries_of}
+use Rattle.follow_core.specs.Visited.{ways_of}
+use Rattle.follow_core.proofs.VisitAllLemmas.{nothing_shared}
+
+pub length_seen : (shows : ℕ → Snapshot) (n : ℕ) → length (seen_first shows n) ≡ n
+length_seen shows zero = refl
+length_seen shows (suc n) = length-append (seen_first shows n) (shows n ∷ []) ∙ ap (λ m. m + 1) (length_seen shows n) ∙ omega arith
+
+-- as many looks were made
+pub record After (told_in told : Bool) (ways : Ways) (headers : Bool) (names : List (List ℕ)) (shows : ℕ → Snapshot) (first : List Slot) (made : ℕ) (follow : FollowState) (watched : List Watched) (slots : List Slot) : Type 0 where
+  pub looks : List Look
+  pub count : length looks ≡ made
+  pub is_made : Made told_in ways names shows looks
+  pub holds : Holds told_in told ways headers names looks first follow watched slots
+
+-- and a further one can give something
+pub record Progress (told_in told : Bool) (ways : Ways) (headers : Bool) (names : List (List ℕ)) (shows : ℕ → Snapshot) (first : List Slot) (made : ℕ) (follow : FollowState) (watched : List Watched) (slots : List Slot) : Type 0 where
+  pub after : After told_in told ways headers names shows first made follow watched slots
+  pub alive : told_in ≡ true → 0 < length after.looks → is_alive ways names after.looks ≡ true
+
+pub none_made : (told_in told : Bool) (ways : Ways) (headers : Bool) (names : List (List ℕ)) (shows : ℕ → Snapshot) (first : List Slot) (follow : FollowState) (watched : List Watched) (slots : List Slot) → Holds told_in told ways headers names [] first follow watched slots → Progress told_in told ways headers names shows first 0 follow watched slots
+none_made told_in told ways headers names shows first follow watched slots holds = record {
+  after = record { looks = []; count = refl; is_made = record { saw = refl; alive = λ t n above below. absurd (omega arith) }; holds = holds };
+  alive = λ t above. absurd (omega arith);
+}
+
+snaps_more : (looks : List Look) (look : Look) → snapshots (looks ++ look ∷ []) ≡ snapshots looks ++ look.snapshot ∷ []
+snaps_more looks look = map-append (λ (l : Look). l.snapshot) looks (look ∷ [])
+
+seen_more : (shows : ℕ → Snapshot) (looks : List Look) (look : Look) (made : ℕ) → snapshots looks ≡ seen_first shows (length looks) → length looks ≡ made → look.snapshot ≡ shows made → snapshots (looks ++ look ∷ []) ≡ seen_first shows (suc made)
+seen_more shows looks look made saw count is =
+    snaps_more looks look ∙ ap (λ front. front ++ look.snapshot ∷ []) (saw ∙ ap (seen_first shows) count) ∙ ap (λ last. seen_first shows made ++ last ∷ []) is
+
+keeps_next : (told_in : Bool) (ways : Ways) (names : List (List ℕ)) (shows : ℕ → Snapshot) (looks : List Look) (snapshot : Snapshot) (made count : ℕ) → snapshots looks ≡ seen_first shows (length looks) → length looks ≡ made → snapshot ≡ shows made → made < count → KeptIn told_in ways.by_name shows count names
+    → AllKeep told_in ways looks snapshot names
+keeps_next told_in ways names shows looks snapshot made count saw long is below kept place t =
+    subst (λ snaps. AreKept (entries_of ways.by_name (slice_index_or names place []) snaps)) (sym (seen_more shows looks (record { snapshot = snapshot; fates = [] }) made saw long is)) (kept t (suc made) place (omega arith))
+
+less_or_same : (n m : ℕ) → n < suc m → (n < m) ⊎ (n ≡ m)
+less_or_same zero zero below = inr refl
+less_or_same zero (suc m) below = inl (omega arith)
+less_or_same (suc n) zero below = absurd (omega arith)
+less_or_same (suc n) (suc m) below = elim (less_or_same n m (omega arith)) [
+  | inl less ↦ inl (omega arith)
+  | inr same ↦ inr (ap suc same)
+]
+
+made_more : (told_in : Bool) (ways : Ways) (names : List (List ℕ)) (shows : ℕ → Snapshot) (looks : List Look) (look : Look) (made : ℕ) → length looks ≡ made → look.snapshot ≡ shows made → Made told_in ways names shows looks → (told_in ≡ true → 0 < length looks → is_alive ways names looks ≡ true)
+    → Made told_in ways names shows (looks ++ look ∷ [])
+made_more told_in ways names shows looks look made count is before alive = record {
+  saw = seen_more shows looks look made before.saw count is ∙ ap (seen_first shows) (sym long);
+  alive = λ t n above below. by t n above (less_or_same n (length looks) (subst (λ m. n < m) (long ∙ ap suc (sym count)) below));
+} where
+  long : length (looks ++ look ∷ []) ≡ suc made
+  long = length-append looks (look ∷ []) ∙ ap (λ n. n + 1) count ∙ omega arith
+
+  by : told_in ≡ true → (n : ℕ) → 0 < n → (n < length looks) ⊎ (n ≡ length looks) → is_alive ways names (take n (looks ++ look ∷ [])) ≡ true
+  by t n above (inl below) = ap (is_alive ways names) (take-append-le n looks (look ∷ []) (omega arith)) ∙ before.alive t n above below
+  by t n above (inr at) = ap (λ m. is_alive ways names (take m (looks ++ look ∷ []))) at ∙ ap (is_alive ways names) (take-append_seam looks (look ∷ [])) ∙ alive t (subst (λ m. 0 < m) at above)
+
+-- the snapshot of the next look
+pub next_is : (shows now : ℕ → Snapshot) (seen : List Snapshot) (made : ℕ) → now ≡ shows → seen ≡ seen_first shows made → now (length seen) ≡ shows made
+next_is shows now seen made same is = ap (λ (f : ℕ → Snapshot). f (length seen)) same ∙ ap (λ (those : List Snapshot). shows (length those)) is ∙ ap shows (length_seen shows made)
+
+pub one_more : (told_in told : Bool) (ways : Ways) (headers : Bool) (names : List (List ℕ)) (shows : ℕ → Snapshot) (first : List Slot) (made count : ℕ) (snapshot : Snapshot) (old new : FollowState) (watched watched_new : List Watched) (slots slots_new : List Slot) → made < count → snapshot ≡ shows made → KeptIn told_in ways.by_name shows count names
+    → Progress told_in told ways headers names shows first made old watched slots → LooksOn told_in told snapshot old watched slots new watched_new slots_new → After told_in told ways headers names shows first (suc made) new watched_new slots_new
+one_more told_in told ways headers names shows first made count snapshot old new watched watched_new slots slots_new below is kept progress looks_on =
+    made_one (looks_on ways headers names before.looks first before.holds (keeps_next told_in ways names shows before.looks snapshot made count before.is_made.saw before.count is below kept)) where
+  before : After told_in told ways headers names shows first made old watched slots
+  before = progress.after
+
+  made_one : (fates : List Fate) × Holds told_in told ways headers names (before.looks ++ record { snapshot = snapshot; fates = fates } ∷ []) first new watched_new slots_new → After told_in told ways headers names shows first (suc made) new watched_new slots_new
+  made_one (fates, holds) = record {
+    looks = before.looks ++ record { snapshot = snapshot; fates = fates } ∷ [];
+    count = length-append before.looks (record { snapshot = snapshot; fates = fates } ∷ []) ∙ ap (λ n. n + 1) before.count ∙ omega arith;
+    is_made = made_more told_in ways names shows before.looks (record { snapshot = snapshot; fates = fates }) made before.count is before.is_made progress.alive;
+    holds = holds;
+  }
+
+pub one_stopped : (told_in told : Bool) (ways : Ways) (headers : Bool) (names : List (List ℕ)) (shows : ℕ → Snapshot) (first : List Slot) (made count : ℕ) (snapshot : Snapshot) (old : FollowState) (watched : List Watched) (slots slots_new : List Slot) (why : Fault) → made < count → snapshot ≡ shows made → KeptIn told_in ways.by_name shows count names
+    → Progress told_in told ways headers names shows first made old watched slots → StopsOn told_in told snapshot old watched slots slots_new why → StoppedIn told_in told ways headers names count shows first slots_new why
+one_stopped told_in told ways headers names shows first made count snapshot old watched slots slots_new why below is kept progress stops = record {
+  looks = before.looks;
+  made = before.is_made;
+  within = subst (λ n. n < count) (sym before.count) below;
+  alive = progress.alive;
+  halted = subst (λ s. Halted told_in told ways headers names before.looks s first slots_new why) (is ∙ ap shows (sym before.count))
+      (stops ways headers names before.looks first before.holds (keeps_next told_in ways names shows before.looks snapshot made count before.is_made.saw before.count is below kept));
+} where
+  before : After told_in told ways headers names shows first made old watched slots
+  before = progress.after
+
+-- whether it goes on
+alive_at : (told_in told : Bool) (ways : Ways) (headers : Bool) (names : List (List ℕ)) (shows : ℕ → Snapshot) (first : List Slot) (made : ℕ) (follow : FollowState) (watched : List Watched) (slots : List Slot) (result : Bool) (after : After told_in told ways headers names shows first made follow watched slots)
+    → ((told : Bool) (ways : Ways) (headers : Bool) (names : List (List ℕ)) (looks : List Look) (first slots : List Slot) (watched : List Watched) → Holds true told ways headers names looks first follow watched slots → result ≡ is_alive ways names looks)
+    → told_in ≡ true → is_alive ways names after.looks ≡ result
+alive_at told_in told ways headers names shows first made follow watched slots result after alive t =
+    sym (alive told ways headers names after.looks first slots watched (subst (λ known. Holds known told ways headers names after.looks first follow watched slots) t after.holds))
+
+pub goes_on : (told_in told : Bool) (ways : Ways) (headers : Bool) (names : List (List ℕ)) (shows : ℕ → Snapshot) (first : List Slot) (made : ℕ) (follow : FollowState) (watched : List Watched) (slots : List Slot) (result : Bool)
+    → ((told : Bool) (ways : Ways) (headers : Bool) (names : List (List ℕ)) (looks : List Look) (first slots : List Slot) (watched : List Watched) → Holds true told ways headers names looks first follow watched slots → result ≡ is_alive ways names looks)
+    → result ≡ true → (next : ℕ) → suc made ≡ next → After told_in told ways headers names shows first (suc made) follow watched slots → Progress told_in told ways headers names shows first next follow watched slots
+goes_on told_in told ways headers names shows first made follow watched slots result alive true_is next is after = subst (λ n. Progress told_in told ways headers names shows first n follow watched slots) is (record {
+  after = after;
+  alive = λ t above. alive_at told_in told ways headers names shows first (suc made) follow watched slots result after alive t ∙ true_is;
+})
+
+pub ends_there : (told_in told : Bool) (ways : Ways) (headers : Bool) (names : List (List ℕ)) (shows : ℕ → Snapshot) (first : List Slot) (made count : ℕ) (follow : FollowState) (watched : List Watched) (slots : List Slot) (result : Bool)
+    → ((told : Bool) (ways : Ways) (headers : Bool) (names : List (List ℕ)) (looks : List Look) (first slots : List Slot) (watched : List Watched) → Holds true told ways headers names looks first follow watched slots → result ≡ is_alive ways names looks)
+    → result ≡ false → made < count → After told_in told ways headers names shows first (suc made) follow watched slots → LookedAll told_in told ways headers names count shows first follow slots
+ends_there told_in told ways headers names shows first made count follow watched slots result alive false_is below after = record {
+  looks = after.looks;
+  made = after.is_made;
+  within = subst (λ n. n ≤ count) (sym after.count) (omega arith);
+  over = λ fewer. (subst (λ n. 0 < n) (sym after.count) (omega arith), λ t. alive_at told_in told ways headers names shows first (suc made) follow watched slots result after alive t ∙ false_is);
+  watched = watched;
+  holds = after.holds;
+}
+
+pub all_made : (told_in told : Bool) (ways : Ways) (headers : Bool) (names : List (List ℕ)) (shows : ℕ → Snapshot) (first : List Slot) (made count : ℕ) (follow : FollowState) (watched : List Watched) (slots : List Slot) → made ≡ count
+    → Progress told_in told ways headers names shows first made follow watched slots → LookedAll told_in told ways headers names count shows first follow slots
+all_made told_in told ways headers names shows first made count follow watched slots end progress = record {
+  looks = after.looks;
+  made = after.is_made;
+  within = subst (λ n. n ≤ count) (sym (after.count ∙ end)) (omega arith);
+  over = λ fewer. absurd (not_less (after.count ∙ end) fewer);
+  watched = watched;
+  holds = after.holds;
+} where
+  after : After told_in told ways headers names shows first made follow watched slots
+  after = progress.after
+
+  not_less : length after.looks ≡ count → length after.looks < count → ⊥
+  not_less same fewer = omega arith
+
+pub seen_one : (shows now : ℕ → Snapshot) (seen seen_new : List Snapshot) (made next : ℕ) → now ≡ shows → seen ≡ seen_first shows made → seen_new ≡ seen ++ now (length seen) ∷ [] → suc made ≡ next → seen_new ≡ seen_first shows next
+seen_one shows now seen seen_new made next same is more last =
+    more ∙ ap (λ snapshot. seen ++ snapshot ∷ []) (next_is shows now seen made same is) ∙ ap (λ front. front ++ shows made ∷ []) is ∙ ap (seen_first shows) last

@@ -1,0 +1,89 @@
+//! A whole run of following.
+ghost use Rattle.std.specs.Prelude.{◌≡◌, ◌∷◌, [], ℕ, Bool, List, map, IfErr, OnOk};
+ghost use Rattle.ports_core.specs.Slot.{Slot, streams};
+ghost use Rattle.follow_core.specs.Catching.{HasError};
+ghost use Rattle.follow_core.specs.Ending.{FollowEndsAs, KeptIn, LookedAll, StoppedIn};
+ghost use Rattle.follow_core.specs.FollowState.{CanLook, Holds};
+ghost use Rattle.follow_core.specs.Look.{Ways};
+ghost use Rattle.follow_core.specs.Visited.{ways_of};
+
+use crate::follow::Follow;
+use crate::start::Start;
+use ports_core::{Fault, Outs, Tool, tell};
+use std::alloc::Global;
+use watch_core::Watch;
+
+/// A whole run of `tail` that follows these names (POSIX.1-2017, XCU tail, `-f`; GNU's `--follow=name` too): `looks` looks, one
+/// directly after another, or as many as can give something. Its status is 1 where a name was missing at the first look or failed,
+/// or a fault ended following, and else 0.
+///
+/// Standard output has exactly the text of what the looks saw: of each file the part with which it begins, then what was appended;
+/// all of a file that was replaced, truncated or came back. Standard error has a line for each such change and each failure. Where
+/// standard output breaks, or memory is wanting, that is told and ends the run, with a beginning of the text written. It takes memory
+/// for the names and a buffer of 65,536 bytes, before anything is opened, and for its lines and headers.
+pub fn run_follow<W: Watch, O: Outs>(
+    alloc: Global,
+    names: &[&str],
+    start: Start,
+    by_name: bool,
+    headers: bool,
+    looks: u64,
+    watch: &mut W,
+    outs: &mut O,
+) -> u8
+    requires unseen { W.seen watch.old ≡ [] }
+    requires unwatched { W.watched watch.old ≡ [] }
+    requires outputs { O.slots outs.old ≡ streams }
+    ensures { KeptIn W.told by_name (W.shows watch.old) looks (map (λ name. name.now) names.now)
+        → FollowEndsAs W.told O.told (ways_of by_name start) headers (map (λ name. name.now) names.now) looks (W.shows watch.old) (O.slots outs.old) (O.slots outs.new) result }
+{
+    let mut follow = match Follow::open(alloc, names, start, by_name, headers) {
+        Ok(follow) => follow,
+        Err(fault) => {
+            tell(alloc, Tool::Tail, &fault, outs);
+            return 1;
+        }
+    };
+    match make_looks(&mut follow, looks, watch, outs) {
+        Ok(()) => u8::from(follow.failed()),
+        Err(fault) => {
+            tell(alloc, Tool::Tail, &fault, outs);
+            1
+        }
+    }
+}
+
+/// Makes as many looks, or as many as can give something.
+///
+/// # Errors
+///
+/// As `Follow::look`.
+fn make_looks<W: Watch, O: Outs>(
+    follow: &mut Follow,
+    looks: u64,
+    watch: &mut W,
+    outs: &mut O,
+) -> Result<(), Fault>
+    requires unseen { W.seen watch.old ≡ [] }
+    requires can { CanLook follow.old (W.watched watch.old) (O.slots outs.old) }
+    requires error { HasError (O.slots outs.old) }
+    ensures looked { OnOk result ((ways : Ways) (headers : Bool) (names : List (List ℕ)) (first : List Slot)
+        → Holds W.told O.told ways headers names [] first follow.old (W.watched watch.old) (O.slots outs.old) → KeptIn W.told ways.by_name (W.shows watch.old) looks names
+        → LookedAll W.told O.told ways headers names looks (W.shows watch.old) first follow.new (O.slots outs.new)) }
+    ensures stopped { IfErr result (λ why. (ways : Ways) (headers : Bool) (names : List (List ℕ)) (first : List Slot)
+        → Holds W.told O.told ways headers names [] first follow.old (W.watched watch.old) (O.slots outs.old) → KeptIn W.told ways.by_name (W.shows watch.old) looks names
+        → StoppedIn W.told O.told ways headers names looks (W.shows watch.old) first (O.slots outs.new) why) }
+    ensures error { HasError (O.slots outs.new) }
+{
+    let mut made = 0;
+    while made < looks {
+        if let Err(fault) = follow.look(watch, outs) {
+            return Err(fault);
+        }
+        made += 1;
+        if !follow.alive() {
+            return Ok(());
+        }
+    }
+    Ok(())
+}
