@@ -1,3 +1,4 @@
 pub mod Props
 pub mod Tasks
 pub mod Outcome
+pub mod Following

@@ -95,7 +95,7 @@ impl<'a, 'b> Adapter for TailAdapter<'a, 'b> {
 }
 
 /// Whether a header goes before each input: as an option says, and else where there are several.
-fn has_headers(settings: &EndsSettings<'_>) -> bool
+pub(crate) fn has_headers(settings: &EndsSettings<'_>) -> bool
     ensures { result ≡ has_headers settings.now.headers settings.now.names }
 {
     match settings.headers {
@@ -114,7 +114,7 @@ fn is_minus(sign: Sign) -> bool
     }
 }
 
-fn is_plus(sign: Sign) -> bool
+pub(crate) fn is_plus(sign: Sign) -> bool
     ensures { result ≡ is_plus sign }
 {
     match sign {

@@ -8,6 +8,7 @@ mod csplit_run_tests;
 mod ends;
 #[cfg(test)]
 mod ends_tests;
+mod follow;
 #[cfg(test)]
 mod left;
 #[cfg(test)]

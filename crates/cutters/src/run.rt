@@ -6,7 +6,7 @@ ghost use Rattle.run_core.specs.Input.{has_dash};
 ghost use Rattle.run_core.specs.Reading.{AsksAtMost, count_after};
 ghost use Rattle.run_core.specs.RunEnds.{RunsOver, largest_piece};
 ghost use Rattle.run_core.specs.RunSteps.{world_of};
-ghost use Rattle.cutters.specs.Outcome.{AreNone, DoesAsked, RunEnds, names_read, speaker, word_of};
+ghost use Rattle.cutters.specs.Outcome.{AreNone, DoesAsked, RefusesFor, RunEnds, names_read, speaker, word_of};
 ghost use Rattle.cutters.specs.Tasks.{names_of};
 ghost use Rattle.words_core.specs.Words.{CanRun};
 
@@ -35,11 +35,22 @@ pub fn run<I: Inputs, O: Outs>(alloc: Global, words: &[&str], inputs: &mut I, ou
 {
     match read_words(alloc, words) {
         Ok(settings) => run_tool(alloc, &settings, inputs, outs),
-        Err(fault) => {
-            say(alloc, speaker(words), &fault, word_of(words, &fault), outs);
-            1
-        }
+        Err(fault) => refuse_words(alloc, words, &fault, outs),
     }
+}
+
+/// Says what is wrong with the words, and returns the status.
+pub(crate) fn refuse_words<O: Outs>(
+    alloc: Global,
+    words: &[&str],
+    fault: &Fault,
+    outs: &mut O,
+) -> u8
+    requires { O.slots outs.old ≡ streams }
+    ensures { RefusesFor O.told (map (λ word. word.now) words.now) fault.now (O.slots outs.new) result }
+{
+    say(alloc, speaker(words), fault, word_of(words, fault), outs);
+    1
 }
 
 fn run_tool<I: Inputs, O: Outs>(

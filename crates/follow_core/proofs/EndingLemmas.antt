@@ -1,21 +1,18 @@
 -- One look after another.
 use Rattle.std.proofs.Common.{◌≡◌, ℕ, zero, suc, ◌<◌, ◌≤◌, ◌+◌, Bool, true, false, List, [], ◌∷◌, ◌++◌, length, map, take, slice_index_or, refl, sym, ◌∙◌, ap, subst, arith, inl, inr, ◌⊎◌, if◌then◌else◌}
-use Rattle.std.proofs.lemmas.List.{length-append, map-append, take-append-le, take_all}
+use Rattle.std.proofs.lemmas.List.{length-append, map-append, take-append-le}
 use Rattle.std.proofs.Math.Seq.{take-append_seam}
-use Rattle.ports_core.specs.Message.{SaysOn, output_named}
-use Rattle.ports_core.specs.Slot.{Slot, streams}
-use Rattle.ports_core.specs.Text.{message_of}
+use mir.Val.{bool_byte}
+use Rattle.ports_core.specs.Slot.{Slot}
 use Rattle.ports_core.specs.declared.fault.Fault.{Fault}
-use Rattle.ports_core.specs.declared.tool.Tool.TheVariants.{Tail}
 use Rattle.watch_core.specs.Snapshot.{Snapshot}
 use Rattle.watch_core.specs.Watched.{Watched}
 use Rattle.follow_core.specs.declared.start.Start.{Start}
-use Rattle.follow_core.specs.Ending.{FollowEndsAs, KeptIn, Leaves, LookedAll, Made, StoppedIn, looked, seen_first}
-use Rattle.follow_core.specs.Followed.{made_of}
+use Rattle.follow_core.specs.Ending.{FollowEndsAs, KeptIn, LookedAll, Made, StoppedIn, looked, seen_first}
 use Rattle.follow_core.specs.FollowState.{FollowState, Halted, Holds, LooksOn, StopsOn, is_alive, new_state, opened_follow}
-use Rattle.follow_core.specs.Look.{Fate, Look, Ways, entries_in, snapshots}
+use Rattle.follow_core.specs.Look.{Fate, Look, Ways, snapshots}
 use Rattle.follow_core.specs.Run.{AreKept}
-use Rattle.follow_core.specs.Standing.{AllKeep, NameState, texts}
+use Rattle.follow_core.specs.Standing.{AllKeep, texts}
 use Rattle.follow_core.specs.Version.{entries_of}
 use Rattle.follow_core.specs.Visited.{ways_of}
 use Rattle.follow_core.proofs.VisitAllLemmas.{nothing_shared}
@@ -84,16 +81,16 @@ pub one_more : (told_in told : Bool) (ways : Ways) (headers : Bool) (names : Lis
     → Progress told_in told ways headers names shows first made old watched slots → LooksOn told_in told snapshot old watched slots new watched_new slots_new → After told_in told ways headers names shows first (suc made) new watched_new slots_new
 one_more told_in told ways headers names shows first made count snapshot old new watched watched_new slots slots_new below is kept progress looks_on =
     made_one (looks_on ways headers names before.looks first before.holds (keeps_next told_in ways names shows before.looks snapshot made count before.is_made.saw before.count is below kept)) where
-  before : After told_in told ways headers names shows first made old watched slots
-  before = progress.after
+      before : After told_in told ways headers names shows first made old watched slots
+      before = progress.after
 
-  made_one : (fates : List Fate) × Holds told_in told ways headers names (before.looks ++ record { snapshot = snapshot; fates = fates } ∷ []) first new watched_new slots_new → After told_in told ways headers names shows first (suc made) new watched_new slots_new
-  made_one (fates, holds) = record {
-    looks = before.looks ++ record { snapshot = snapshot; fates = fates } ∷ [];
-    count = length-append before.looks (record { snapshot = snapshot; fates = fates } ∷ []) ∙ ap (λ n. n + 1) before.count ∙ omega arith;
-    is_made = made_more told_in ways names shows before.looks (record { snapshot = snapshot; fates = fates }) made before.count is before.is_made progress.alive;
-    holds = holds;
-  }
+      made_one : (fates : List Fate) × Holds told_in told ways headers names (before.looks ++ record { snapshot = snapshot; fates = fates } ∷ []) first new watched_new slots_new → After told_in told ways headers names shows first (suc made) new watched_new slots_new
+      made_one (fates, holds) = record {
+        looks = before.looks ++ record { snapshot = snapshot; fates = fates } ∷ [];
+        count = length-append before.looks (record { snapshot = snapshot; fates = fates } ∷ []) ∙ ap (λ n. n + 1) before.count ∙ omega arith;
+        is_made = made_more told_in ways names shows before.looks (record { snapshot = snapshot; fates = fates }) made before.count is before.is_made progress.alive;
+        holds = holds;
+      }
 
 pub one_stopped : (told_in told : Bool) (ways : Ways) (headers : Bool) (names : List (List ℕ)) (shows : ℕ → Snapshot) (first : List Slot) (made count : ℕ) (snapshot : Snapshot) (old : FollowState) (watched : List Watched) (slots slots_new : List Slot) (why : Fault) → made < count → snapshot ≡ shows made → KeptIn told_in ways.by_name shows count names
     → Progress told_in told ways headers names shows first made old watched slots → StopsOn told_in told snapshot old watched slots slots_new why → StoppedIn told_in told ways headers names count shows first slots_new why
@@ -154,3 +151,32 @@ all_made told_in told ways headers names shows first made count follow watched s
 pub seen_one : (shows now : ℕ → Snapshot) (seen seen_new : List Snapshot) (made next : ℕ) → now ≡ shows → seen ≡ seen_first shows made → seen_new ≡ seen ++ now (length seen) ∷ [] → suc made ≡ next → seen_new ≡ seen_first shows next
 seen_one shows now seen seen_new made next same is more last =
     more ∙ ap (λ snapshot. seen ++ snapshot ∷ []) (next_is shows now seen made same is) ∙ ap (λ front. front ++ shows made ∷ []) is ∙ ap (seen_first shows) last
+
+-- a whole run
+
+texts_of_new : (names : List (List ℕ)) → texts (map new_state names) ≡ names
+texts_of_new [] = refl
+texts_of_new (name ∷ names) = ap (λ rest. name ∷ rest) (texts_of_new names)
+
+pub open_holds : (told_in told : Bool) (by_name : Bool) (start : Start) (headers : Bool) (names : List (List ℕ)) (follow : FollowState) (watched : List Watched) (slots : List Slot) → follow ≡ opened_follow by_name start headers names → Holds told_in told (ways_of by_name start) headers names [] slots follow watched slots
+open_holds told_in told by_name start headers names follow watched slots is = subst (λ (f : FollowState). Holds told_in told (ways_of by_name start) headers names [] slots f watched slots) (sym is) (record {
+  asked = refl;
+  same = texts_of_new names;
+  stand = (refl, ap (map new_state) (sym (texts_of_new names)));
+  shares = [];
+  are = λ t. refl;
+  shared = nothing_shared told (opened_follow by_name start headers names).printer slots;
+  failed = refl;
+})
+
+as_status : (failed : Bool) → bool_byte failed ≡ (if failed then 1 else 0)
+as_status true = refl
+as_status false = refl
+
+pub ends_looked : (told_in told : Bool) (ways : Ways) (headers : Bool) (names : List (List ℕ)) (count : ℕ) (shows : ℕ → Snapshot) (first slots : List Slot) (follow : FollowState) (failed : Bool) (status : ℕ) → failed ≡ follow.has_failed → status ≡ bool_byte failed
+    → LookedAll told_in told ways headers names count shows first follow slots → FollowEndsAs told_in told ways headers names count shows first slots status
+ends_looked told_in told ways headers names count shows first slots follow failed status is status_is all =
+    looked all.looks all.holds.shares all.made all.within all.over all.holds.are (record {
+      wrote = all.holds.shared.slots;
+      status_is = status_is ∙ as_status failed ∙ ap (λ those. if those then 1 else 0) (is ∙ sym all.holds.failed);
+    })

@@ -1,9 +1,9 @@
 -- A look at all names more, and one that was stopped.
-use Rattle.std.proofs.Common.{◌≡◌, ℕ, zero, suc, ◌<◌, ◌≤◌, ◌+◌, Bool, true, false, not, ◌||◌, ◌&&◌, List, [], ◌∷◌, ◌++◌, None, Option, length, map, take, drop, slice_index_or, refl, sym, ◌∙◌, ap, subst, arith, inl, inr, ◌⊎◌, if◌then◌else◌}
+use Rattle.std.proofs.Common.{◌≡◌, ℕ, zero, suc, ◌<◌, ◌+◌, Bool, true, false, not, ◌||◌, ◌&&◌, List, [], ◌∷◌, ◌++◌, length, map, slice_index_or, refl, sym, ◌∙◌, ap, subst, arith, inl, inr}
 use Rattle.std.proofs.lemmas.Bool.{false≢true}
 use Rattle.std.proofs.lemmas.List.{append-nil, length-map}
 use Rattle.std.proofs.Math.Seq.{take-length}
-use Rattle.ports_core.specs.Slot.{Slot, adds, told_of, with_written}
+use Rattle.ports_core.specs.Slot.{Slot, adds, told_of}
 use Rattle.ports_core.specs.Message.{SaysAll}
 use Rattle.ports_core.specs.declared.tool.Tool.TheVariants.{Tail}
 use Rattle.ports_core.specs.declared.fault.Fault.{Fault}
@@ -15,8 +15,8 @@ use Rattle.follow_core.specs.declared.name.Standing.TheVariants.{New, Followed, 
 use Rattle.follow_core.specs.declared.follow.Stage.{Stage}
 use Rattle.follow_core.specs.declared.follow.Stage.TheVariants.{Fresh, Looking, Over}
 use Rattle.follow_core.specs.Followed.{any_failed, last_header_from, messages_of, text_from}
-use Rattle.follow_core.specs.FollowState.{AllReady, Begun, CanLook, FollowState, Halted, Holds, LooksOn, StandsIn, StopsOn, goes_on_at, is_alive, is_alive_from, new_state, nothing, opened_follow, up_to}
-use Rattle.follow_core.specs.Look.{Fate, Look, Ways, is_dropped, snapshots}
+use Rattle.follow_core.specs.FollowState.{AllReady, FollowState, Holds, LooksOn, StandsIn, StopsOn, goes_on_at, is_alive, is_alive_from, new_state, nothing, up_to}
+use Rattle.follow_core.specs.Look.{Look, Ways, is_dropped, snapshots}
 use Rattle.follow_core.specs.Printing.{PrinterState, Short, fresh_printer, no_room}
 use Rattle.follow_core.specs.Share.{Share, shares_at_look, shares_of}
 use Rattle.follow_core.specs.Sharing.{AllShared, AllShort, Wrote, WroteShort}
@@ -25,7 +25,7 @@ use Rattle.follow_core.specs.Version.{open_after}
 use Rattle.follow_core.specs.Visited.{StoppedAt, VisitedAll, ways_of}
 use Rattle.follow_core.proofs.EntryLemmas.{last_file}
 use Rattle.follow_core.proofs.ShareLemmas.{failed-append, last-append, messages-append, shares_more, text-append}
-use Rattle.follow_core.proofs.VisitAllLemmas.{nothing_shared, short_as, wrote_as, wrote_both, wrote_short}
+use Rattle.follow_core.proofs.VisitAllLemmas.{short_as, wrote_as, wrote_both, wrote_short}
 
 -- further shares
 

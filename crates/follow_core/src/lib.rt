@@ -24,5 +24,5 @@ mod visiting;
 pub use follow::{Follow, Stage};
 pub use laws::{looks_agree, one_look_more, text_goes_on};
 pub use notice::{Notice, notice_line};
-pub use run::run_follow;
+pub use run::follow_files;
 pub use start::Start;

@@ -21,7 +21,7 @@ use watch_core::Watch;
 /// all of a file that was replaced, truncated or came back. Standard error has a line for each such change and each failure. Where
 /// standard output breaks, or memory is wanting, that is told and ends the run, with a beginning of the text written. It takes memory
 /// for the names and a buffer of 65,536 bytes, before anything is opened, and for its lines and headers.
-pub fn run_follow<W: Watch, O: Outs>(
+pub fn follow_files<W: Watch, O: Outs>(
     alloc: Global,
     names: &[&str],
     start: Start,

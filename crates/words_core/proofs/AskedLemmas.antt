@@ -1,5 +1,5 @@
 -- Lemmas on what one option alone asks for.
-use Rattle.std.proofs.Common.{◌≡◌, ℕ, List, [], ◌∷◌, ◌++◌, Ok, true, codes, false, lit<, refl, sym, ap, ◌∙◌, if◌then◌else◌}
+use Rattle.std.proofs.Common.{◌≡◌, ℕ, List, [], ◌∷◌, ◌++◌, Ok, Some, ◌-◌, ◌^◌, true, codes, false, lit<, refl, sym, ap, ◌∙◌, if◌then◌else◌}
 use Rattle.seg_core.specs.Count.{count_of, digits_of, is_number}
 use Rattle.seg_core.specs.declared.count.Count.{Count}
 use Rattle.ends_core.specs.declared.unit.Unit.TheVariants as unit
@@ -11,10 +11,11 @@ use Rattle.words_core.specs.declared.table.Choice.{Choice}
 use Rattle.words_core.specs.declared.table.Choice.TheVariants.{Lines, Bytes, LineBytes, Files, Digits}
 use Rattle.words_core.specs.declared.table.Kind.{Kind}
 use Rattle.words_core.specs.declared.table.Kind.TheVariants as kind
+use Rattle.words_core.specs.declared.value.Followed.TheVariants.{Descriptor, Name}
 use Rattle.words_core.specs.declared.settings.Headers.TheVariants as headers
 use Rattle.words_core.specs.declared.settings.Settings.TheVariants.{Head, Tail, Split, Csplit, Tee}
 use Rattle.words_core.specs.declared.spelling.State.TheVariants.{First}
-use Rattle.words_core.specs.Table.{OptionRow, csplit_table, ends_table, split_table, tools}
+use Rattle.words_core.specs.Table.{OptionRow, csplit_table, head_table, split_table, tail_table, tools}
 use Rattle.words_core.specs.Value.{Meant, Counted, as_value, counted, round_in, size_in, up_to, value_in}
 use Rattle.words_core.specs.Value as meant
 use Rattle.words_core.specs.Given.{one_option}
@@ -22,7 +23,7 @@ use Rattle.words_core.specs.Spelling.{mixed, onward, said, spelled, valued}
 use Rattle.words_core.specs.EndsWords.{ten_lines}
 use Rattle.words_core.specs.SplitWords.{least_width, then_check}
 use Rattle.words_core.specs.Words.{settings_for, settings_of}
-use Rattle.words_core.specs.Laws.{IsLetter, csplit_as, ends_as, plain_style, split_as, tail_as}
+use Rattle.words_core.specs.Laws.{IsLetter, csplit_as, ends_as, following_as, plain_style, split_as, tail_as}
 use Rattle.words_core.proofs.ValueLemmas.{value_after_letter}
 
 -- a letter and its value, as all words after a tool's name
@@ -40,27 +41,33 @@ one_number rows choice kind digits meant is reads =
     ap (λ test. onward (spelled rows [] 2) (if test then valued choice kind 1 1 digits else mixed rows 1 (45 ∷ digits))) is
     ∙ ap (λ value. onward (spelled rows [] 2) (said choice 1 1 value)) reads
 
-n_is : IsLetter ends_table 110 Lines kind.Count
-n_is = record { named = refl; ascii = lit< tt; no_hyphen = λ is. cc }
+head_n : IsLetter head_table 110 Lines kind.Count
+head_n = record { named = refl; ascii = lit< tt; no_hyphen = λ is. cc }
 
-c_is : IsLetter ends_table 99 Bytes kind.Count
-c_is = record { named = refl; ascii = lit< tt; no_hyphen = λ is. cc }
+head_c : IsLetter head_table 99 Bytes kind.Count
+head_c = record { named = refl; ascii = lit< tt; no_hyphen = λ is. cc }
+
+tail_n : IsLetter tail_table 110 Lines kind.Count
+tail_n = record { named = refl; ascii = lit< tt; no_hyphen = λ is. cc }
+
+tail_c : IsLetter tail_table 99 Bytes kind.Count
+tail_c = record { named = refl; ascii = lit< tt; no_hyphen = λ is. cc }
 
 pub head_lines : (value : List ℕ) (count : Count) → count_of value ≡ Ok count → settings_of (codes "head" ∷ codes "-n" ∷ value ∷ []) ≡ Ok (Head (ends_as unit.Lines count headers.ForSeveral))
 unfolding tools
-head_lines value count is = ap (λ given. then_check given (settings_for tool.Head)) (one_given ends_table 110 Lines Lines kind.Count kind.Count value (Counted count) n_is refl (ap (λ those. as_value (λ count. Counted count) (counted those)) is))
+head_lines value count is = ap (λ given. then_check given (settings_for tool.Head)) (one_given head_table 110 Lines Lines kind.Count kind.Count value (Counted count) head_n refl (ap (λ those. as_value (λ count. Counted count) (counted those)) is))
 
 pub head_bytes : (value : List ℕ) (count : Count) → count_of value ≡ Ok count → settings_of (codes "head" ∷ codes "-c" ∷ value ∷ []) ≡ Ok (Head (ends_as unit.Bytes count headers.ForSeveral))
 unfolding tools
-head_bytes value count is = ap (λ given. then_check given (settings_for tool.Head)) (one_given ends_table 99 Bytes Lines kind.Count kind.Count value (Counted count) c_is refl (ap (λ those. as_value (λ count. Counted count) (counted those)) is))
+head_bytes value count is = ap (λ given. then_check given (settings_for tool.Head)) (one_given head_table 99 Bytes Lines kind.Count kind.Count value (Counted count) head_c refl (ap (λ those. as_value (λ count. Counted count) (counted those)) is))
 
 pub tail_lines : (value : List ℕ) (count : Count) → count_of value ≡ Ok count → settings_of (codes "tail" ∷ codes "-n" ∷ value ∷ []) ≡ Ok (Tail (tail_as (ends_as unit.Lines count headers.ForSeveral)))
 unfolding tools
-tail_lines value count is = ap (λ given. then_check given (settings_for tool.Tail)) (one_given ends_table 110 Lines Lines kind.Count kind.Count value (Counted count) n_is refl (ap (λ those. as_value (λ count. Counted count) (counted those)) is))
+tail_lines value count is = ap (λ given. then_check given (settings_for tool.Tail)) (one_given tail_table 110 Lines Lines kind.Count kind.Count value (Counted count) tail_n refl (ap (λ those. as_value (λ count. Counted count) (counted those)) is))
 
 pub tail_bytes : (value : List ℕ) (count : Count) → count_of value ≡ Ok count → settings_of (codes "tail" ∷ codes "-c" ∷ value ∷ []) ≡ Ok (Tail (tail_as (ends_as unit.Bytes count headers.ForSeveral)))
 unfolding tools
-tail_bytes value count is = ap (λ given. then_check given (settings_for tool.Tail)) (one_given ends_table 99 Bytes Lines kind.Count kind.Count value (Counted count) c_is refl (ap (λ those. as_value (λ count. Counted count) (counted those)) is))
+tail_bytes value count is = ap (λ given. then_check given (settings_for tool.Tail)) (one_given tail_table 99 Bytes Lines kind.Count kind.Count value (Counted count) tail_c refl (ap (λ those. as_value (λ count. Counted count) (counted those)) is))
 
 pub head_quiet : settings_of (codes "head" ∷ codes "-q" ∷ []) ≡ Ok (Head (ends_as unit.Lines ten_lines.count headers.Never))
 unfolding tools
@@ -77,6 +84,30 @@ tail_quiet = refl
 pub tail_verbose : settings_of (codes "tail" ∷ codes "-v" ∷ []) ≡ Ok (Tail (tail_as (ends_as unit.Lines ten_lines.count headers.Always)))
 unfolding tools
 tail_verbose = refl
+
+pub tail_follows : settings_of (codes "tail" ∷ codes "-f" ∷ codes "f" ∷ []) ≡ Ok (Tail (following_as (Some Descriptor) (2 ^ 63 - 1)))
+unfolding tools
+tail_follows = refl
+
+pub tail_follows_long : settings_of (codes "tail" ∷ codes "--follow" ∷ codes "f" ∷ []) ≡ Ok (Tail (following_as (Some Descriptor) (2 ^ 63 - 1)))
+unfolding tools
+tail_follows_long = refl
+
+pub tail_follows_descriptor : settings_of (codes "tail" ∷ codes "--follow=descriptor" ∷ codes "f" ∷ []) ≡ Ok (Tail (following_as (Some Descriptor) (2 ^ 63 - 1)))
+unfolding tools
+tail_follows_descriptor = refl
+
+pub tail_follows_names : settings_of (codes "tail" ∷ codes "-F" ∷ codes "f" ∷ []) ≡ Ok (Tail (following_as (Some Name) (2 ^ 63 - 1)))
+unfolding tools
+tail_follows_names = refl
+
+pub tail_retries : settings_of (codes "tail" ∷ codes "--follow=name" ∷ codes "--retry" ∷ codes "f" ∷ []) ≡ Ok (Tail (following_as (Some Name) (2 ^ 63 - 1)))
+unfolding tools
+tail_retries = refl
+
+pub tail_looks : settings_of (codes "tail" ∷ codes "-f" ∷ codes "--looks=3" ∷ codes "f" ∷ []) ≡ Ok (Tail (following_as (Some Descriptor) 3))
+unfolding tools digits_of
+tail_looks = refl
 
 l_is : IsLetter split_table 108 Lines kind.Size
 l_is = record { named = refl; ascii = lit< tt; no_hyphen = λ is. cc }
@@ -129,14 +160,14 @@ pub head_number : (digits : List ℕ) (count : Count) → is_number digits ≡ t
     → settings_of (codes "head" ∷ (codes "-" ++ digits) ∷ []) ≡ settings_of (codes "head" ∷ codes "-n" ∷ digits ∷ [])
 unfolding tools
 head_number digits count is reads =
-    ap (λ given. then_check given (settings_for tool.Head)) (one_number ends_table Lines kind.Count digits (Counted count) is (ap (λ those. as_value (λ count. Counted count) (counted those)) reads))
+    ap (λ given. then_check given (settings_for tool.Head)) (one_number head_table Lines kind.Count digits (Counted count) is (ap (λ those. as_value (λ count. Counted count) (counted those)) reads))
     ∙ sym (head_lines digits count reads)
 
 pub tail_number : (digits : List ℕ) (count : Count) → is_number digits ≡ true → count_of digits ≡ Ok count
     → settings_of (codes "tail" ∷ (codes "-" ++ digits) ∷ []) ≡ settings_of (codes "tail" ∷ codes "-n" ∷ digits ∷ [])
 unfolding tools
 tail_number digits count is reads =
-    ap (λ given. then_check given (settings_for tool.Tail)) (one_number ends_table Lines kind.Count digits (Counted count) is (ap (λ those. as_value (λ count. Counted count) (counted those)) reads))
+    ap (λ given. then_check given (settings_for tool.Tail)) (one_number tail_table Lines kind.Count digits (Counted count) is (ap (λ those. as_value (λ count. Counted count) (counted those)) reads))
     ∙ sym (tail_lines digits count reads)
 
 pub split_number : (digits : List ℕ) (size : ℕ) → is_number digits ≡ true → size_in digits ≡ Ok size

@@ -1,8 +1,9 @@
 -- The words of the laws: which options ask for what, and the operands among words.
-use Rattle.std.specs.Prelude.{◌≡◌, ◌≢◌, ℕ, ◌+◌, ◌-◌, ◌^◌, ◌<◌, Bool, true, false, List, [], ◌∷◌, ◌++◌, fold, codes, Some, None, Result}
+use Rattle.std.specs.Prelude.{◌≡◌, ◌≢◌, ℕ, ◌+◌, ◌-◌, ◌^◌, ◌<◌, Bool, true, false, List, [], ◌∷◌, ◌++◌, fold, codes, Option, Some, None, Result}
 use Rattle.std.specs.List.{list_any}
 use Rattle.seg_core.specs.declared.count.Count.{Count}
 use Rattle.ends_core.specs.declared.unit.Unit.{Unit as Measured}
+use Rattle.ends_core.specs.declared.unit.Unit.TheVariants as unit
 use Rattle.ports_core.specs.declared.alphabet.Alphabet.{Alphabet}
 use Rattle.ports_core.specs.declared.fault.Fault.{Fault}
 use Rattle.split_core.specs.declared.cut.Cut.{Cut}
@@ -16,6 +17,8 @@ use Rattle.words_core.specs.declared.ends_words.EndsOptions.{EndsOptions}
 use Rattle.words_core.specs.declared.split_words.SplitOptions.{SplitOptions}
 use Rattle.words_core.specs.declared.tail_words.FollowOptions.{FollowOptions}
 use Rattle.words_core.specs.declared.settings.Headers.{Headers}
+use Rattle.words_core.specs.declared.settings.Headers.TheVariants as headers
+use Rattle.words_core.specs.declared.value.Followed.{Followed}
 use Rattle.words_core.specs.CsplitAsked.{CsplitAsked}
 use Rattle.words_core.specs.EndsAsked.{EndsAsked}
 use Rattle.words_core.specs.SplitAsked.{SplitAsked}
@@ -186,6 +189,10 @@ ends_as unit count headers = record { unit = unit; count = count; headers = head
 -- the same of `tail`, where nothing is followed
 abbrev pub tail_as : EndsAsked → TailSettings
 tail_as ends = record { ends = ends; followed = None; looks = 2 ^ 63 - 1 }
+
+-- where the file `f` is followed in this way, in as many looks
+abbrev pub following_as : Option Followed → ℕ → TailSettings
+following_as followed looks = record { ends = record { unit = unit.Lines; count = ten_lines.count; headers = headers.ForSeveral; delim = 10; names = codes "f" ∷ [] }; followed = followed; looks = looks }
 
 abbrev pub split_as : Cut → Alphabet → ℕ → Bool → Bool → SplitAsked
 split_as cut alphabet width auto elide = record { cut = cut; alphabet = alphabet; width = width; auto = auto; elide = elide; input = codes "-"; prefix = codes "x"; ending = []; delim = 10 }

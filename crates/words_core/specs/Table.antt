@@ -1,17 +1,17 @@
 -- The tools and their options, as their manuals list them: POSIX.1-2017, XCU head, tail, split, csplit and tee; GNU coreutils manual,
 -- for `-q`, `-v`, `-z`, the `-c` of `head`, the `-C`, `-n`, `-d`, `-x`, `-e`, `-t` and `--additional-suffix` of `split`, the
--- `--suppress-matched` of `csplit`, and the long names.
+-- `--suppress-matched` of `csplit`, the `-F`, `--follow` and `--retry` of `tail`, and the long names; `--looks` is of these tools alone.
 use Rattle.std.specs.Prelude.{ℕ, Bool, true, false, List, [], ◌∷◌, map, codes, Option, Some, None, if◌then◌else◌}
 use Rattle.std.specs.Borrow.{Bor}
 use Rattle.std.specs.Str.{bytes_eq}
 use Rattle.ports_core.specs.declared.tool.Tool.{Tool}
 use Rattle.ports_core.specs.declared.tool.Tool.TheVariants.{Head, Tail, Split, Csplit, Tee}
 use Rattle.words_core.specs.declared.table.Choice.{Choice}
-use Rattle.words_core.specs.declared.table.Choice.TheVariants.{Lines, Bytes, LineBytes, Files, Quiet, Verbose, SuffixLength, NumericSuffixes, HexSuffixes, ElideEmptyFiles, ZeroTerminated, Separator, AdditionalSuffix, Prefix, Digits, KeepFiles, SuppressMatched, Append}
+use Rattle.words_core.specs.declared.table.Choice.TheVariants.{Lines, Bytes, LineBytes, Files, Quiet, Verbose, SuffixLength, NumericSuffixes, HexSuffixes, ElideEmptyFiles, ZeroTerminated, Separator, AdditionalSuffix, Prefix, Digits, KeepFiles, SuppressMatched, Append, Follow, FollowNames, Retry, Looks}
 use Rattle.words_core.specs.declared.table.Kind.{Kind}
-use Rattle.words_core.specs.declared.table.Kind.TheVariants.{Count, Size, Round, Width, Text, Byte, Ending}
+use Rattle.words_core.specs.declared.table.Kind.TheVariants.{Count, Size, Round, Width, Text, Byte, Ending, Following, Looks as number_of_looks}
 use Rattle.words_core.specs.declared.table.Takes.{Takes}
-use Rattle.words_core.specs.declared.table.Takes.TheVariants.{Nothing, Value}
+use Rattle.words_core.specs.declared.table.Takes.TheVariants.{Nothing, Value, Optional}
 
 -- an option: its names as they are written, what it chooses, and whether it takes a value
 pub record OptionRow : Type 0 where
@@ -32,14 +32,28 @@ pub record ToolRow : Type 0 where
 abbrev pub option : List (List ℕ) → Choice → Takes → OptionRow
 option names choice takes = record { names = names; choice = choice; takes = takes }
 
--- the options of `head` and `tail`
-abbrev pub ends_table : List OptionRow
-ends_table =
+-- the options of `head`
+abbrev pub head_table : List OptionRow
+head_table =
     option (codes "-n" ∷ codes "--lines" ∷ []) Lines (Value Count)
     ∷ option (codes "-c" ∷ codes "--bytes" ∷ []) Bytes (Value Count)
     ∷ option (codes "-q" ∷ codes "--quiet" ∷ codes "--silent" ∷ []) Quiet Nothing
     ∷ option (codes "-v" ∷ codes "--verbose" ∷ []) Verbose Nothing
     ∷ option (codes "-z" ∷ codes "--zero-terminated" ∷ []) ZeroTerminated Nothing
+    ∷ []
+
+-- the options of `tail`: those of `head`, and how files are followed
+abbrev pub tail_table : List OptionRow
+tail_table =
+    option (codes "-n" ∷ codes "--lines" ∷ []) Lines (Value Count)
+    ∷ option (codes "-c" ∷ codes "--bytes" ∷ []) Bytes (Value Count)
+    ∷ option (codes "-q" ∷ codes "--quiet" ∷ codes "--silent" ∷ []) Quiet Nothing
+    ∷ option (codes "-v" ∷ codes "--verbose" ∷ []) Verbose Nothing
+    ∷ option (codes "-z" ∷ codes "--zero-terminated" ∷ []) ZeroTerminated Nothing
+    ∷ option (codes "-f" ∷ codes "--follow" ∷ []) Follow (Optional Following)
+    ∷ option (codes "-F" ∷ []) FollowNames Nothing
+    ∷ option (codes "--retry" ∷ []) Retry Nothing
+    ∷ option (codes "--looks" ∷ []) Looks (Value number_of_looks)
     ∷ []
 
 -- the options of `split`
@@ -75,8 +89,8 @@ tee_table = option (codes "-a" ∷ codes "--append" ∷ []) Append Nothing ∷ [
 -- The tools. A hyphen and digits as the first word count lines for `head`, `tail` and `split`.
 unfoldable pub tools : List ToolRow
 tools =
-    record { name = codes "head"; tool = Head; options = ends_table; number = Some (Lines, Count) }
-    ∷ record { name = codes "tail"; tool = Tail; options = ends_table; number = Some (Lines, Count) }
+    record { name = codes "head"; tool = Head; options = head_table; number = Some (Lines, Count) }
+    ∷ record { name = codes "tail"; tool = Tail; options = tail_table; number = Some (Lines, Count) }
     ∷ record { name = codes "split"; tool = Split; options = split_table; number = Some (Lines, Size) }
     ∷ record { name = codes "csplit"; tool = Csplit; options = csplit_table; number = None }
     ∷ record { name = codes "tee"; tool = Tee; options = tee_table; number = None }

@@ -7,7 +7,7 @@ ghost use Rattle.words_core.specs.declared.split_words.SplitOptions.{SplitOption
 ghost use Rattle.seg_core.specs.Count.{count_of, digits_of, is_number};
 ghost use Rattle.words_core.specs.Given.{Given, GivenOption, one_option};
 ghost use Rattle.words_core.specs.CsplitWords.{style_of};
-ghost use Rattle.words_core.specs.Laws.{AreAmong, Gives, IsLetter, IsName, amount_of, appends, as_operands, csplit_as, drops_sizes, elides_files, ends_as, ends_of, has, is_alphabet, is_count, is_digits, is_headers, is_prefix, is_way, is_width, follow_of, is_following, is_looks, keeps_files, leaves_lines_out, plain_style, retries, split_as, split_of, tail_as};
+ghost use Rattle.words_core.specs.Laws.{AreAmong, Gives, IsLetter, IsName, amount_of, appends, as_operands, csplit_as, drops_sizes, elides_files, ends_as, ends_of, has, is_alphabet, is_count, is_digits, is_headers, is_prefix, is_way, is_width, follow_of, following_as, is_following, is_looks, keeps_files, leaves_lines_out, plain_style, retries, split_as, split_of, tail_as};
 ghost use Rattle.words_core.specs.Spelling.{behind, spelled};
 ghost use Rattle.words_core.specs.EndsWords.{ten_lines};
 ghost use Rattle.words_core.specs.SplitWords.{least_width, way_in};
@@ -19,6 +19,7 @@ ghost use Rattle.words_core.specs.Words.{settings_of};
 use crate::settings::{Headers, Settings};
 use crate::spelling::State;
 use crate::table::{Choice, Kind};
+use crate::value::Followed;
 use ends_core::Unit;
 use ports_core::{Alphabet, Fault, Mode};
 use seg_core::count::Count;
@@ -144,6 +145,17 @@ pub fn ends_options_ask()
     ensures head_verbose { settings_of (codes "head" ∷ codes "-v" ∷ []) ≡ Ok (Settings.Head (ends_as Unit.Lines ten_lines.count Headers.Always)) }
     ensures tail_quiet { settings_of (codes "tail" ∷ codes "-q" ∷ []) ≡ Ok (Settings.Tail (tail_as (ends_as Unit.Lines ten_lines.count Headers.Never))) }
     ensures tail_verbose { settings_of (codes "tail" ∷ codes "-v" ∷ []) ≡ Ok (Settings.Tail (tail_as (ends_as Unit.Lines ten_lines.count Headers.Always))) }
+{}
+
+/// What the options of `tail` for following ask for: files that are opened once, or names; as many looks as can be, or this many
+/// (POSIX.1-2017, XCU tail; GNU coreutils manual).
+pub fn tail_options_ask()
+    ensures follows { settings_of (codes "tail" ∷ codes "-f" ∷ codes "f" ∷ []) ≡ Ok (Settings.Tail (following_as (Some Followed.Descriptor) (2 ^ 63 - 1))) }
+    ensures long { settings_of (codes "tail" ∷ codes "--follow" ∷ codes "f" ∷ []) ≡ Ok (Settings.Tail (following_as (Some Followed.Descriptor) (2 ^ 63 - 1))) }
+    ensures descriptor { settings_of (codes "tail" ∷ codes "--follow=descriptor" ∷ codes "f" ∷ []) ≡ Ok (Settings.Tail (following_as (Some Followed.Descriptor) (2 ^ 63 - 1))) }
+    ensures names { settings_of (codes "tail" ∷ codes "-F" ∷ codes "f" ∷ []) ≡ Ok (Settings.Tail (following_as (Some Followed.Name) (2 ^ 63 - 1))) }
+    ensures retry { settings_of (codes "tail" ∷ codes "--follow=name" ∷ codes "--retry" ∷ codes "f" ∷ []) ≡ Ok (Settings.Tail (following_as (Some Followed.Name) (2 ^ 63 - 1))) }
+    ensures looks { settings_of (codes "tail" ∷ codes "-f" ∷ codes "--looks=3" ∷ codes "f" ∷ []) ≡ Ok (Settings.Tail (following_as (Some Followed.Descriptor) 3)) }
 {}
 
 /// What the options of `split` ask for, each alone (POSIX.1-2017, XCU split; GNU coreutils manual).

@@ -16,6 +16,8 @@ mod spelling_tests;
 mod split_tests;
 mod split_words;
 mod table;
+#[cfg(test)]
+mod tail_tests;
 mod tail_words;
 #[cfg(test)]
 mod tee_tests;
@@ -28,7 +30,7 @@ pub use laws::{
     csplit_options_ask, ends_options_ask, last_of_csplit_decides, last_of_ends_decides,
     last_of_split_decides, last_of_tail_decides, number_comes_first, numbers_ask, one_way_at_most,
     operands_follow_the_end, operands_keep_their_order, options_stand_anywhere, split_options_ask,
-    tee_options_ask, values_are_spelled_alike,
+    tail_options_ask, tee_options_ask, values_are_spelled_alike,
 };
 pub use settings::{EndsSettings, Headers, Settings, SplitSettings, TailSettings, TeeSettings};
 pub use value::Followed;

@@ -1,6 +1,7 @@
 //! The tools and their options, as their manuals list them: POSIX.1-2017, XCU head, tail, split, csplit and tee; `-q`, `-v`,
 //! `-z`, the `-c` of `head`, the `-C`, `-n`, `-d`, `-x`, `-e`, `-t` and `--additional-suffix` of `split`, the
-//! `--suppress-matched` of `csplit` and the long names are GNU's.
+//! `--suppress-matched` of `csplit`, the `-F`, `--follow` and `--retry` of `tail` and the long names are GNU's; `--looks` is of these
+//! tools alone.
 ghost use Rattle.std.specs.Prelude.{◌≡◌, map, option_map};
 ghost use Rattle.words_core.specs.Table.{is_among, option_named, row_named, row_seen, tool_seen, tools};
 
@@ -100,8 +101,8 @@ pub type ToolRow = (
     Option<(Choice, Kind)>,
 );
 
-/// The options of `head` and `tail`.
-const ENDS: &[OptionRow] = &[
+/// The options of `head`.
+const HEAD: &[OptionRow] = &[
     (&["-n", "--lines"], Choice::Lines, Takes::Value(Kind::Count)),
     (&["-c", "--bytes"], Choice::Bytes, Takes::Value(Kind::Count)),
     (
@@ -115,6 +116,31 @@ const ENDS: &[OptionRow] = &[
         Choice::ZeroTerminated,
         Takes::Nothing,
     ),
+];
+
+/// The options of `tail`: those of `head`, and how files are followed.
+const TAIL: &[OptionRow] = &[
+    (&["-n", "--lines"], Choice::Lines, Takes::Value(Kind::Count)),
+    (&["-c", "--bytes"], Choice::Bytes, Takes::Value(Kind::Count)),
+    (
+        &["-q", "--quiet", "--silent"],
+        Choice::Quiet,
+        Takes::Nothing,
+    ),
+    (&["-v", "--verbose"], Choice::Verbose, Takes::Nothing),
+    (
+        &["-z", "--zero-terminated"],
+        Choice::ZeroTerminated,
+        Takes::Nothing,
+    ),
+    (
+        &["-f", "--follow"],
+        Choice::Follow,
+        Takes::Optional(Kind::Following),
+    ),
+    (&["-F"], Choice::FollowNames, Takes::Nothing),
+    (&["--retry"], Choice::Retry, Takes::Nothing),
+    (&["--looks"], Choice::Looks, Takes::Value(Kind::Looks)),
 ];
 
 /// The options of `split`.
@@ -198,8 +224,8 @@ const TEE: &[OptionRow] = &[(&["-a", "--append"], Choice::Append, Takes::Nothing
 
 /// The tools.
 pub const TOOLS: &[ToolRow] = &[
-    ("head", Tool::Head, ENDS, Some((Choice::Lines, Kind::Count))),
-    ("tail", Tool::Tail, ENDS, Some((Choice::Lines, Kind::Count))),
+    ("head", Tool::Head, HEAD, Some((Choice::Lines, Kind::Count))),
+    ("tail", Tool::Tail, TAIL, Some((Choice::Lines, Kind::Count))),
     (
         "split",
         Tool::Split,

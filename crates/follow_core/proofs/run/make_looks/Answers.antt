@@ -1,5 +1,4 @@
-use Rattle.std.proofs.Common.{◌≡◌, ◌+◌, ◌∙◌, refl, arith, length, ap}
-use Rattle.follow_core.specs.Ending.{seen_first}
+use Rattle.std.proofs.Common.{◌+◌, ◌∙◌, refl, arith, length}
 use Rattle.follow_core.proofs.EndingLemmas.{all_made, ends_there, goes_on, next_is, none_made, one_more, one_stopped, seen_one}
 use Rattle.follow_core.proofs.run.make_looks.Goals as goal
 

@@ -1,4 +1,4 @@
-use Rattle.std.proofs.Common.{◌≡◌, ◌∙◌, ap}
+use Rattle.std.proofs.Common.{◌∙◌, ap}
 use Rattle.follow_core.specs.FollowState.{FollowState}
 use Rattle.follow_core.specs.Standing.{any_goes_on}
 use Rattle.follow_core.proofs.FollowLemmas.{alive_is}
