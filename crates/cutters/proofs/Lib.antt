@@ -3,3 +3,4 @@ pub mod CsplitLemmas
 pub mod RunLemmas
 pub mod SkipLemmas
 pub mod SpeakerLemmas
+pub mod FollowingLemmas

@@ -141,27 +141,26 @@ unread_for told_in told laid sources words (Err fault) new error fresh is says s
   by_either (inr is) = is
 
 -- the words ask for something whose operands can't be read
-operands_refused : (told_in told : Bool) (laid : ℕ → List ℕ → Option Content) (sources : List Source) (words : List (List ℕ)) (settings : Settings) (fault : Fault) (new : List Slot) → IsFresh sources → HasBadOperands settings fault
-    → RefusesFor told words fault new 1 → RunsOver told_in (world_of laid sources) (names_of settings) (λ found. RunEndsAt told_in told words found sources new 1 (Ok settings))
-operands_refused told_in told laid sources words settings fault new fresh bad refuses =
+operands_refused : (told_in told : Bool) (laid : ℕ → List ℕ → Option Content) (sources : List Source) (words : List (List ℕ)) (settings : Settings) (fault : Fault) (new : List Slot) (status : ℕ) → IsFresh sources → HasBadOperands settings fault
+    → RefusesFor told words fault new status → RunsOver told_in (world_of laid sources) (names_of settings) (λ found. RunEndsAt told_in told words found sources new status (Ok settings))
+operands_refused told_in told laid sources words settings fault new status fresh bad refuses =
     let untouched = none_touched told_in laid sources (names_of settings) fresh in (untouched.0, untouched.1, inr (fault, bad, refuses))
 
-pub refused_or_memory : (told_in told : Bool) (laid : ℕ → List ℕ → Option Content) (sources : List Source) (words : List (List ℕ)) (fault : Fault) (old new : List Slot) → IsFresh sources → IsRefused HasBadOperands (settings_of words) fault → old ≡ streams
-    → SaysOn told (speaker words) (message_of (speaker words) fault (word_of words fault)) old new → RunsOver told_in (world_of laid sources) (names_read words) (λ found. RunEnds told_in told words found sources new 1)
-refused_or_memory told_in told laid sources words fault old new fresh (inr (inl is)) are says =
-    let said = says standard_output standard_error [] are in
-    subst (λ (meant : Result Settings Fault). RunsOver told_in (world_of laid sources) (names_at meant) (λ found. RunEndsAt told_in told words found sources new 1 meant)) (sym is) (
+pub refused_or_memory : (told_in told : Bool) (laid : ℕ → List ℕ → Option Content) (sources : List Source) (words : List (List ℕ)) (fault : Fault) (new : List Slot) (status : ℕ) → IsFresh sources → IsRefused HasBadOperands (settings_of words) fault
+    → RefusesFor told words fault new status → RunsOver told_in (world_of laid sources) (names_read words) (λ found. RunEnds told_in told words found sources new status)
+refused_or_memory told_in told laid sources words fault new status fresh (inr (inl is)) refuses =
+    subst (λ (meant : Result Settings Fault). RunsOver told_in (world_of laid sources) (names_at meant) (λ found. RunEndsAt told_in told words found sources new status meant)) (sym is) (
       [],
       record { are = refl; there = λ t. refl },
-      record { error = said.0; says = said.1; slots = said.2; failed = refl },
+      refuses,
     )
-refused_or_memory told_in told laid sources words fault old new fresh (inr (inr (settings, is, bad))) are says =
-    let said = says standard_output standard_error [] are in
-    subst (λ (meant : Result Settings Fault). RunsOver told_in (world_of laid sources) (names_at meant) (λ found. RunEndsAt told_in told words found sources new 1 meant)) (sym is)
-    (operands_refused told_in told laid sources words settings fault new fresh bad (record { error = said.0; says = said.1; slots = said.2; failed = refl }))
-refused_or_memory told_in told laid sources words fault old new fresh (inl is) are says =
-    let said = subst (λ why. SaysOn told (speaker words) (message_of (speaker words) why (word_of words why)) old new) is says standard_output standard_error [] are in
-    unread_for told_in told laid sources words (settings_of words) new said.0 fresh refl said.1 said.2
+refused_or_memory told_in told laid sources words fault new status fresh (inr (inr (settings, is, bad))) refuses =
+    subst (λ (meant : Result Settings Fault). RunsOver told_in (world_of laid sources) (names_at meant) (λ found. RunEndsAt told_in told words found sources new status meant)) (sym is)
+    (operands_refused told_in told laid sources words settings fault new status fresh bad refuses)
+refused_or_memory told_in told laid sources words fault new status fresh (inl is) refuses =
+    let said : RefusesFor told words Memory new status = subst (λ why. RefusesFor told words why new status) is refuses in
+    subst (λ those. RunsOver told_in (world_of laid sources) (names_read words) (λ found. RunEnds told_in told words found sources new those)) (sym said.failed)
+    (unread_for told_in told laid sources words (settings_of words) new said.error fresh refl said.says said.slots)
 
 -- `csplit` cuts at the operands that were read
 pub csplit_runs : (told_in told : Bool) (world : World) (asked : CsplitAsked) (input : List ℕ) (operands : List Operand) (sources : List Source) (new : List Slot) (status : ℕ) → input ≡ asked.input → Asks asked.operands operands

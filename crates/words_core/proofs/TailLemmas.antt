@@ -1,8 +1,8 @@
 -- Lemmas on what the options of `tail` for following ask for, one after another.
-use Rattle.std.proofs.Common.{◌≡◌, ℕ, ◌-◌, ◌^◌, Bool, true, false, ◌||◌, List, [], ◌∷◌, ◌++◌, None, refl, ◌∙◌}
+use Rattle.std.proofs.Common.{◌≡◌, ◌-◌, ◌^◌, true, false, ◌||◌, List, [], ◌∷◌, ◌++◌, None, refl, ◌∙◌}
 use Rattle.std.specs.List.{list_any}
 use Rattle.words_core.specs.declared.table.Choice.{Choice}
-use Rattle.words_core.specs.declared.table.Choice.TheVariants.{Follow, FollowNames, Retry, Looks as HowOften}
+use Rattle.words_core.specs.declared.table.Choice.TheVariants.{Follow, FollowNames, Looks as HowOften}
 use Rattle.words_core.specs.declared.tail_words.FollowOptions.{FollowOptions}
 use Rattle.words_core.specs.Value.{Meant, Following, Looks}
 use Rattle.words_core.specs.Given.{GivenOption}

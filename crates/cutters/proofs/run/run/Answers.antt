@@ -24,9 +24,7 @@ pub returns-in-Err : goal.returns-in-Err
 returns-in-Err g c = record {
   untouched = λ none. refl;
   unopened = λ none. refl;
-  ends = refused_or_memory _ _ _ _ (map (λ word. word.now) c.args.words.now) c.in-Err.fault _ _ c.requires.inputs c.in-Err.ensures.err c.requires.outputs
-      (subst (λ (name : List ℕ). SaysOn g.O.Outs.told (speaker (map (λ word. word.now) c.args.words.now)) (message_of (speaker (map (λ word. word.now) c.args.words.now)) c.in-Err.fault name) (g.O.Outs.slots c.args.outs.now) (g.O.Outs.slots c.say.new.outs)) c.word_of.ensures
-      (subst (λ (tool : Tool). SaysOn g.O.Outs.told tool (message_of tool c.in-Err.fault c.word_of.result.now) (g.O.Outs.slots c.args.outs.now) (g.O.Outs.slots c.say.new.outs)) c.speaker.ensures c.say.ensures));
+  ends = refused_or_memory g.I.Inputs.told g.O.Outs.told _ _ (map (λ word. word.now) c.args.words.now) c.in-Err.fault (g.O.Outs.slots c.refuse_words.new.outs) c.refuse_words.result c.requires.inputs c.in-Err.ensures.err c.refuse_words.ensures;
   opened = fresh_counts _ (names_read (map (λ word. word.now) c.args.words.now)) c.requires.inputs;
   asked = fresh_asks _ _ c.requires.inputs;
 }
