@@ -35,8 +35,8 @@ follows_as told_in told asked followed by_name start headers names looks shows f
     (subst (λ h. F by_name start h asked.names streams) headers_are
     (subst (λ n. F by_name start headers n streams) names_are
     (subst (λ f. F by_name start headers names f) first_is ends)))) where
-  F : Bool → Start → Bool → List (List ℕ) → List Slot → Type 0
-  F b s h n f = KeptIn told_in b shows looks n → FollowEndsAs told_in told (ways_of b s) h n looks shows f new status
+      F : Bool → Start → Bool → List (List ℕ) → List Slot → Type 0
+      F b s h n f = KeptIn told_in b shows looks n → FollowEndsAs told_in told (ways_of b s) h n looks shows f new status
 
 -- the words ask `tail` to follow these
 pub tail_follows : (told_in told : Bool) (words : List (List ℕ)) (asked : TailSettings) (same : Option Followed) (looks : ℕ) (shows : ℕ → Snapshot) (new : List Slot) (status : ℕ) → settings_of words ≡ Ok (Tail asked) → asked.followed ≡ same

@@ -27,11 +27,14 @@ ghost use Rattle.ports_core.specs.Slot.{streams};
 ghost use Rattle.ports_core.specs.Source.{IsFresh};
 
 use crate::args::{ArgsFault, read_args};
+use crate::follow::run_follow;
 use crate::run::run;
 use ports_core::{DirIn, DirOut, Fault, Tool, say, write_whole};
 use std::alloc::{AllocError, Global};
 use std::fs;
 use std::process::ExitCode;
+use watch_core::DirWatch;
+use words_core::{find_tool, read_words};
 
 /// The output for messages.
 const STANDARD_ERROR: usize = 1;
@@ -46,7 +49,7 @@ fn main(rt: HostRuntime) -> ExitCode {
     let status = match read_args(&rt, alloc) {
         Ok(args) => {
             let mut inputs = DirIn::new(rt, alloc, rt.stdin());
-            run_args(alloc, &args, &mut inputs, &mut outs)
+            run_args(rt, alloc, &args, &mut inputs, &mut outs)
         }
         Err(ArgsFault::NotUtf8(word)) => refuse_word(alloc, word, &mut outs),
         Err(ArgsFault::Memory) => refuse(alloc, &mut outs),
@@ -55,6 +58,7 @@ fn main(rt: HostRuntime) -> ExitCode {
 }
 
 fn run_args(
+    rt: HostRuntime,
     alloc: Global,
     args: &Vec<String>,
     inputs: &mut DirIn<HostRuntime>,
@@ -68,8 +72,42 @@ fn run_args(
         .map(|word| word.as_str())
         .collect::<Vec<&str>>(alloc)
     {
-        Ok(words) => run(alloc, &words, inputs, outs),
+        Ok(words) => run_words(rt, alloc, &words, inputs, outs),
         Err(AllocError) => refuse(alloc, outs),
+    }
+}
+
+/// Follows files, where the words ask for that, and else runs the tool over its inputs.
+fn run_words(
+    rt: HostRuntime,
+    alloc: Global,
+    words: &[&str],
+    inputs: &mut DirIn<HostRuntime>,
+    outs: &mut DirOut<HostRuntime>,
+) -> u8
+    requires inputs { IsFresh inputs.old }
+    requires outputs { outs.old ≡ streams }
+{
+    match looks_of(alloc, words) {
+        Some(looks) => {
+            let mut watch = DirWatch::new(rt, alloc);
+            run_follow(alloc, words, &mut watch, outs, looks)
+        }
+        None => run(alloc, words, inputs, outs),
+    }
+}
+
+/// How often files are looked at; none where the words follow nothing. Only the words of `tail` can, so no others are read here.
+fn looks_of(alloc: Global, words: &[&str]) -> Option<u64> {
+    let [name, ..] = words else {
+        return None;
+    };
+    if find_tool(name) != Some(Tool::Tail) {
+        return None;
+    }
+    match read_words(alloc, words) {
+        Ok(settings) if settings.follows() => Some(settings.looks()),
+        _ => None,
     }
 }
 
