@@ -345,7 +345,7 @@ fn tells_the_first_fault(rt: HostRuntime) -> Result<(), Fail> {
         (&["head", "-qn"], b"head: missing value for '-qn'\n"),
         (&["head", "-qx"], b"head: unknown option '-qx'\n"),
         (&["head", "-f"], b"head: unknown option '-f'\n"),
-        (&["tail", "-f"], b"tail: unknown option '-f'\n"),
+        (&["tail", "-p"], b"tail: unknown option '-p'\n"),
         (&["head", "--lin=3"], b"head: unknown option '--lin=3'\n"),
         (&["head", "--lin"], b"head: unknown option '--lin'\n"),
         (&["head", "--=3"], b"head: unknown option '--=3'\n"),
