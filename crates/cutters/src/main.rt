@@ -10,6 +10,8 @@ mod ends;
 mod ends_tests;
 mod follow;
 #[cfg(test)]
+mod follow_tests;
+#[cfg(test)]
 mod left;
 #[cfg(test)]
 mod refused_tests;
