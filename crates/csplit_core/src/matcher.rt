@@ -52,7 +52,7 @@ impl<'o> Matcher<'o> {
         ensures exact { result ≡ contains self.old text.now }
         ensures same { self.new ≡ self.old }
     {
-        self.scan.matches(self.pattern, text)
+        self.scan.contains(self.pattern, text)
     }
 }
 

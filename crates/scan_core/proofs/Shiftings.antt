@@ -9,8 +9,8 @@ use Rattle.scan_core.specs.declared.table.State.{State}
 use Rattle.scan_core.specs.declared.table.Table.{Table}
 use Rattle.scan_core.specs.Code.{weight}
 use Rattle.scan_core.specs.Counted.{set_at, EndsIn}
-use Rattle.scan_core.specs.Shifts.{IsComplete, IsOffset, IsWord, six_bits, AreLight, IsWeight, IsSized, IsShifted, IsShiftTable, IsStateAt, IsAt}
-use Rattle.scan_core.specs.Table.{entry, no_state, IsTable, IsTableOf, IsOutcome, Walked}
+use Rattle.scan_core.specs.Shifts.{AreLight, IsAt, IsComplete, IsOffset, IsReached, IsShiftTable, IsShifted, IsSized, IsStateAt, IsWeight, IsWord, six_bits}
+use Rattle.scan_core.specs.Table.{IsFound, IsOutcome, IsTable, IsTableOf, Walked, entry, no_state}
 use Rattle.scan_core.proofs.Along.{steps_more, steps_wider}
 use Rattle.scan_core.proofs.Enterings.{positions_most, weight_length}
 use Rattle.scan_core.proofs.Inners.{any_default, walked_starts, walked_stops, walk_next, walk_run, walk_ends, fixed_stays, bound_fits}
@@ -220,3 +220,27 @@ at_fits code shifts line place word steps a p = bound_fits code place steps a.1.
 
 pub outcome_fits : (code : List Node) (shifts : ShiftTable) (line : List ℕ) (found : Bool) (steps : ℕ) → IsShiftTable code shifts → IsOutcome code line (record { found = found; steps = steps }) → length line ≤ 18446744073709551615 → steps < 340282366920938463463374607431768211456
 outcome_fits code shifts line found steps t o p = bound_fits code (length line + 1) steps t.1.1.few o.bound (omega (arith, p))
+
+-- in whatever number of steps
+
+pub reached_starts : (code : List Node) (shifts : ShiftTable) (line : List ℕ) → IsShiftTable code shifts → IsReached code shifts line 0 0
+reached_starts code shifts line t = (0, at_starts code shifts line t)
+
+pub reached_moved : (code : List Node) (shifts : ShiftTable) (line : List ℕ) (place place' word : ℕ) → place ≡ place' → IsReached code shifts line place word → IsReached code shifts line place' word
+reached_moved code shifts line place place' word p r = (r.0, at_moved code shifts line place place' word r.0 r.0 p refl r.1)
+
+pub reached_more : (code : List Node) (shifts : ShiftTable) (line : List ℕ) (place word word' read d : ℕ) → IsReached code shifts line place word → place < length line → slice_index line place < 256
+    → read ≡ get_or shifts.words.items (slice_index line place) d → word' ≡ read / 2 ^ (word % 64) → IsReached code shifts line (place + 1) word'
+reached_more code shifts line place word word' read d r h b e w =
+    (r.0 + get_or shifts.weights.items (word % 256) 0, at_more code shifts line place word word' r.0 read d (get_or shifts.weights.items (word % 256) 0) 0 r.1 h b e w refl)
+
+pub reached_stop : (code : List Node) (shifts : ShiftTable) (line : List ℕ) (place word : ℕ) → IsReached code shifts line place word → word % 64 ≡ shifts.stop → IsFound code line true
+reached_stop code shifts line place word r e = (at_stop code shifts line place word r.0 r.1 e).exact
+
+pub reached_end : (code : List Node) (shifts : ShiftTable) (line : List ℕ) (place word : ℕ) (noted d : State) → IsReached code shifts line place word → (word % 64 ≡ shifts.stop → ⊥) → place ≡ length line → 0 < length line → noted ≡ get_or shifts.states.items (word % 64 / 6) d
+    → IsFound code line noted.ends
+reached_end code shifts line place word noted d r n h some e = (at_end code shifts line place word r.0 noted d r.1 n h some e).exact
+
+pub reached_fixed : (code : List Node) (shifts : ShiftTable) (line : List ℕ) (place word : ℕ) (noted d : State) → IsReached code shifts line place word → (word % 64 ≡ shifts.stop → ⊥) → 0 < length line → ((k : ℕ) → k < length line → slice_index line k < 256)
+    → noted ≡ get_or shifts.states.items (word % 64 / 6) d → noted.is_fixed ≡ true → IsFound code line noted.ends
+reached_fixed code shifts line place word noted d r n some b e f = (at_fixed code shifts line place word r.0 (noted.positions * (length line - place)) noted d r.1 n some b e f refl).exact

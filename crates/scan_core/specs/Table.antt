@@ -65,8 +65,12 @@ pub record Walked (code : List Node) (sets : List (List Bool)) (line : List ℕ)
   pub counted : AreSteps code line place steps
   pub bound : steps ≤ place * (weight code + 1)
 
+-- whether a line has a match
+abbrev pub IsFound : List Node → List ℕ → Bool → Type 0
+IsFound code line found = IsTrue found ↔ EndsIn code line
+
 -- what a walk along a line returns
 pub record IsOutcome (code : List Node) (line : List ℕ) (outcome : Outcome) : Type 0 where
-  pub exact : IsTrue outcome.found ↔ EndsIn code line
+  pub exact : IsFound code line outcome.found
   pub counted : IsFalse outcome.found → IsStepCount code line outcome.steps
   pub bound : outcome.steps ≤ (length line + 1) * (weight code + 1)

@@ -6,7 +6,7 @@ ghost use Rattle.bre_core.specs.Refusal.{IsOfText, IsTooLarge};
 ghost use Rattle.bre_core.specs.Search.{contains};
 ghost use Rattle.bre_core.specs.declared.fault.BreFault.TheVariants.{Memory, TooLarge};
 ghost use Rattle.scan_core.specs.Code.{code_of, IsOrdered};
-ghost use Rattle.scan_core.specs.Table.{IsOutcome};
+ghost use Rattle.scan_core.specs.Table.{IsFound, IsOutcome};
 
 use crate::build::build;
 use crate::closures::{Closures, closures_of};
@@ -14,6 +14,7 @@ use crate::compile::compile;
 use crate::masks::{Masks, masks_of};
 use crate::node::Node;
 use crate::search::search;
+use crate::shift_find::find_by_shifts;
 use crate::shift_table::{ShiftTable, shifts_of};
 use crate::shift_walk::walk_by_shifts;
 use crate::table::Table;
@@ -118,6 +119,21 @@ impl Bre {
         }
         match &self.table {
             Some(table) => walk(table, code, line),
+            None => None,
+        }
+    }
+
+    /// Whether a line that isn't empty has a match, by the pattern's table; `None` as in `walk`.
+    pub(crate) fn find(&self, line: &[u8]) -> Option<bool>
+        requires { 0 < length line.now }
+        ensures found { IfSome result (IsFound (code_of self.now) line.now) }
+        ensures order { IsOrdered self.now }
+    {
+        if let Some(shifts) = &self.shifts {
+            return Some(find_by_shifts(shifts, &self.code, line));
+        }
+        match self.walk(line) {
+            Some(outcome) => Some(outcome.found),
             None => None,
         }
     }

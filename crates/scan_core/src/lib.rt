@@ -18,6 +18,7 @@ mod node;
 mod reach;
 mod scan;
 mod search;
+mod shift_find;
 mod shift_table;
 mod shift_walk;
 mod table;

@@ -77,6 +77,20 @@ impl Scan {
         outcome.found
     }
 
+    /// The same as `matches`, faster: no steps are counted, and `steps` returns what it returned before.
+    pub fn contains(&mut self, bre: &Bre, line: &[u8]) -> bool
+        requires { self.old.positions ≡ positions_of bre.now }
+        ensures exact { result ≡ contains bre.now line.now }
+        ensures same { self.new ≡ self.old }
+    {
+        if !line.is_empty() {
+            if let Some(found) = bre.find(line) {
+                return found;
+            }
+        }
+        bre.search(line, &mut self.words).found
+    }
+
     /// The steps of the last `matches`, 0 before the first.
     pub fn steps(&self) -> u128
         ensures { result ≡ self.now.steps }

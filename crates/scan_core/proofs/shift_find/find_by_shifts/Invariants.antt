@@ -1,0 +1,12 @@
+use Rattle.std.proofs.Common.{length, ◌-◌, ◌≤◌}
+use Rattle.scan_core.specs.Shifts.{IsReached}
+use Rattle.scan_core.proofs.shift_find.find_by_shifts.Given as goal
+
+abbrev pub invariant-loop-place : goal.invariant-loop-place
+invariant-loop-place l = record {
+  within : l.place ≤ length l.line;
+  at : IsReached l.nodes l.table l.line l.place l.word;
+}
+
+abbrev pub decreases-loop-place : goal.decreases-loop-place
+decreases-loop-place l = length l.line - l.place
