@@ -202,7 +202,7 @@ fn line_of(rt: &impl Abort, alloc: Global, number: usize) -> Vec<u8> {
     line
 }
 
-/// Compares the table, the sets and the plain matcher; where the line doesn't match, the steps of the first two as well.
+/// Compares the table, the sets, the search that counts nothing and the plain matcher; where the line doesn't match, the steps of the first two as well.
 fn agree(rt: &impl Abort, alloc: Global, bre: &Bre, line: &[u8]) {
     let plain = matches_plain(alloc, bre, line).expect(rt, "there is memory");
     let size = 2 * bre.positions() as usize / 64 + 1;
@@ -221,6 +221,7 @@ fn agree(rt: &impl Abort, alloc: Global, bre: &Bre, line: &[u8]) {
     let mut scan = Scan::new(alloc, bre).expect(rt, "there is memory");
     assert_eq!(rt; scan.matches(bre, line), plain, "{line:?}");
     assert!(rt; plain || scan.steps() == by_sets.steps, "steps: {line:?}");
+    assert_eq!(rt; scan.contains(bre, line), plain, "uncounted: {line:?}");
 }
 
 #[test]
