@@ -1,5 +1,5 @@
 -- Lemmas on how a run that follows ends, by its words.
-use Rattle.std.proofs.Common.{◌≡◌, ℕ, Bool, List, map, Bor, Option, Some, None, [], Result, Ok, Err, inl, inr, ◌⊎◌, refl, sym, ◌∙◌, ap, subst}
+use Rattle.std.proofs.Common.{◌≡◌, ℕ, Bool, List, Option, Some, None, [], Result, Ok, Err, inl, inr, ◌⊎◌, refl, sym, ◌∙◌, ap, subst}
 use Rattle.ports_core.specs.Slot.{Slot, changed_at, slot_at, streams}
 use Rattle.ports_core.specs.Message.{Says, SaysOn}
 use Rattle.ports_core.specs.Text.{message_of}
@@ -8,7 +8,7 @@ use Rattle.ports_core.specs.declared.fault.Fault.TheVariants.{Memory, Usage}
 use Rattle.ports_core.specs.declared.fault.UsageKind.TheVariants.{BadFollow}
 use Rattle.ports_core.specs.declared.tool.Tool.{Tool}
 use Rattle.ports_core.specs.declared.tool.Tool.TheVariants as tool
-use Rattle.run_core.specs.RunEnds.{standard_error, standard_output, streams_with}
+use Rattle.run_core.specs.RunEnds.{standard_error}
 use Rattle.watch_core.specs.Snapshot.{Snapshot}
 use Rattle.follow_core.specs.declared.start.Start.{Start}
 use Rattle.follow_core.specs.Ending.{FollowEndsAs, KeptIn, no_room}
@@ -20,10 +20,10 @@ use Rattle.words_core.specs.declared.value.Followed.{Followed}
 use Rattle.words_core.specs.EndsAsked.{EndsAsked}
 use Rattle.words_core.specs.Spelling.{IsRefused}
 use Rattle.words_core.specs.Words.{HasBadOperands, settings_of}
-use Rattle.cutters.specs.Following.{FollowingEnds, FollowingEndsAt, FollowsAs, FollowsTail, RefusesToFollow, is_name, start_of}
+use Rattle.cutters.specs.Following.{FollowingEnds, FollowingEndsAt, FollowsAs, FollowsTail, is_name, start_of}
 use Rattle.cutters.specs.Outcome.{RefusesFor, speaker}
 use Rattle.cutters.specs.Tasks.{has_headers}
-use Rattle.cutters.proofs.SpeakerLemmas.{runs_as_named, tool_of}
+use Rattle.cutters.proofs.SpeakerLemmas.{runs_as_named}
 
 -- what is followed is what the settings ask for
 pub follows_as : (told_in told : Bool) (asked : EndsAsked) (followed : Followed) (by_name : Bool) (start : Start) (headers : Bool) (names : List (List ℕ)) (looks : ℕ) (shows : ℕ → Snapshot) (first new : List Slot) (status : ℕ)

@@ -1,10 +1,10 @@
 -- Lemmas on how a run ends, by its words.
 use Rattle.std.proofs.Common.{◌≡◌, ◌≤◌, ℕ, Bool, true, false, List, [], ◌∷◌, length, map, Bor, Result, Ok, Err, Option, inl, inr, ◌⊎◌, codes, refl, sym, ◌∙◌, ap, subst, arith}
 use Rattle.std.proofs.lemmas.Bool.{false≢true}
-use Rattle.ports_core.specs.Slot.{Slot, streams}
+use Rattle.ports_core.specs.Slot.{Slot}
 use Rattle.ports_core.specs.Source.{Content, Source, source_at, IsFresh}
 use Rattle.ports_core.specs.Text.{message_of}
-use Rattle.ports_core.specs.Message.{Says, SaysOn}
+use Rattle.ports_core.specs.Message.{Says}
 use Rattle.ports_core.specs.declared.fault.Fault.{Fault}
 use Rattle.ports_core.specs.declared.fault.Fault.TheVariants.{Memory}
 use Rattle.ports_core.specs.declared.slot.Mode.{Mode}
@@ -13,7 +13,7 @@ use Rattle.ports_core.specs.declared.tool.Tool.TheVariants as tool
 use Rattle.run_core.specs.Feeding.{BreaksOnly, KeepsOthers, OfContent}
 use Rattle.run_core.specs.Input.{Input, World, Finds, empty, standard_input}
 use Rattle.run_core.specs.Reading.{count_after}
-use Rattle.run_core.specs.RunEnds.{standard_output, standard_error, streams_with, EndsAs, no_room, RunsOver}
+use Rattle.run_core.specs.RunEnds.{standard_error, streams_with, EndsAs, no_room, RunsOver}
 use Rattle.run_core.specs.RunSteps.{world_of}
 use Rattle.run_core.specs.Task.{Task}
 use Rattle.run_core.proofs.NamesLemmas.{none_touched}
@@ -31,7 +31,7 @@ use Rattle.words_core.specs.declared.settings.Headers.{Headers}
 use Rattle.words_core.specs.declared.settings.Settings.{Settings}
 use Rattle.words_core.specs.declared.settings.Settings.TheVariants.{Head, Tail, Split, Csplit, Tee}
 use Rattle.words_core.specs.Words.{HasBadOperands, settings_of}
-use Rattle.cutters.specs.Outcome.{CsplitEndsAs, DoesAsked, RefusesFor, cut, unread, RunEnds, RunEndsAt, TeeEndsAs, names_at, names_read, speaker, word_of}
+use Rattle.cutters.specs.Outcome.{CsplitEndsAs, DoesAsked, RefusesFor, cut, unread, RunEnds, RunEndsAt, TeeEndsAs, names_at, names_read, speaker}
 use Rattle.cutters.specs.Tasks.{csplit_task, head_task, tail_task, split_task, names_of}
 use Rattle.cutters.proofs.SpeakerLemmas.{runs_as_named, tool_of}
 

@@ -1,5 +1,5 @@
 -- Lemmas on what a tail passes over of its inputs.
-use Rattle.std.proofs.Common.{◌≡◌, ℕ, Bool, true, false, List, refl, sym, ◌∙◌, ap, subst}
+use Rattle.std.proofs.Common.{◌≡◌, ℕ, Bool, false, List, refl, sym, ◌∙◌, ap, subst}
 use Rattle.ports_core.specs.Source.{Source}
 use Rattle.ports_core.specs.Part.{only_out}
 use Rattle.seg_core.specs.declared.count.Count.{Count}

@@ -9,8 +9,7 @@ use Rattle.follow_core.specs.declared.start.Start.{Start}
 use Rattle.follow_core.specs.Ending.{FollowEndsAs, KeptIn}
 use Rattle.follow_core.specs.Visited.{ways_of}
 use Rattle.words_core.specs.declared.settings.Settings.{Settings}
-use Rattle.words_core.specs.declared.settings.Settings.TheVariants.{Head, Tail, Split, Csplit, Tee}
-use Rattle.words_core.specs.declared.settings.TailSettings.{TailSettings}
+use Rattle.words_core.specs.declared.settings.Settings.TheVariants.{Tail}
 use Rattle.words_core.specs.declared.value.Followed.{Followed}
 use Rattle.words_core.specs.declared.value.Followed.TheVariants.{Descriptor, Name}
 use Rattle.words_core.specs.EndsAsked.{EndsAsked}

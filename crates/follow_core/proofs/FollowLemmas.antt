@@ -8,7 +8,7 @@ use Rattle.ports_core.specs.Message.{SaysAll}
 use Rattle.ports_core.specs.declared.tool.Tool.TheVariants.{Tail}
 use Rattle.ports_core.specs.declared.fault.Fault.{Fault}
 use Rattle.ports_core.specs.declared.fault.Fault.TheVariants as fault
-use Rattle.watch_core.specs.Snapshot.{Snapshot, latest}
+use Rattle.watch_core.specs.Snapshot.{Snapshot}
 use Rattle.watch_core.specs.Watched.{Watched, added, is_some, watched_at}
 use Rattle.follow_core.specs.declared.name.Standing.{Standing}
 use Rattle.follow_core.specs.declared.name.Standing.TheVariants.{New, Followed, Left}
@@ -208,16 +208,6 @@ pub first_stopped : (told_in told : Bool) (snapshot snapshot_mid : Snapshot) (ol
     → StopsOn told_in told snapshot_mid mid watched_mid slots slots_new why → StopsOn told_in told snapshot old watched slots slots_new why
 first_stopped told_in told snapshot snapshot_mid old mid watched watched_mid slots slots_new why is same stops = subst (λ s. StopsOn told_in told s old watched slots slots_new why) same
     (λ ways headers names looks first holds keep. stops ways headers names looks first (held_added told_in told ways headers names looks first old mid watched watched_mid slots is holds) keep)
-
--- following that was over is never held
-pub over_stops : (told_in told : Bool) (snapshot : Snapshot) (old : FollowState) (watched : List Watched) (slots slots_new : List Slot) (why : Fault) → old.stage ≡ Over → StopsOn told_in told snapshot old watched slots slots_new why
-over_stops told_in told snapshot old watched slots slots_new why over ways headers names looks first holds keep = absurd (subst (StandsIn told_in ways looks old.names watched) over holds.stand)
-
--- the snapshot of the look that was begun
-pub latest-last : (snapshots : List Snapshot) (snapshot : Snapshot) → latest (snapshots ++ snapshot ∷ []) ≡ snapshot
-latest-last [] snapshot = refl
-latest-last (one ∷ []) snapshot = refl
-latest-last (one ∷ two ∷ snapshots) snapshot = latest-last (two ∷ snapshots) snapshot
 
 -- whether a further look can give something
 

@@ -63,7 +63,8 @@ turns_on watch worlds same =
     rw (next) (seen_same worlds watch.worlds (suc watch.turns) same
     ∙ ap (λ n. seen watch ++ seen_in (world_at watch.worlds n) ∷ []) (let count : length (seen watch) ≡ watch.turns = length-seen watch.worlds watch.turns in let more : suc watch.turns ≡ length (seen watch) + 1 = omega arith in more))
 
-latest-last : (snapshots : List Snapshot) (snapshot : Snapshot) → latest (snapshots ++ snapshot ∷ []) ≡ snapshot
+-- the last of some looks and one more
+pub latest-last : (snapshots : List Snapshot) (snapshot : Snapshot) → latest (snapshots ++ snapshot ∷ []) ≡ snapshot
 latest-last [] snapshot = refl
 latest-last (one ∷ []) snapshot = refl
 latest-last (one ∷ two ∷ snapshots) snapshot = latest-last (two ∷ snapshots) snapshot

@@ -1,5 +1,4 @@
-use Rattle.std.proofs.Common.{◌≡◌, ◌∙◌, Bor, ℕ, List, map, ap, sym}
-use Rattle.words_core.specs.EndsAsked.{EndsAsked}
+use Rattle.std.proofs.Common.{Bor, ℕ, List, map}
 use Rattle.cutters.proofs.FollowingLemmas.{follows_as}
 use Rattle.cutters.proofs.RunLemmas.{ends_names}
 use Rattle.cutters.proofs.follow.follow_tail.Goals as goal

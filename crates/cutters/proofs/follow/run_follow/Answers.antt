@@ -1,4 +1,4 @@
-use Rattle.std.proofs.Common.{◌≡◌, ◌∙◌, Bor, ℕ, List, Option, Some, Ok, map, ap, sym, subst}
+use Rattle.std.proofs.Common.{◌∙◌, Some, Ok, map, ap, sym, subst}
 use Rattle.words_core.specs.declared.settings.TailSettings.{TailSettings}
 use Rattle.cutters.specs.Following.{FollowsAs}
 use Rattle.cutters.proofs.FollowingLemmas.{refused_words, tail_follows}

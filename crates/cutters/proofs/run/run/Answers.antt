@@ -1,11 +1,8 @@
-use Rattle.std.proofs.Common.{◌∙◌, sym, ap, Result, ℕ, List, map, refl, subst}
+use Rattle.std.proofs.Common.{◌∙◌, sym, ap, Result, map, refl}
 use Rattle.ports_core.specs.declared.fault.Fault.{Fault}
 use Rattle.words_core.specs.declared.settings.Settings.{Settings}
 use Rattle.run_core.specs.Input.{has_dash}
-use Rattle.ports_core.specs.Text.{message_of}
-use Rattle.ports_core.specs.declared.tool.Tool.{Tool}
-use Rattle.ports_core.specs.Message.{SaysOn}
-use Rattle.cutters.specs.Outcome.{names_at, names_read, speaker}
+use Rattle.cutters.specs.Outcome.{names_at, names_read}
 use Rattle.cutters.proofs.RunLemmas.{tool_runs, refused_or_memory, asked_or_none, counts_by}
 use Rattle.run_core.proofs.NamesLemmas.{fresh_counts}
 use Rattle.run_core.proofs.ReadingLemmas.{fresh_asks}

@@ -2,8 +2,9 @@ use Rattle.std.proofs.Common.{◌||◌, length, refl, sym, ◌∙◌, ap, subst}
 use Rattle.std.proofs.lemmas.List.{with_items_is}
 use Rattle.std.specs.Vec.{with_items}
 use Rattle.watch_core.specs.Snapshot.{Snapshot, latest}
+use Rattle.watch_core.proofs.MemWatchLemmas.{latest-last}
 use Rattle.follow_core.specs.FollowState.{FollowState, LooksOn, StopsOn}
-use Rattle.follow_core.proofs.FollowLemmas.{halts_at, latest-last, look_made, look_refused, look_stopped, visits_at}
+use Rattle.follow_core.proofs.FollowLemmas.{halts_at, look_made, look_refused, look_stopped, visits_at}
 use Rattle.follow_core.proofs.follow.Follow.look_on.Goals as goal
 
 pub returns-in-Err-clause-stopped : goal.returns-in-Err-clause-stopped
