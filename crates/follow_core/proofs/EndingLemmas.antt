@@ -48,8 +48,8 @@ seen_more shows looks look made saw count is =
 
 keeps_next : (told_in : Bool) (ways : Ways) (names : List (List ℕ)) (shows : ℕ → Snapshot) (looks : List Look) (snapshot : Snapshot) (made count : ℕ) → snapshots looks ≡ seen_first shows (length looks) → length looks ≡ made → snapshot ≡ shows made → made < count → KeptIn told_in ways.by_name shows count names
     → AllKeep told_in ways looks snapshot names
-keeps_next told_in ways names shows looks snapshot made count saw long is below kept place t =
-    subst (λ snaps. AreKept (entries_of ways.by_name (slice_index_or names place []) snaps)) (sym (seen_more shows looks (record { snapshot = snapshot; fates = [] }) made saw long is)) (kept t (suc made) place (omega arith))
+keeps_next told_in ways names shows looks snapshot made count saw long is below kept place there t =
+    subst (λ snaps. AreKept (entries_of ways.by_name (slice_index_or names place []) snaps)) (sym (seen_more shows looks (record { snapshot = snapshot; fates = [] }) made saw long is)) (kept t (suc made) place (omega arith) there)
 
 less_or_same : (n m : ℕ) → n < suc m → (n < m) ⊎ (n ≡ m)
 less_or_same zero zero below = inr refl
@@ -120,11 +120,16 @@ goes_on told_in told ways headers names shows first made follow watched slots re
   alive = λ t above. alive_at told_in told ways headers names shows first (suc made) follow watched slots result after alive t ∙ true_is;
 })
 
+-- the looks are those that the watch saw
+observed_all : (told_in told : Bool) (ways : Ways) (headers : Bool) (names : List (List ℕ)) (shows : ℕ → Snapshot) (first : List Slot) (made : ℕ) (follow : FollowState) (watched : List Watched) (slots : List Slot) (seen : List Snapshot) → seen ≡ seen_first shows made → (after : After told_in told ways headers names shows first made follow watched slots) → seen ≡ snapshots after.looks
+observed_all told_in told ways headers names shows first made follow watched slots seen is after = is ∙ ap (seen_first shows) (sym after.count) ∙ sym after.is_made.saw
+
 pub ends_there : (told_in told : Bool) (ways : Ways) (headers : Bool) (names : List (List ℕ)) (shows : ℕ → Snapshot) (first : List Slot) (made count : ℕ) (follow : FollowState) (watched : List Watched) (slots : List Slot) (result : Bool)
     → ((told : Bool) (ways : Ways) (headers : Bool) (names : List (List ℕ)) (looks : List Look) (first slots : List Slot) (watched : List Watched) → Holds true told ways headers names looks first follow watched slots → result ≡ is_alive ways names looks)
-    → result ≡ false → made < count → After told_in told ways headers names shows first (suc made) follow watched slots → LookedAll told_in told ways headers names count shows first follow slots
-ends_there told_in told ways headers names shows first made count follow watched slots result alive false_is below after = record {
+    → result ≡ false → made < count → (seen : List Snapshot) → seen ≡ seen_first shows (suc made) → After told_in told ways headers names shows first (suc made) follow watched slots → LookedAll told_in told ways headers names count shows first follow seen slots
+ends_there told_in told ways headers names shows first made count follow watched slots result alive false_is below seen seen_is after = record {
   looks = after.looks;
+  observed = observed_all told_in told ways headers names shows first (suc made) follow watched slots seen seen_is after;
   made = after.is_made;
   within = subst (λ n. n ≤ count) (sym after.count) (omega arith);
   over = λ fewer. (subst (λ n. 0 < n) (sym after.count) (omega arith), λ t. alive_at told_in told ways headers names shows first (suc made) follow watched slots result after alive t ∙ false_is);
@@ -132,10 +137,11 @@ ends_there told_in told ways headers names shows first made count follow watched
   holds = after.holds;
 }
 
-pub all_made : (told_in told : Bool) (ways : Ways) (headers : Bool) (names : List (List ℕ)) (shows : ℕ → Snapshot) (first : List Slot) (made count : ℕ) (follow : FollowState) (watched : List Watched) (slots : List Slot) → made ≡ count
-    → Progress told_in told ways headers names shows first made follow watched slots → LookedAll told_in told ways headers names count shows first follow slots
-all_made told_in told ways headers names shows first made count follow watched slots end progress = record {
+pub all_made : (told_in told : Bool) (ways : Ways) (headers : Bool) (names : List (List ℕ)) (shows : ℕ → Snapshot) (first : List Slot) (made count : ℕ) (follow : FollowState) (watched : List Watched) (slots : List Slot) → made ≡ count → (seen : List Snapshot) → seen ≡ seen_first shows made
+    → Progress told_in told ways headers names shows first made follow watched slots → LookedAll told_in told ways headers names count shows first follow seen slots
+all_made told_in told ways headers names shows first made count follow watched slots end seen seen_is progress = record {
   looks = after.looks;
+  observed = observed_all told_in told ways headers names shows first made follow watched slots seen seen_is after;
   made = after.is_made;
   within = subst (λ n. n ≤ count) (sym (after.count ∙ end)) (omega arith);
   over = λ fewer. absurd (not_less (after.count ∙ end) fewer);
@@ -173,10 +179,10 @@ as_status : (failed : Bool) → bool_byte failed ≡ (if failed then 1 else 0)
 as_status true = refl
 as_status false = refl
 
-pub ends_looked : (told_in told : Bool) (ways : Ways) (headers : Bool) (names : List (List ℕ)) (count : ℕ) (shows : ℕ → Snapshot) (first slots : List Slot) (follow : FollowState) (failed : Bool) (status : ℕ) → failed ≡ follow.has_failed → status ≡ bool_byte failed
-    → LookedAll told_in told ways headers names count shows first follow slots → FollowEndsAs told_in told ways headers names count shows first slots status
-ends_looked told_in told ways headers names count shows first slots follow failed status is status_is all =
-    looked all.looks all.holds.shares all.made all.within all.over all.holds.are (record {
+pub ends_looked : (told_in told : Bool) (ways : Ways) (headers : Bool) (names : List (List ℕ)) (count : ℕ) (shows : ℕ → Snapshot) (first slots : List Slot) (seen : List Snapshot) (follow : FollowState) (failed : Bool) (status : ℕ) → failed ≡ follow.has_failed → status ≡ bool_byte failed
+    → LookedAll told_in told ways headers names count shows first follow seen slots → FollowEndsAs told_in told ways headers names count shows first seen slots status
+ends_looked told_in told ways headers names count shows first slots seen follow failed status is status_is all =
+    looked all.looks all.holds.shares all.observed all.made all.within all.over all.holds.are (record {
       wrote = all.holds.shared.slots;
       status_is = status_is ∙ as_status failed ∙ ap (λ those. if those then 1 else 0) (is ∙ sym all.holds.failed);
     })

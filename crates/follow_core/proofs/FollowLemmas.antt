@@ -25,7 +25,7 @@ use Rattle.follow_core.specs.Version.{open_after}
 use Rattle.follow_core.specs.Visited.{StoppedAt, VisitedAll, ways_of}
 use Rattle.follow_core.proofs.EntryLemmas.{last_file}
 use Rattle.follow_core.proofs.ShareLemmas.{failed-append, last-append, messages-append, shares_more, text-append}
-use Rattle.follow_core.proofs.VisitAllLemmas.{short_as, wrote_as, wrote_both, wrote_short}
+use Rattle.follow_core.proofs.VisitAllLemmas.{nothing_shared, short_as, wrote_as, wrote_both, wrote_short}
 
 -- further shares
 
@@ -42,12 +42,6 @@ all_both told printer mid after shares more old now new all rest = record {
       (text_all printer mid shares more all.printer_is) (sym (messages-append shares more)) (wrote_both told _ _ _ _ old now new all.slots rest.slots);
 }
 
-all_halt : (told : Bool) (printer mid : PrinterState) (shares more : List Share) (old now new : List Slot) (why : Fault) → AllShared told printer shares old mid now → AllShort told mid more now new why → AllShort told printer (shares ++ more) old new why
-all_halt told printer mid shares more old now new why all rest = record {
-  slots = short_as told (text_from printer.headers printer.last shares ++ text_from mid.headers mid.last more) (text_from printer.headers printer.last (shares ++ more)) (messages_of shares ++ messages_of more) (messages_of (shares ++ more)) old new why
-      (text_all printer mid shares more all.printer_is) (sym (messages-append shares more)) (wrote_short told _ _ _ _ old now new why all.slots rest.slots);
-}
-
 -- memory was wanting after all of them
 wrote_stop : (told : Bool) (text : List ℕ) (lines : List (List ℕ)) (old new : List Slot) → Wrote told text lines old new → WroteShort told text lines old new fault.Memory
 wrote_stop told text lines old new wrote = λ output error others is. by output error others (wrote output error others is) where
@@ -55,8 +49,8 @@ wrote_stop told text lines old new wrote = λ output error others is. by output 
       → (error_after : Slot) × SaysAll told Tail lines error error_after × Short told text (output ∷ error_after ∷ others) new fault.Memory
   by output error others (error_after, said, are) = (error_after, said, no_room (length text) (omega arith) (are ∙ ap (λ those. adds (told_of told those) output ∷ error_after ∷ others) (sym (take-length text))))
 
-all_stop : (told : Bool) (printer after : PrinterState) (shares : List Share) (old new : List Slot) → AllShared told printer shares old after new → AllShort told printer (shares ++ []) old new fault.Memory
-all_stop told printer after shares old new all = subst (λ those. AllShort told printer those old new fault.Memory) (sym (append-nil shares)) (record { slots = wrote_stop told _ _ old new all.slots })
+none_stop : (told : Bool) (printer : PrinterState) (slots : List Slot) → AllShort told printer [] slots slots fault.Memory
+none_stop told printer slots = record { slots = wrote_stop told [] [] slots slots (nothing_shared told printer slots).slots }
 
 -- names that are looked at
 
@@ -127,10 +121,13 @@ look_made told_in told snapshot old new watched watched_new slots slots_new fail
 pub look_stopped : (told_in told : Bool) (snapshot : Snapshot) (old : FollowState) (watched : List Watched) (slots slots_new : List Slot) (why : Fault) → old.stage ≡ Looking → Halts told_in told snapshot old watched slots slots_new why → StopsOn told_in told snapshot old watched slots slots_new why
 look_stopped told_in told snapshot old watched slots slots_new why looking halts ways headers names looks first holds keep = record {
   shares = holds.shares;
-  more = stopped.shares ++ stopped.share ∷ [];
   are = holds.are;
+  printer = old.printer;
+  reached = slots;
+  shared = holds.shared;
+  more = stopped.shares ++ stopped.share ∷ [];
   begun = up_to stopped.fates stopped.place stopped.shares stopped.share stopped.within stopped.are stopped.begins;
-  short = all_halt told (fresh_printer headers) old.printer holds.shares (stopped.shares ++ stopped.share ∷ []) first slots slots_new why holds.shared stopped.short;
+  short = stopped.short;
 } where
   stopped : StoppedAt told_in told ways looks snapshot names old.printer slots slots_new why
   stopped = subst (λ those. StoppedAt told_in told ways looks snapshot those old.printer slots slots_new why) holds.same
@@ -141,10 +138,13 @@ look_stopped told_in told snapshot old watched slots slots_new why looking halts
 pub look_refused : (told_in told : Bool) (snapshot : Snapshot) (old : FollowState) (watched : List Watched) (slots slots_new : List Slot) (why : Fault) → why ≡ fault.Memory → slots_new ≡ slots → StopsOn told_in told snapshot old watched slots slots_new why
 look_refused told_in told snapshot old watched slots slots_new why is same ways headers names looks first holds keep = record {
   shares = holds.shares;
-  more = [];
   are = holds.are;
+  printer = old.printer;
+  reached = slots;
+  shared = holds.shared;
+  more = [];
   begun = nothing;
-  short = subst (AllShort told (fresh_printer headers) (holds.shares ++ []) first slots_new) (sym is) (subst (λ those. AllShort told (fresh_printer headers) (holds.shares ++ []) first those fault.Memory) (sym same) (all_stop told (fresh_printer headers) old.printer holds.shares first slots holds.shared));
+  short = subst (AllShort told old.printer [] slots slots_new) (sym is) (subst (λ those. AllShort told old.printer [] slots those fault.Memory) (sym same) (none_stop told old.printer slots));
 }
 
 -- names that were added

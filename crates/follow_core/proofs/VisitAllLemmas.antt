@@ -172,7 +172,7 @@ visited_more told_in told ways looks snapshot snapshot_now names now default one
 
   keeps_item : KeepsBytes told_in ways looks snapshot_now item.text
   keeps_item = subst (λ (s : Snapshot). KeepsBytes told_in ways looks s item.text) (sym seen)
-      (subst (KeepsBytes told_in ways looks snapshot) (text_there names now place sofar.same within ∙ ap (λ (n : NameState). n.text) (sym found)) (keep place))
+      (subst (KeepsBytes told_in ways looks snapshot) (text_there names now place sofar.same within ∙ ap (λ (n : NameState). n.text) (sym found)) (keep place (subst (λ n. place < n) (sym (length_texts names now sofar.same)) within)))
 
   visited : Visited told_in told ways looks snapshot place item.text mid slots after new (watched_at watched_new place) one.standing failed
   visited = subst (λ (s : Snapshot). Visited told_in told ways looks s place item.text mid slots after new (watched_at watched_new place) one.standing failed) seen
@@ -236,7 +236,7 @@ visited_short told_in told ways looks snapshot snapshot_now names now default pl
 
   keeps_item : KeepsBytes told_in ways looks snapshot_now item.text
   keeps_item = subst (λ (s : Snapshot). KeepsBytes told_in ways looks s item.text) (sym seen)
-      (subst (KeepsBytes told_in ways looks snapshot) (text_there names now place sofar.same within ∙ ap (λ (n : NameState). n.text) (sym found)) (keep place))
+      (subst (KeepsBytes told_in ways looks snapshot) (text_there names now place sofar.same within ∙ ap (λ (n : NameState). n.text) (sym found)) (keep place (subst (λ n. place < n) (sym (length_texts names now sofar.same)) within)))
 
   stopped : (is_dropped place looks ≡ false) × Stopped told_in told ways looks snapshot item.text mid slots new why
   stopped = subst (λ (s : Snapshot). (is_dropped place looks ≡ false) × Stopped told_in told ways looks s item.text mid slots new why) seen

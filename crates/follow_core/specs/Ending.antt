@@ -23,16 +23,17 @@ seen_first shows (suc n) = seen_first shows n ++ shows n ∷ []
 
 -- a file that is appended to keeps its bytes, in as many looks
 abbrev pub KeptIn : Bool → Bool → (ℕ → Snapshot) → ℕ → List (List ℕ) → Type 0
-KeptIn told by_name shows count names = told ≡ true → (n place : ℕ) → n ≤ count → AreKept (entries_of by_name (slice_index_or names place []) (seen_first shows n))
+KeptIn told by_name shows count names = told ≡ true → (n place : ℕ) → n ≤ count → place < length names → AreKept (entries_of by_name (slice_index_or names place []) (seen_first shows n))
 
 -- these looks were made, one after another, and after each but the last a further look could give something
 pub record Made (told_in : Bool) (ways : Ways) (names : List (List ℕ)) (shows : ℕ → Snapshot) (looks : List Look) : Type 0 where
   pub saw : snapshots looks ≡ seen_first shows (length looks)
   pub alive : told_in ≡ true → (n : ℕ) → 0 < n → n < length looks → is_alive ways names (take n looks) ≡ true
 
--- as many looks were made, or those after which nothing more can come; and the outputs have what they give
-pub record LookedAll (told_in told : Bool) (ways : Ways) (headers : Bool) (names : List (List ℕ)) (count : ℕ) (shows : ℕ → Snapshot) (first : List Slot) (follow : FollowState) (slots : List Slot) : Type 0 where
+-- As many looks were made, or those after which nothing more can come, and no others; and the outputs have what they give.
+pub record LookedAll (told_in told : Bool) (ways : Ways) (headers : Bool) (names : List (List ℕ)) (count : ℕ) (shows : ℕ → Snapshot) (first : List Slot) (follow : FollowState) (seen : List Snapshot) (slots : List Slot) : Type 0 where
   pub looks : List Look
+  pub observed : seen ≡ snapshots looks
   pub made : Made told_in ways names shows looks
   pub within : length looks ≤ count
   pub over : length looks < count → (0 < length looks) × (told_in ≡ true → is_alive ways names looks ≡ false)
@@ -52,16 +53,16 @@ pub record Leaves (told : Bool) (followed : Followed) (first new : List Slot) (s
   pub wrote : Wrote told followed.out followed.messages first new
   pub status_is : status ≡ (if followed.has_failed then 1 else 0)
 
--- A run ended so: all looks were made, as many as were asked for, or those after which nothing more can come, and the outputs have
--- exactly what they give; or a look was stopped, and the outputs have all of the looks before it, a beginning of it, and the message;
--- or there was no memory to begin.
-pub data FollowEndsAs (told_in told : Bool) (ways : Ways) (headers : Bool) (names : List (List ℕ)) (count : ℕ) (shows : ℕ → Snapshot) (first new : List Slot) (status : ℕ) : Type 0 where
-  looked : (looks : List Look) (shares : List Share) → Made told_in ways names shows looks → length looks ≤ count
+-- A run ended so: these looks and no others were made, as many as were asked for, or those after which nothing more can come, and the
+-- outputs have exactly what they give; or a look was stopped, and the outputs have all of the looks before it, a beginning of it, and
+-- the message; or there was no memory to begin, and no look was made.
+pub data FollowEndsAs (told_in told : Bool) (ways : Ways) (headers : Bool) (names : List (List ℕ)) (count : ℕ) (shows : ℕ → Snapshot) (first : List Slot) (seen : List Snapshot) (new : List Slot) (status : ℕ) : Type 0 where
+  looked : (looks : List Look) (shares : List Share) → seen ≡ snapshots looks → Made told_in ways names shows looks → length looks ≤ count
       → (length looks < count → (0 < length looks) × (told_in ≡ true → is_alive ways names looks ≡ false))
       → (told_in ≡ true → shares ≡ shares_of ways names looks) → Leaves told (made_of headers shares) first new status
-      → FollowEndsAs told_in told ways headers names count shows first new status
+      → FollowEndsAs told_in told ways headers names count shows first seen new status
   stopped : (mid : List Slot) (why : Fault) → StoppedIn told_in told ways headers names count shows first mid why
       → SaysOn told Tail (message_of Tail why (output_named mid why)) mid new → status ≡ 1
-      → FollowEndsAs told_in told ways headers names count shows first new status
-  no_room : SaysOn told Tail (message_of Tail Memory []) first new → status ≡ 1
-      → FollowEndsAs told_in told ways headers names count shows first new status
+      → FollowEndsAs told_in told ways headers names count shows first seen new status
+  no_room : seen ≡ [] → SaysOn told Tail (message_of Tail Memory []) first new → status ≡ 1
+      → FollowEndsAs told_in told ways headers names count shows first seen new status

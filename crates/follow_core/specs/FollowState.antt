@@ -72,13 +72,16 @@ pub data Begun (told_in : Bool) (ways : Ways) (names : List (List ℕ)) (looks :
       → (told_in ≡ true → BeginsShare share (share_of ways looks (record { snapshot = snapshot; fates = fates }) place (slice_index_or names place [])))
       → Begun told_in ways names looks snapshot (shares ++ share ∷ [])
 
--- Following ended in the look after these: the outputs have what these give, and a beginning of what that one gives.
+-- Following ended in the look after these: the outputs had all that these give, and got a beginning of what that one gives.
 pub record Halted (told_in told : Bool) (ways : Ways) (headers : Bool) (names : List (List ℕ)) (looks : List Look) (snapshot : Snapshot) (first slots : List Slot) (why : Fault) : Type 0 where
   pub shares : List Share
-  pub more : List Share
   pub are : told_in ≡ true → shares ≡ shares_of ways names looks
+  pub printer : PrinterState
+  pub reached : List Slot
+  pub shared : AllShared told (fresh_printer headers) shares first printer reached
+  pub more : List Share
   pub begun : Begun told_in ways names looks snapshot more
-  pub short : AllShort told (fresh_printer headers) (shares ++ more) first slots why
+  pub short : AllShort told printer more reached slots why
 
 -- whatever looks were made before, one more was made, which saw this
 abbrev pub LooksOn : (told_in told : Bool) → Snapshot → FollowState → List Watched → List Slot → FollowState → List Watched → List Slot → Type 0

@@ -68,7 +68,7 @@ KeepsBytes told ways looks snapshot name = told ≡ true → AreKept (entries_in
 
 -- that is so of all these names
 abbrev pub AllKeep : Bool → Ways → List Look → Snapshot → List (List ℕ) → Type 0
-AllKeep told ways looks snapshot names = (place : ℕ) → KeepsBytes told ways looks snapshot (slice_index_or names place [])
+AllKeep told ways looks snapshot names = (place : ℕ) → place < length names → KeepsBytes told ways looks snapshot (slice_index_or names place [])
 
 -- how it stands after a look that it came through so
 abbrev pub standing_after : (by_name : Bool) → Came → Standing

@@ -14,11 +14,11 @@ use std::alloc::Global;
 use watch_core::Watch;
 
 /// A whole run of `tail` that follows these names (POSIX.1-2017, XCU tail, `-f`; GNU's `--follow=name` too): `looks` looks, one
-/// directly after another, or as many as can give something. Its status is 1 where a name was missing at the first look or failed,
-/// or a fault ended following, and else 0.
+/// directly after another. It ends sooner where after a look no further one can give anything. Its status is 1 where a name was missing
+/// at the first look or failed, or a fault ended following, and else 0.
 ///
-/// Standard output has exactly the text of what the looks saw: of each file the part with which it begins, then what was appended;
-/// all of a file that was replaced, truncated or came back. Standard error has a line for each such change and each failure. Where
+/// Standard output has exactly the text of what the looks saw: of each file the part that `start` says, then what was appended; all of
+/// a file that was truncated, that came back, or that the name leads to in place of another. Standard error has a line for each such change and each failure. Where
 /// standard output breaks, or memory is wanting, that is told and ends the run, with a beginning of the text written. It takes memory
 /// for the names and a buffer of 65,536 bytes, before anything is opened, and for its lines and headers.
 pub fn follow_files<W: Watch, O: Outs>(
@@ -35,7 +35,7 @@ pub fn follow_files<W: Watch, O: Outs>(
     requires unwatched { W.watched watch.old ≡ [] }
     requires outputs { O.slots outs.old ≡ streams }
     ensures { KeptIn W.told by_name (W.shows watch.old) looks (map (λ name. name.now) names.now)
-        → FollowEndsAs W.told O.told (ways_of by_name start) headers (map (λ name. name.now) names.now) looks (W.shows watch.old) (O.slots outs.old) (O.slots outs.new) result }
+        → FollowEndsAs W.told O.told (ways_of by_name start) headers (map (λ name. name.now) names.now) looks (W.shows watch.old) (O.slots outs.old) (W.seen watch.new) (O.slots outs.new) result }
 {
     let mut follow = match Follow::open(alloc, names, start, by_name, headers) {
         Ok(follow) => follow,
@@ -53,7 +53,7 @@ pub fn follow_files<W: Watch, O: Outs>(
     }
 }
 
-/// Makes as many looks, or as many as can give something.
+/// Makes as many looks, or ends sooner, where after a look no further one can give anything.
 ///
 /// # Errors
 ///
@@ -69,7 +69,7 @@ fn make_looks<W: Watch, O: Outs>(
     requires error { HasError (O.slots outs.old) }
     ensures looked { OnOk result ((ways : Ways) (headers : Bool) (names : List (List ℕ)) (first : List Slot)
         → Holds W.told O.told ways headers names [] first follow.old (W.watched watch.old) (O.slots outs.old) → KeptIn W.told ways.by_name (W.shows watch.old) looks names
-        → LookedAll W.told O.told ways headers names looks (W.shows watch.old) first follow.new (O.slots outs.new)) }
+        → LookedAll W.told O.told ways headers names looks (W.shows watch.old) first follow.new (W.seen watch.new) (O.slots outs.new)) }
     ensures stopped { IfErr result (λ why. (ways : Ways) (headers : Bool) (names : List (List ℕ)) (first : List Slot)
         → Holds W.told O.told ways headers names [] first follow.old (W.watched watch.old) (O.slots outs.old) → KeptIn W.told ways.by_name (W.shows watch.old) looks names
         → StoppedIn W.told O.told ways headers names looks (W.shows watch.old) first (O.slots outs.new) why) }

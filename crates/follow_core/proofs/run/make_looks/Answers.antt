@@ -23,7 +23,7 @@ pub returns-then-not-alive-clause-looked : goal.returns-then-not-alive-clause-lo
 returns-then-not-alive-clause-looked g c ways headers names first holds kept =
     let l = c.loop-made in
     let shows = g.W.Watch.shows c.args.watch.now in
-    ends_there g.W.Watch.told g.O.Outs.told ways headers names shows first l.made c.args.looks c.look.new.self (g.W.Watch.watched c.look.new.watch) (g.O.Outs.slots c.look.new.outs) c.alive.result c.alive.ensures c.if-not-alive.true c.loop-made-test.true
+    ends_there g.W.Watch.told g.O.Outs.told ways headers names shows first l.made c.args.looks c.look.new.self (g.W.Watch.watched c.look.new.watch) (g.O.Outs.slots c.look.new.outs) c.alive.result c.alive.ensures c.if-not-alive.true c.loop-made-test.true (g.W.Watch.seen c.look.new.watch) (seen_one shows (g.W.Watch.shows l.watch) (g.W.Watch.seen l.watch) (g.W.Watch.seen c.look.new.watch) l.made _ l.invariant.shows l.invariant.seen c.in_default.ensures.seen refl)
     (one_more g.W.Watch.told g.O.Outs.told ways headers names shows first l.made c.args.looks (g.W.Watch.shows l.watch (length (g.W.Watch.seen l.watch))) l.follow c.look.new.self (g.W.Watch.watched l.watch) (g.W.Watch.watched c.look.new.watch) (g.O.Outs.slots l.outs) (g.O.Outs.slots c.look.new.outs)
     c.loop-made-test.true (next_is shows (g.W.Watch.shows l.watch) (g.W.Watch.seen l.watch) l.made l.invariant.shows l.invariant.seen) kept (l.invariant.progress ways headers names first holds kept) c.in_default.ensures.looked)
 
@@ -45,4 +45,4 @@ loop-made-preserved g c =
 pub returns-clause-looked : goal.returns-clause-looked
 returns-clause-looked g c ways headers names first holds kept =
     let l = c.loop-made in
-    all_made g.W.Watch.told g.O.Outs.told ways headers names (g.W.Watch.shows c.args.watch.now) first l.made c.args.looks l.follow (g.W.Watch.watched l.watch) (g.O.Outs.slots l.outs) (omega arith) (l.invariant.progress ways headers names first holds kept)
+    all_made g.W.Watch.told g.O.Outs.told ways headers names (g.W.Watch.shows c.args.watch.now) first l.made c.args.looks l.follow (g.W.Watch.watched l.watch) (g.O.Outs.slots l.outs) (omega arith) (g.W.Watch.seen l.watch) l.invariant.seen (l.invariant.progress ways headers names first holds kept)
