@@ -1,5 +1,5 @@
 -- What a run of `tail` leaves that follows its files, by its words: POSIX.1-2017, XCU tail, `-f`; names that are followed are GNU's.
-use Rattle.std.specs.Prelude.{ℕ, Bool, true, false, List, Option, Some, None, Result, Ok, Err, ◌⊎◌}
+use Rattle.std.specs.Prelude.{◌≡◌, ℕ, Bool, true, false, List, [], Option, Some, None, Result, Ok, Err, ◌⊎◌}
 use Rattle.ports_core.specs.Slot.{Slot, streams}
 use Rattle.ports_core.specs.declared.fault.Fault.{Fault}
 use Rattle.ports_core.specs.declared.fault.Fault.TheVariants.{Usage}
@@ -25,25 +25,30 @@ abbrev pub is_name : Followed → Bool
 is_name Descriptor = false
 is_name Name = true
 
--- these files are followed, in as many looks: where a file that is appended to keeps its bytes, the run ends as it must
-abbrev pub FollowsAs : (told_in told : Bool) → EndsAsked → Followed → (looks : ℕ) → (ℕ → Snapshot) → List Slot → (status : ℕ) → Type 0
-FollowsAs told_in told asked followed looks shows new status = KeptIn told_in (is_name followed) shows looks asked.names
-    → FollowEndsAs told_in told (ways_of (is_name followed) (start_of asked)) (has_headers asked.headers asked.names) asked.names looks shows streams new status
+-- these files are followed, in as many looks, and where a file that is appended to keeps its bytes, the run ends so that it gave
+-- exactly what these looks give
+abbrev pub FollowsAs : (told_in told : Bool) → EndsAsked → Followed → (looks : ℕ) → (ℕ → Snapshot) → List Snapshot → List Slot → (status : ℕ) → Type 0
+FollowsAs told_in told asked followed looks shows seen new status = KeptIn told_in (is_name followed) shows looks asked.names
+    → FollowEndsAs told_in told (ways_of (is_name followed) (start_of asked)) (has_headers asked.headers asked.names) asked.names looks shows streams seen new status
 
--- words that follow nothing are refused
-abbrev pub RefusesToFollow : Bool → List (List ℕ) → List Slot → ℕ → Type 0
-RefusesToFollow told words new status = RefusesFor told words (Usage BadFollow 0) new status
+-- the words are refused for this, and no look was made
+abbrev pub RefusesUnseen : Bool → List (List ℕ) → Fault → List Snapshot → List Slot → ℕ → Type 0
+RefusesUnseen told words fault seen new status = (seen ≡ []) × RefusesFor told words fault new status
 
-abbrev pub FollowsTail : (told_in told : Bool) → List (List ℕ) → EndsAsked → Option Followed → ℕ → (ℕ → Snapshot) → List Slot → ℕ → Type 0
-FollowsTail told_in told words asked (Some followed) looks shows new status = FollowsAs told_in told asked followed looks shows new status
-FollowsTail told_in told words asked None looks shows new status = RefusesToFollow told words new status
+-- words that follow nothing are
+abbrev pub RefusesToFollow : Bool → List (List ℕ) → List Snapshot → List Slot → ℕ → Type 0
+RefusesToFollow told words seen new status = RefusesUnseen told words (Usage BadFollow 0) seen new status
+
+abbrev pub FollowsTail : (told_in told : Bool) → List (List ℕ) → EndsAsked → Option Followed → ℕ → (ℕ → Snapshot) → List Snapshot → List Slot → ℕ → Type 0
+FollowsTail told_in told words asked (Some followed) looks shows seen new status = FollowsAs told_in told asked followed looks shows seen new status
+FollowsTail told_in told words asked None looks shows seen new status = RefusesToFollow told words seen new status
 
 -- what was asked for was followed, or the words were refused
-abbrev pub FollowingEndsAt : (told_in told : Bool) → List (List ℕ) → ℕ → (ℕ → Snapshot) → List Slot → ℕ → Result Settings Fault → Type 0
-FollowingEndsAt told_in told words looks shows new status (Ok (Tail asked)) = FollowsTail told_in told words asked.ends asked.followed looks shows new status
-FollowingEndsAt told_in told words looks shows new status (Ok settings) = RefusesToFollow told words new status ⊎ RefusesOperands told words settings new status
-FollowingEndsAt told_in told words looks shows new status (Err fault) = RefusesFor told words fault new status
+abbrev pub FollowingEndsAt : (told_in told : Bool) → List (List ℕ) → ℕ → (ℕ → Snapshot) → List Snapshot → List Slot → ℕ → Result Settings Fault → Type 0
+FollowingEndsAt told_in told words looks shows seen new status (Ok (Tail asked)) = FollowsTail told_in told words asked.ends asked.followed looks shows seen new status
+FollowingEndsAt told_in told words looks shows seen new status (Ok settings) = RefusesToFollow told words seen new status ⊎ ((seen ≡ []) × RefusesOperands told words settings new status)
+FollowingEndsAt told_in told words looks shows seen new status (Err fault) = RefusesUnseen told words fault seen new status
 
--- a run of these words left the outputs so, over looks that saw this, and returned this status
-abbrev pub FollowingEnds : (told_in told : Bool) → List (List ℕ) → ℕ → (ℕ → Snapshot) → List Slot → ℕ → Type 0
-FollowingEnds told_in told words looks shows new status = FollowingEndsAt told_in told words looks shows new status (settings_of words)
+-- a run of these words, over looks that would see this and of which these were made, left the outputs so, and returned this status
+abbrev pub FollowingEnds : (told_in told : Bool) → List (List ℕ) → ℕ → (ℕ → Snapshot) → List Snapshot → List Slot → ℕ → Type 0
+FollowingEnds told_in told words looks shows seen new status = FollowingEndsAt told_in told words looks shows seen new status (settings_of words)

@@ -16,8 +16,8 @@ use words_core::{EndsSettings, Followed, Settings, read_words};
 /// What is wrong with words that follow nothing.
 const NOT_FOLLOWED: Fault = Fault::Usage(UsageKind::BadFollow, 0);
 
-/// Runs `tail` over the files that the words name, and follows them: so many looks, one directly after another, or fewer where
-/// nothing more can come. It writes what each look finds, and says what changed or went wrong on standard error. It returns the
+/// Runs `tail` over the files that the words name, and follows them: `looks` looks, one directly after another, or fewer where
+/// after one nothing more can come. It writes what each look finds, and says what changed or went wrong on standard error. It returns the
 /// status: 0, or 1 where there was any fault. Words that follow nothing are refused. It takes memory for what the words ask for, for
 /// the names and a buffer of 64 KiB, and for headers and messages.
 pub fn run_follow<W: Watch, O: Outs>(
@@ -30,7 +30,7 @@ pub fn run_follow<W: Watch, O: Outs>(
     requires unseen { W.seen watch.old ≡ [] }
     requires unwatched { W.watched watch.old ≡ [] }
     requires outputs { O.slots outs.old ≡ streams }
-    ensures { FollowingEnds W.told O.told (map (λ word. word.now) words.now) looks (W.shows watch.old) (O.slots outs.new) result }
+    ensures { FollowingEnds W.told O.told (map (λ word. word.now) words.now) looks (W.shows watch.old) (W.seen watch.new) (O.slots outs.new) result }
 {
     match read_words(alloc, words) {
         Ok(Settings::Tail(settings)) => match settings.followed {
@@ -54,7 +54,7 @@ fn follow_tail<W: Watch, O: Outs>(
     requires unseen { W.seen watch.old ≡ [] }
     requires unwatched { W.watched watch.old ≡ [] }
     requires outputs { O.slots outs.old ≡ streams }
-    ensures { FollowsAs W.told O.told settings.now followed looks (W.shows watch.old) (O.slots outs.new) result }
+    ensures { FollowsAs W.told O.told settings.now followed looks (W.shows watch.old) (W.seen watch.new) (O.slots outs.new) result }
 {
     follow_files(
         alloc,

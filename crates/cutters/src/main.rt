@@ -30,7 +30,7 @@ ghost use Rattle.ports_core.specs.Source.{IsFresh};
 
 use crate::args::{ArgsFault, read_args};
 use crate::follow::run_follow;
-use crate::run::run;
+use crate::run::{refuse_words, run};
 use ports_core::{DirIn, DirOut, Fault, Tool, say, write_whole};
 use std::alloc::{AllocError, Global};
 use std::fs;
@@ -91,26 +91,32 @@ fn run_words(
     requires outputs { outs.old ≡ streams }
 {
     match looks_of(alloc, words) {
-        Some(looks) => {
+        Ok(Some(looks)) => {
             let mut watch = DirWatch::new(rt, alloc);
             run_follow(alloc, words, &mut watch, outs, looks)
         }
-        None => run(alloc, words, inputs, outs),
+        Ok(None) => run(alloc, words, inputs, outs),
+        Err(fault) => refuse_words(alloc, words, &fault, outs),
     }
 }
 
 /// How often files are looked at; none where the words follow nothing. Only the words of `tail` can, so no others are read here.
-fn looks_of(alloc: Global, words: &[&str]) -> Option<u64> {
+///
+/// # Errors
+///
+/// What is wrong with the words of `tail`, or `Memory` where there is none to read them.
+fn looks_of(alloc: Global, words: &[&str]) -> Result<Option<u64>, Fault> {
     let [name, ..] = words else {
-        return None;
+        return Ok(None);
     };
     if find_tool(name) != Some(Tool::Tail) {
-        return None;
+        return Ok(None);
     }
-    match read_words(alloc, words) {
-        Ok(settings) if settings.follows() => Some(settings.looks()),
-        _ => None,
+    let settings = read_words(alloc, words)?;
+    if settings.follows() {
+        return Ok(Some(settings.looks()));
     }
+    Ok(None)
 }
 
 /// Says that there is no memory for the words, and returns the status.
