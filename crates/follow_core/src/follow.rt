@@ -94,7 +94,8 @@ impl Follow {
     /// # Errors
     ///
     /// `Write(0)` where standard output broke, `Memory` where there was none for a name, a look, a header or a line that tells what
-    /// changed. Either ends following: a later look is `Failed`, and does nothing.
+    /// changed. Standard output then has all of the looks before, and a beginning of this one. Either ends following: a later look is
+    /// `Failed`, and does nothing.
     pub fn look<W: Watch, O: Outs>(&mut self, watch: &mut W, outs: &mut O) -> Result<(), Fault>
         requires { CanLook self.old (W.watched watch.old) (O.slots outs.old) }
         ensures looked { OnOk result (LooksOn W.told O.told (W.shows watch.old (length (W.seen watch.old))) self.old (W.watched watch.old) (O.slots outs.old) self.new (W.watched watch.new) (O.slots outs.new)) }
@@ -104,15 +105,20 @@ impl Follow {
         ensures error { HasError (O.slots outs.old) → HasError (O.slots outs.new) }
         ensures can { OnOk result (CanLook self.new (W.watched watch.new) (O.slots outs.new)) }
         ensures err { IfErr result (λ _. self.new.stage ≡ Stage.Over) }
-        ensures over { self.old.stage ≡ Stage.Over → (result ≡ Err Fault.Failed) × (O.slots outs.new ≡ O.slots outs.old) × (W.watched watch.new ≡ W.watched watch.old) × (W.seen watch.new ≡ W.seen watch.old) }
+        ensures over { self.old.stage ≡ Stage.Over → (result ≡ Err Fault.Failed) × (O.slots outs.new ≡ O.slots outs.old) × (W.watched watch.new ≡ W.watched watch.old) × (W.seen watch.new ≡ W.seen watch.old) × (self.new ≡ self.old) }
+        ensures failed { (self.old.stage ≡ Stage.Over → ⊥) → IfErr result (λ _. self.new.has_failed ≡ true) }
         ensures shows { W.shows watch.new ≡ W.shows watch.old }
     {
-        match self.make_look(watch, outs) {
-            Ok(()) => Ok(()),
-            Err(fault) => {
-                self.stage = Stage::Over;
-                Err(fault)
-            }
+        match self.stage {
+            Stage::Over => Err(Fault::Failed),
+            Stage::Fresh | Stage::Looking => match self.make_look(watch, outs) {
+                Ok(()) => Ok(()),
+                Err(fault) => {
+                    self.stage = Stage::Over;
+                    self.has_failed = true;
+                    Err(fault)
+                }
+            },
         }
     }
 
@@ -124,7 +130,7 @@ impl Follow {
         any_goes_on(&self.names, self.by_name)
     }
 
-    /// Whether a name was missing at the first look, or a call on one failed: the status is 1 then.
+    /// Whether a name was missing at the first look, a call on one failed, or a fault ended following: the status is 1 then.
     pub fn failed(&self) -> bool
         ensures { result ≡ self.now.has_failed }
     {
@@ -137,7 +143,8 @@ impl Follow {
     ///
     /// As `look`.
     fn make_look<W: Watch, O: Outs>(&mut self, watch: &mut W, outs: &mut O) -> Result<(), Fault>
-        requires { CanLook self.old (W.watched watch.old) (O.slots outs.old) }
+        requires live { self.old.stage ≡ Stage.Over → ⊥ }
+        requires can { CanLook self.old (W.watched watch.old) (O.slots outs.old) }
         ensures looked { OnOk result (LooksOn W.told O.told (W.shows watch.old (length (W.seen watch.old))) self.old (W.watched watch.old) (O.slots outs.old) self.new (W.watched watch.new) (O.slots outs.new)) }
         ensures stopped { IfErr result (StopsOn W.told O.told (W.shows watch.old (length (W.seen watch.old))) self.old (W.watched watch.old) (O.slots outs.old) (O.slots outs.new)) }
         ensures seen { OnOk result (W.seen watch.new ≡ W.seen watch.old ++ W.shows watch.old (length (W.seen watch.old)) ∷ []) }
@@ -145,13 +152,11 @@ impl Follow {
         ensures ready { OnOk result (AllReady self.new.names (W.watched watch.new)) }
         ensures can { OnOk result (CanPrint (O.slots outs.new)) }
         ensures error { HasError (O.slots outs.old) → HasError (O.slots outs.new) }
-        ensures over { self.old.stage ≡ Stage.Over → (result ≡ Err Fault.Failed) × (O.slots outs.new ≡ O.slots outs.old) × (W.watched watch.new ≡ W.watched watch.old) × (W.seen watch.new ≡ W.seen watch.old) }
         ensures shows { W.shows watch.new ≡ W.shows watch.old }
     {
         match self.stage {
             Stage::Fresh => self.look_first(watch, outs),
-            Stage::Looking => self.look_on(watch, outs),
-            Stage::Over => Err(Fault::Failed),
+            Stage::Looking | Stage::Over => self.look_on(watch, outs),
         }
     }
 
