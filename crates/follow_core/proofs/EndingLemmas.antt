@@ -15,6 +15,7 @@ use Rattle.follow_core.specs.Run.{AreKept}
 use Rattle.follow_core.specs.Standing.{AllKeep, texts}
 use Rattle.follow_core.specs.Version.{entries_of}
 use Rattle.follow_core.specs.Visited.{ways_of}
+use Rattle.follow_core.proofs.FollowLemmas.{broken_are}
 use Rattle.follow_core.proofs.VisitAllLemmas.{nothing_shared}
 
 pub length_seen : (shows : ℕ → Snapshot) (n : ℕ) → length (seen_first shows n) ≡ n
@@ -126,26 +127,24 @@ observed_all told_in told ways headers names shows first made follow watched slo
 
 pub ends_there : (told_in told : Bool) (ways : Ways) (headers : Bool) (names : List (List ℕ)) (shows : ℕ → Snapshot) (first : List Slot) (made count : ℕ) (follow : FollowState) (watched : List Watched) (slots : List Slot) (result : Bool)
     → ((told : Bool) (ways : Ways) (headers : Bool) (names : List (List ℕ)) (looks : List Look) (first slots : List Slot) (watched : List Watched) → Holds true told ways headers names looks first follow watched slots → result ≡ is_alive ways names looks)
-    → result ≡ false → made < count → (seen : List Snapshot) → seen ≡ seen_first shows (suc made) → After told_in told ways headers names shows first (suc made) follow watched slots → LookedAll told_in told ways headers names count shows first follow seen slots
+    → result ≡ false → made < count → (seen : List Snapshot) → seen ≡ seen_first shows (suc made) → After told_in told ways headers names shows first (suc made) follow watched slots → LookedAll told_in told ways headers names count shows first follow seen watched slots
 ends_there told_in told ways headers names shows first made count follow watched slots result alive false_is below seen seen_is after = record {
   looks = after.looks;
   observed = observed_all told_in told ways headers names shows first (suc made) follow watched slots seen seen_is after;
   made = after.is_made;
   within = subst (λ n. n ≤ count) (sym after.count) (omega arith);
   over = λ fewer. (subst (λ n. 0 < n) (sym after.count) (omega arith), λ t. alive_at told_in told ways headers names shows first (suc made) follow watched slots result after alive t ∙ false_is);
-  watched = watched;
   holds = after.holds;
 }
 
 pub all_made : (told_in told : Bool) (ways : Ways) (headers : Bool) (names : List (List ℕ)) (shows : ℕ → Snapshot) (first : List Slot) (made count : ℕ) (follow : FollowState) (watched : List Watched) (slots : List Slot) → made ≡ count → (seen : List Snapshot) → seen ≡ seen_first shows made
-    → Progress told_in told ways headers names shows first made follow watched slots → LookedAll told_in told ways headers names count shows first follow seen slots
+    → Progress told_in told ways headers names shows first made follow watched slots → LookedAll told_in told ways headers names count shows first follow seen watched slots
 all_made told_in told ways headers names shows first made count follow watched slots end seen seen_is progress = record {
   looks = after.looks;
   observed = observed_all told_in told ways headers names shows first made follow watched slots seen seen_is after;
   made = after.is_made;
   within = subst (λ n. n ≤ count) (sym (after.count ∙ end)) (omega arith);
   over = λ fewer. absurd (not_less (after.count ∙ end) fewer);
-  watched = watched;
   holds = after.holds;
 } where
   after : After told_in told ways headers names shows first made follow watched slots
@@ -179,10 +178,10 @@ as_status : (failed : Bool) → bool_byte failed ≡ (if failed then 1 else 0)
 as_status true = refl
 as_status false = refl
 
-pub ends_looked : (told_in told : Bool) (ways : Ways) (headers : Bool) (names : List (List ℕ)) (count : ℕ) (shows : ℕ → Snapshot) (first slots : List Slot) (seen : List Snapshot) (follow : FollowState) (failed : Bool) (status : ℕ) → failed ≡ follow.has_failed → status ≡ bool_byte failed
-    → LookedAll told_in told ways headers names count shows first follow seen slots → FollowEndsAs told_in told ways headers names count shows first seen slots status
-ends_looked told_in told ways headers names count shows first slots seen follow failed status is status_is all =
-    looked all.looks all.holds.shares all.observed all.made all.within all.over all.holds.are (record {
+pub ends_looked : (told_in told : Bool) (ways : Ways) (headers : Bool) (names : List (List ℕ)) (count : ℕ) (shows : ℕ → Snapshot) (first slots : List Slot) (seen : List Snapshot) (watched : List Watched) (follow : FollowState) (failed : Bool) (status : ℕ) → failed ≡ follow.has_failed → status ≡ bool_byte failed
+    → LookedAll told_in told ways headers names count shows first follow seen watched slots → FollowEndsAs told_in told ways headers names count shows first seen watched slots status
+ends_looked told_in told ways headers names count shows first slots seen watched follow failed status is status_is all =
+    looked all.looks all.holds.shares all.observed (broken_are told_in told ways headers names all.looks first slots follow watched all.holds) all.made all.within all.over all.holds.are (record {
       wrote = all.holds.shared.slots;
       status_is = status_is ∙ as_status failed ∙ ap (λ those. if those then 1 else 0) (is ∙ sym all.holds.failed);
     })

@@ -14,6 +14,7 @@ use Rattle.follow_core.specs.declared.name.Standing.{Standing}
 use Rattle.follow_core.specs.declared.name.Standing.TheVariants.{New, Followed, Left}
 use Rattle.follow_core.specs.declared.follow.Stage.{Stage}
 use Rattle.follow_core.specs.declared.follow.Stage.TheVariants.{Fresh, Looking, Over}
+use Rattle.follow_core.specs.Ending.{AreBroken}
 use Rattle.follow_core.specs.Followed.{any_failed, last_header_from, messages_of, text_from}
 use Rattle.follow_core.specs.FollowState.{AllReady, FollowState, Holds, LooksOn, StandsIn, StopsOn, goes_on_at, is_alive, is_alive_from, new_state, nothing, up_to}
 use Rattle.follow_core.specs.Look.{Look, Ways, is_dropped, snapshots}
@@ -57,7 +58,7 @@ none_stop told printer slots = record { slots = wrote_stop told [] [] slots slot
 stand_in : (told_in told : Bool) (ways : Ways) (headers : Bool) (names : List (List ℕ)) (looks : List Look) (first : List Slot) (follow : FollowState) (watched : List Watched) (slots : List Slot) → follow.stage ≡ Looking → Holds told_in told ways headers names looks first follow watched slots
     → AllStand told_in (ways_of follow.by_name follow.start) looks follow.names watched
 stand_in told_in told ways headers names looks first follow watched slots looking holds =
-    subst (λ way. AllStand told_in way looks follow.names watched) holds.asked (subst (StandsIn told_in ways looks follow.names watched) looking holds.stand)
+    subst (λ way. AllStand told_in way looks follow.names watched) holds.asked (subst (StandsIn told_in ways looks follow.names watched) looking holds.stand).0
 
 keep_in : (told_in told : Bool) (ways : Ways) (headers : Bool) (names : List (List ℕ)) (looks : List Look) (snapshot : Snapshot) (first : List Slot) (follow : FollowState) (watched : List Watched) (slots : List Slot) → Holds told_in told ways headers names looks first follow watched slots
     → AllKeep told_in ways looks snapshot names → AllKeep told_in (ways_of follow.by_name follow.start) looks snapshot (texts follow.names)
@@ -94,14 +95,17 @@ halts_at told_in told snapshot seen old names watched mid slots slots_new why sa
       H these those s = (looks : List Look) → AllStand told_in (ways_of old.by_name old.start) looks these those → AllKeep told_in (ways_of old.by_name old.start) looks s (texts these)
           → StoppedAt told_in told (ways_of old.by_name old.start) looks s (texts these) old.printer slots slots_new why
 
+same_length : (names now : List NameState) → texts now ≡ texts names → length names ≡ length now
+same_length names now same = sym (length-map names (λ (n : NameState). n.text)) ∙ ap length (sym same) ∙ length-map now (λ (n : NameState). n.text)
+
 pub look_made : (told_in told : Bool) (snapshot : Snapshot) (old new : FollowState) (watched watched_new : List Watched) (slots slots_new : List Slot) (failed : Bool) → old.stage ≡ Looking
-    → new.by_name ≡ old.by_name → new.start ≡ old.start → new.stage ≡ Looking → new.has_failed ≡ (old.has_failed || failed) → Visits told_in told snapshot old watched slots new watched_new slots_new failed → LooksOn told_in told snapshot old watched slots new watched_new slots_new
-look_made told_in told snapshot old new watched watched_new slots slots_new failed looking by_name start looking_new has_failed visits ways headers names looks first holds keep = (
+    → new.by_name ≡ old.by_name → new.start ≡ old.start → new.stage ≡ Looking → new.has_failed ≡ (old.has_failed || failed) → length watched_new ≡ length watched → Visits told_in told snapshot old watched slots new watched_new slots_new failed → LooksOn told_in told snapshot old watched slots new watched_new slots_new
+look_made told_in told snapshot old new watched watched_new slots slots_new failed looking by_name start looking_new has_failed count visits ways headers names looks first holds keep = (
   visited.fates,
   record {
     asked = holds.asked ∙ ap (λ way. ways_of way old.start) (sym by_name) ∙ ap (ways_of new.by_name) (sym start);
     same = visited.same ∙ holds.same;
-    stand = subst (StandsIn told_in ways after new.names watched_new) (sym looking_new) visited.stand;
+    stand = subst (StandsIn told_in ways after new.names watched_new) (sym looking_new) (visited.stand, count ∙ (subst (StandsIn told_in ways looks old.names watched) looking holds.stand).1 ∙ same_length old.names new.names visited.same);
     shares = holds.shares ++ visited.shares;
     are = λ t. ap (λ those. those ++ visited.shares) (holds.are t) ∙ ap (λ those. shares_of ways names looks ++ those) (visited.are t ∙ ap (λ those. shares_at_look ways those looks look) holds.same) ∙ sym (shares_more ways names looks look);
     shared = all_both told (fresh_printer headers) old.printer new.printer holds.shares visited.shares first slots slots_new holds.shared visited.shared;
@@ -189,8 +193,9 @@ held_added told_in told ways headers names looks first old mid watched watched_m
     subst (λ (f : FollowState). Holds told_in told ways headers names looks first f watched_mid slots) (sym is.mid_is) (record {
       asked = holds.asked;
       same = holds.same;
-      stand = subst (λ those. AllStand told_in ways those old.names watched_mid) (sym new.0)
-          (subst (λ those. AllStand told_in ways [] those watched_mid) (sym new.1) (subst (AllStand told_in ways [] (map new_state (texts old.names))) (sym is.watched_is) (added_stand told_in ways (texts old.names))));
+      stand = (subst (λ those. AllStand told_in ways those old.names watched_mid) (sym new.0)
+          (subst (λ those. AllStand told_in ways [] those watched_mid) (sym new.1) (subst (AllStand told_in ways [] (map new_state (texts old.names))) (sym is.watched_is) (added_stand told_in ways (texts old.names)))),
+          ap length is.watched_is ∙ length-map (texts old.names) added ∙ length-map old.names (λ (n : NameState). n.text));
       shares = holds.shares;
       are = holds.are;
       shared = holds.shared;
@@ -231,7 +236,7 @@ goes_on_there ways looks place name watched New stands =
 goes_on_there ways looks place name watched (Followed position) stands =
     sym (ap (λ dropped. not dropped && (ways.by_name || is_some (open_after ways.by_name name (snapshots looks)))) stands.kept ∙ open_there ways looks place name watched position stands ways.by_name refl)
 goes_on_there ways looks place name watched Left stands = elim stands.why [
-  | inl dropped ↦ sym (ap (λ those. not those && (ways.by_name || is_some (open_after ways.by_name name (snapshots looks)))) dropped)
+  | inl dropped ↦ sym (ap (λ those. not those && (ways.by_name || is_some (open_after ways.by_name name (snapshots looks)))) dropped.0)
   | inr missed ↦ sym (ap (λ by_name. not (is_dropped place looks) && (by_name || is_some (open_after ways.by_name name (snapshots looks)))) missed.way
       ∙ ap (λ file. not (is_dropped place looks) && is_some file) (missed.unopened refl) ∙ and_none (not (is_dropped place looks)))
 ]
@@ -262,5 +267,27 @@ alive_is told ways headers names looks first slots follow watched holds =
     ∙ ap (λ those. is_alive ways those looks) holds.same where
       stage : (stage : Stage) → StandsIn true ways looks follow.names watched stage → (place : ℕ) → place < length follow.names → goes_on_as ways.by_name (state_at follow.names place).standing ≡ goes_on_at ways looks place (state_at follow.names place).text
       stage Fresh stand = fresh_alive ways looks follow.names stand.0 stand.1
-      stage Looking stand = λ place within. goes_on_there ways looks place (state_at follow.names place).text (watched_at watched place) (state_at follow.names place).standing (stand place within)
+      stage Looking stand = λ place within. goes_on_there ways looks place (state_at follow.names place).text (watched_at watched place) (state_at follow.names place).standing (stand.0 place within)
       stage Over stand = absurd stand
+
+-- a name for which a call failed is broken
+
+broken_there : (told : Bool) (ways : Ways) (looks : List Look) (place : ℕ) (name : List ℕ) (watched : Watched) (standing : Standing) → Stands told ways looks place name watched standing → is_dropped place looks ≡ true → watched.is_broken ≡ true
+broken_there told ways looks place name watched New stands dropped = absurd (false≢true (sym (ap (is_dropped place) stands.0) ∙ dropped))
+broken_there told ways looks place name watched (Followed position) stands dropped = absurd (false≢true (sym stands.kept ∙ dropped))
+broken_there told ways looks place name watched Left stands dropped = elim stands.why [
+  | inl broken ↦ broken.1
+  | inr missed ↦ absurd (false≢true (sym missed.kept ∙ dropped))
+]
+
+pub broken_are : (told_in told : Bool) (ways : Ways) (headers : Bool) (names : List (List ℕ)) (looks : List Look) (first slots : List Slot) (follow : FollowState) (watched : List Watched) → Holds told_in told ways headers names looks first follow watched slots → AreBroken looks names watched
+broken_are told_in told ways headers names looks first slots follow watched holds = stage follow.stage holds.stand where
+  count : length follow.names ≡ length names
+  count = sym (length-map follow.names (λ (n : NameState). n.text)) ∙ ap length holds.same
+
+  stage : (stage : Stage) → StandsIn told_in ways looks follow.names watched stage → AreBroken looks names watched
+  stage Fresh stand = (λ above. absurd (not_above (subst (λ (those : List Look). 0 < length those) stand.0 above)), λ place within dropped. absurd (false≢true (sym (ap (is_dropped place) stand.0) ∙ dropped))) where
+    not_above : 0 < 0 → ⊥
+    not_above above = omega arith
+  stage Looking stand = (λ above. stand.1 ∙ count, λ place within dropped. broken_there told_in ways looks place (state_at follow.names place).text (watched_at watched place) (state_at follow.names place).standing (stand.0 place (subst (λ n. place < n) (sym count) within)) dropped)
+  stage Over stand = absurd stand

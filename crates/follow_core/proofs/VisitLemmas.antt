@@ -68,6 +68,15 @@ fate_sound : (place : ℕ) (look : Look) (fate : Fate) (through : Bool) → fate
 fate_sound place look fate through at is = ap (λ those. not (is_sound those)) at ∙ ap not is
 
 -- after the first look
+broken_at : (place : ℕ) (old : List Watched) → (watched_at (changed_at place breaks old) place).is_broken ≡ true
+broken_at zero [] = refl
+broken_at (suc place) [] = refl
+broken_at zero (name ∷ names) = refl
+broken_at (suc place) (name ∷ names) = broken_at place names
+
+broken_now : (place : ℕ) (old new : List Watched) → (file : Option ℕ) × (new ≡ changed_at place breaks (changed_at place (opens file) old)) → (watched_at new place).is_broken ≡ true
+broken_now place old new (file, is) = ap (λ (names : List Watched). (watched_at names place).is_broken) is ∙ broken_at place (changed_at place (opens file) old)
+
 first_stands : (told : Bool) (ways : Ways) (snapshot : Snapshot) (place : ℕ) (name : List ℕ) (old new : List Watched) (came : Came) (look : Look) (fate : Fate) → look.snapshot ≡ snapshot → (watched_at old place).name ≡ name → (watched_at old place).is_broken ≡ false
     → Leaves told snapshot (snapshot.leads name) place old new came → IsThere told (snapshot.leads name) came → is_sound fate ≡ came_through came → fate_at place look ≡ fate
     → Stands told ways (look ∷ []) place name (watched_at new place) (standing_after ways.by_name came)
@@ -107,10 +116,10 @@ first_stands told ways snapshot place name old new Missing look fate seen named 
     };
     there = λ t other. absurd (false≢true (sym other ∙ way));
   }
-  by false way = record { begun = refl; why = inr (record { way = way; unopened = nowhere }) }
+  by false way = record { begun = refl; why = inr (record { way = way; kept = kept; unopened = nowhere }) }
 first_stands told ways snapshot place name old new Dropped look fate seen named unbroken leaves there through at = record {
   begun = refl;
-  why = inl (dropped_more place [] look ∙ fate_sound place look fate false at through);
+  why = inl (dropped_more place [] look ∙ fate_sound place look fate false at through, broken_now place old new leaves);
 }
 
 pub first_visited : (told_in told by_name : Bool) (start : Start) (snapshot : Snapshot) (place : ℕ) (name text : List ℕ) (printer after : PrinterState) (slots slots_new : List Slot) (old new : List Watched) (came : Came) (looks : List Look) → text ≡ name → looks ≡ [] → (watched_at old place).name ≡ name → (watched_at old place).is_broken ≡ false
@@ -181,7 +190,7 @@ later_stands told ways before looks snapshot place name position old new (Throug
 later_stands told ways before looks snapshot place name position old new Missing look fate seen followed leaves there through at = absurd there
 later_stands told ways before looks snapshot place name position old new Dropped look fate seen followed leaves there through at = record {
   begun = refl;
-  why = inl (dropped_more place (before ∷ looks) look ∙ ap (λ those. those || not (is_sound (fate_at place look))) followed.kept ∙ fate_sound place look fate false at through);
+  why = inl (dropped_more place (before ∷ looks) look ∙ ap (λ those. those || not (is_sound (fate_at place look))) followed.kept ∙ fate_sound place look fate false at through, broken_now place old new leaves);
 }
 
 later_share_of : (ways : Ways) (before : Look) (looks : List Look) (look : Look) (place : ℕ) (name : List ℕ) (fate : Fate) → is_dropped place (before ∷ looks) ≡ false → fate_at place look ≡ fate → share_by ways name (before ∷ looks) look fate ≡ share_of ways (before ∷ looks) look place name
@@ -232,7 +241,7 @@ no_last (version v) is = absurd (false≢true (ap is_some is))
 abbrev share_from : List ℕ → Entry → List Entry → Share
 share_from name entry entries = again_share name (gains_later entry entries) (map (λ notice. notice_of notice name) (notices_later entry entries))
 
-missed_share : (told : Bool) (ways : Ways) (before : Look) (looks : List Look) (look : Look) (place : ℕ) (name : List ℕ) → told ≡ true → IsMissed told ways (before ∷ looks) name → fate_at place look ≡ sound → AreKept (entries_in ways name ((before ∷ looks) ++ look ∷ []))
+missed_share : (told : Bool) (ways : Ways) (before : Look) (looks : List Look) (look : Look) (place : ℕ) (name : List ℕ) → told ≡ true → IsMissed told ways (before ∷ looks) place name → fate_at place look ≡ sound → AreKept (entries_in ways name ((before ∷ looks) ++ look ∷ []))
     → (dropped : Bool) → is_dropped place (before ∷ looks) ≡ dropped → no_share name ≡ share_of ways (before ∷ looks) look place name
 missed_share told ways before looks look place name t missed fine kept true dropped =
     sym (ap (λ test. if test then no_share name else share_by ways name (before ∷ looks) look (fate_at place look)) dropped)
@@ -244,21 +253,22 @@ missed_share told ways before looks look place name t missed fine kept false dro
     sym (later_share ways name before looks look place dropped fine kept
     ∙ ap (λ those. share_from name those (entries_at_look ways.by_name name opened look.snapshot)) none ∙ ap (share_from name gap) entries)
 
-left_share : (told : Bool) (ways : Ways) (looks : List Look) (look : Look) (place : ℕ) (name : List ℕ) → told ≡ true → IsLeft told ways looks place name → fate_at place look ≡ sound → AreKept (entries_in ways name (looks ++ look ∷ [])) → no_share name ≡ share_of ways looks look place name
-left_share told ways [] look place name t left fine kept = absurd (false≢true (sym left.begun))
-left_share told ways (before ∷ looks) look place name t left fine kept = elim left.why [
-  | inl dropped ↦ sym (ap (λ test. if test then no_share name else share_by ways name (before ∷ looks) look (fate_at place look)) dropped)
+left_share : (told : Bool) (ways : Ways) (looks : List Look) (look : Look) (place : ℕ) (name : List ℕ) → (watched : Watched) → told ≡ true → IsLeft told ways looks place name watched → fate_at place look ≡ sound → AreKept (entries_in ways name (looks ++ look ∷ [])) → no_share name ≡ share_of ways looks look place name
+left_share told ways [] look place name watched t left fine kept = absurd (false≢true (sym left.begun))
+left_share told ways (before ∷ looks) look place name watched t left fine kept = elim left.why [
+  | inl dropped ↦ sym (ap (λ test. if test then no_share name else share_by ways name (before ∷ looks) look (fate_at place look)) dropped.0)
   | inr missed ↦ missed_share told ways before looks look place name t missed fine kept (is_dropped place (before ∷ looks)) refl
 ]
 
-still_left : (told : Bool) (ways : Ways) (looks : List Look) (look : Look) (place : ℕ) (name : List ℕ) → IsLeft told ways looks place name → IsLeft told ways (looks ++ look ∷ []) place name
-still_left told ways [] look place name left = absurd (false≢true (sym left.begun))
-still_left told ways (before ∷ looks) look place name left = record {
+still_left : (told : Bool) (ways : Ways) (looks : List Look) (look : Look) (place : ℕ) (name : List ℕ) (watched : Watched) → fate_at place look ≡ sound → IsLeft told ways looks place name watched → IsLeft told ways (looks ++ look ∷ []) place name watched
+still_left told ways [] look place name watched fine left = absurd (false≢true (sym left.begun))
+still_left told ways (before ∷ looks) look place name watched fine left = record {
   begun = refl;
   why = elim left.why [
-    | inl dropped ↦ inl (dropped_more place (before ∷ looks) look ∙ ap (λ those. those || not (is_sound (fate_at place look))) dropped)
+    | inl dropped ↦ inl (dropped_more place (before ∷ looks) look ∙ ap (λ those. those || not (is_sound (fate_at place look))) dropped.0, dropped.1)
     | inr missed ↦ inr (record {
       way = missed.way;
+      kept = dropped_more place (before ∷ looks) look ∙ ap (λ those. those || not (is_sound (fate_at place look))) missed.kept ∙ ap (λ those. not (is_sound those)) fine;
       unopened = λ t. last_file ways name before (looks ++ look ∷ [])
           ∙ (last_later ways name before looks look None (sym (missed.unopened t) ∙ last_file ways name before looks)).0
           ∙ ap (λ by_name. open_after_look by_name name None look.snapshot) missed.way;
@@ -266,7 +276,7 @@ still_left told ways (before ∷ looks) look place name left = record {
   ];
 }
 
-left_at : (told : Bool) (ways : Ways) (looks : List Look) (place : ℕ) (name : List ℕ) (watched : Watched) (standing : Standing) → standing ≡ Left → Stands told ways looks place name watched standing → IsLeft told ways looks place name
+left_at : (told : Bool) (ways : Ways) (looks : List Look) (place : ℕ) (name : List ℕ) (watched : Watched) (standing : Standing) → standing ≡ Left → Stands told ways looks place name watched standing → IsLeft told ways looks place name watched
 left_at told ways looks place name watched standing left stands = subst (λ those. Stands told ways looks place name watched those) left stands
 
 pub left_visited : (told_in told : Bool) (ways : Ways) (snapshot : Snapshot) (place : ℕ) (name : List ℕ) (printer : PrinterState) (slots : List Slot) (watched : Watched) (standing : Standing) (looks : List Look) → standing ≡ Left → Stands told_in ways looks place name watched standing → KeepsBytes told_in ways looks snapshot name
@@ -276,8 +286,8 @@ left_visited told_in told ways snapshot place name printer slots watched standin
     record {
       fate = sound;
       share = no_share name;
-      is_share = λ t fates at. left_share told_in ways looks (record { snapshot = snapshot; fates = fates }) place name t left at (subst AreKept (same_entries ways name looks snapshot [] fates) (keeps t));
+      is_share = λ t fates at. left_share told_in ways looks (record { snapshot = snapshot; fates = fates }) place name watched t left at (subst AreKept (same_entries ways name looks snapshot [] fates) (keeps t));
       is_failed = refl;
       shared = empty_shared told printer printer name slots slots refl refl;
-      stands = λ fates at. subst (λ those. Stands told_in ways (looks ++ record { snapshot = snapshot; fates = fates } ∷ []) place name watched those) (sym is) (still_left told_in ways looks (record { snapshot = snapshot; fates = fates }) place name left);
+      stands = λ fates at. subst (λ those. Stands told_in ways (looks ++ record { snapshot = snapshot; fates = fates } ∷ []) place name watched those) (sym is) (still_left told_in ways looks (record { snapshot = snapshot; fates = fates }) place name watched at left);
     }

@@ -7,10 +7,10 @@ use Rattle.ports_core.specs.declared.fault.Fault.{Fault}
 use Rattle.ports_core.specs.declared.fault.Fault.TheVariants.{Memory}
 use Rattle.ports_core.specs.declared.tool.Tool.TheVariants.{Tail}
 use Rattle.watch_core.specs.Snapshot.{Snapshot}
-use Rattle.watch_core.specs.Watched.{Watched}
+use Rattle.watch_core.specs.Watched.{Watched, watched_at}
 use Rattle.follow_core.specs.Followed.{Followed, made_of}
 use Rattle.follow_core.specs.FollowState.{FollowState, Halted, Holds, is_alive}
-use Rattle.follow_core.specs.Look.{Look, Ways, snapshots}
+use Rattle.follow_core.specs.Look.{Look, Ways, is_dropped, snapshots}
 use Rattle.follow_core.specs.Run.{AreKept}
 use Rattle.follow_core.specs.Share.{Share, shares_of}
 use Rattle.follow_core.specs.Sharing.{Wrote}
@@ -30,14 +30,17 @@ pub record Made (told_in : Bool) (ways : Ways) (names : List (List ℕ)) (shows 
   pub saw : snapshots looks ≡ seen_first shows (length looks)
   pub alive : told_in ≡ true → (n : ℕ) → 0 < n → n < length looks → is_alive ways names (take n looks) ≡ true
 
+-- all names are watched once a look was made, and one for which a call failed in these is broken
+abbrev pub AreBroken : List Look → List (List ℕ) → List Watched → Type 0
+AreBroken looks names watched = (0 < length looks → length watched ≡ length names) × ((place : ℕ) → place < length names → is_dropped place looks ≡ true → (watched_at watched place).is_broken ≡ true)
+
 -- As many looks were made, or those after which nothing more can come, and no others; and the outputs have what they give.
-pub record LookedAll (told_in told : Bool) (ways : Ways) (headers : Bool) (names : List (List ℕ)) (count : ℕ) (shows : ℕ → Snapshot) (first : List Slot) (follow : FollowState) (seen : List Snapshot) (slots : List Slot) : Type 0 where
+pub record LookedAll (told_in told : Bool) (ways : Ways) (headers : Bool) (names : List (List ℕ)) (count : ℕ) (shows : ℕ → Snapshot) (first : List Slot) (follow : FollowState) (seen : List Snapshot) (watched : List Watched) (slots : List Slot) : Type 0 where
   pub looks : List Look
   pub observed : seen ≡ snapshots looks
   pub made : Made told_in ways names shows looks
   pub within : length looks ≤ count
   pub over : length looks < count → (0 < length looks) × (told_in ≡ true → is_alive ways names looks ≡ false)
-  pub watched : List Watched
   pub holds : Holds told_in told ways headers names looks first follow watched slots
 
 -- the look after these was stopped by a fault
@@ -56,13 +59,13 @@ pub record Leaves (told : Bool) (followed : Followed) (first new : List Slot) (s
 -- A run ended so: these looks and no others were made, as many as were asked for, or those after which nothing more can come, and the
 -- outputs have exactly what they give; or a look was stopped, and the outputs have all of the looks before it, a beginning of it, and
 -- the message; or there was no memory to begin, and no look was made.
-pub data FollowEndsAs (told_in told : Bool) (ways : Ways) (headers : Bool) (names : List (List ℕ)) (count : ℕ) (shows : ℕ → Snapshot) (first : List Slot) (seen : List Snapshot) (new : List Slot) (status : ℕ) : Type 0 where
-  looked : (looks : List Look) (shares : List Share) → seen ≡ snapshots looks → Made told_in ways names shows looks → length looks ≤ count
+pub data FollowEndsAs (told_in told : Bool) (ways : Ways) (headers : Bool) (names : List (List ℕ)) (count : ℕ) (shows : ℕ → Snapshot) (first : List Slot) (seen : List Snapshot) (watched : List Watched) (new : List Slot) (status : ℕ) : Type 0 where
+  looked : (looks : List Look) (shares : List Share) → seen ≡ snapshots looks → AreBroken looks names watched → Made told_in ways names shows looks → length looks ≤ count
       → (length looks < count → (0 < length looks) × (told_in ≡ true → is_alive ways names looks ≡ false))
       → (told_in ≡ true → shares ≡ shares_of ways names looks) → Leaves told (made_of headers shares) first new status
-      → FollowEndsAs told_in told ways headers names count shows first seen new status
+      → FollowEndsAs told_in told ways headers names count shows first seen watched new status
   stopped : (mid : List Slot) (why : Fault) → StoppedIn told_in told ways headers names count shows first mid why
       → SaysOn told Tail (message_of Tail why (output_named mid why)) mid new → status ≡ 1
-      → FollowEndsAs told_in told ways headers names count shows first seen new status
-  no_room : seen ≡ [] → SaysOn told Tail (message_of Tail Memory []) first new → status ≡ 1
-      → FollowEndsAs told_in told ways headers names count shows first seen new status
+      → FollowEndsAs told_in told ways headers names count shows first seen watched new status
+  no_room : seen ≡ [] → watched ≡ [] → SaysOn told Tail (message_of Tail Memory []) first new → status ≡ 1
+      → FollowEndsAs told_in told ways headers names count shows first seen watched new status

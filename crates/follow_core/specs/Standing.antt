@@ -44,18 +44,20 @@ pub record IsFollowed (told : Bool) (ways : Ways) (looks : List Look) (place : �
   pub there : told ≡ true → ways.by_name ≡ false → is_some watched.opened ≡ true
 
 -- it was missing at the first look, and names aren't followed
-pub record IsMissed (told : Bool) (ways : Ways) (looks : List Look) (name : List ℕ) : Type 0 where
+pub record IsMissed (told : Bool) (ways : Ways) (looks : List Look) (place : ℕ) (name : List ℕ) : Type 0 where
   pub way : ways.by_name ≡ false
+  pub kept : is_dropped place looks ≡ false
   pub unopened : told ≡ true → open_after ways.by_name name (snapshots looks) ≡ None
 
-pub record IsLeft (told : Bool) (ways : Ways) (looks : List Look) (place : ℕ) (name : List ℕ) : Type 0 where
+-- It is looked at no more: a call on it failed, so that it is broken, or it was missing.
+pub record IsLeft (told : Bool) (ways : Ways) (looks : List Look) (place : ℕ) (name : List ℕ) (watched : Watched) : Type 0 where
   pub begun : is_first looks ≡ false
-  pub why : (is_dropped place looks ≡ true) ⊎ IsMissed told ways looks name
+  pub why : ((is_dropped place looks ≡ true) × (watched.is_broken ≡ true)) ⊎ IsMissed told ways looks place name
 
 abbrev pub Stands : Bool → Ways → List Look → ℕ → List ℕ → Watched → Standing → Type 0
 Stands told ways looks place name watched New = (looks ≡ []) × (watched ≡ added name)
 Stands told ways looks place name watched (Followed position) = IsFollowed told ways looks place name watched position
-Stands told ways looks place name watched Left = IsLeft told ways looks place name
+Stands told ways looks place name watched Left = IsLeft told ways looks place name watched
 
 -- all names stand so, each at its place
 abbrev pub AllStand : Bool → Ways → List Look → List NameState → List Watched → Type 0

@@ -35,7 +35,7 @@ pub fn follow_files<W: Watch, O: Outs>(
     requires unwatched { W.watched watch.old ≡ [] }
     requires outputs { O.slots outs.old ≡ streams }
     ensures { KeptIn W.told by_name (W.shows watch.old) looks (map (λ name. name.now) names.now)
-        → FollowEndsAs W.told O.told (ways_of by_name start) headers (map (λ name. name.now) names.now) looks (W.shows watch.old) (O.slots outs.old) (W.seen watch.new) (O.slots outs.new) result }
+        → FollowEndsAs W.told O.told (ways_of by_name start) headers (map (λ name. name.now) names.now) looks (W.shows watch.old) (O.slots outs.old) (W.seen watch.new) (W.watched watch.new) (O.slots outs.new) result }
 {
     let mut follow = match Follow::open(alloc, names, start, by_name, headers) {
         Ok(follow) => follow,
@@ -69,7 +69,7 @@ fn make_looks<W: Watch, O: Outs>(
     requires error { HasError (O.slots outs.old) }
     ensures looked { OnOk result ((ways : Ways) (headers : Bool) (names : List (List ℕ)) (first : List Slot)
         → Holds W.told O.told ways headers names [] first follow.old (W.watched watch.old) (O.slots outs.old) → KeptIn W.told ways.by_name (W.shows watch.old) looks names
-        → LookedAll W.told O.told ways headers names looks (W.shows watch.old) first follow.new (W.seen watch.new) (O.slots outs.new)) }
+        → LookedAll W.told O.told ways headers names looks (W.shows watch.old) first follow.new (W.seen watch.new) (W.watched watch.new) (O.slots outs.new)) }
     ensures stopped { IfErr result (λ why. (ways : Ways) (headers : Bool) (names : List (List ℕ)) (first : List Slot)
         → Holds W.told O.told ways headers names [] first follow.old (W.watched watch.old) (O.slots outs.old) → KeptIn W.told ways.by_name (W.shows watch.old) looks names
         → StoppedIn W.told O.told ways headers names looks (W.shows watch.old) first (O.slots outs.new) why) }

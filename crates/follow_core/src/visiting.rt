@@ -39,6 +39,7 @@ pub(crate) fn visit_all<W: Watch, O: Outs>(
         → StoppedAt W.told O.told (ways_of by_name start) looks (latest (W.seen watch.old)) (texts names.old) printer.old (O.slots outs.old) (O.slots outs.new) why) }
     ensures texts { texts names.new ≡ texts names.old }
     ensures ready { OnOk result ((place : ℕ) → place < length names.new → CanVisit (state_at names.new place) (watched_at (W.watched watch.new) place)) }
+    ensures count { OnOk result (length (W.watched watch.new) ≡ length (W.watched watch.old)) }
     ensures can { OnOk result (CanPrint (O.slots outs.new)) }
     ensures error { IfErr result (λ _. HasError (O.slots outs.new)) }
     ensures seen { W.seen watch.new ≡ W.seen watch.old }

@@ -11,6 +11,7 @@ loop-place-init g c = record {
   same = refl;
   ready = c.requires.ready;
   visited = λ looks stand keep. visited_none g.W.Watch.told g.O.Outs.told (ways_of c.args.by_name c.args.start) looks (latest (g.W.Watch.seen c.args.watch.now)) c.args.names.now c.args.printer.now (g.O.Outs.slots c.args.outs.now) (g.W.Watch.watched c.args.watch.now) stand;
+  count = refl;
   can = c.requires.can;
   room = c.requires.room;
   seen = refl;
@@ -36,6 +37,7 @@ loop-place-preserved g c =
       ready = next_ready l.names c.visit.new.self l.place (g.W.Watch.watched l.watch) (g.W.Watch.watched c.visit.new.watch) c.loop-place-test.true l.invariant.ready c.in-Ok.ensures.others c.in-Ok.ensures.ready;
       visited = λ looks stand keep. visited_more g.W.Watch.told g.O.Outs.told ways looks (latest (g.W.Watch.seen c.args.watch.now)) (latest (g.W.Watch.seen l.watch)) c.args.names.now l.names c.index-names-place.result c.visit.new.self l.place c.args.printer.now l.printer c.visit.new.printer (g.O.Outs.slots c.args.outs.now) (g.O.Outs.slots l.outs) (g.O.Outs.slots c.visit.new.outs) (g.W.Watch.watched l.watch) (g.W.Watch.watched c.visit.new.watch) l.has_failed c.in-Ok.failed
           c.loop-place-test.true c.visit.ensures.text c.in-Ok.ensures.others (ap latest l.invariant.seen) keep (l.invariant.visited looks stand keep) (c.in-Ok.ensures.visited looks) (l.place + 1) (omega arith);
+      count = c.in-Ok.ensures.others.count ∙ l.invariant.count;
       can = c.in-Ok.ensures.can;
       room = subst (λ n. 0 < n) (sym c.visit.auto.buffer) l.invariant.room;
       seen = c.visit.ensures.seen ∙ l.invariant.seen;

@@ -14,6 +14,7 @@ invariant-loop-place g l = let ways = ways_of l.fn.by_name l.fn.start in let sna
   ready : (place : ℕ) → place < length l.names → CanVisit (state_at l.names place) (watched_at (g.W.Watch.watched l.watch) place);
   visited : (looks : List Look) → AllStand g.W.Watch.told ways looks l.fn.names (g.W.Watch.watched l.fn.watch) → AllKeep g.W.Watch.told ways looks snapshot (texts l.fn.names)
       → VisitedUpTo g.W.Watch.told g.O.Outs.told ways looks snapshot l.place l.fn.names l.fn.printer (g.O.Outs.slots l.fn.outs) l.printer (g.O.Outs.slots l.outs) (g.W.Watch.watched l.watch) l.names l.has_failed;
+  count : length (g.W.Watch.watched l.watch) ≡ length (g.W.Watch.watched l.fn.watch);
   can : CanPrint (g.O.Outs.slots l.outs);
   room : 0 < length l.buffer;
   seen : g.W.Watch.seen l.watch ≡ g.W.Watch.seen l.fn.watch;

@@ -19,7 +19,7 @@ returns-in-Ok-clause-looked g c =
     let snapshot : Snapshot = g.W.Watch.shows c.args.watch.now (length (g.W.Watch.seen c.args.watch.now)) in
     let looking = ap (λ (state : FollowState). state.stage) c.self.view_is ∙ c.requires.looking in
     subst (λ (state : FollowState). LooksOn g.W.Watch.told g.O.Outs.told snapshot state (g.W.Watch.watched c.args.watch.now) (g.O.Outs.slots c.args.outs.now) new (g.W.Watch.watched c.visit_all.new.watch) (g.O.Outs.slots c.visit_all.new.outs)) c.self.view_is
-    (look_made g.W.Watch.told g.O.Outs.told snapshot old new (g.W.Watch.watched c.args.watch.now) (g.W.Watch.watched c.visit_all.new.watch) (g.O.Outs.slots c.args.outs.now) (g.O.Outs.slots c.visit_all.new.outs) c.in-Ok.failed looking refl refl looking refl
+    (look_made g.W.Watch.told g.O.Outs.told snapshot old new (g.W.Watch.watched c.args.watch.now) (g.W.Watch.watched c.visit_all.new.watch) (g.O.Outs.slots c.args.outs.now) (g.O.Outs.slots c.visit_all.new.outs) c.in-Ok.failed looking refl refl looking refl (c.in-Ok.ensures.count ∙ ap length c.turn.ensures.watched)
     (visits_at g.W.Watch.told g.O.Outs.told snapshot (latest (g.W.Watch.seen c.turn.new.self)) old new c.deref_mut.result.now c.visit_all.new.names (g.W.Watch.watched c.args.watch.now) (g.W.Watch.watched c.turn.new.self) (g.W.Watch.watched c.visit_all.new.watch) (g.O.Outs.slots c.args.outs.now) (g.O.Outs.slots c.visit_all.new.outs) c.in-Ok.failed
     c.deref_mut.ensures.value (sym (with_items_is f.names c.visit_all.new.names (c.visit_all.auto.names ∙ c.deref_mut.ensures.len))) c.turn.ensures.watched (ap latest c.in_default.ensures.ok ∙ latest-last (g.W.Watch.seen c.args.watch.now) snapshot) c.in-Ok.ensures.visited))
 
