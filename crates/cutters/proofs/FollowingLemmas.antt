@@ -10,6 +10,7 @@ use Rattle.ports_core.specs.declared.tool.Tool.{Tool}
 use Rattle.ports_core.specs.declared.tool.Tool.TheVariants as tool
 use Rattle.run_core.specs.RunEnds.{standard_error}
 use Rattle.watch_core.specs.Snapshot.{Snapshot}
+use Rattle.watch_core.specs.Watched.{Watched}
 use Rattle.follow_core.specs.declared.start.Start.{Start}
 use Rattle.follow_core.specs.Ending.{FollowEndsAs, KeptIn, no_room}
 use Rattle.follow_core.specs.Visited.{ways_of}
@@ -26,24 +27,24 @@ use Rattle.cutters.specs.Tasks.{has_headers}
 use Rattle.cutters.proofs.SpeakerLemmas.{runs_as_named}
 
 -- what is followed is what the settings ask for
-pub follows_as : (told_in told : Bool) (asked : EndsAsked) (followed : Followed) (by_name : Bool) (start : Start) (headers : Bool) (names : List (List ℕ)) (looks : ℕ) (shows : ℕ → Snapshot) (first : List Slot) (seen : List Snapshot) (new : List Slot) (status : ℕ)
+pub follows_as : (told_in told : Bool) (asked : EndsAsked) (followed : Followed) (by_name : Bool) (start : Start) (headers : Bool) (names : List (List ℕ)) (looks : ℕ) (shows : ℕ → Snapshot) (first : List Slot) (seen : List Snapshot) (watched : List Watched) (new : List Slot) (status : ℕ)
     → by_name ≡ is_name followed → start ≡ start_of asked → headers ≡ has_headers asked.headers asked.names → names ≡ asked.names → first ≡ streams
-    → (KeptIn told_in by_name shows looks names → FollowEndsAs told_in told (ways_of by_name start) headers names looks shows first seen new status) → FollowsAs told_in told asked followed looks shows seen new status
-follows_as told_in told asked followed by_name start headers names looks shows first seen new status name_is start_is headers_are names_are first_is ends =
+    → (KeptIn told_in by_name shows looks names → FollowEndsAs told_in told (ways_of by_name start) headers names looks shows first seen watched new status) → FollowsAs told_in told asked followed looks shows seen watched new status
+follows_as told_in told asked followed by_name start headers names looks shows first seen watched new status name_is start_is headers_are names_are first_is ends =
     subst (λ b. F b (start_of asked) (has_headers asked.headers asked.names) asked.names streams) name_is
     (subst (λ (s : Start). F by_name s (has_headers asked.headers asked.names) asked.names streams) start_is
     (subst (λ h. F by_name start h asked.names streams) headers_are
     (subst (λ n. F by_name start headers n streams) names_are
     (subst (λ f. F by_name start headers names f) first_is ends)))) where
       F : Bool → Start → Bool → List (List ℕ) → List Slot → Type 0
-      F b s h n f = KeptIn told_in b shows looks n → FollowEndsAs told_in told (ways_of b s) h n looks shows f seen new status
+      F b s h n f = KeptIn told_in b shows looks n → FollowEndsAs told_in told (ways_of b s) h n looks shows f seen watched new status
 
 -- the words ask `tail` to follow these
-pub tail_follows : (told_in told : Bool) (words : List (List ℕ)) (asked : TailSettings) (same : Option Followed) (looks : ℕ) (shows : ℕ → Snapshot) (seen : List Snapshot) (new : List Slot) (status : ℕ) → settings_of words ≡ Ok (Tail asked) → asked.followed ≡ same
-    → FollowsTail told_in told words asked.ends same looks shows seen new status → FollowingEnds told_in told words looks shows seen new status
-tail_follows told_in told words asked same looks shows seen new status is followed follows =
-    subst (λ (meant : Result Settings Fault). FollowingEndsAt told_in told words looks shows seen new status meant) (sym is)
-    (subst (λ those. FollowsTail told_in told words asked.ends those looks shows seen new status) (sym followed) follows)
+pub tail_follows : (told_in told : Bool) (words : List (List ℕ)) (asked : TailSettings) (same : Option Followed) (looks : ℕ) (shows : ℕ → Snapshot) (seen : List Snapshot) (watched : List Watched) (new : List Slot) (status : ℕ) → settings_of words ≡ Ok (Tail asked) → asked.followed ≡ same
+    → FollowsTail told_in told words asked.ends same looks shows seen watched new status → FollowingEnds told_in told words looks shows seen watched new status
+tail_follows told_in told words asked same looks shows seen watched new status is followed follows =
+    subst (λ (meant : Result Settings Fault). FollowingEndsAt told_in told words looks shows seen watched new status meant) (sym is)
+    (subst (λ those. FollowsTail told_in told words asked.ends those looks shows seen watched new status) (sym followed) follows)
 
 -- words that weren't read for want of memory, where they ask for this
 
@@ -66,29 +67,29 @@ says_at told words new status speaks refuses output error since are = (
   refuses.slots ∙ ap (changed_at 1 (λ _. refuses.error)) are,
 )
 
-unread : (told_in told : Bool) (words : List (List ℕ)) (asked : EndsAsked) (followed : Option Followed) (looks : ℕ) (shows : ℕ → Snapshot) (seen : List Snapshot) (new : List Slot) (status : ℕ) → speaker words ≡ tool.Tail → seen ≡ [] → RefusesFor told words Memory new status → FollowsTail told_in told words asked followed looks shows seen new status
-unread told_in told words asked (Some followed) looks shows seen new status speaks unseen refuses = λ kept. no_room unseen (says_at told words new status speaks refuses) refuses.failed
-unread told_in told words asked None looks shows seen new status speaks unseen refuses = (unseen, refused_memory told words (Usage BadFollow 0) new status refuses)
+unread : (told_in told : Bool) (words : List (List ℕ)) (asked : EndsAsked) (followed : Option Followed) (looks : ℕ) (shows : ℕ → Snapshot) (seen : List Snapshot) (watched : List Watched) (new : List Slot) (status : ℕ) → speaker words ≡ tool.Tail → seen ≡ [] → watched ≡ [] → RefusesFor told words Memory new status → FollowsTail told_in told words asked followed looks shows seen watched new status
+unread told_in told words asked (Some followed) looks shows seen watched new status speaks unseen unwatched refuses = λ kept. no_room unseen unwatched (says_at told words new status speaks refuses) refuses.failed
+unread told_in told words asked None looks shows seen watched new status speaks unseen unwatched refuses = (unseen, unwatched, refused_memory told words (Usage BadFollow 0) new status refuses)
 
-unread_for : (told_in told : Bool) (words : List (List ℕ)) (meant : Result Settings Fault) (looks : ℕ) (shows : ℕ → Snapshot) (seen : List Snapshot) (new : List Slot) (status : ℕ) → settings_of words ≡ meant → seen ≡ [] → RefusesFor told words Memory new status → FollowingEndsAt told_in told words looks shows seen new status meant
-unread_for told_in told words (Ok (Tail asked)) looks shows seen new status is unseen refuses = unread told_in told words asked.ends asked.followed looks shows seen new status (runs_as_named words (Tail asked) is) unseen refuses
-unread_for told_in told words (Ok (Head asked)) looks shows seen new status is unseen refuses = inl (unseen, refused_memory told words (Usage BadFollow 0) new status refuses)
-unread_for told_in told words (Ok (Split asked)) looks shows seen new status is unseen refuses = inl (unseen, refused_memory told words (Usage BadFollow 0) new status refuses)
-unread_for told_in told words (Ok (Csplit asked)) looks shows seen new status is unseen refuses = inl (unseen, refused_memory told words (Usage BadFollow 0) new status refuses)
-unread_for told_in told words (Ok (Tee asked)) looks shows seen new status is unseen refuses = inl (unseen, refused_memory told words (Usage BadFollow 0) new status refuses)
-unread_for told_in told words (Err fault) looks shows seen new status is unseen refuses = (unseen, refused_memory told words fault new status refuses)
+unread_for : (told_in told : Bool) (words : List (List ℕ)) (meant : Result Settings Fault) (looks : ℕ) (shows : ℕ → Snapshot) (seen : List Snapshot) (watched : List Watched) (new : List Slot) (status : ℕ) → settings_of words ≡ meant → seen ≡ [] → watched ≡ [] → RefusesFor told words Memory new status → FollowingEndsAt told_in told words looks shows seen watched new status meant
+unread_for told_in told words (Ok (Tail asked)) looks shows seen watched new status is unseen unwatched refuses = unread told_in told words asked.ends asked.followed looks shows seen watched new status (runs_as_named words (Tail asked) is) unseen unwatched refuses
+unread_for told_in told words (Ok (Head asked)) looks shows seen watched new status is unseen unwatched refuses = inl (unseen, unwatched, refused_memory told words (Usage BadFollow 0) new status refuses)
+unread_for told_in told words (Ok (Split asked)) looks shows seen watched new status is unseen unwatched refuses = inl (unseen, unwatched, refused_memory told words (Usage BadFollow 0) new status refuses)
+unread_for told_in told words (Ok (Csplit asked)) looks shows seen watched new status is unseen unwatched refuses = inl (unseen, unwatched, refused_memory told words (Usage BadFollow 0) new status refuses)
+unread_for told_in told words (Ok (Tee asked)) looks shows seen watched new status is unseen unwatched refuses = inl (unseen, unwatched, refused_memory told words (Usage BadFollow 0) new status refuses)
+unread_for told_in told words (Err fault) looks shows seen watched new status is unseen unwatched refuses = (unseen, unwatched, refused_memory told words fault new status refuses)
 
 -- operands that can't be read
-operands_refused : (told_in told : Bool) (words : List (List ℕ)) (settings : Settings) (fault : Fault) (looks : ℕ) (shows : ℕ → Snapshot) (seen : List Snapshot) (new : List Slot) (status : ℕ) → HasBadOperands settings fault → seen ≡ [] → RefusesFor told words fault new status → FollowingEndsAt told_in told words looks shows seen new status (Ok settings)
-operands_refused told_in told words (Csplit asked) fault looks shows seen new status bad unseen refuses = inr (unseen, (fault, bad, refuses))
-operands_refused told_in told words (Head asked) fault looks shows seen new status bad unseen refuses = absurd bad
-operands_refused told_in told words (Tail asked) fault looks shows seen new status bad unseen refuses = absurd bad
-operands_refused told_in told words (Split asked) fault looks shows seen new status bad unseen refuses = absurd bad
-operands_refused told_in told words (Tee asked) fault looks shows seen new status bad unseen refuses = absurd bad
+operands_refused : (told_in told : Bool) (words : List (List ℕ)) (settings : Settings) (fault : Fault) (looks : ℕ) (shows : ℕ → Snapshot) (seen : List Snapshot) (watched : List Watched) (new : List Slot) (status : ℕ) → HasBadOperands settings fault → seen ≡ [] → watched ≡ [] → RefusesFor told words fault new status → FollowingEndsAt told_in told words looks shows seen watched new status (Ok settings)
+operands_refused told_in told words (Csplit asked) fault looks shows seen watched new status bad unseen unwatched refuses = inr (unseen, unwatched, (fault, bad, refuses))
+operands_refused told_in told words (Head asked) fault looks shows seen watched new status bad unseen unwatched refuses = absurd bad
+operands_refused told_in told words (Tail asked) fault looks shows seen watched new status bad unseen unwatched refuses = absurd bad
+operands_refused told_in told words (Split asked) fault looks shows seen watched new status bad unseen unwatched refuses = absurd bad
+operands_refused told_in told words (Tee asked) fault looks shows seen watched new status bad unseen unwatched refuses = absurd bad
 
-pub refused_words : (told_in told : Bool) (words : List (List ℕ)) (fault : Fault) (looks : ℕ) (shows : ℕ → Snapshot) (seen : List Snapshot) (new : List Slot) (status : ℕ) → IsRefused HasBadOperands (settings_of words) fault → seen ≡ [] → RefusesFor told words fault new status → FollowingEnds told_in told words looks shows seen new status
-refused_words told_in told words fault looks shows seen new status (inr (inl is)) unseen refuses = subst (λ (meant : Result Settings Fault). FollowingEndsAt told_in told words looks shows seen new status meant) (sym is) (unseen, refuses)
-refused_words told_in told words fault looks shows seen new status (inr (inr (settings, is, bad))) unseen refuses =
-    subst (λ (meant : Result Settings Fault). FollowingEndsAt told_in told words looks shows seen new status meant) (sym is) (operands_refused told_in told words settings fault looks shows seen new status bad unseen refuses)
-refused_words told_in told words fault looks shows seen new status (inl is) unseen refuses =
-    unread_for told_in told words (settings_of words) looks shows seen new status refl unseen (subst (λ why. RefusesFor told words why new status) is refuses)
+pub refused_words : (told_in told : Bool) (words : List (List ℕ)) (fault : Fault) (looks : ℕ) (shows : ℕ → Snapshot) (seen : List Snapshot) (watched : List Watched) (new : List Slot) (status : ℕ) → IsRefused HasBadOperands (settings_of words) fault → seen ≡ [] → watched ≡ [] → RefusesFor told words fault new status → FollowingEnds told_in told words looks shows seen watched new status
+refused_words told_in told words fault looks shows seen watched new status (inr (inl is)) unseen unwatched refuses = subst (λ (meant : Result Settings Fault). FollowingEndsAt told_in told words looks shows seen watched new status meant) (sym is) (unseen, unwatched, refuses)
+refused_words told_in told words fault looks shows seen watched new status (inr (inr (settings, is, bad))) unseen unwatched refuses =
+    subst (λ (meant : Result Settings Fault). FollowingEndsAt told_in told words looks shows seen watched new status meant) (sym is) (operands_refused told_in told words settings fault looks shows seen watched new status bad unseen unwatched refuses)
+refused_words told_in told words fault looks shows seen watched new status (inl is) unseen unwatched refuses =
+    unread_for told_in told words (settings_of words) looks shows seen watched new status refl unseen unwatched (subst (λ why. RefusesFor told words why new status) is refuses)

@@ -5,6 +5,7 @@ use Rattle.ports_core.specs.declared.fault.Fault.{Fault}
 use Rattle.ports_core.specs.declared.fault.Fault.TheVariants.{Usage}
 use Rattle.ports_core.specs.declared.fault.UsageKind.TheVariants.{BadFollow}
 use Rattle.watch_core.specs.Snapshot.{Snapshot}
+use Rattle.watch_core.specs.Watched.{Watched}
 use Rattle.follow_core.specs.declared.start.Start.{Start}
 use Rattle.follow_core.specs.Ending.{FollowEndsAs, KeptIn}
 use Rattle.follow_core.specs.Visited.{ways_of}
@@ -27,28 +28,28 @@ is_name Name = true
 
 -- these files are followed, in as many looks, and where a file that is appended to keeps its bytes, the run ends so that it gave
 -- exactly what these looks give
-abbrev pub FollowsAs : (told_in told : Bool) → EndsAsked → Followed → (looks : ℕ) → (ℕ → Snapshot) → List Snapshot → List Slot → (status : ℕ) → Type 0
-FollowsAs told_in told asked followed looks shows seen new status = KeptIn told_in (is_name followed) shows looks asked.names
-    → FollowEndsAs told_in told (ways_of (is_name followed) (start_of asked)) (has_headers asked.headers asked.names) asked.names looks shows streams seen new status
+abbrev pub FollowsAs : (told_in told : Bool) → EndsAsked → Followed → (looks : ℕ) → (ℕ → Snapshot) → List Snapshot → List Watched → List Slot → (status : ℕ) → Type 0
+FollowsAs told_in told asked followed looks shows seen watched new status = KeptIn told_in (is_name followed) shows looks asked.names
+    → FollowEndsAs told_in told (ways_of (is_name followed) (start_of asked)) (has_headers asked.headers asked.names) asked.names looks shows streams seen watched new status
 
--- the words are refused for this, and no look was made
-abbrev pub RefusesUnseen : Bool → List (List ℕ) → Fault → List Snapshot → List Slot → ℕ → Type 0
-RefusesUnseen told words fault seen new status = (seen ≡ []) × RefusesFor told words fault new status
+-- the words are refused for this, and no name was watched and no look made
+abbrev pub RefusesUnseen : Bool → List (List ℕ) → Fault → List Snapshot → List Watched → List Slot → ℕ → Type 0
+RefusesUnseen told words fault seen watched new status = (seen ≡ []) × (watched ≡ []) × RefusesFor told words fault new status
 
 -- words that follow nothing are
-abbrev pub RefusesToFollow : Bool → List (List ℕ) → List Snapshot → List Slot → ℕ → Type 0
-RefusesToFollow told words seen new status = RefusesUnseen told words (Usage BadFollow 0) seen new status
+abbrev pub RefusesToFollow : Bool → List (List ℕ) → List Snapshot → List Watched → List Slot → ℕ → Type 0
+RefusesToFollow told words seen watched new status = RefusesUnseen told words (Usage BadFollow 0) seen watched new status
 
-abbrev pub FollowsTail : (told_in told : Bool) → List (List ℕ) → EndsAsked → Option Followed → ℕ → (ℕ → Snapshot) → List Snapshot → List Slot → ℕ → Type 0
-FollowsTail told_in told words asked (Some followed) looks shows seen new status = FollowsAs told_in told asked followed looks shows seen new status
-FollowsTail told_in told words asked None looks shows seen new status = RefusesToFollow told words seen new status
+abbrev pub FollowsTail : (told_in told : Bool) → List (List ℕ) → EndsAsked → Option Followed → ℕ → (ℕ → Snapshot) → List Snapshot → List Watched → List Slot → ℕ → Type 0
+FollowsTail told_in told words asked (Some followed) looks shows seen watched new status = FollowsAs told_in told asked followed looks shows seen watched new status
+FollowsTail told_in told words asked None looks shows seen watched new status = RefusesToFollow told words seen watched new status
 
 -- what was asked for was followed, or the words were refused
-abbrev pub FollowingEndsAt : (told_in told : Bool) → List (List ℕ) → ℕ → (ℕ → Snapshot) → List Snapshot → List Slot → ℕ → Result Settings Fault → Type 0
-FollowingEndsAt told_in told words looks shows seen new status (Ok (Tail asked)) = FollowsTail told_in told words asked.ends asked.followed looks shows seen new status
-FollowingEndsAt told_in told words looks shows seen new status (Ok settings) = RefusesToFollow told words seen new status ⊎ ((seen ≡ []) × RefusesOperands told words settings new status)
-FollowingEndsAt told_in told words looks shows seen new status (Err fault) = RefusesUnseen told words fault seen new status
+abbrev pub FollowingEndsAt : (told_in told : Bool) → List (List ℕ) → ℕ → (ℕ → Snapshot) → List Snapshot → List Watched → List Slot → ℕ → Result Settings Fault → Type 0
+FollowingEndsAt told_in told words looks shows seen watched new status (Ok (Tail asked)) = FollowsTail told_in told words asked.ends asked.followed looks shows seen watched new status
+FollowingEndsAt told_in told words looks shows seen watched new status (Ok settings) = RefusesToFollow told words seen watched new status ⊎ ((seen ≡ []) × (watched ≡ []) × RefusesOperands told words settings new status)
+FollowingEndsAt told_in told words looks shows seen watched new status (Err fault) = RefusesUnseen told words fault seen watched new status
 
 -- a run of these words, over looks that would see this and of which these were made, left the outputs so, and returned this status
-abbrev pub FollowingEnds : (told_in told : Bool) → List (List ℕ) → ℕ → (ℕ → Snapshot) → List Snapshot → List Slot → ℕ → Type 0
-FollowingEnds told_in told words looks shows seen new status = FollowingEndsAt told_in told words looks shows seen new status (settings_of words)
+abbrev pub FollowingEnds : (told_in told : Bool) → List (List ℕ) → ℕ → (ℕ → Snapshot) → List Snapshot → List Watched → List Slot → ℕ → Type 0
+FollowingEnds told_in told words looks shows seen watched new status = FollowingEndsAt told_in told words looks shows seen watched new status (settings_of words)

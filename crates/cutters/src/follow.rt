@@ -30,7 +30,7 @@ pub fn run_follow<W: Watch, O: Outs>(
     requires unseen { W.seen watch.old ≡ [] }
     requires unwatched { W.watched watch.old ≡ [] }
     requires outputs { O.slots outs.old ≡ streams }
-    ensures { FollowingEnds W.told O.told (map (λ word. word.now) words.now) looks (W.shows watch.old) (W.seen watch.new) (O.slots outs.new) result }
+    ensures { FollowingEnds W.told O.told (map (λ word. word.now) words.now) looks (W.shows watch.old) (W.seen watch.new) (W.watched watch.new) (O.slots outs.new) result }
 {
     match read_words(alloc, words) {
         Ok(Settings::Tail(settings)) => match settings.followed {
@@ -54,7 +54,7 @@ fn follow_tail<W: Watch, O: Outs>(
     requires unseen { W.seen watch.old ≡ [] }
     requires unwatched { W.watched watch.old ≡ [] }
     requires outputs { O.slots outs.old ≡ streams }
-    ensures { FollowsAs W.told O.told settings.now followed looks (W.shows watch.old) (W.seen watch.new) (O.slots outs.new) result }
+    ensures { FollowsAs W.told O.told settings.now followed looks (W.shows watch.old) (W.seen watch.new) (W.watched watch.new) (O.slots outs.new) result }
 {
     follow_files(
         alloc,
