@@ -193,9 +193,11 @@ held_added told_in told ways headers names looks first old mid watched watched_m
     subst (λ (f : FollowState). Holds told_in told ways headers names looks first f watched_mid slots) (sym is.mid_is) (record {
       asked = holds.asked;
       same = holds.same;
-      stand = (subst (λ those. AllStand told_in ways those old.names watched_mid) (sym new.0)
-          (subst (λ those. AllStand told_in ways [] those watched_mid) (sym new.1) (subst (AllStand told_in ways [] (map new_state (texts old.names))) (sym is.watched_is) (added_stand told_in ways (texts old.names)))),
-          ap length is.watched_is ∙ length-map (texts old.names) added ∙ length-map old.names (λ (n : NameState). n.text));
+      stand = (
+        subst (λ those. AllStand told_in ways those old.names watched_mid) (sym new.0)
+            (subst (λ those. AllStand told_in ways [] those watched_mid) (sym new.1) (subst (AllStand told_in ways [] (map new_state (texts old.names))) (sym is.watched_is) (added_stand told_in ways (texts old.names)))),
+        ap length is.watched_is ∙ length-map (texts old.names) added ∙ length-map old.names (λ (n : NameState). n.text),
+      );
       shares = holds.shares;
       are = holds.are;
       shared = holds.shared;
