@@ -1,9 +1,7 @@
 //! One whole run of `tail` that follows files (POSIX.1-2017, XCU tail, `-f`; names that are followed are GNU's).
 ghost use Rattle.std.specs.Prelude.{◌≡◌, [], map};
 ghost use Rattle.ports_core.specs.Slot.{streams};
-ghost use Rattle.ports_core.specs.declared.fault.Fault.TheVariants.{Usage};
-ghost use Rattle.cutters.specs.Following.{FollowingEnds, FollowsAs, RefusesToFollow, is_name, start_of};
-ghost use Rattle.cutters.specs.Outcome.{RefusesFor};
+ghost use Rattle.cutters.specs.Following.{FollowingEnds, FollowsAs, is_name, start_of};
 
 use crate::ends::{has_headers, is_plus};
 use crate::run::refuse_words;
@@ -17,9 +15,9 @@ use words_core::{EndsSettings, Followed, Settings, read_words};
 const NOT_FOLLOWED: Fault = Fault::Usage(UsageKind::BadFollow, 0);
 
 /// Runs `tail` over the files that the words name, and follows them: `looks` looks, one directly after another, or fewer where
-/// after one nothing more can come. It writes what each look finds, and says what changed or went wrong on standard error. It returns the
-/// status: 0, or 1 where there was any fault. Words that follow nothing are refused. It takes memory for what the words ask for, for
-/// the names and a buffer of 64 KiB, and for headers and messages.
+/// after one nothing more can come. It writes what each look finds, and says what changed or went wrong on standard error. It
+/// returns the status: 0, or 1 where there was any fault. Words that follow nothing are refused. It takes memory for what the
+/// words ask for, for the names and a buffer of 64 KiB, and for headers and messages.
 pub fn run_follow<W: Watch, O: Outs>(
     alloc: Global,
     words: &[&str],

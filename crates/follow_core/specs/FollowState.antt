@@ -25,7 +25,7 @@ pub record FollowState : Type 0 where
   pub names : List NameState
   pub printer : PrinterState
   pub stage : Stage
-  -- a name was missing at the first look, or a call on one failed
+  -- a name was missing at the first look, a call on one failed, or a fault ended following
   pub has_failed : Bool
 
 abbrev pub new_state : List ℕ → NameState

@@ -4,7 +4,7 @@ ghost use Rattle.watch_core.specs.Snapshot.{latest};
 ghost use Rattle.watch_core.specs.Watched.{is_watchable, watched_at};
 ghost use Rattle.follow_core.specs.Version.{Entry, open_after_look};
 ghost use Rattle.follow_core.specs.Giving.{Ends};
-ghost use Rattle.follow_core.specs.Catching.{CanPrint, Keeps, CanGoOn};
+ghost use Rattle.follow_core.specs.Catching.{CanGoOn, CanPrint, Keeps};
 ghost use Rattle.follow_core.specs.Changing.{Follows, held_at};
 ghost use Rattle.follow_core.specs.Again.{StandsAt, bytes_again, bytes_open, lines_again, lines_open};
 

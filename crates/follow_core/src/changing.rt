@@ -3,7 +3,7 @@ ghost use Rattle.std.specs.Prelude.{◌≡◌, ◌<◌, ◌^◌, ◌∷◌, [], 
 ghost use Rattle.watch_core.specs.Snapshot.{latest};
 ghost use Rattle.watch_core.specs.Watched.{is_watchable, open_contents, watched_at};
 ghost use Rattle.follow_core.specs.Giving.{Ends};
-ghost use Rattle.follow_core.specs.Catching.{CanPrint, CanGoOn};
+ghost use Rattle.follow_core.specs.Catching.{CanGoOn, CanPrint};
 ghost use Rattle.follow_core.specs.Changing.{Follows, bytes_led, change_between, held_at, lines_led};
 
 use crate::catching::{catch_up, tell};

@@ -4,7 +4,7 @@ ghost use Rattle.ends_core.specs.Ends.{tail_of};
 ghost use Rattle.watch_core.specs.Snapshot.{latest};
 ghost use Rattle.watch_core.specs.Watched.{is_readable, is_watchable, open_contents, watched_at};
 ghost use Rattle.follow_core.specs.Giving.{Ends};
-ghost use Rattle.follow_core.specs.Catching.{CanPrint, Keeps, CanGoOn};
+ghost use Rattle.follow_core.specs.Catching.{CanGoOn, CanPrint, Keeps};
 ghost use Rattle.follow_core.specs.Changing.{Follows};
 ghost use Rattle.follow_core.specs.First.{LooksFirst};
 

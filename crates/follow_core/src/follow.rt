@@ -156,6 +156,7 @@ impl Follow {
     {
         match self.stage {
             Stage::Fresh => self.look_first(watch, outs),
+            // It isn't over, by what is required.
             Stage::Looking | Stage::Over => self.look_on(watch, outs),
         }
     }

@@ -1,5 +1,5 @@
 -- Lemmas on what one option alone asks for.
-use Rattle.std.proofs.Common.{◌≡◌, ℕ, List, [], ◌∷◌, ◌++◌, Ok, Some, ◌-◌, ◌^◌, true, codes, false, lit<, refl, sym, ap, ◌∙◌, if◌then◌else◌}
+use Rattle.std.proofs.Common.{◌≡◌, ℕ, List, [], ◌∷◌, ◌++◌, Ok, true, codes, false, lit<, refl, sym, ap, ◌∙◌, if◌then◌else◌}
 use Rattle.seg_core.specs.Count.{count_of, digits_of, is_number}
 use Rattle.seg_core.specs.declared.count.Count.{Count}
 use Rattle.ends_core.specs.declared.unit.Unit.TheVariants as unit
@@ -11,7 +11,6 @@ use Rattle.words_core.specs.declared.table.Choice.{Choice}
 use Rattle.words_core.specs.declared.table.Choice.TheVariants.{Lines, Bytes, LineBytes, Files, Digits}
 use Rattle.words_core.specs.declared.table.Kind.{Kind}
 use Rattle.words_core.specs.declared.table.Kind.TheVariants as kind
-use Rattle.words_core.specs.declared.value.Followed.TheVariants.{Descriptor, Name}
 use Rattle.words_core.specs.declared.settings.Headers.TheVariants as headers
 use Rattle.words_core.specs.declared.settings.Settings.TheVariants.{Head, Tail, Split, Csplit, Tee}
 use Rattle.words_core.specs.declared.spelling.State.TheVariants.{First}
@@ -23,7 +22,7 @@ use Rattle.words_core.specs.Spelling.{mixed, onward, said, spelled, valued}
 use Rattle.words_core.specs.EndsWords.{ten_lines}
 use Rattle.words_core.specs.SplitWords.{least_width, then_check}
 use Rattle.words_core.specs.Words.{settings_for, settings_of}
-use Rattle.words_core.specs.Laws.{IsLetter, csplit_as, ends_as, following_as, plain_style, split_as, tail_as}
+use Rattle.words_core.specs.Laws.{IsLetter, csplit_as, ends_as, plain_style, split_as, tail_as}
 use Rattle.words_core.proofs.ValueLemmas.{value_after_letter}
 
 -- a letter and its value, as all words after a tool's name
@@ -84,30 +83,6 @@ tail_quiet = refl
 pub tail_verbose : settings_of (codes "tail" ∷ codes "-v" ∷ []) ≡ Ok (Tail (tail_as (ends_as unit.Lines ten_lines.count headers.Always)))
 unfolding tools
 tail_verbose = refl
-
-pub tail_follows : settings_of (codes "tail" ∷ codes "-f" ∷ codes "f" ∷ []) ≡ Ok (Tail (following_as (Some Descriptor) (2 ^ 63 - 1)))
-unfolding tools
-tail_follows = refl
-
-pub tail_follows_long : settings_of (codes "tail" ∷ codes "--follow" ∷ codes "f" ∷ []) ≡ Ok (Tail (following_as (Some Descriptor) (2 ^ 63 - 1)))
-unfolding tools
-tail_follows_long = refl
-
-pub tail_follows_descriptor : settings_of (codes "tail" ∷ codes "--follow=descriptor" ∷ codes "f" ∷ []) ≡ Ok (Tail (following_as (Some Descriptor) (2 ^ 63 - 1)))
-unfolding tools
-tail_follows_descriptor = refl
-
-pub tail_follows_names : settings_of (codes "tail" ∷ codes "-F" ∷ codes "f" ∷ []) ≡ Ok (Tail (following_as (Some Name) (2 ^ 63 - 1)))
-unfolding tools
-tail_follows_names = refl
-
-pub tail_retries : settings_of (codes "tail" ∷ codes "--follow=name" ∷ codes "--retry" ∷ codes "f" ∷ []) ≡ Ok (Tail (following_as (Some Name) (2 ^ 63 - 1)))
-unfolding tools
-tail_retries = refl
-
-pub tail_looks : settings_of (codes "tail" ∷ codes "-f" ∷ codes "--looks=3" ∷ codes "f" ∷ []) ≡ Ok (Tail (following_as (Some Descriptor) 3))
-unfolding tools digits_of
-tail_looks = refl
 
 l_is : IsLetter split_table 108 Lines kind.Size
 l_is = record { named = refl; ascii = lit< tt; no_hyphen = λ is. cc }

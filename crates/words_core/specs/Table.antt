@@ -1,7 +1,7 @@
 -- The tools and their options, as their manuals list them: POSIX.1-2017, XCU head, tail, split, csplit and tee; GNU coreutils manual,
 -- for `-q`, `-v`, `-z`, the `-c` of `head`, the `-C`, `-n`, `-d`, `-x`, `-e`, `-t` and `--additional-suffix` of `split`, the
 -- `--suppress-matched` of `csplit`, the `-F`, `--follow` and `--retry` of `tail`, and the long names; `--looks` is of these tools alone.
-use Rattle.std.specs.Prelude.{ℕ, Bool, true, false, List, [], ◌∷◌, map, codes, Option, Some, None, if◌then◌else◌}
+use Rattle.std.specs.Prelude.{ℕ, Bool, true, false, List, [], ◌∷◌, ◌++◌, map, codes, Option, Some, None, if◌then◌else◌}
 use Rattle.std.specs.Borrow.{Bor}
 use Rattle.std.specs.Str.{bytes_eq}
 use Rattle.ports_core.specs.declared.tool.Tool.{Tool}
@@ -44,13 +44,8 @@ head_table =
 
 -- the options of `tail`: those of `head`, and how files are followed
 abbrev pub tail_table : List OptionRow
-tail_table =
-    option (codes "-n" ∷ codes "--lines" ∷ []) Lines (Value Count)
-    ∷ option (codes "-c" ∷ codes "--bytes" ∷ []) Bytes (Value Count)
-    ∷ option (codes "-q" ∷ codes "--quiet" ∷ codes "--silent" ∷ []) Quiet Nothing
-    ∷ option (codes "-v" ∷ codes "--verbose" ∷ []) Verbose Nothing
-    ∷ option (codes "-z" ∷ codes "--zero-terminated" ∷ []) ZeroTerminated Nothing
-    ∷ option (codes "-f" ∷ codes "--follow" ∷ []) Follow (Optional Following)
+tail_table = head_table ++
+    option (codes "-f" ∷ codes "--follow" ∷ []) Follow (Optional Following)
     ∷ option (codes "-F" ∷ []) FollowNames Nothing
     ∷ option (codes "--retry" ∷ []) Retry Nothing
     ∷ option (codes "--looks" ∷ []) Looks (Value number_of_looks)

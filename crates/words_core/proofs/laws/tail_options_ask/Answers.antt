@@ -1,20 +1,28 @@
-use Rattle.words_core.proofs.AskedLemmas.{tail_follows, tail_follows_descriptor, tail_follows_long, tail_follows_names, tail_looks, tail_retries}
+use Rattle.std.proofs.Common.{refl}
+use Rattle.seg_core.specs.Count.{digits_of}
+use Rattle.words_core.specs.Table.{tools}
 use Rattle.words_core.proofs.laws.tail_options_ask.Goals as goal
 
 pub returns-clause-follows : goal.returns-clause-follows
-returns-clause-follows c = tail_follows
+unfolding tools
+returns-clause-follows c = refl
 
 pub returns-clause-long : goal.returns-clause-long
-returns-clause-long c = tail_follows_long
+unfolding tools
+returns-clause-long c = refl
 
 pub returns-clause-descriptor : goal.returns-clause-descriptor
-returns-clause-descriptor c = tail_follows_descriptor
+unfolding tools
+returns-clause-descriptor c = refl
 
 pub returns-clause-names : goal.returns-clause-names
-returns-clause-names c = tail_follows_names
+unfolding tools
+returns-clause-names c = refl
 
 pub returns-clause-retry : goal.returns-clause-retry
-returns-clause-retry c = tail_retries
+unfolding tools
+returns-clause-retry c = refl
 
 pub returns-clause-looks : goal.returns-clause-looks
-returns-clause-looks c = tail_looks
+unfolding tools digits_of
+returns-clause-looks c = refl
