@@ -12,7 +12,7 @@ use Rattle.run_core.specs.RunEnds.{standard_error}
 use Rattle.watch_core.specs.Snapshot.{Snapshot}
 use Rattle.watch_core.specs.Watched.{Watched}
 use Rattle.follow_core.specs.declared.start.Start.{Start}
-use Rattle.follow_core.specs.Ending.{FollowEndsAs, KeptIn, no_room}
+use Rattle.follow_core.specs.Ending.{FollowEndsAs, KeptSoLong, no_room}
 use Rattle.follow_core.specs.Visited.{ways_of}
 use Rattle.words_core.specs.declared.settings.Settings.{Settings}
 use Rattle.words_core.specs.declared.settings.Settings.TheVariants.{Head, Tail, Split, Csplit, Tee}
@@ -29,7 +29,7 @@ use Rattle.cutters.proofs.SpeakerLemmas.{runs_as_named}
 -- what is followed is what the settings ask for
 pub follows_as : (told_in told : Bool) (asked : EndsAsked) (followed : Followed) (by_name : Bool) (start : Start) (headers : Bool) (names : List (List ℕ)) (looks : ℕ) (shows : ℕ → Snapshot) (first : List Slot) (seen : List Snapshot) (watched : List Watched) (new : List Slot) (status : ℕ)
     → by_name ≡ is_name followed → start ≡ start_of asked → headers ≡ has_headers asked.headers asked.names → names ≡ asked.names → first ≡ streams
-    → (KeptIn told_in by_name shows looks names → FollowEndsAs told_in told (ways_of by_name start) headers names looks shows first seen watched new status) → FollowsAs told_in told asked followed looks shows seen watched new status
+    → (KeptSoLong told_in by_name shows looks seen names → FollowEndsAs told_in told (ways_of by_name start) headers names looks shows first seen watched new status) → FollowsAs told_in told asked followed looks shows seen watched new status
 follows_as told_in told asked followed by_name start headers names looks shows first seen watched new status name_is start_is headers_are names_are first_is ends =
     subst (λ b. F b (start_of asked) (has_headers asked.headers asked.names) asked.names streams) name_is
     (subst (λ (s : Start). F by_name s (has_headers asked.headers asked.names) asked.names streams) start_is
@@ -37,7 +37,7 @@ follows_as told_in told asked followed by_name start headers names looks shows f
     (subst (λ n. F by_name start headers n streams) names_are
     (subst (λ f. F by_name start headers names f) first_is ends)))) where
       F : Bool → Start → Bool → List (List ℕ) → List Slot → Type 0
-      F b s h n f = KeptIn told_in b shows looks n → FollowEndsAs told_in told (ways_of b s) h n looks shows f seen watched new status
+      F b s h n f = KeptSoLong told_in b shows looks seen n → FollowEndsAs told_in told (ways_of b s) h n looks shows f seen watched new status
 
 -- the words ask `tail` to follow these
 pub tail_follows : (told_in told : Bool) (words : List (List ℕ)) (asked : TailSettings) (same : Option Followed) (looks : ℕ) (shows : ℕ → Snapshot) (seen : List Snapshot) (watched : List Watched) (new : List Slot) (status : ℕ) → settings_of words ≡ Ok (Tail asked) → asked.followed ≡ same

@@ -3,9 +3,9 @@ use Rattle.std.proofs.Common.{◌≡◌, ℕ, ◌<◌, ◌≤◌, suc, nat_lt, B
 use Rattle.std.proofs.lemmas.Bool.{false≢true, leb-true, lt-ltb}
 use Rattle.std.proofs.lemmas.List.{append-nil}
 use Rattle.ports_core.specs.Slot.{Slot, is_open, adds, changed_at, told_of}
-use Rattle.ports_core.specs.Message.{PrintsOn, SaysAll}
-use Rattle.ports_core.specs.declared.tool.Tool.TheVariants.{Tail}
-use Rattle.ports_core.proofs.MessageLemmas.{all_said_state, says_on}
+use Rattle.ports_core.specs.Message.{PrintsOn}
+use Rattle.follow_core.specs.Telling.{TellsAll}
+use Rattle.follow_core.proofs.TellingLemmas.{all_told_state}
 use Rattle.ports_core.specs.declared.fault.Fault.{Fault}
 use Rattle.ports_core.specs.declared.fault.Fault.TheVariants as fault
 use Rattle.watch_core.specs.Watched.{Watched, breaks}
@@ -26,8 +26,8 @@ gives_can : (told : Bool) (printer after : PrinterState) (name bytes : List ℕ)
 gives_can told printer after name bytes lines [] new gives can = absurd (false≢true can.0)
 gives_can told printer after name bytes lines (output ∷ []) new gives can = absurd (false≢true can.1)
 gives_can told printer after name bytes lines (output ∷ error ∷ others) new gives can = by (gives.slots output error others refl) where
-  by : (last : Slot) × SaysAll told Tail lines error last × (new ≡ adds (told_of told (text_under printer name bytes)) output ∷ last ∷ others) → CanPrint new
-  by (last, said, is) = subst CanPrint (sym is) (can.0, ap is_open (all_said_state told Tail lines error last said) ∙ can.1)
+  by : (last : Slot) × TellsAll told lines error last × (new ≡ adds (told_of told (text_under printer name bytes)) output ∷ last ∷ others) → CanPrint new
+  by (last, said, is) = subst CanPrint (sym is) (can.0, ap is_open (all_told_state told lines error last said) ∙ can.1)
 
 short_error : (told : Bool) (text : List ℕ) (output error : Slot) (others new : List Slot) (why : Fault) → Short told text (output ∷ error ∷ others) new why → is_open error.state ≡ true → HasError new
 short_error told text output error others new _ (short_broke n part) can = subst HasError (sym part.slots) can
@@ -43,8 +43,8 @@ pub wrote_error : (told : Bool) (text : List ℕ) (lines : List (List ℕ)) (old
 wrote_error told text lines [] new why short can = absurd (false≢true can.0)
 wrote_error told text lines (output ∷ []) new why short can = absurd (false≢true can.1)
 wrote_error told text lines (output ∷ error ∷ others) new why short can = by (short output error others refl) where
-  by : (last : Slot) × SaysAll told Tail lines error last × Short told text (output ∷ last ∷ others) new why → HasError new
-  by (last, said, part) = short_error told text output last others new why part (ap is_open (all_said_state told Tail lines error last said) ∙ can.1)
+  by : (last : Slot) × TellsAll told lines error last × Short told text (output ∷ last ∷ others) new why → HasError new
+  by (last, said, part) = short_error told text output last others new why part (ap is_open (all_told_state told lines error last said) ∙ can.1)
 
 halts_error : (told : Bool) (printer : PrinterState) (name bytes : List ℕ) (lines : List (List ℕ)) (old new : List Slot) (why : Fault) → Halts told printer name bytes lines old new why → CanPrint old → HasError new
 halts_error told printer name bytes lines old new why halts can = wrote_error told (text_under printer name bytes) lines old new why halts.slots can
@@ -82,7 +82,7 @@ untold told_in told printer name due lines slots why is = rw is (over fault.Memo
 
 -- a line was told
 pub tells : (told_in told : Bool) (printer : PrinterState) (name line text : List ℕ) (old new : List Slot) → text ≡ line → PrintsOn told text old new → Ends {T = Unit {0}} told_in told printer name [] (line ∷ []) old printer new (Ok tt)
-tells told_in told printer name line text old new is prints = whole tt [] (line ∷ []) (λ _. (refl, refl)) (gives_line told printer name line old new (says_on told Tail line text old new is prints))
+tells told_in told printer name line text old new is prints = whole tt [] (line ∷ []) (λ _. (refl, refl)) (gives_line told printer name line text old new is prints)
 
 pub no_line : (name : List ℕ) (position len : ℕ) (test : Bool) → nat_lt len position ≡ test → position ≤ len → lines_past name position len ≡ []
 no_line name position len true is few = absurd (let less : len < position = leb-true (suc len) position is in omega (arith, less, few))

@@ -1,5 +1,5 @@
 -- One look after another.
-use Rattle.std.proofs.Common.{◌≡◌, ℕ, zero, suc, ◌<◌, ◌≤◌, ◌+◌, Bool, true, false, List, [], ◌∷◌, ◌++◌, length, map, take, slice_index_or, refl, sym, ◌∙◌, ap, subst, arith, inl, inr, ◌⊎◌, if◌then◌else◌}
+use Rattle.std.proofs.Common.{◌≡◌, ℕ, zero, suc, ◌<◌, ◌≤◌, ◌+◌, Bool, true, false, List, [], ◌∷◌, ◌++◌, length, map, min, take, slice_index_or, refl, sym, ◌∙◌, ap, subst, arith, inl, inr, ◌⊎◌, if◌then◌else◌}
 use Rattle.std.proofs.lemmas.List.{length-append, map-append, take-append-le}
 use Rattle.std.proofs.Math.Seq.{take-append_seam}
 use mir.Val.{bool_byte}
@@ -8,8 +8,8 @@ use Rattle.ports_core.specs.declared.fault.Fault.{Fault}
 use Rattle.watch_core.specs.Snapshot.{Snapshot}
 use Rattle.watch_core.specs.Watched.{Watched}
 use Rattle.follow_core.specs.declared.start.Start.{Start}
-use Rattle.follow_core.specs.Ending.{FollowEndsAs, KeptIn, LookedAll, Made, StoppedIn, looked, seen_first}
-use Rattle.follow_core.specs.FollowState.{FollowState, Halted, Holds, LooksOn, StopsOn, is_alive, new_state, opened_follow}
+use Rattle.follow_core.specs.Ending.{FollowEndsAs, KeptIn, KeptSoLong, LookedAll, Made, StoppedIn, looked, seen_first}
+use Rattle.follow_core.specs.FollowState.{FollowState, Halted, Holds, LooksOn, SawOrNot, StopsOn, is_alive, new_state, opened_follow}
 use Rattle.follow_core.specs.Look.{Fate, Look, Ways, snapshots}
 use Rattle.follow_core.specs.Run.{AreKept}
 use Rattle.follow_core.specs.Standing.{AllKeep, texts}
@@ -47,6 +47,24 @@ seen_more : (shows : ℕ → Snapshot) (looks : List Look) (look : Look) (made :
 seen_more shows looks look made saw count is =
     snaps_more looks look ∙ ap (λ front. front ++ look.snapshot ∷ []) (saw ∙ ap (seen_first shows) count) ∙ ap (λ last. seen_first shows made ++ last ∷ []) is
 
+-- fewer looks
+pub kept_fewer : (told by_name : Bool) (shows : ℕ → Snapshot) (names : List (List ℕ)) (few many : ℕ) → few ≤ many → KeptIn told by_name shows many names → KeptIn told by_name shows few names
+kept_fewer told by_name shows names few many l kept t n place within = kept t n place (omega (arith, l, within))
+
+-- all that were made, where the last of them saw what it should
+pub kept_made : (told by_name : Bool) (shows : ℕ → Snapshot) (names : List (List ℕ)) (made count : ℕ) (seen : List Snapshot) → made ≤ count → seen ≡ seen_first shows made → KeptSoLong told by_name shows count seen names → KeptIn told by_name shows made names
+kept_made told by_name shows names made count seen within is = let long = ap length is ∙ length_seen shows made in kept_fewer told by_name shows names made (min count (suc (length seen))) (omega (arith, long, within))
+
+-- the one that was stopped too
+pub kept_stopped : (told by_name : Bool) (shows : ℕ → Snapshot) (names : List (List ℕ)) (made count : ℕ) (seen seen_new : List Snapshot) (snapshot : Snapshot) → made < count → seen ≡ seen_first shows made → SawOrNot seen snapshot seen_new → KeptSoLong told by_name shows count seen_new names → KeptIn told by_name shows (suc made) names
+kept_stopped told by_name shows names made count seen seen_new snapshot within is saw = kept_fewer told by_name shows names (suc made) (min count (suc (length seen_new))) (by saw) where
+  long : length seen ≡ made
+  long = ap length is ∙ length_seen shows made
+
+  by : SawOrNot seen snapshot seen_new → suc made ≤ min count (suc (length seen_new))
+  by (inl same) = let e = ap length same in omega (arith, e, long, within)
+  by (inr more) = let e = ap length more ∙ length-append seen (snapshot ∷ []) in omega (arith, e, long, within)
+
 keeps_next : (told_in : Bool) (ways : Ways) (names : List (List ℕ)) (shows : ℕ → Snapshot) (looks : List Look) (snapshot : Snapshot) (made count : ℕ) → snapshots looks ≡ seen_first shows (length looks) → length looks ≡ made → snapshot ≡ shows made → made < count → KeptIn told_in ways.by_name shows count names
     → AllKeep told_in ways looks snapshot names
 keeps_next told_in ways names shows looks snapshot made count saw long is below kept place there t =
@@ -78,10 +96,10 @@ made_more told_in ways names shows looks look made count is before alive = recor
 pub next_is : (shows now : ℕ → Snapshot) (seen : List Snapshot) (made : ℕ) → now ≡ shows → seen ≡ seen_first shows made → now (length seen) ≡ shows made
 next_is shows now seen made same is = ap (λ (f : ℕ → Snapshot). f (length seen)) same ∙ ap (λ (those : List Snapshot). shows (length those)) is ∙ ap shows (length_seen shows made)
 
-pub one_more : (told_in told : Bool) (ways : Ways) (headers : Bool) (names : List (List ℕ)) (shows : ℕ → Snapshot) (first : List Slot) (made count : ℕ) (snapshot : Snapshot) (old new : FollowState) (watched watched_new : List Watched) (slots slots_new : List Slot) → made < count → snapshot ≡ shows made → KeptIn told_in ways.by_name shows count names
+pub one_more : (told_in told : Bool) (ways : Ways) (headers : Bool) (names : List (List ℕ)) (shows : ℕ → Snapshot) (first : List Slot) (made : ℕ) (snapshot : Snapshot) (old new : FollowState) (watched watched_new : List Watched) (slots slots_new : List Slot) → snapshot ≡ shows made → KeptIn told_in ways.by_name shows (suc made) names
     → Progress told_in told ways headers names shows first made old watched slots → LooksOn told_in told snapshot old watched slots new watched_new slots_new → After told_in told ways headers names shows first (suc made) new watched_new slots_new
-one_more told_in told ways headers names shows first made count snapshot old new watched watched_new slots slots_new below is kept progress looks_on =
-    made_one (looks_on ways headers names before.looks first before.holds (keeps_next told_in ways names shows before.looks snapshot made count before.is_made.saw before.count is below kept)) where
+one_more told_in told ways headers names shows first made snapshot old new watched watched_new slots slots_new is kept progress looks_on =
+    made_one (looks_on ways headers names before.looks first before.holds (keeps_next told_in ways names shows before.looks snapshot made (suc made) before.is_made.saw before.count is (omega arith) kept)) where
       before : After told_in told ways headers names shows first made old watched slots
       before = progress.after
 
@@ -93,15 +111,20 @@ one_more told_in told ways headers names shows first made count snapshot old new
         holds = holds;
       }
 
-pub one_stopped : (told_in told : Bool) (ways : Ways) (headers : Bool) (names : List (List ℕ)) (shows : ℕ → Snapshot) (first : List Slot) (made count : ℕ) (snapshot : Snapshot) (old : FollowState) (watched : List Watched) (slots slots_new : List Slot) (why : Fault) → made < count → snapshot ≡ shows made → KeptIn told_in ways.by_name shows count names
-    → Progress told_in told ways headers names shows first made old watched slots → StopsOn told_in told snapshot old watched slots slots_new why → StoppedIn told_in told ways headers names count shows first slots_new why
-one_stopped told_in told ways headers names shows first made count snapshot old watched slots slots_new why below is kept progress stops = record {
+-- the looks are those that the watch saw
+observed_all : (told_in told : Bool) (ways : Ways) (headers : Bool) (names : List (List ℕ)) (shows : ℕ → Snapshot) (first : List Slot) (made : ℕ) (follow : FollowState) (watched : List Watched) (slots : List Slot) (seen : List Snapshot) → seen ≡ seen_first shows made → (after : After told_in told ways headers names shows first made follow watched slots) → seen ≡ snapshots after.looks
+observed_all told_in told ways headers names shows first made follow watched slots seen is after = is ∙ ap (seen_first shows) (sym after.count) ∙ sym after.is_made.saw
+
+pub one_stopped : (told_in told : Bool) (ways : Ways) (headers : Bool) (names : List (List ℕ)) (shows : ℕ → Snapshot) (first : List Slot) (made count : ℕ) (snapshot : Snapshot) (old : FollowState) (watched : List Watched) (seen seen_new : List Snapshot) (slots slots_new : List Slot) (why : Fault) → seen ≡ seen_first shows made → SawOrNot seen snapshot seen_new → made < count → snapshot ≡ shows made → KeptIn told_in ways.by_name shows (suc made) names
+    → Progress told_in told ways headers names shows first made old watched slots → StopsOn told_in told snapshot old watched slots slots_new why → StoppedIn told_in told ways headers names count shows first seen_new slots_new why
+one_stopped told_in told ways headers names shows first made count snapshot old watched seen seen_new slots slots_new why so_far saw below is kept progress stops = record {
   looks = before.looks;
+  saw = subst (λ s. SawOrNot (snapshots before.looks) s seen_new) (is ∙ ap shows (sym before.count)) (subst (λ those. SawOrNot those snapshot seen_new) (observed_all told_in told ways headers names shows first made old watched slots seen so_far before) saw);
   made = before.is_made;
   within = subst (λ n. n < count) (sym before.count) below;
   alive = progress.alive;
   halted = subst (λ s. Halted told_in told ways headers names before.looks s first slots_new why) (is ∙ ap shows (sym before.count))
-      (stops ways headers names before.looks first before.holds (keeps_next told_in ways names shows before.looks snapshot made count before.is_made.saw before.count is below kept));
+      (stops ways headers names before.looks first before.holds (keeps_next told_in ways names shows before.looks snapshot made (suc made) before.is_made.saw before.count is (omega arith) kept));
 } where
   before : After told_in told ways headers names shows first made old watched slots
   before = progress.after
@@ -120,10 +143,6 @@ goes_on told_in told ways headers names shows first made follow watched slots re
   after = after;
   alive = λ t above. alive_at told_in told ways headers names shows first (suc made) follow watched slots result after alive t ∙ true_is;
 })
-
--- the looks are those that the watch saw
-observed_all : (told_in told : Bool) (ways : Ways) (headers : Bool) (names : List (List ℕ)) (shows : ℕ → Snapshot) (first : List Slot) (made : ℕ) (follow : FollowState) (watched : List Watched) (slots : List Slot) (seen : List Snapshot) → seen ≡ seen_first shows made → (after : After told_in told ways headers names shows first made follow watched slots) → seen ≡ snapshots after.looks
-observed_all told_in told ways headers names shows first made follow watched slots seen is after = is ∙ ap (seen_first shows) (sym after.count) ∙ sym after.is_made.saw
 
 pub ends_there : (told_in told : Bool) (ways : Ways) (headers : Bool) (names : List (List ℕ)) (shows : ℕ → Snapshot) (first : List Slot) (made count : ℕ) (follow : FollowState) (watched : List Watched) (slots : List Slot) (result : Bool)
     → ((told : Bool) (ways : Ways) (headers : Bool) (names : List (List ℕ)) (looks : List Look) (first slots : List Slot) (watched : List Watched) → Holds true told ways headers names looks first follow watched slots → result ≡ is_alive ways names looks)

@@ -2,8 +2,7 @@
 use Rattle.std.proofs.Common.{◌≡◌, ℕ, Bool, true, false, not, ◌&&◌, List, [], ◌∷◌, ◌++◌, length, Option, Some, None, Ok, Err, refl, sym, ◌∙◌, ap, subst}
 use Rattle.std.proofs.lemmas.Bool.{false≢true}
 use Rattle.ports_core.specs.Slot.{adds, told_of, with_written}
-use Rattle.ports_core.specs.Message.{SaysAll}
-use Rattle.ports_core.specs.declared.tool.Tool.TheVariants.{Tail}
+use Rattle.follow_core.specs.Telling.{TellsAll}
 use Rattle.ports_core.specs.declared.fault.Fault.{Fault}
 use Rattle.ports_core.specs.declared.fault.Fault.TheVariants as fault
 use Rattle.watch_core.specs.Snapshot.{Snapshot}
@@ -73,8 +72,8 @@ opened_gives told printer after name bytes lines old mid new first gives = recor
   printer_is = gives.printer_is ∙ opened_printer printer name bytes ∙ share_printer printer name bytes lines;
   slots = λ output error others is. both output error others (gives.slots _ error others (first ∙ ap (with_written 0 (told_of told (opening_under printer name))) is));
 } where
-  both : (output error : Slot) (others : List Slot) → (error_after : Slot) × SaysAll told Tail lines error error_after × (new ≡ adds (told_of told (text_under (opened_under printer name) name bytes)) (adds (told_of told (opening_under printer name)) output) ∷ error_after ∷ others)
-      → (error_after : Slot) × SaysAll told Tail lines error error_after × (new ≡ adds (told_of told (share_text printer.headers printer.last (opened_share name bytes lines))) output ∷ error_after ∷ others)
+  both : (output error : Slot) (others : List Slot) → (error_after : Slot) × TellsAll told lines error error_after × (new ≡ adds (told_of told (text_under (opened_under printer name) name bytes)) (adds (told_of told (opening_under printer name)) output) ∷ error_after ∷ others)
+      → (error_after : Slot) × TellsAll told lines error error_after × (new ≡ adds (told_of told (share_text printer.headers printer.last (opened_share name bytes lines))) output ∷ error_after ∷ others)
   both output error others (error_after, said, is) = (
     error_after,
     said,
@@ -89,8 +88,8 @@ opened_halts : (told : Bool) (printer : PrinterState) (name bytes : List ℕ) (l
 opened_halts told printer name bytes lines old mid new why first halts = record {
   slots = λ output error others is. both output error others (halts.slots _ error others (first ∙ ap (with_written 0 (told_of told (opening_under printer name))) is));
 } where
-  both : (output error : Slot) (others : List Slot) → (error_after : Slot) × SaysAll told Tail lines error error_after × Short told (text_under (opened_under printer name) name bytes) (adds (told_of told (opening_under printer name)) output ∷ error_after ∷ others) new why
-      → (error_after : Slot) × SaysAll told Tail lines error error_after × Short told (share_text printer.headers printer.last (opened_share name bytes lines)) (output ∷ error_after ∷ others) new why
+  both : (output error : Slot) (others : List Slot) → (error_after : Slot) × TellsAll told lines error error_after × Short told (text_under (opened_under printer name) name bytes) (adds (told_of told (opening_under printer name)) output ∷ error_after ∷ others) new why
+      → (error_after : Slot) × TellsAll told lines error error_after × Short told (share_text printer.headers printer.last (opened_share name bytes lines)) (output ∷ error_after ∷ others) new why
   both output error others (error_after, said, short) = (
     error_after,
     said,

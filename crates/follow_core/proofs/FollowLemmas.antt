@@ -1,11 +1,10 @@
 -- A look at all names more, and one that was stopped.
 use Rattle.std.proofs.Common.{◌≡◌, ℕ, zero, suc, ◌<◌, ◌+◌, Bool, true, false, not, ◌||◌, ◌&&◌, List, [], ◌∷◌, ◌++◌, length, map, slice_index_or, refl, sym, ◌∙◌, ap, subst, arith, inl, inr}
 use Rattle.std.proofs.lemmas.Bool.{false≢true}
-use Rattle.std.proofs.lemmas.List.{append-nil, length-map}
+use Rattle.std.proofs.lemmas.List.{length-map}
 use Rattle.std.proofs.Math.Seq.{take-length}
 use Rattle.ports_core.specs.Slot.{Slot, adds, told_of}
-use Rattle.ports_core.specs.Message.{SaysAll}
-use Rattle.ports_core.specs.declared.tool.Tool.TheVariants.{Tail}
+use Rattle.follow_core.specs.Telling.{TellsAll}
 use Rattle.ports_core.specs.declared.fault.Fault.{Fault}
 use Rattle.ports_core.specs.declared.fault.Fault.TheVariants as fault
 use Rattle.watch_core.specs.Snapshot.{Snapshot}
@@ -26,7 +25,7 @@ use Rattle.follow_core.specs.Version.{open_after}
 use Rattle.follow_core.specs.Visited.{StoppedAt, VisitedAll, ways_of}
 use Rattle.follow_core.proofs.EntryLemmas.{last_file}
 use Rattle.follow_core.proofs.ShareLemmas.{failed-append, last-append, messages-append, shares_more, text-append}
-use Rattle.follow_core.proofs.VisitAllLemmas.{nothing_shared, short_as, wrote_as, wrote_both, wrote_short}
+use Rattle.follow_core.proofs.VisitAllLemmas.{nothing_shared, wrote_as, wrote_both}
 
 -- further shares
 
@@ -46,8 +45,8 @@ all_both told printer mid after shares more old now new all rest = record {
 -- memory was wanting after all of them
 wrote_stop : (told : Bool) (text : List ℕ) (lines : List (List ℕ)) (old new : List Slot) → Wrote told text lines old new → WroteShort told text lines old new fault.Memory
 wrote_stop told text lines old new wrote = λ output error others is. by output error others (wrote output error others is) where
-  by : (output error : Slot) (others : List Slot) → (error_after : Slot) × SaysAll told Tail lines error error_after × (new ≡ adds (told_of told text) output ∷ error_after ∷ others)
-      → (error_after : Slot) × SaysAll told Tail lines error error_after × Short told text (output ∷ error_after ∷ others) new fault.Memory
+  by : (output error : Slot) (others : List Slot) → (error_after : Slot) × TellsAll told lines error error_after × (new ≡ adds (told_of told text) output ∷ error_after ∷ others)
+      → (error_after : Slot) × TellsAll told lines error error_after × Short told text (output ∷ error_after ∷ others) new fault.Memory
   by output error others (error_after, said, are) = (error_after, said, no_room (length text) (omega arith) (are ∙ ap (λ those. adds (told_of told those) output ∷ error_after ∷ others) (sym (take-length text))))
 
 none_stop : (told : Bool) (printer : PrinterState) (slots : List Slot) → AllShort told printer [] slots slots fault.Memory

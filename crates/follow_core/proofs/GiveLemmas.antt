@@ -2,10 +2,10 @@
 use Rattle.std.proofs.Common.{◌≡◌, ℕ, Bool, List, [], ◌∷◌, ◌++◌, Result, Ok, Err, refl, sym, ◌∙◌, ap, subst, append_assoc}
 use Rattle.std.proofs.lemmas.List.{append-nil}
 use Rattle.ports_core.specs.Slot.{Slot, adds, with_written, told_of}
-use Rattle.ports_core.specs.Message.{Says, SaysAll, SaysOn}
-use Rattle.ports_core.specs.declared.tool.Tool.TheVariants.{Tail}
+use Rattle.ports_core.specs.Message.{Prints, PrintsOn}
+use Rattle.follow_core.specs.Telling.{TellsAll}
 use Rattle.ports_core.specs.declared.fault.Fault.{Fault}
-use Rattle.ports_core.proofs.MessageLemmas.{says_behind}
+use Rattle.follow_core.proofs.TellingLemmas.{tells_after, told_by}
 use Rattle.ports_core.proofs.WriteLemmas.{told_of-append, told_of-nil}
 use Rattle.follow_core.specs.declared.copying.Stop.{Stop}
 use Rattle.follow_core.specs.Printing.{PrinterState, Short, text_under, printer_under}
@@ -32,14 +32,14 @@ gives_put told printer after name bytes old new put = record {
 }
 
 -- a line alone
-pub gives_line : (told : Bool) (printer : PrinterState) (name line : List ℕ) (old new : List Slot) → SaysOn told Tail line old new → Gives told printer name [] (line ∷ []) old printer new
-gives_line told printer name line old new says = record {
+pub gives_line : (told : Bool) (printer : PrinterState) (name line text : List ℕ) (old new : List Slot) → text ≡ line → PrintsOn told text old new → Gives told printer name [] (line ∷ []) old printer new
+gives_line told printer name line text old new same prints = record {
   printer_is = sym (last_nil printer name);
-  slots = λ output error others is. line_of output error others (says output error others is);
+  slots = λ output error others is. line_of output error others (prints output error others is);
 } where
-  line_of : (output error : Slot) (others : List Slot) → (after : Slot) × Says told Tail line error after × (new ≡ output ∷ after ∷ others)
-      → (after : Slot) × SaysAll told Tail (line ∷ []) error after × (new ≡ adds (told_of told (text_under printer name [])) output ∷ after ∷ others)
-  line_of output error others (after, said, is) = (after, (after, said, refl), is ∙ ap (λ slot. slot ∷ after ∷ others) (sym (ap (λ text. adds (told_of told text) output) (under_nil printer name) ∙ adds-nil told output)))
+  line_of : (output error : Slot) (others : List Slot) → (after : Slot) × Prints told text error after × (new ≡ output ∷ after ∷ others)
+      → (after : Slot) × TellsAll told (line ∷ []) error after × (new ≡ adds (told_of told (text_under printer name [])) output ∷ after ∷ others)
+  line_of output error others (after, printed, is) = (after, (after, told_by told line text error after same printed, refl), is ∙ ap (λ slot. slot ∷ after ∷ others) (sym (ap (λ text. adds (told_of told text) output) (under_nil printer name) ∙ adds-nil told output)))
 
 pub gives_both : (told : Bool) (printer mid after : PrinterState) (name first second : List ℕ) (lines more : List (List ℕ)) (old now new : List Slot)
     → Gives told printer name first lines old mid now → Gives told mid name second more now after new → Gives told printer name (first ++ second) (lines ++ more) old after new
@@ -50,12 +50,12 @@ gives_both told printer mid after name first second lines more old now new one o
   text : text_under printer name first ++ text_under mid name second ≡ text_under printer name (first ++ second)
   text = ap (λ (p : PrinterState). text_under printer name first ++ text_under p name second) one.printer_is ∙ sym (under_append printer name first second)
 
-  both : (output error : Slot) (others : List Slot) → (then : Slot) × SaysAll told Tail lines error then × (now ≡ adds (told_of told (text_under printer name first)) output ∷ then ∷ others)
-      → (last : Slot) × SaysAll told Tail (lines ++ more) error last × (new ≡ adds (told_of told (text_under printer name (first ++ second))) output ∷ last ∷ others)
+  both : (output error : Slot) (others : List Slot) → (then : Slot) × TellsAll told lines error then × (now ≡ adds (told_of told (text_under printer name first)) output ∷ then ∷ others)
+      → (last : Slot) × TellsAll told (lines ++ more) error last × (new ≡ adds (told_of told (text_under printer name (first ++ second))) output ∷ last ∷ others)
   both output error others (then, said, are) = joined (other.slots _ then others are) where
-    joined : (last : Slot) × SaysAll told Tail more then last × (new ≡ adds (told_of told (text_under mid name second)) (adds (told_of told (text_under printer name first)) output) ∷ last ∷ others)
-        → (last : Slot) × SaysAll told Tail (lines ++ more) error last × (new ≡ adds (told_of told (text_under printer name (first ++ second))) output ∷ last ∷ others)
-    joined (last, more_said, now_are) = (last, says_behind told Tail lines more error then last said more_said, now_are ∙ ap (λ slot. slot ∷ last ∷ others) (adds_both told _ _ output ∙ ap (λ bytes. adds (told_of told bytes) output) text))
+    joined : (last : Slot) × TellsAll told more then last × (new ≡ adds (told_of told (text_under mid name second)) (adds (told_of told (text_under printer name first)) output) ∷ last ∷ others)
+        → (last : Slot) × TellsAll told (lines ++ more) error last × (new ≡ adds (told_of told (text_under printer name (first ++ second))) output ∷ last ∷ others)
+    joined (last, more_said, now_are) = (last, tells_after told lines more error then last said more_said, now_are ∙ ap (λ slot. slot ∷ last ∷ others) (adds_both told _ _ output ∙ ap (λ bytes. adds (told_of told bytes) output) text))
 
 pub halts_after : (told : Bool) (printer mid : PrinterState) (name first second : List ℕ) (lines more : List (List ℕ)) (old now new : List Slot) (why : Fault)
     → Gives told printer name first lines old mid now → Halts told mid name second more now new why → Halts told printer name (first ++ second) (lines ++ more) old new why
@@ -65,12 +65,12 @@ halts_after told printer mid name first second lines more old now new why one ot
   text : text_under printer name first ++ text_under mid name second ≡ text_under printer name (first ++ second)
   text = ap (λ (p : PrinterState). text_under printer name first ++ text_under p name second) one.printer_is ∙ sym (under_append printer name first second)
 
-  both : (output error : Slot) (others : List Slot) → (then : Slot) × SaysAll told Tail lines error then × (now ≡ adds (told_of told (text_under printer name first)) output ∷ then ∷ others)
-      → (last : Slot) × SaysAll told Tail (lines ++ more) error last × Short told (text_under printer name (first ++ second)) (output ∷ last ∷ others) new why
+  both : (output error : Slot) (others : List Slot) → (then : Slot) × TellsAll told lines error then × (now ≡ adds (told_of told (text_under printer name first)) output ∷ then ∷ others)
+      → (last : Slot) × TellsAll told (lines ++ more) error last × Short told (text_under printer name (first ++ second)) (output ∷ last ∷ others) new why
   both output error others (then, said, are) = joined (other.slots _ then others are) where
-    joined : (last : Slot) × SaysAll told Tail more then last × Short told (text_under mid name second) (adds (told_of told (text_under printer name first)) output ∷ last ∷ others) new why
-        → (last : Slot) × SaysAll told Tail (lines ++ more) error last × Short told (text_under printer name (first ++ second)) (output ∷ last ∷ others) new why
-    joined (last, more_said, short) = (last, says_behind told Tail lines more error then last said more_said, subst (λ bytes. Short told bytes (output ∷ last ∷ others) new why) text (short_after told (text_under printer name first) (text_under mid name second) (output ∷ last ∷ others) _ new why refl short))
+    joined : (last : Slot) × TellsAll told more then last × Short told (text_under mid name second) (adds (told_of told (text_under printer name first)) output ∷ last ∷ others) new why
+        → (last : Slot) × TellsAll told (lines ++ more) error last × Short told (text_under printer name (first ++ second)) (output ∷ last ∷ others) new why
+    joined (last, more_said, short) = (last, tells_after told lines more error then last said more_said, subst (λ bytes. Short told bytes (output ∷ last ∷ others) new why) text (short_after told (text_under printer name first) (text_under mid name second) (output ∷ last ∷ others) _ new why refl short))
 
 -- nothing more was written
 pub halts_short : (told : Bool) (printer : PrinterState) (name bytes : List ℕ) (old new : List Slot) (why : Fault) → Short told (text_under printer name bytes) old new why → Halts told printer name bytes [] old new why

@@ -3,6 +3,7 @@ pub mod ShareLemmas
 pub mod LaterLemmas
 pub mod PlacingLemmas
 pub mod AgreeLemmas
+pub mod TellingLemmas
 pub mod PrintLemmas
 pub mod CopyLemmas
 pub mod GiveLemmas

@@ -1,10 +1,11 @@
 -- The first look at a name, with what is told of it.
-use Rattle.std.proofs.Common.{◌≡◌, ℕ, Bool, true, false, List, [], ◌∷◌, ◌++◌, length, Option, Some, None, Ok, Err, refl, sym, ◌∙◌, ap, subst}
+use Rattle.std.proofs.Common.{◌≡◌, ℕ, Bool, true, false, List, [], ◌∷◌, ◌++◌, length, Option, Some, None, Ok, Err, inl, inr, refl, sym, ◌∙◌, ap, subst}
 use Rattle.std.proofs.lemmas.List.{append-nil}
 use Rattle.ports_core.specs.Slot.{Slot, adds, told_of}
 use Rattle.ports_core.specs.Text.{message_of}
-use Rattle.ports_core.specs.Message.{Says, SaysAll, SaysOn}
-use Rattle.ports_core.proofs.MessageLemmas.{says_behind}
+use Rattle.ports_core.specs.Message.{Says, SaysOn}
+use Rattle.follow_core.specs.Telling.{IsFailure, TellsAll}
+use Rattle.follow_core.proofs.TellingLemmas.{failure_told, tells_after}
 use Rattle.ports_core.proofs.WriteLemmas.{told_of-nil}
 use Rattle.ports_core.specs.declared.tool.Tool.TheVariants.{Tail}
 use Rattle.ports_core.specs.declared.fault.Fault.{Fault}
@@ -25,19 +26,19 @@ use Rattle.follow_core.proofs.FirstShareLemmas.{share_missing, share_opened, sha
 adds-nil : (told : Bool) (slot : Slot) → adds (told_of told []) slot ≡ slot
 adds-nil told slot = ap (λ bytes. record slot { written = slot.written ++ bytes }) (told_of-nil told) ∙ ap (λ written. record slot { written = written }) (append-nil slot.written)
 
--- a line is told after a share
-pub told_after : (told : Bool) (printer after : PrinterState) (share : Share) (line : List ℕ) (old mid new : List Slot) → Shared told printer share old after mid → SaysOn told Tail line mid new
+-- the message of a failure is told after a share
+pub told_after : (told : Bool) (printer after : PrinterState) (share : Share) (line : List ℕ) (old mid new : List Slot) → Shared told printer share old after mid → IsFailure line → SaysOn told Tail line mid new
     → Shared told printer (record share { messages = share.messages ++ line ∷ []; has_failed = true }) old after new
-told_after told printer after share line old mid new shared says = record {
+told_after told printer after share line old mid new shared failure says = record {
   printer_is = shared.printer_is;
   slots = λ output error others is. both output error others (shared.slots output error others is);
 } where
-  both : (output error : Slot) (others : List Slot) → (then : Slot) × SaysAll told Tail share.messages error then × (mid ≡ adds (told_of told (share_text printer.headers printer.last share)) output ∷ then ∷ others)
-      → (last : Slot) × SaysAll told Tail (share.messages ++ line ∷ []) error last × (new ≡ adds (told_of told (share_text printer.headers printer.last share)) output ∷ last ∷ others)
+  both : (output error : Slot) (others : List Slot) → (then : Slot) × TellsAll told share.messages error then × (mid ≡ adds (told_of told (share_text printer.headers printer.last share)) output ∷ then ∷ others)
+      → (last : Slot) × TellsAll told (share.messages ++ line ∷ []) error last × (new ≡ adds (told_of told (share_text printer.headers printer.last share)) output ∷ last ∷ others)
   both output error others (then, said, are) = joined (says _ then others are) where
     joined : (last : Slot) × Says told Tail line then last × (new ≡ adds (told_of told (share_text printer.headers printer.last share)) output ∷ last ∷ others)
-        → (last : Slot) × SaysAll told Tail (share.messages ++ line ∷ []) error last × (new ≡ adds (told_of told (share_text printer.headers printer.last share)) output ∷ last ∷ others)
-    joined (last, line_said, is) = (last, says_behind told Tail share.messages (line ∷ []) error then last said (last, line_said, refl), is)
+        → (last : Slot) × TellsAll told (share.messages ++ line ∷ []) error last × (new ≡ adds (told_of told (share_text printer.headers printer.last share)) output ∷ last ∷ others)
+    joined (last, line_said, is) = (last, tells_after told share.messages (line ∷ []) error then last said (last, failure_told told line then last failure line_said, refl), is)
 
 -- a share of nothing
 abbrev empty_share : List ℕ → Share
@@ -75,7 +76,7 @@ meets_nothing told_in told ways snapshot place name printer after old mid new (n
   is_share = λ is fates. sym (share_missing ways name (record { snapshot = snapshot; fates = fates }) (leads is));
   through = refl;
   failed = refl;
-  shared = told_after told printer after (empty_share name) (message_of Tail (Open 0) name) old mid new (empty_shared told printer after name old mid same_printer same) says;
+  shared = told_after told printer after (empty_share name) (message_of Tail (Open 0) name) old mid new (empty_shared told printer after name old mid same_printer same) (name, inl refl) says;
 }
 
 meets_broken : (told_in told : Bool) (ways : Ways) (snapshot : Snapshot) (place : ℕ) (name : List ℕ) (printer after : PrinterState) (old mid new : List Slot) (why : Fault) → LooksFirst told_in told ways.start snapshot place name printer old after mid (Err (Broke why))
@@ -86,7 +87,7 @@ meets_broken told_in told ways snapshot place name printer after old mid new _ (
   is_share = λ is fates. sym (share_unopened ways name (record { snapshot = snapshot; fates = fates }));
   through = refl;
   failed = refl;
-  shared = told_after told printer after (empty_share name) (message_of Tail (Open 0) name) old mid new (empty_shared told printer after name old mid same_printer same) says;
+  shared = told_after told printer after (empty_share name) (message_of Tail (Open 0) name) old mid new (empty_shared told printer after name old mid same_printer same) (name, inl refl) says;
 }
 meets_broken told_in told ways snapshot place name printer after old mid new _ (unread bytes lines are shared) says = record {
   fate = not_read 0 (length bytes);
@@ -94,7 +95,7 @@ meets_broken told_in told ways snapshot place name printer after old mid new _ (
   is_share = λ is fates. sym (share_unread ways name bytes lines (record { snapshot = snapshot; fates = fates }) (are is));
   through = refl;
   failed = refl;
-  shared = told_after told printer after (opened_share name bytes lines) (message_of Tail (Read 0) name) old mid new shared says;
+  shared = told_after told printer after (opened_share name bytes lines) (message_of Tail (Read 0) name) old mid new shared (name, inr refl) says;
 }
 
 -- the same, by what the look returned

@@ -96,7 +96,7 @@ again_broke told_in told ways before looks snapshot place name opened position b
       failed_share ways name bytes lines before looks (record { snapshot = snapshot; fates = fates }) (message_of Tail (Open 0) name) (subst (IsFront bytes) due.0 (are is).0) (subst (IsFront lines) due.1 (are is).1);
   through = refl;
   failed = refl;
-  shared = told_after told printer after (again_share name bytes lines) (message_of Tail (Open 0) name) old mid new (gives_shared told printer after name bytes lines old mid gives) (subst (λ those. SaysOn told Tail (message_of Tail those name) mid new) unopen says);
+  shared = told_after told printer after (again_share name bytes lines) (message_of Tail (Open 0) name) old mid new (gives_shared told printer after name bytes lines old mid gives) (name, inl refl) (subst (λ those. SaysOn told Tail (message_of Tail those name) mid new) unopen says);
 }
 again_broke told_in told ways before looks snapshot place name opened position by_name printer after old mid new _ way ready (inr read) (broke why bytes lines are gives) says = record {
   fate = not_read (length lines) (length bytes);
@@ -106,7 +106,7 @@ again_broke told_in told ways before looks snapshot place name opened position b
       failed_share ways name bytes lines before looks (record { snapshot = snapshot; fates = fates }) (message_of Tail (Read 0) name) (subst (IsFront bytes) due.0 (are is).0) (subst (IsFront lines) due.1 (are is).1);
   through = refl;
   failed = refl;
-  shared = told_after told printer after (again_share name bytes lines) (message_of Tail (Read 0) name) old mid new (gives_shared told printer after name bytes lines old mid gives) (subst (λ those. SaysOn told Tail (message_of Tail those name) mid new) read says);
+  shared = told_after told printer after (again_share name bytes lines) (message_of Tail (Read 0) name) old mid new (gives_shared told printer after name bytes lines old mid gives) (name, inr refl) (subst (λ those. SaysOn told Tail (message_of Tail those name) mid new) read says);
 }
 
 pub again_failed : (told_in told : Bool) (ways : Ways) (before : Look) (looks : List Look) (snapshot : Snapshot) (place : ℕ) (name : List ℕ) (opened led : Option ℕ) (position : ℕ) (by_name : Bool) (printer after : PrinterState) (old mid new : List Slot) (watched watched_new : List Watched) (stop : Stop) (why : Fault) → stop ≡ Broke why → ways.by_name ≡ by_name → (told_in ≡ true → IsReady ways (before ∷ looks) snapshot name opened position)

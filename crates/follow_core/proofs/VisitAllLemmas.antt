@@ -3,9 +3,8 @@ use Rattle.std.proofs.Common.{◌≡◌, ℕ, zero, suc, ◌<◌, ◌≤◌, ◌
 use Rattle.std.proofs.lemmas.List.{append-nil, get_or-map, get_or-set_other, get_or-set_same, length-append, length-map, length-set, length-take-le, take_all, get_or_past}
 use Rattle.std.proofs.Math.Seq.{get_or-append_seam, map-set_same, take-suc}
 use Rattle.ports_core.specs.Slot.{Slot, adds, told_of}
-use Rattle.ports_core.specs.Message.{SaysAll}
-use Rattle.ports_core.proofs.MessageLemmas.{says_behind}
-use Rattle.ports_core.specs.declared.tool.Tool.TheVariants.{Tail}
+use Rattle.follow_core.specs.Telling.{TellsAll}
+use Rattle.follow_core.proofs.TellingLemmas.{tells_after}
 use Rattle.ports_core.specs.declared.fault.Fault.{Fault}
 use Rattle.watch_core.specs.Snapshot.{Snapshot}
 use Rattle.watch_core.specs.Watched.{Watched, watched_at}
@@ -23,21 +22,21 @@ use Rattle.follow_core.proofs.ShareLemmas.{failed-append, last-append, messages-
 
 pub wrote_both : (told : Bool) (text more : List ℕ) (lines further : List (List ℕ)) (old mid new : List Slot) → Wrote told text lines old mid → Wrote told more further mid new → Wrote told (text ++ more) (lines ++ further) old new
 wrote_both told text more lines further old mid new first second = λ output error others is. both output error others (first output error others is) where
-  both : (output error : Slot) (others : List Slot) → (mid_error : Slot) × SaysAll told Tail lines error mid_error × (mid ≡ adds (told_of told text) output ∷ mid_error ∷ others)
-      → (last : Slot) × SaysAll told Tail (lines ++ further) error last × (new ≡ adds (told_of told (text ++ more)) output ∷ last ∷ others)
+  both : (output error : Slot) (others : List Slot) → (mid_error : Slot) × TellsAll told lines error mid_error × (mid ≡ adds (told_of told text) output ∷ mid_error ∷ others)
+      → (last : Slot) × TellsAll told (lines ++ further) error last × (new ≡ adds (told_of told (text ++ more)) output ∷ last ∷ others)
   both output error others (mid_error, said, are) = joined (second _ mid_error others are) where
-    joined : (last : Slot) × SaysAll told Tail further mid_error last × (new ≡ adds (told_of told more) (adds (told_of told text) output) ∷ last ∷ others)
-        → (last : Slot) × SaysAll told Tail (lines ++ further) error last × (new ≡ adds (told_of told (text ++ more)) output ∷ last ∷ others)
-    joined (last, said_more, is) = (last, says_behind told Tail lines further error mid_error last said said_more, is ∙ ap (λ slot. slot ∷ last ∷ others) (adds_both told text more output))
+    joined : (last : Slot) × TellsAll told further mid_error last × (new ≡ adds (told_of told more) (adds (told_of told text) output) ∷ last ∷ others)
+        → (last : Slot) × TellsAll told (lines ++ further) error last × (new ≡ adds (told_of told (text ++ more)) output ∷ last ∷ others)
+    joined (last, said_more, is) = (last, tells_after told lines further error mid_error last said said_more, is ∙ ap (λ slot. slot ∷ last ∷ others) (adds_both told text more output))
 
 pub wrote_short : (told : Bool) (text more : List ℕ) (lines further : List (List ℕ)) (old mid new : List Slot) (why : Fault) → Wrote told text lines old mid → WroteShort told more further mid new why → WroteShort told (text ++ more) (lines ++ further) old new why
 wrote_short told text more lines further old mid new why first second = λ output error others is. both output error others (first output error others is) where
-  both : (output error : Slot) (others : List Slot) → (mid_error : Slot) × SaysAll told Tail lines error mid_error × (mid ≡ adds (told_of told text) output ∷ mid_error ∷ others)
-      → (last : Slot) × SaysAll told Tail (lines ++ further) error last × Short told (text ++ more) (output ∷ last ∷ others) new why
+  both : (output error : Slot) (others : List Slot) → (mid_error : Slot) × TellsAll told lines error mid_error × (mid ≡ adds (told_of told text) output ∷ mid_error ∷ others)
+      → (last : Slot) × TellsAll told (lines ++ further) error last × Short told (text ++ more) (output ∷ last ∷ others) new why
   both output error others (mid_error, said, are) = joined (second _ mid_error others are) where
-    joined : (last : Slot) × SaysAll told Tail further mid_error last × Short told more (adds (told_of told text) output ∷ last ∷ others) new why
-        → (last : Slot) × SaysAll told Tail (lines ++ further) error last × Short told (text ++ more) (output ∷ last ∷ others) new why
-    joined (last, said_more, short) = (last, says_behind told Tail lines further error mid_error last said said_more, short_after told text more (output ∷ last ∷ others) _ new why refl short)
+    joined : (last : Slot) × TellsAll told further mid_error last × Short told more (adds (told_of told text) output ∷ last ∷ others) new why
+        → (last : Slot) × TellsAll told (lines ++ further) error last × Short told (text ++ more) (output ∷ last ∷ others) new why
+    joined (last, said_more, short) = (last, tells_after told lines further error mid_error last said said_more, short_after told text more (output ∷ last ∷ others) _ new why refl short)
 
 pub wrote_as : (told : Bool) (text other : List ℕ) (lines those : List (List ℕ)) (old new : List Slot) → text ≡ other → lines ≡ those → Wrote told text lines old new → Wrote told other those old new
 wrote_as told text other lines those old new same also wrote = subst (λ t. Wrote told t those old new) same (subst (λ l. Wrote told text l old new) also wrote)

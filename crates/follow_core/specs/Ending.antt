@@ -1,5 +1,5 @@
 -- How a run of following ends, by what its looks saw.
-use Rattle.std.specs.Prelude.{◌≡◌, ◌<◌, ◌≤◌, ◌++◌, ◌∷◌, ℕ, zero, suc, Bool, true, false, List, [], length, take, slice_index_or, if◌then◌else◌}
+use Rattle.std.specs.Prelude.{◌≡◌, ◌<◌, ◌≤◌, ◌++◌, ◌∷◌, ℕ, zero, suc, Bool, true, false, List, [], length, min, take, slice_index_or, if◌then◌else◌}
 use Rattle.ports_core.specs.Message.{SaysOn, output_named}
 use Rattle.ports_core.specs.Slot.{Slot}
 use Rattle.ports_core.specs.Text.{message_of}
@@ -9,7 +9,7 @@ use Rattle.ports_core.specs.declared.tool.Tool.TheVariants.{Tail}
 use Rattle.watch_core.specs.Snapshot.{Snapshot}
 use Rattle.watch_core.specs.Watched.{Watched, watched_at}
 use Rattle.follow_core.specs.Followed.{Followed, made_of}
-use Rattle.follow_core.specs.FollowState.{FollowState, Halted, Holds, is_alive}
+use Rattle.follow_core.specs.FollowState.{FollowState, Halted, Holds, SawOrNot, is_alive}
 use Rattle.follow_core.specs.Look.{Look, Ways, is_dropped, snapshots}
 use Rattle.follow_core.specs.Run.{AreKept}
 use Rattle.follow_core.specs.Share.{Share, shares_of}
@@ -21,9 +21,13 @@ abbrev pub seen_first : (ℕ → Snapshot) → ℕ → List Snapshot
 seen_first shows zero = []
 seen_first shows (suc n) = seen_first shows n ++ shows n ∷ []
 
--- a file that is appended to keeps its bytes, in as many looks
+-- a file that is appended to keeps its bytes, in the first n looks
 abbrev pub KeptIn : Bool → Bool → (ℕ → Snapshot) → ℕ → List (List ℕ) → Type 0
 KeptIn told by_name shows count names = told ≡ true → (n place : ℕ) → n ≤ count → place < length names → AreKept (entries_of by_name (slice_index_or names place []) (seen_first shows n))
+
+-- it does in the looks that were made, and in the one after them, where that was still asked for
+abbrev pub KeptSoLong : Bool → Bool → (ℕ → Snapshot) → ℕ → List Snapshot → List (List ℕ) → Type 0
+KeptSoLong told by_name shows count seen names = KeptIn told by_name shows (min count (suc (length seen))) names
 
 -- these looks were made, one after another, and after each but the last a further look could give something
 pub record Made (told_in : Bool) (ways : Ways) (names : List (List ℕ)) (shows : ℕ → Snapshot) (looks : List Look) : Type 0 where
@@ -43,9 +47,10 @@ pub record LookedAll (told_in told : Bool) (ways : Ways) (headers : Bool) (names
   pub over : length looks < count → (0 < length looks) × (told_in ≡ true → is_alive ways names looks ≡ false)
   pub holds : Holds told_in told ways headers names looks first follow watched slots
 
--- the look after these was stopped by a fault
-pub record StoppedIn (told_in told : Bool) (ways : Ways) (headers : Bool) (names : List (List ℕ)) (count : ℕ) (shows : ℕ → Snapshot) (first slots : List Slot) (why : Fault) : Type 0 where
+-- The look after these was stopped by a fault, and no other was made.
+pub record StoppedIn (told_in told : Bool) (ways : Ways) (headers : Bool) (names : List (List ℕ)) (count : ℕ) (shows : ℕ → Snapshot) (first : List Slot) (seen : List Snapshot) (slots : List Slot) (why : Fault) : Type 0 where
   pub looks : List Look
+  pub saw : SawOrNot (snapshots looks) (shows (length looks)) seen
   pub made : Made told_in ways names shows looks
   pub within : length looks < count
   pub alive : told_in ≡ true → 0 < length looks → is_alive ways names looks ≡ true
@@ -64,7 +69,7 @@ pub data FollowEndsAs (told_in told : Bool) (ways : Ways) (headers : Bool) (name
       → (length looks < count → (0 < length looks) × (told_in ≡ true → is_alive ways names looks ≡ false))
       → (told_in ≡ true → shares ≡ shares_of ways names looks) → Leaves told (made_of headers shares) first new status
       → FollowEndsAs told_in told ways headers names count shows first seen watched new status
-  stopped : (mid : List Slot) (why : Fault) → StoppedIn told_in told ways headers names count shows first mid why
+  stopped : (mid : List Slot) (why : Fault) → StoppedIn told_in told ways headers names count shows first seen mid why
       → SaysOn told Tail (message_of Tail why (output_named mid why)) mid new → status ≡ 1
       → FollowEndsAs told_in told ways headers names count shows first seen watched new status
   no_room : seen ≡ [] → watched ≡ [] → SaysOn told Tail (message_of Tail Memory []) first new → status ≡ 1

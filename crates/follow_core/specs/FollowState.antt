@@ -1,5 +1,5 @@
 -- Following: its names and how they stand, from one look to the next.
-use Rattle.std.specs.Prelude.{◌≡◌, ◌<◌, ◌∷◌, ◌++◌, ◌+◌, ℕ, Bool, true, false, not, ◌&&◌, ◌||◌, List, [], length, map, take, slice_index_or}
+use Rattle.std.specs.Prelude.{◌≡◌, ◌⊎◌, ◌<◌, ◌∷◌, ◌++◌, ◌+◌, ℕ, Bool, true, false, not, ◌&&◌, ◌||◌, List, [], length, map, take, slice_index_or}
 use Rattle.ports_core.specs.Slot.{Slot}
 use Rattle.ports_core.specs.declared.fault.Fault.{Fault}
 use Rattle.watch_core.specs.Snapshot.{Snapshot}
@@ -82,6 +82,10 @@ pub record Halted (told_in told : Bool) (ways : Ways) (headers : Bool) (names : 
   pub more : List Share
   pub begun : Begun told_in ways names looks snapshot more
   pub short : AllShort told printer more reached slots why
+
+-- a look that was stopped saw the files, or didn't come to that
+abbrev pub SawOrNot : List Snapshot → Snapshot → List Snapshot → Type 0
+SawOrNot seen snapshot seen_new = (seen_new ≡ seen) ⊎ (seen_new ≡ seen ++ snapshot ∷ [])
 
 -- whatever looks were made before, one more was made, which saw this
 abbrev pub LooksOn : (told_in told : Bool) → Snapshot → FollowState → List Watched → List Slot → FollowState → List Watched → List Slot → Type 0

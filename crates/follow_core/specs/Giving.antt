@@ -1,8 +1,7 @@
 -- What a look gives for one name, call by call: bytes on standard output, under headers, and lines on standard error.
 use Rattle.std.specs.Prelude.{◌≡◌, ℕ, Bool, true, List, ◌∷◌, ◌++◌, Result, Ok, Err}
 use Rattle.ports_core.specs.Slot.{Slot, adds, told_of}
-use Rattle.ports_core.specs.Message.{SaysAll}
-use Rattle.ports_core.specs.declared.tool.Tool.TheVariants.{Tail}
+use Rattle.follow_core.specs.Telling.{TellsAll}
 use Rattle.ports_core.specs.declared.fault.Fault.{Fault}
 use Rattle.follow_core.specs.declared.copying.Stop.{Stop}
 use Rattle.follow_core.specs.declared.copying.Stop.TheVariants.{Broke, Over}
@@ -15,12 +14,12 @@ IsFront {X} front whole = (rest : List X) × (whole ≡ front ++ rest)
 pub record Gives (told : Bool) (printer : PrinterState) (name bytes : List ℕ) (lines : List (List ℕ)) (old : List Slot) (after : PrinterState) (new : List Slot) : Type 0 where
   pub printer_is : after ≡ printer_under printer name bytes
   pub slots : (output error : Slot) (others : List Slot) → old ≡ output ∷ error ∷ others
-      → (error_after : Slot) × SaysAll told Tail lines error error_after × (new ≡ adds (told_of told (text_under printer name bytes)) output ∷ error_after ∷ others)
+      → (error_after : Slot) × TellsAll told lines error error_after × (new ≡ adds (told_of told (text_under printer name bytes)) output ∷ error_after ∷ others)
 
 -- the same, but standard output broke among these bytes, or memory was wanting: a beginning of them was written
 pub record Halts (told : Bool) (printer : PrinterState) (name bytes : List ℕ) (lines : List (List ℕ)) (old new : List Slot) (fault : Fault) : Type 0 where
   pub slots : (output error : Slot) (others : List Slot) → old ≡ output ∷ error ∷ others
-      → (error_after : Slot) × SaysAll told Tail lines error error_after × Short told (text_under printer name bytes) (output ∷ error_after ∷ others) new fault
+      → (error_after : Slot) × TellsAll told lines error error_after × Short told (text_under printer name bytes) (output ∷ error_after ∷ others) new fault
 
 -- How giving what is due of a name ends: all was given; or a call on the name failed, or following ends, and a beginning was. Where the
 -- files don't tell their bytes, something was given.

@@ -6,6 +6,7 @@ pub mod Look
 pub mod Share
 pub mod Followed
 pub mod Placing
+pub mod Telling
 pub mod Printing
 pub mod Copying
 pub mod Giving

@@ -2,8 +2,7 @@
 -- standard error.
 use Rattle.std.specs.Prelude.{◌≡◌, ℕ, Bool, List, ◌∷◌}
 use Rattle.ports_core.specs.Slot.{Slot, adds, told_of}
-use Rattle.ports_core.specs.Message.{SaysAll}
-use Rattle.ports_core.specs.declared.tool.Tool.TheVariants.{Tail}
+use Rattle.follow_core.specs.Telling.{TellsAll}
 use Rattle.ports_core.specs.declared.fault.Fault.{Fault}
 use Rattle.follow_core.specs.Followed.{header_after, last_header_from, messages_of, share_text, text_from}
 use Rattle.follow_core.specs.Printing.{PrinterState, Short}
@@ -12,12 +11,12 @@ use Rattle.follow_core.specs.Share.{Share}
 -- this text came to standard output, and these lines to standard error; no other output changed
 abbrev pub Wrote : Bool → List ℕ → List (List ℕ) → List Slot → List Slot → Type 0
 Wrote told text lines old new = (output error : Slot) (others : List Slot) → old ≡ output ∷ error ∷ others
-    → (error_after : Slot) × SaysAll told Tail lines error error_after × (new ≡ adds (told_of told text) output ∷ error_after ∷ others)
+    → (error_after : Slot) × TellsAll told lines error error_after × (new ≡ adds (told_of told text) output ∷ error_after ∷ others)
 
 -- these lines did, and a beginning of the text, before standard output broke or memory was wanting
 abbrev pub WroteShort : Bool → List ℕ → List (List ℕ) → List Slot → List Slot → Fault → Type 0
 WroteShort told text lines old new fault = (output error : Slot) (others : List Slot) → old ≡ output ∷ error ∷ others
-    → (error_after : Slot) × SaysAll told Tail lines error error_after × Short told text (output ∷ error_after ∷ others) new fault
+    → (error_after : Slot) × TellsAll told lines error error_after × Short told text (output ∷ error_after ∷ others) new fault
 
 -- all of a share came there
 pub record Shared (told : Bool) (printer : PrinterState) (share : Share) (old : List Slot) (after : PrinterState) (new : List Slot) : Type 0 where

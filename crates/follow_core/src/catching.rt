@@ -103,6 +103,6 @@ pub(crate) fn tell<O: Outs>(
             print(&line, outs);
             Ok(())
         }
-        Err(fault) => Err(fault),
+        Err(memory) => Err(memory),
     }
 }

@@ -3,7 +3,7 @@ ghost use Rattle.std.specs.Prelude.{◌≡◌, ◌<◌, ◌∷◌, ◌++◌, [],
 ghost use Rattle.ports_core.specs.Slot.{Slot};
 ghost use Rattle.watch_core.specs.Watched.{Watched};
 ghost use Rattle.follow_core.specs.Catching.{CanPrint, HasError};
-ghost use Rattle.follow_core.specs.FollowState.{AllReady, CanLook, FollowState, Holds, LooksOn, StopsOn, is_alive, opened_follow};
+ghost use Rattle.follow_core.specs.FollowState.{AllReady, CanLook, FollowState, Holds, LooksOn, SawOrNot, StopsOn, is_alive, opened_follow};
 ghost use Rattle.follow_core.specs.Look.{Look, Ways};
 ghost use Rattle.follow_core.specs.Standing.{any_goes_on};
 
@@ -101,6 +101,7 @@ impl Follow {
         ensures looked { OnOk result (LooksOn W.told O.told (W.shows watch.old (length (W.seen watch.old))) self.old (W.watched watch.old) (O.slots outs.old) self.new (W.watched watch.new) (O.slots outs.new)) }
         ensures stopped { IfErr result (StopsOn W.told O.told (W.shows watch.old (length (W.seen watch.old))) self.old (W.watched watch.old) (O.slots outs.old) (O.slots outs.new)) }
         ensures seen { OnOk result (W.seen watch.new ≡ W.seen watch.old ++ W.shows watch.old (length (W.seen watch.old)) ∷ []) }
+        ensures saw { IfErr result (λ _. SawOrNot (W.seen watch.old) (W.shows watch.old (length (W.seen watch.old))) (W.seen watch.new)) }
         ensures stage { OnOk result (self.new.stage ≡ Stage.Looking) }
         ensures error { HasError (O.slots outs.old) → HasError (O.slots outs.new) }
         ensures can { OnOk result (CanLook self.new (W.watched watch.new) (O.slots outs.new)) }
@@ -148,6 +149,7 @@ impl Follow {
         ensures looked { OnOk result (LooksOn W.told O.told (W.shows watch.old (length (W.seen watch.old))) self.old (W.watched watch.old) (O.slots outs.old) self.new (W.watched watch.new) (O.slots outs.new)) }
         ensures stopped { IfErr result (StopsOn W.told O.told (W.shows watch.old (length (W.seen watch.old))) self.old (W.watched watch.old) (O.slots outs.old) (O.slots outs.new)) }
         ensures seen { OnOk result (W.seen watch.new ≡ W.seen watch.old ++ W.shows watch.old (length (W.seen watch.old)) ∷ []) }
+        ensures saw { IfErr result (λ _. SawOrNot (W.seen watch.old) (W.shows watch.old (length (W.seen watch.old))) (W.seen watch.new)) }
         ensures stage { OnOk result (self.new.stage ≡ Stage.Looking) }
         ensures ready { OnOk result (AllReady self.new.names (W.watched watch.new)) }
         ensures can { OnOk result (CanPrint (O.slots outs.new)) }
@@ -173,6 +175,7 @@ impl Follow {
         ensures looked { OnOk result (LooksOn W.told O.told (W.shows watch.old (length (W.seen watch.old))) self.old (W.watched watch.old) (O.slots outs.old) self.new (W.watched watch.new) (O.slots outs.new)) }
         ensures stopped { IfErr result (StopsOn W.told O.told (W.shows watch.old (length (W.seen watch.old))) self.old (W.watched watch.old) (O.slots outs.old) (O.slots outs.new)) }
         ensures seen { OnOk result (W.seen watch.new ≡ W.seen watch.old ++ W.shows watch.old (length (W.seen watch.old)) ∷ []) }
+        ensures saw { IfErr result (λ _. SawOrNot (W.seen watch.old) (W.shows watch.old (length (W.seen watch.old))) (W.seen watch.new)) }
         ensures stage { OnOk result (self.new.stage ≡ Stage.Looking) }
         ensures ready { OnOk result (AllReady self.new.names (W.watched watch.new)) }
         ensures can { OnOk result (CanPrint (O.slots outs.new)) }
@@ -198,6 +201,7 @@ impl Follow {
         ensures looked { OnOk result (LooksOn W.told O.told (W.shows watch.old (length (W.seen watch.old))) self.old (W.watched watch.old) (O.slots outs.old) self.new (W.watched watch.new) (O.slots outs.new)) }
         ensures stopped { IfErr result (StopsOn W.told O.told (W.shows watch.old (length (W.seen watch.old))) self.old (W.watched watch.old) (O.slots outs.old) (O.slots outs.new)) }
         ensures seen { OnOk result (W.seen watch.new ≡ W.seen watch.old ++ W.shows watch.old (length (W.seen watch.old)) ∷ []) }
+        ensures saw { IfErr result (λ _. SawOrNot (W.seen watch.old) (W.shows watch.old (length (W.seen watch.old))) (W.seen watch.new)) }
         ensures stage { OnOk result (self.new.stage ≡ Stage.Looking) }
         ensures ready { OnOk result (AllReady self.new.names (W.watched watch.new)) }
         ensures can { OnOk result (CanPrint (O.slots outs.new)) }

@@ -8,6 +8,9 @@ ghost use Rattle.follow_core.specs.Look.{Look, Ways};
 ghost use Rattle.follow_core.specs.Share.{shares_at_look};
 ghost use Rattle.follow_core.specs.Followed.{any_failed, followed, last_header, messages_of, text_from};
 ghost use Rattle.follow_core.specs.Placing.{Agree};
+ghost use Rattle.follow_core.specs.Notice.{notice_of};
+ghost use Rattle.follow_core.specs.Telling.{IsFailure};
+ghost use Rattle.follow_core.specs.declared.notice.Notice.{Notice};
 
 /// What one look more gives. The text and the messages are those before and then that look's, in the order of the names; the
 /// status is 1 where it was before or a name fails in that look.
@@ -27,4 +30,9 @@ pub fn text_goes_on()
 /// after the same edits, one look sees all that the edits before it do, and a file that is appended to keeps its bytes.
 pub fn looks_agree()
     ensures { (start : List ℕ → List ℕ) (by_name : Bool) (name : List ℕ) (first : List Edit) (one other : List (List Edit)) → Agree start by_name name first one other }
+{}
+
+/// A line that tells what a look found is never the message of a failure: so it is told whole, or following ends before it.
+pub fn notices_are_no_failures()
+    ensures { (notice : Notice) (name : List ℕ) → IsFailure (notice_of notice name) → ⊥ }
 {}

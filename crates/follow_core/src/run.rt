@@ -2,7 +2,7 @@
 ghost use Rattle.std.specs.Prelude.{◌≡◌, ◌∷◌, [], ℕ, Bool, List, map, IfErr, OnOk};
 ghost use Rattle.ports_core.specs.Slot.{Slot, streams};
 ghost use Rattle.follow_core.specs.Catching.{HasError};
-ghost use Rattle.follow_core.specs.Ending.{FollowEndsAs, KeptIn, LookedAll, StoppedIn};
+ghost use Rattle.follow_core.specs.Ending.{FollowEndsAs, KeptSoLong, LookedAll, StoppedIn};
 ghost use Rattle.follow_core.specs.FollowState.{CanLook, Holds};
 ghost use Rattle.follow_core.specs.Look.{Ways};
 ghost use Rattle.follow_core.specs.Visited.{ways_of};
@@ -35,7 +35,7 @@ pub fn follow_files<W: Watch, O: Outs>(
     requires unseen { W.seen watch.old ≡ [] }
     requires unwatched { W.watched watch.old ≡ [] }
     requires outputs { O.slots outs.old ≡ streams }
-    ensures { KeptIn W.told by_name (W.shows watch.old) looks (map (λ name. name.now) names.now)
+    ensures { KeptSoLong W.told by_name (W.shows watch.old) looks (W.seen watch.new) (map (λ name. name.now) names.now)
         → FollowEndsAs W.told O.told (ways_of by_name start) headers (map (λ name. name.now) names.now) looks (W.shows watch.old) (O.slots outs.old) (W.seen watch.new) (W.watched watch.new) (O.slots outs.new) result }
 {
     let mut follow = match Follow::open(alloc, names, start, by_name, headers) {
@@ -69,11 +69,11 @@ fn make_looks<W: Watch, O: Outs>(
     requires can { CanLook follow.old (W.watched watch.old) (O.slots outs.old) }
     requires error { HasError (O.slots outs.old) }
     ensures looked { OnOk result ((ways : Ways) (headers : Bool) (names : List (List ℕ)) (first : List Slot)
-        → Holds W.told O.told ways headers names [] first follow.old (W.watched watch.old) (O.slots outs.old) → KeptIn W.told ways.by_name (W.shows watch.old) looks names
+        → Holds W.told O.told ways headers names [] first follow.old (W.watched watch.old) (O.slots outs.old) → KeptSoLong W.told ways.by_name (W.shows watch.old) looks (W.seen watch.new) names
         → LookedAll W.told O.told ways headers names looks (W.shows watch.old) first follow.new (W.seen watch.new) (W.watched watch.new) (O.slots outs.new)) }
     ensures stopped { IfErr result (λ why. (ways : Ways) (headers : Bool) (names : List (List ℕ)) (first : List Slot)
-        → Holds W.told O.told ways headers names [] first follow.old (W.watched watch.old) (O.slots outs.old) → KeptIn W.told ways.by_name (W.shows watch.old) looks names
-        → StoppedIn W.told O.told ways headers names looks (W.shows watch.old) first (O.slots outs.new) why) }
+        → Holds W.told O.told ways headers names [] first follow.old (W.watched watch.old) (O.slots outs.old) → KeptSoLong W.told ways.by_name (W.shows watch.old) looks (W.seen watch.new) names
+        → StoppedIn W.told O.told ways headers names looks (W.shows watch.old) first (W.seen watch.new) (O.slots outs.new) why) }
     ensures error { HasError (O.slots outs.new) }
 {
     let mut made = 0;

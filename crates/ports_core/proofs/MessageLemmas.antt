@@ -39,7 +39,7 @@ says_more told tool [] text old mid new so_far says = (new, subst (λ slot. Says
 says_more told tool (first ∷ texts) text old mid new so_far says = (so_far.0, so_far.1, says_more told tool texts text so_far.0 mid new so_far.2 says)
 
 -- an output that is open stays open whatever is said on it
-printed_open : (told : Bool) (text : List ℕ) (old new : Slot) → Prints told text old new → new.state ≡ old.state
+pub printed_open : (told : Bool) (text : List ℕ) (old new : Slot) → Prints told text old new → new.state ≡ old.state
 printed_open told text old new (whole sound is) = ap (λ slot. slot.state) is
 printed_open told text old new (cut sound n within is) = ap (λ slot. slot.state) is
 printed_open told text old new (passed broken is) = ap (λ slot. slot.state) is
