@@ -67,12 +67,12 @@ fn repeats_in_bytes_as_the_plain_program(rt: HostRuntime) -> Result<(), Fail> {
     Ok(())
 }
 
-/// The same texts: each target before a pattern with an offset that goes back, before one that is skipped, and before a line
-/// number.
+/// The same texts: each target before a pattern with an offset that goes back, before one with an offset that goes on, before one
+/// that is skipped, and before a line number.
 #[test]
 fn cuts_bytes_twice_as_the_plain_program(rt: HostRuntime) -> Result<(), Fail> {
     for first in TARGETS {
-        for second in ["/b/-1", "%a%", "3"] {
+        for second in ["/b/-1", "/a/+1", "%a%", "3"] {
             assert!(rt;
                 agrees_on_bytes(rt.alloc(), &[first, second])?,
                 "at {first} {second}"

@@ -1,5 +1,5 @@
 -- What a look at one name after another leaves.
-use Rattle.std.specs.Prelude.{◌≡◌, ◌<◌, ◌≤◌, ℕ, Bool, true, List, [], ◌∷◌, ◌++◌, length, take, slice_index_or}
+use Rattle.std.specs.Prelude.{◌≡◌, ◌<◌, ◌≤◌, ℕ, Bool, true, false, List, [], ◌∷◌, ◌++◌, length, take, slice_index_or}
 use Rattle.ports_core.specs.Slot.{Slot}
 use Rattle.ports_core.specs.declared.fault.Fault.{Fault}
 use Rattle.watch_core.specs.Snapshot.{Snapshot}
@@ -8,12 +8,12 @@ use Rattle.follow_core.specs.declared.name.Standing.{Standing}
 use Rattle.follow_core.specs.declared.start.Start.{Start}
 use Rattle.ends_core.specs.Ends.{tail_of}
 use Rattle.follow_core.specs.Followed.{any_failed}
-use Rattle.follow_core.specs.Look.{Fate, Look, Ways, fate_at}
+use Rattle.follow_core.specs.Look.{Fate, Look, Ways, fate_at, is_dropped}
 use Rattle.follow_core.specs.Printing.{PrinterState}
 use Rattle.follow_core.specs.Share.{Share, share_of, shares_at_look, shares_at_look_from}
 use Rattle.follow_core.specs.Sharing.{AllShared, AllShort, Shared}
-use Rattle.follow_core.specs.Looked.{BeginsShare}
-use Rattle.follow_core.specs.Standing.{AllStand, NameState, Stands, state_at, texts}
+use Rattle.follow_core.specs.Looked.{BeginsShare, Stopped}
+use Rattle.follow_core.specs.Standing.{AllStand, KeepsBytes, NameState, Stands, state_at, texts}
 
 -- how names are followed, and what the first look writes of a file
 abbrev pub ways_of : Bool → Start → Ways
@@ -32,6 +32,16 @@ pub record Visited (told_in told : Bool) (ways : Ways) (looks : List Look) (snap
   pub is_failed : share.has_failed ≡ failed
   pub shared : Shared told printer share old after new
   pub stands : (fates : List Fate) → fate_at place (record { snapshot = snapshot; fates = fates }) ≡ fate → Stands told_in ways (looks ++ record { snapshot = snapshot; fates = fates } ∷ []) place name watched standing
+
+-- Whatever looks were made before at this name, which stood so: one more was made that saw this, and the outputs have what it gives.
+abbrev pub VisitsOn : (told_in told : Bool) → Ways → Snapshot → ℕ → NameState → Watched → PrinterState → List Slot → NameState → Watched → PrinterState → List Slot → (failed : Bool) → Type 0
+VisitsOn told_in told ways snapshot place old watched printer slots new watched_new printer_new slots_new failed = (looks : List Look) → Stands told_in ways looks place old.text watched old.standing → KeepsBytes told_in ways looks snapshot old.text
+    → Visited told_in told ways looks snapshot place old.text printer slots printer_new slots_new watched_new new.standing failed
+
+-- whatever looks were made before, the next one was stopped
+abbrev pub StopsVisit : (told_in told : Bool) → Ways → Snapshot → ℕ → NameState → Watched → PrinterState → List Slot → List Slot → Fault → Type 0
+StopsVisit told_in told ways snapshot place name watched printer slots slots_new why = (looks : List Look) → Stands told_in ways looks place name.text watched name.standing → KeepsBytes told_in ways looks snapshot name.text
+    → (is_dropped place looks ≡ false) × Stopped told_in told ways looks snapshot name.text printer slots slots_new why
 
 -- The same of the first names, whatever becomes of the others at that look; those stand as before it.
 pub record VisitedUpTo (told_in told : Bool) (ways : Ways) (looks : List Look) (snapshot : Snapshot) (place : ℕ) (names : List NameState) (printer : PrinterState) (old : List Slot) (after : PrinterState) (new : List Slot) (watched : List Watched) (names_now : List NameState) (failed : Bool) : Type 0 where

@@ -1,12 +1,12 @@
 //! A name that is followed.
-ghost use Rattle.std.specs.Prelude.{◌≡◌, ◌<◌, List, false, length, string_bytes, IfOk, IfErr, OnOk};
+ghost use Rattle.std.specs.Prelude.{◌≡◌, ◌<◌, length, string_bytes, IfOk, IfErr, OnOk};
 ghost use Rattle.watch_core.specs.Snapshot.{latest};
 ghost use Rattle.watch_core.specs.Watched.{watched_at};
 ghost use Rattle.follow_core.specs.Catching.{CanPrint, HasError};
-ghost use Rattle.follow_core.specs.Look.{Look, Ways, is_dropped};
-ghost use Rattle.follow_core.specs.Looked.{Stopped, has_failed};
-ghost use Rattle.follow_core.specs.Standing.{CanVisit, KeepsBytes, NameState, Stands, goes_on_as, standing_after};
-ghost use Rattle.follow_core.specs.Visited.{KeepsOthers, Visited, ways_of};
+ghost use Rattle.follow_core.specs.Look.{Ways};
+ghost use Rattle.follow_core.specs.Looked.{has_failed};
+ghost use Rattle.follow_core.specs.Standing.{CanVisit, NameState, goes_on_as, standing_after};
+ghost use Rattle.follow_core.specs.Visited.{KeepsOthers, StopsVisit, VisitsOn, ways_of};
 
 use crate::meeting::{Came, meet};
 use crate::printer::Printer;
@@ -94,10 +94,8 @@ impl Name {
         requires ready { CanVisit self.old (watched_at (W.watched watch.old) place) }
         requires can { CanPrint (O.slots outs.old) }
         requires room { 0 < length buffer.old }
-        ensures visited { IfOk result (λ failed. (looks : List Look) → Stands W.told (ways_of by_name start) looks place self.old.text (watched_at (W.watched watch.old) place) self.old.standing → KeepsBytes W.told (ways_of by_name start) looks (latest (W.seen watch.old)) self.old.text
-            → Visited W.told O.told (ways_of by_name start) looks (latest (W.seen watch.old)) place self.old.text printer.old (O.slots outs.old) printer.new (O.slots outs.new) (watched_at (W.watched watch.new) place) self.new.standing failed) }
-        ensures stopped { IfErr result (λ why. (looks : List Look) → Stands W.told (ways_of by_name start) looks place self.old.text (watched_at (W.watched watch.old) place) self.old.standing → KeepsBytes W.told (ways_of by_name start) looks (latest (W.seen watch.old)) self.old.text
-            → (is_dropped place looks ≡ false) × Stopped W.told O.told (ways_of by_name start) looks (latest (W.seen watch.old)) self.old.text printer.old (O.slots outs.old) (O.slots outs.new) why) }
+        ensures visited { IfOk result (VisitsOn W.told O.told (ways_of by_name start) (latest (W.seen watch.old)) place self.old (watched_at (W.watched watch.old) place) printer.old (O.slots outs.old) self.new (watched_at (W.watched watch.new) place) printer.new (O.slots outs.new)) }
+        ensures stopped { IfErr result (StopsVisit W.told O.told (ways_of by_name start) (latest (W.seen watch.old)) place self.old (watched_at (W.watched watch.old) place) printer.old (O.slots outs.old) (O.slots outs.new)) }
         ensures text { self.new.text ≡ self.old.text }
         ensures ready { OnOk result (CanVisit self.new (watched_at (W.watched watch.new) place)) }
         ensures others { OnOk result (KeepsOthers place (W.watched watch.old) (W.watched watch.new)) }
@@ -137,10 +135,8 @@ impl Name {
         requires ready { CanVisit self.old (watched_at (W.watched watch.old) place) }
         requires can { CanPrint (O.slots outs.old) }
         requires room { 0 < length buffer.old }
-        ensures visited { IfOk result (λ failed. (looks : List Look) → Stands W.told (ways_of by_name start) looks place self.old.text (watched_at (W.watched watch.old) place) self.old.standing → KeepsBytes W.told (ways_of by_name start) looks (latest (W.seen watch.old)) self.old.text
-            → Visited W.told O.told (ways_of by_name start) looks (latest (W.seen watch.old)) place self.old.text printer.old (O.slots outs.old) printer.new (O.slots outs.new) (watched_at (W.watched watch.new) place) self.new.standing failed) }
-        ensures stopped { IfErr result (λ why. (looks : List Look) → Stands W.told (ways_of by_name start) looks place self.old.text (watched_at (W.watched watch.old) place) self.old.standing → KeepsBytes W.told (ways_of by_name start) looks (latest (W.seen watch.old)) self.old.text
-            → (is_dropped place looks ≡ false) × Stopped W.told O.told (ways_of by_name start) looks (latest (W.seen watch.old)) self.old.text printer.old (O.slots outs.old) (O.slots outs.new) why) }
+        ensures visited { IfOk result (VisitsOn W.told O.told (ways_of by_name start) (latest (W.seen watch.old)) place self.old (watched_at (W.watched watch.old) place) printer.old (O.slots outs.old) self.new (watched_at (W.watched watch.new) place) printer.new (O.slots outs.new)) }
+        ensures stopped { IfErr result (StopsVisit W.told O.told (ways_of by_name start) (latest (W.seen watch.old)) place self.old (watched_at (W.watched watch.old) place) printer.old (O.slots outs.old) (O.slots outs.new)) }
         ensures text { self.new.text ≡ self.old.text }
         ensures ready { OnOk result (CanVisit self.new (watched_at (W.watched watch.new) place)) }
         ensures others { OnOk result (KeepsOthers place (W.watched watch.old) (W.watched watch.new)) }
@@ -184,10 +180,8 @@ impl Name {
         requires ready { CanVisit self.old (watched_at (W.watched watch.old) place) }
         requires can { CanPrint (O.slots outs.old) }
         requires room { 0 < length buffer.old }
-        ensures visited { IfOk result (λ failed. (ways : Ways) (looks : List Look) → ways.by_name ≡ by_name → Stands W.told ways looks place self.old.text (watched_at (W.watched watch.old) place) self.old.standing → KeepsBytes W.told ways looks (latest (W.seen watch.old)) self.old.text
-            → Visited W.told O.told ways looks (latest (W.seen watch.old)) place self.old.text printer.old (O.slots outs.old) printer.new (O.slots outs.new) (watched_at (W.watched watch.new) place) self.new.standing failed) }
-        ensures stopped { IfErr result (λ why. (ways : Ways) (looks : List Look) → ways.by_name ≡ by_name → Stands W.told ways looks place self.old.text (watched_at (W.watched watch.old) place) self.old.standing → KeepsBytes W.told ways looks (latest (W.seen watch.old)) self.old.text
-            → (is_dropped place looks ≡ false) × Stopped W.told O.told ways looks (latest (W.seen watch.old)) self.old.text printer.old (O.slots outs.old) (O.slots outs.new) why) }
+        ensures visited { IfOk result (λ failed. (ways : Ways) → ways.by_name ≡ by_name → VisitsOn W.told O.told ways (latest (W.seen watch.old)) place self.old (watched_at (W.watched watch.old) place) printer.old (O.slots outs.old) self.new (watched_at (W.watched watch.new) place) printer.new (O.slots outs.new) failed) }
+        ensures stopped { IfErr result (λ why. (ways : Ways) → ways.by_name ≡ by_name → StopsVisit W.told O.told ways (latest (W.seen watch.old)) place self.old (watched_at (W.watched watch.old) place) printer.old (O.slots outs.old) (O.slots outs.new) why) }
         ensures text { self.new.text ≡ self.old.text }
         ensures ready { OnOk result (CanVisit self.new (watched_at (W.watched watch.new) place)) }
         ensures others { OnOk result (KeepsOthers place (W.watched watch.old) (W.watched watch.new)) }
