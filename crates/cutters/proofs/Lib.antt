@@ -4,3 +4,4 @@ pub mod RunLemmas
 pub mod SkipLemmas
 pub mod SpeakerLemmas
 pub mod FollowingLemmas
+pub mod ProgramLemmas

@@ -2,3 +2,4 @@ pub mod Props
 pub mod Tasks
 pub mod Outcome
 pub mod Following
+pub mod Program

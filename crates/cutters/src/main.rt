@@ -13,6 +13,7 @@ mod follow;
 mod follow_tests;
 #[cfg(test)]
 mod left;
+mod program;
 #[cfg(test)]
 mod refused_tests;
 mod run;
@@ -29,14 +30,12 @@ ghost use Rattle.ports_core.specs.Slot.{streams};
 ghost use Rattle.ports_core.specs.Source.{IsFresh};
 
 use crate::args::{ArgsFault, read_args};
-use crate::follow::run_follow;
-use crate::run::{refuse_words, run};
+use crate::program::run_words;
 use ports_core::{DirIn, DirOut, Fault, Tool, say, write_whole};
 use std::alloc::{AllocError, Global};
 use std::fs;
 use std::process::ExitCode;
 use watch_core::DirWatch;
-use words_core::{find_tool, read_words};
 
 /// The output for messages.
 const STANDARD_ERROR: usize = 1;
@@ -74,49 +73,12 @@ fn run_args(
         .map(|word| word.as_str())
         .collect::<Vec<&str>>(alloc)
     {
-        Ok(words) => run_words(rt, alloc, &words, inputs, outs),
+        Ok(words) => {
+            let mut watch = DirWatch::new(rt, alloc);
+            run_words(alloc, &words, inputs, &mut watch, outs)
+        }
         Err(AllocError) => refuse(alloc, outs),
     }
-}
-
-/// Follows files, where the words ask for that, and else runs the tool over its inputs.
-fn run_words(
-    rt: HostRuntime,
-    alloc: Global,
-    words: &[&str],
-    inputs: &mut DirIn<HostRuntime>,
-    outs: &mut DirOut<HostRuntime>,
-) -> u8
-    requires inputs { IsFresh inputs.old }
-    requires outputs { outs.old ≡ streams }
-{
-    match looks_of(alloc, words) {
-        Ok(Some(looks)) => {
-            let mut watch = DirWatch::new(rt, alloc);
-            run_follow(alloc, words, &mut watch, outs, looks)
-        }
-        Ok(None) => run(alloc, words, inputs, outs),
-        Err(fault) => refuse_words(alloc, words, &fault, outs),
-    }
-}
-
-/// How often files are looked at; none where the words follow nothing. Only the words of `tail` can, so no others are read here.
-///
-/// # Errors
-///
-/// What is wrong with the words of `tail`, or `Memory` where there is none to read them.
-fn looks_of(alloc: Global, words: &[&str]) -> Result<Option<u64>, Fault> {
-    let [name, ..] = words else {
-        return Ok(None);
-    };
-    if find_tool(name) != Some(Tool::Tail) {
-        return Ok(None);
-    }
-    let settings = read_words(alloc, words)?;
-    if settings.follows() {
-        return Ok(Some(settings.looks()));
-    }
-    Ok(None)
 }
 
 /// Says that there is no memory for the words, and returns the status.

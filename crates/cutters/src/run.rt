@@ -108,7 +108,7 @@ fn run_tool<I: Inputs, O: Outs>(
 }
 
 /// Who refuses words: the tool that they name, or the program where they name none.
-fn speaker(words: &[&str]) -> Tool
+pub(crate) fn speaker(words: &[&str]) -> Tool
     ensures { result ≡ speaker (map (λ word. word.now) words.now) }
 {
     match words {

@@ -55,7 +55,8 @@ pub(crate) fn catch_up<W: Watch, O: Outs>(
     }
 }
 
-/// Where the bytes begin that are to be written of a file that is so long. That it is shorter than the position is told.
+/// The place from which a file of `len` bytes is to be written: the position, or 0 where the file is shorter than that. Then it is told
+/// that it was truncated.
 ///
 /// # Errors
 ///

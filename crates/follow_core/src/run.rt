@@ -17,11 +17,11 @@ use watch_core::Watch;
 /// directly after another. It ends sooner where after a look no further one can give anything. Its status is 1 where a name was missing
 /// at the first look or failed, or a fault ended following, and else 0.
 ///
-/// Standard output has exactly the text of what the looks saw: of each file the part that `start` says, then what was appended; all
-/// of a file that was truncated, that came back, or that the name leads to in place of another. Standard error has a line for each
-/// such change and each failure. Where standard output breaks, or memory is wanting, that is told and ends the run, with all of the
-/// looks before written, and a beginning of that one. It takes memory for the names and a buffer of 65,536 bytes, before anything is
-/// opened, and for its lines and headers.
+/// Where a file that is appended to keeps its bytes in these looks and the one after them, standard output has exactly the text of what
+/// the looks saw: of each file the part that `start` says, then what was appended; all of a file that was truncated, that came back, or
+/// that the name leads to in place of another. Standard error has a line for each such change and each failure. Where standard output
+/// breaks, or memory is wanting, that is told and ends the run, with all of the looks before written, and a beginning of that one. It
+/// takes memory for the names and a buffer of 65,536 bytes, before anything is opened, and for its lines and headers.
 pub fn follow_files<W: Watch, O: Outs>(
     alloc: Global,
     names: &[&str],
