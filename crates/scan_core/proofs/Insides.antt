@@ -1,14 +1,14 @@
 -- What numbers lead to without a byte, ready to be looked up.
-use Rattle.std.proofs.Common.{◌≡◌, ◌⊎◌, ◌↔◌, inl, inr, ℕ, suc, ◌+◌, ◌*◌, ◌-◌, ◌/◌, ◌%◌, ◌^◌, ◌<◌, ◌≤◌, Bool, false, List, [], ◌∷◌, ◌++◌, length, get_or, min, refl, sym, ap, ◌∙◌, subst, arith, length-append, w64}
+use Rattle.std.proofs.Common.{rules, ◌≡◌, ◌⊎◌, ◌↔◌, inl, inr, ℕ, suc, ◌+◌, ◌*◌, ◌-◌, ◌/◌, ◌%◌, ◌^◌, ◌<◌, ◌≤◌, Bool, false, List, [], ◌∷◌, ◌++◌, length, get_or, min, max, refl, sym, ap, ◌∙◌, subst, arith, length-append, w64}
 use Rattle.std.proofs.lemmas.Bool.{cases_eq, cases_lt, false≢true}
 use Rattle.std.proofs.lemmas.Nat.{and_le_l, le_or_l, or_lt}
-use Rattle.std.proofs.lemmas.Nat.Bits.{and_high, bit_at_and, bit_at_or, bit_at_not, bit_at-lt, bit_at-zero, bit_at_mask_inside, bit_at_set_same, bit_at_set_other, same_from_bits_below}
+use Rattle.std.proofs.lemmas.Nat.Bits.{and_high, bit_at_and, bit_at_or, bit_at_not, bit_at-lt, bit_at-zero, bit_at_mask_inside, bit_at_ones, bit_at_above, bit_at_cat_low, bit_at_cat_high, bit_at_set_same, bit_at_set_other, same_from_bits_below}
 use Rattle.std.specs.Int.Bits.{or_zero_l, or_zero_r}
 use Rattle.std.specs.Prelude.{bit_and, bit_or}
 use Rattle.std.specs.Int.{bit_at, bit_not}
 use Rattle.scan_core.specs.declared.node.Node.{Node}
 use Rattle.scan_core.specs.declared.node.Node.TheVariants.{Take, First, Last, Choose, Back}
-use Rattle.scan_core.specs.Closures.{AreInside, Closes, Stays}
+use Rattle.scan_core.specs.Closures.{AreInside, Closes, Stays, chosen_at}
 use Rattle.scan_core.specs.Code.{At}
 use Rattle.scan_core.specs.Sets.{LeadsOn, Flows, FlowsOn}
 use Rattle.scan_core.specs.Words.{width}
@@ -241,9 +241,9 @@ inside_ends code at word all left i e = record {
     side number (inl k) to l f = let z = ap (λ x. bit_at x number) e ∙ bit_at-zero number in absurd (omega (arith, z, k))
     side number (inr k) to l f = k to l f
 
--- the first fours of a word are joined
-pub record Joining (code : List Node) (at word four all : ℕ) : Type 0 where
-  pub kept : (bit : ℕ) → bit < four * 4 → bit_at word bit ≡ 1 → bit_at all bit ≡ 1
+-- the first eights of a word are joined
+pub record Joining (code : List Node) (at word eight all : ℕ) : Type 0 where
+  pub kept : (bit : ℕ) → bit < eight * 8 → bit_at word bit ≡ 1 → bit_at all bit ≡ 1
   pub from_word : (number : ℕ) → number < 64 → bit_at all number ≡ 1 → (bit : ℕ) × (bit < 64) × (bit_at word bit ≡ 1) × FlowsOn code false false (at * 64 + bit) (at * 64 + number)
   pub closed : (number to : ℕ) → number < 64 → to < 64 → bit_at all number ≡ 1 → Flows code false false (at * 64 + number) (at * 64 + to) → bit_at all to ≡ 1
 
@@ -254,21 +254,33 @@ join_starts code at word = record {
   closed = λ number to l m is. let z = bit_at-zero number in absurd (omega (arith, z, is));
 }
 
--- the bits of four numbers of a word
-four_bits : (word four bit : ℕ) → word < 2 ^ 64 → bit_at (word / 2 ^ (four * 4) % 16 * 2 ^ (four * 4) % 2 ^ 64) bit ≡ min (bit_at word bit) (bit_at (2 ^ (4 + four * 4) - 2 ^ (four * 4)) bit)
-four_bits word four bit h =
-    let e : bit_and word (2 ^ (4 + four * 4) - 2 ^ (four * 4)) ≡ word / 2 ^ (four * 4) % 16 * 2 ^ (four * 4) = and_high word 4 (four * 4) in
-    let l = and_le_l word (2 ^ (4 + four * 4) - 2 ^ (four * 4)) in
-    let q : word / 2 ^ (four * 4) % 16 * 2 ^ (four * 4) % 2 ^ 64 ≡ bit_and word (2 ^ (4 + four * 4) - 2 ^ (four * 4)) = omega (arith, e, l, h) in
-    ap (λ x. bit_at x bit) q ∙ bit_at_and word (2 ^ (4 + four * 4) - 2 ^ (four * 4)) bit
+-- the bits of eight numbers of a word
+eight_bits : (word eight bit : ℕ) → word < 2 ^ 64 → bit_at (word / 2 ^ (eight * 8) % 256 * 2 ^ (eight * 8) % 2 ^ 64) bit ≡ min (bit_at word bit) (bit_at (2 ^ (8 + eight * 8) - 2 ^ (eight * 8)) bit)
+eight_bits word eight bit h =
+    let e : bit_and word (2 ^ (8 + eight * 8) - 2 ^ (eight * 8)) ≡ word / 2 ^ (eight * 8) % 256 * 2 ^ (eight * 8) = and_high word 8 (eight * 8) in
+    let l = and_le_l word (2 ^ (8 + eight * 8) - 2 ^ (eight * 8)) in
+    let q : word / 2 ^ (eight * 8) % 256 * 2 ^ (eight * 8) % 2 ^ 64 ≡ bit_and word (2 ^ (8 + eight * 8) - 2 ^ (eight * 8)) = omega (arith, e, l, h) in
+    ap (λ x. bit_at x bit) q ∙ bit_at_and word (2 ^ (8 + eight * 8) - 2 ^ (eight * 8)) bit
 
-pub join_more : (code : List Node) (inside : List ℕ) (at word four all entry : ℕ) → Joining code at word four all → AreInside code inside → at < width code → four < 16 → word < 2 ^ 64 → entry ≡ get_or inside (at * 256 + four * 16 + word / 2 ^ (four * 4) % 16) 0 → Joining code at word (four + 1) (bit_or all entry)
-join_more code inside at word four all entry j i within h fits e = record {
-  kept = λ bit l is. elim (cases_lt bit (four * 4)) [
+-- the entry of a choice
+entry_of : (code : List Node) (inside : List ℕ) (at eight chosen : ℕ) → AreInside code (width code * 2048) inside → at < width code → eight < 8 → chosen < 256 → Closes code at (chosen * 2 ^ (eight * 8) % 2 ^ 64) (get_or inside (at * 2048 + (eight * 256 + chosen)) 0)
+entry_of code inside at eight chosen i within h c =
+    let place : ℕ = at * 2048 + (eight * 256 + chosen) in
+    let word : place / 2048 ≡ at = omega (arith, h, c) in
+    let eight_is : place / 256 % 8 ≡ eight = omega (arith, h, c) in
+    let low : place % 256 ≡ chosen = omega (arith, h, c) in
+    let e = i.each place (omega (arith, within, h, c)) in
+    subst (λ n. Closes code n (chosen * 2 ^ (eight * 8) % 2 ^ 64) (get_or inside place 0)) word
+    (subst (λ n. Closes code (place / 2048) (chosen * 2 ^ (n * 8) % 2 ^ 64) (get_or inside place 0)) eight_is
+    (subst (λ n. Closes code (place / 2048) (n * 2 ^ (place / 256 % 8 * 8) % 2 ^ 64) (get_or inside place 0)) low e))
+
+pub join_more : (code : List Node) (inside : List ℕ) (at word eight all entry : ℕ) → Joining code at word eight all → AreInside code (width code * 2048) inside → at < width code → eight < 8 → word < 2 ^ 64 → entry ≡ get_or inside (at * 2048 + (eight * 256 + word / 2 ^ (eight * 8) % 256)) 0 → Joining code at word (eight + 1) (bit_or all entry)
+join_more code inside at word eight all entry j i within h fits e = record {
+  kept = λ bit l is. elim (cases_lt bit (eight * 8)) [
     | inl before ↦ left_bit all entry bit (j.kept bit before is)
     | inr here ↦
-        let m = four_bits word four bit fits in
-        let o = bit_at_mask_inside (four * 4) (4 + four * 4) bit here (omega (arith, l)) in
+        let m = eight_bits word eight bit fits in
+        let o = bit_at_mask_inside (eight * 8) (8 + eight * 8) bit here (omega (arith, l)) in
         right_bit all entry bit (c.kept bit (omega (arith, l, h)) (omega (arith, m, o, is)))
   ];
   from_word = λ number l is. from number l (either_bit all entry number is);
@@ -278,19 +290,116 @@ join_more code inside at word four all entry j i within h fits e = record {
   ];
 }
   where
-    c : Closes code at (word / 2 ^ (four * 4) % 16 * 2 ^ (four * 4) % 2 ^ 64) entry
-    c = subst (Closes code at (word / 2 ^ (four * 4) % 16 * 2 ^ (four * 4) % 2 ^ 64)) (sym e) (i.each at four (word / 2 ^ (four * 4) % 16) within h (omega arith))
+    c : Closes code at (word / 2 ^ (eight * 8) % 256 * 2 ^ (eight * 8) % 2 ^ 64) entry
+    c = subst (Closes code at (word / 2 ^ (eight * 8) % 256 * 2 ^ (eight * 8) % 2 ^ 64)) (sym e) (entry_of code inside at eight (word / 2 ^ (eight * 8) % 256) i within h (omega arith))
 
     from : (number : ℕ) → number < 64 → (bit_at all number ≡ 1) ⊎ (bit_at entry number ≡ 1) → (bit : ℕ) × (bit < 64) × (bit_at word bit ≡ 1) × FlowsOn code false false (at * 64 + bit) (at * 64 + number)
     from number l (inl old) = j.from_word number l old
     from number l (inr new) =
         let k = c.from_chosen number l new in
-        let m = four_bits word four k.0 fits in
+        let m = eight_bits word eight k.0 fits in
         let b = bit_at-lt word k.0 in
         (k.0, k.1, (let is = k.2 in omega (arith, m, is, b)), k.3)
 
-pub join_ends : (code : List Node) (at word all : ℕ) → Joining code at word 16 all → Closes code at word all
+pub join_ends : (code : List Node) (at word all : ℕ) → Joining code at word 8 all → Closes code at word all
 join_ends code at word all j = record { kept = λ bit l is. j.kept bit (omega (arith, l)) is; from_chosen = j.from_word; closed = j.closed }
+
+-- the bits of a number in its place in a word
+fitted : (n i : ℕ) → i < 64 → bit_at (n % 2 ^ 64) i ≡ bit_at n i
+fitted n i h =
+    let e = and_high n 64 0 in
+    let b = bit_at_and n (2 ^ 64 - 2 ^ 0) i in
+    let o = bit_at_ones 64 i h in
+    let l = bit_at-lt n i in
+    let q : n % 2 ^ 64 ≡ bit_and n (2 ^ (64 + 0) - 2 ^ 0) = omega (arith, e) in
+    ap (λ x. bit_at x i) q ∙ b ∙ omega (arith, o, l)
+
+placed_below : (n s i : ℕ) → i < 64 → i < s → bit_at (n * 2 ^ s % 2 ^ 64) i ≡ 0
+placed_below n s i h l = fitted (n * 2 ^ s) i h ∙ ap (λ x. bit_at x i) (omega arith) ∙ bit_at_cat_low n s 0 i l ∙ bit_at-zero i
+
+placed : (n s i : ℕ) → i < 64 → s ≤ i → bit_at (n * 2 ^ s % 2 ^ 64) i ≡ bit_at n (i - s)
+placed n s i h l = fitted (n * 2 ^ s) i h ∙ ap (λ x. bit_at x i) (omega arith) ∙ bit_at_cat_high n s 0 i (search rules) l
+
+-- the bits of a number are those of its lower and of its higher four bits
+halved : (high low j : ℕ) → low < 16 → bit_at (high * 16 + low) j ≡ max (bit_at (high * 16) j) (bit_at low j)
+halved high low j h = elim (cases_lt j 4) [
+  | inl l ↦
+      let a = bit_at_cat_low high 4 low j l in
+      let b = bit_at_cat_low high 4 0 j l in
+      let z = bit_at-zero j in
+      let e : bit_at (high * 16 + 0) j ≡ bit_at (high * 16) j = ap (λ x. bit_at x j) (omega arith) in
+      omega (arith, a, b, z, e)
+  | inr l ↦
+      let a = bit_at_cat_high high 4 low j h l in
+      let b = bit_at_cat_high high 4 0 j (omega arith) l in
+      let z = bit_at_above low 4 j h l in
+      let e : bit_at (high * 16 + 0) j ≡ bit_at (high * 16) j = ap (λ x. bit_at x j) (omega arith) in
+      omega (arith, a, b, z, e)
+]
+
+halved_placed : (high low s i : ℕ) → low < 16 → i < 64 → bit_at ((high * 16 + low) * 2 ^ s % 2 ^ 64) i ≡ max (bit_at (high * 16 * 2 ^ s % 2 ^ 64) i) (bit_at (low * 2 ^ s % 2 ^ 64) i)
+halved_placed high low s i h small = elim (cases_lt i s) [
+  | inl l ↦
+      let a = placed_below (high * 16 + low) s i small l in
+      let b = placed_below (high * 16) s i small l in
+      let d = placed_below low s i small l in
+      omega (arith, a, b, d)
+  | inr l ↦
+      let a = placed (high * 16 + low) s i small l in
+      let b = placed (high * 16) s i small l in
+      let d = placed low s i small l in
+      let e = halved high low (i - s) h in
+      omega (arith, a, b, d, e)
+]
+
+-- what two choices lead to is what both together lead to
+closes_both : (code : List Node) (at one other chosen all more : ℕ) → Closes code at one all → Closes code at other more → ((bit : ℕ) → bit < 64 → bit_at chosen bit ≡ max (bit_at one bit) (bit_at other bit)) → Closes code at chosen (bit_or all more)
+closes_both code at one other chosen all more c d e = record {
+  kept = λ bit h is. elim (cases_eq (bit_at one bit) 1) [
+    | inl first ↦ left_bit all more bit (c.kept bit h first)
+    | inr differs ↦ right_bit all more bit (d.kept bit h (let q = e bit h in let l = bit_at-lt one bit in let m = bit_at-lt other bit in omega (arith, q, l, m, is, differs)))
+  ];
+  from_chosen = λ number h is. from number h (either_bit all more number is);
+  closed = λ number to h l is f. elim (either_bit all more number is) [
+    | inl old ↦ left_bit all more to (c.closed number to h l old f)
+    | inr new ↦ right_bit all more to (d.closed number to h l new f)
+  ];
+}
+  where
+    from : (number : ℕ) → number < 64 → (bit_at all number ≡ 1) ⊎ (bit_at more number ≡ 1) → (bit : ℕ) × (bit < 64) × (bit_at chosen bit ≡ 1) × FlowsOn code false false (at * 64 + bit) (at * 64 + number)
+    from number h (inl old) = let k = c.from_chosen number h old in (k.0, k.1, (let q = e k.0 k.1 in let is = k.2 in let l = bit_at-lt other k.0 in omega (arith, q, is, l)), k.3)
+    from number h (inr new) = let k = d.from_chosen number h new in (k.0, k.1, (let q = e k.0 k.1 in let is = k.2 in let l = bit_at-lt one k.0 in omega (arith, q, is, l)), k.3)
+
+-- the entry of a choice with both lower and higher numbers
+pub entry_of_halves : (code : List Node) (inside : List ℕ) (place : ℕ) → AreInside code place inside → 0 < place % 16 → 0 < place / 16 % 16 * 16
+    → Closes code (place / 2048) (chosen_at place) (bit_or (get_or inside (place - place % 16) 0) (get_or inside (place - place / 16 % 16 * 16) 0))
+entry_of_halves code inside place i low high = closes_both code (place / 2048) _ _ (chosen_at place) _ _ one other bits
+  where
+    chosen : place % 256 ≡ place / 16 % 16 * 16 + place % 16
+    chosen = omega arith
+
+    one : Closes code (place / 2048) (place / 16 % 16 * 16 * 2 ^ (place / 256 % 8 * 8) % 2 ^ 64) (get_or inside (place - place % 16) 0)
+    one =
+        let before : ℕ = place - place % 16 in
+        let word : before / 2048 ≡ place / 2048 = omega arith in
+        let eight : before / 256 % 8 ≡ place / 256 % 8 = omega arith in
+        let rest : before % 256 ≡ place / 16 % 16 * 16 = omega arith in
+        subst (λ n. Closes code n (place / 16 % 16 * 16 * 2 ^ (place / 256 % 8 * 8) % 2 ^ 64) (get_or inside before 0)) word
+        (subst (λ n. Closes code (before / 2048) (place / 16 % 16 * 16 * 2 ^ (n * 8) % 2 ^ 64) (get_or inside before 0)) eight
+        (subst (λ n. Closes code (before / 2048) (n * 2 ^ (before / 256 % 8 * 8) % 2 ^ 64) (get_or inside before 0)) rest (i.each before (omega (arith, low)))))
+
+    other : Closes code (place / 2048) (place % 16 * 2 ^ (place / 256 % 8 * 8) % 2 ^ 64) (get_or inside (place - place / 16 % 16 * 16) 0)
+    other =
+        let before : ℕ = place - place / 16 % 16 * 16 in
+        let word : before / 2048 ≡ place / 2048 = omega arith in
+        let eight : before / 256 % 8 ≡ place / 256 % 8 = omega arith in
+        let rest : before % 256 ≡ place % 16 = omega arith in
+        subst (λ n. Closes code n (place % 16 * 2 ^ (place / 256 % 8 * 8) % 2 ^ 64) (get_or inside before 0)) word
+        (subst (λ n. Closes code (before / 2048) (place % 16 * 2 ^ (n * 8) % 2 ^ 64) (get_or inside before 0)) eight
+        (subst (λ n. Closes code (before / 2048) (n * 2 ^ (before / 256 % 8 * 8) % 2 ^ 64) (get_or inside before 0)) rest (i.each before (omega (arith, high)))))
+
+    bits : (bit : ℕ) → bit < 64 → bit_at (chosen_at place) bit ≡ max (bit_at (place / 16 % 16 * 16 * 2 ^ (place / 256 % 8 * 8) % 2 ^ 64) bit) (bit_at (place % 16 * 2 ^ (place / 256 % 8 * 8) % 2 ^ 64) bit)
+    bits bit h = ap (λ n. bit_at (n * 2 ^ (place / 256 % 8 * 8) % 2 ^ 64) bit) chosen ∙ halved_placed (place / 16 % 16) (place % 16) (place / 256 % 8 * 8) bit (omega arith) h
 
 -- what is so of each entry of a list and of one more
 pub pushed : (So : ℕ → ℕ → Type 0) (list new : List ℕ) (count entry : ℕ) → length list ≡ count → ((k : ℕ) → k < count → So k (get_or list k 0)) → So count entry → new ≡ list ++ entry ∷ [] → (k : ℕ) → k < count + 1 → So k (get_or new k 0)
@@ -301,17 +410,3 @@ pushed So list new count entry size before here e k h = elim (cases_eq k count) 
 
 pub one_longer : (list new : List ℕ) (count entry : ℕ) → length list ≡ count → new ≡ list ++ entry ∷ [] → length new ≡ count + 1
 one_longer list new count entry size e = let l = ap length e in let a = length-append list (entry ∷ []) in omega (arith, l, a, size)
-
-pub insides_are : (code : List Node) (inside : List ℕ) → length inside ≡ width code * 256 → ((place : ℕ) → place < width code * 256 → Closes code (place / 256) (place % 16 * 2 ^ (place / 16 % 16 * 4) % 2 ^ 64) (get_or inside place 0)) → AreInside code inside
-insides_are code inside size each = record {
-  size = size;
-  each = λ at four chosen h f c.
-      let place : ℕ = at * 256 + four * 16 + chosen in
-      let word : place / 256 ≡ at = omega (arith, f, c) in
-      let four_is : place / 16 % 16 ≡ four = omega (arith, f, c) in
-      let low : place % 16 ≡ chosen = omega (arith, f, c) in
-      let e = each place (omega (arith, h, f, c)) in
-      subst (λ n. Closes code n (chosen * 2 ^ (four * 4) % 2 ^ 64) (get_or inside place 0)) word
-      (subst (λ n. Closes code (place / 256) (chosen * 2 ^ (n * 4) % 2 ^ 64) (get_or inside place 0)) four_is
-      (subst (λ n. Closes code (place / 256) (n * 2 ^ (place / 16 % 16 * 4) % 2 ^ 64) (get_or inside place 0)) low e));
-}

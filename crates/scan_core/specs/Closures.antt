@@ -25,9 +25,14 @@ pub record Closes (code : List Node) (at chosen all : ℕ) : Type 0 where
   pub from_chosen : (number : ℕ) → number < 64 → bit_at all number ≡ 1 → (bit : ℕ) × (bit < 64) × (bit_at chosen bit ≡ 1) × FlowsOn code false false (at * 64 + bit) (at * 64 + number)
   pub closed : (number to : ℕ) → number < 64 → to < 64 → bit_at all number ≡ 1 → Flows code false false (at * 64 + number) (at * 64 + to) → bit_at all to ≡ 1
 
-pub record AreInside (code : List Node) (inside : List ℕ) : Type 0 where
-  pub size : length inside ≡ width code * 256
-  pub each : (at four chosen : ℕ) → at < width code → four < 16 → chosen < 16 → Closes code at (chosen * 2 ^ (four * 4) % 2 ^ 64) (slice_index_or inside (at * 256 + four * 16 + chosen) 0)
+-- the numbers that a place of the table is for: a choice from eight of a word
+abbrev pub chosen_at : ℕ → ℕ
+chosen_at place = place % 256 * 2 ^ (place / 256 % 8 * 8) % 2 ^ 64
+
+-- the first entries of the table
+pub record AreInside (code : List Node) (count : ℕ) (inside : List ℕ) : Type 0 where
+  pub size : length inside ≡ count
+  pub each : (place : ℕ) → place < count → Closes code (place / 2048) (chosen_at place) (slice_index_or inside place 0)
 
 pub record AreLeaves (code : List Node) (leaves : List ℕ) : Type 0 where
   pub size : length leaves ≡ width code
@@ -38,6 +43,6 @@ pub record AreAllPeers (code : List Node) (peers : List ℕ) : Type 0 where
   pub each : (number : ℕ) → number < width code * 64 → ArePeers code number (slice_index_or peers number 0)
 
 pub record AreClosures (code : List Node) (closures : Closures) : Type 0 where
-  pub inside : AreInside code closures.inside.items
+  pub inside : AreInside code (width code * 2048) closures.inside.items
   pub leaves : AreLeaves code closures.leaves.items
   pub peers : AreAllPeers code closures.peers.items

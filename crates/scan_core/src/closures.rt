@@ -1,9 +1,9 @@
-//! What follows without a byte, ready to be looked up: within a word for four numbers at once.
+//! What follows without a byte, ready to be looked up: within a word for eight numbers at once.
 
 ghost use Rattle.std.specs.Prelude.{◌≡◌, ◌⊎◌, ◌↔◌, ◌<◌, ◌≤◌, ◌+◌, ◌*◌, ◌/◌, ◌%◌, ◌^◌, ℕ, Bool, false, IsTrue, IfOk, IfErr, length};
 ghost use Rattle.std.specs.Int.{bit_at};
 ghost use Rattle.bre_core.specs.declared.fault.BreFault.TheVariants.{Memory};
-ghost use Rattle.scan_core.specs.Closures.{AreAllPeers, AreClosures, AreInside, AreLeaves, ArePeers, Closes, IsLeaving, Stays};
+ghost use Rattle.scan_core.specs.Closures.{AreAllPeers, AreClosures, AreInside, AreLeaves, ArePeers, Closes, IsLeaving, Stays, chosen_at};
 ghost use Rattle.scan_core.specs.Sets.{IsCode, Flows};
 ghost use Rattle.scan_core.specs.Words.{width};
 
@@ -14,7 +14,7 @@ use std::alloc::Global;
 /// What the numbers of a code lead to without a byte.
 #[derive(Drop)]
 pub struct Closures {
-    /// For each word, each four of its numbers, and each choice from these: what the chosen ones lead to in the word.
+    /// For each word, each eight of its numbers, and each choice from these: what the chosen ones lead to in the word.
     pub inside: Vec<u64>,
     /// The numbers whose nodes lead to more than that.
     pub leaves: Vec<u64>,
@@ -151,27 +151,48 @@ fn inside_of(nodes: &[Node], at: usize, word: u64) -> u64
 /// What the numbers of a word lead to in it.
 #[inline(always)]
 pub fn closed(inside: &[u64], nodes: &[Node], at: usize, word: u64) -> u64
-    requires inside { AreInside nodes.now inside.now }
+    requires inside { AreInside nodes.now (width nodes.now * 2048) inside.now }
     requires at { at < width nodes.now }
     ensures { Closes nodes.now at word result }
 {
+    let row = &inside[at * 2048..at * 2048 + 2048];
     let mut all = 0;
-    for four in 0..16usize {
-        all |= inside[at * 256 + four * 16 + ((word >> (four * 4)) % 16) as usize];
+    for eight in 0..8usize {
+        all |= row[eight * 256 + ((word >> (eight * 8)) % 256) as usize];
     }
     all
 }
 
-/// What each choice from each four numbers leads to in their word.
+/// What one choice from eight numbers leads to in their word: what its lower and its higher four lead to is in the table
+/// before it, if there are both.
+fn inside_at(inside: &[u64], nodes: &[Node], place: usize) -> u64
+    requires inside { AreInside nodes.now place inside.now }
+    requires code { IsCode nodes.now }
+    requires place { place < width nodes.now * 2048 }
+    ensures { Closes nodes.now (place / 2048) (chosen_at place) result }
+{
+    let low = place % 16;
+    let high = place / 16 % 16 * 16;
+    if low == 0 || high == 0 {
+        return inside_of(
+            nodes,
+            place / 2048,
+            ((low + high) as u64) << (place / 256 % 8 * 8),
+        );
+    }
+    inside[place - low] | inside[place - high]
+}
+
+/// What each choice from each eight numbers leads to in their word.
 fn insides_of(alloc: Global, nodes: &[Node]) -> Result<Vec<u64>, BreFault>
     requires { IsCode nodes.now }
-    ensures ok { IfOk result (λ inside. AreInside nodes.now inside.items) }
+    ensures ok { IfOk result (λ inside. AreInside nodes.now (width nodes.now * 2048) inside.items) }
     ensures err { IfErr result (λ fault. fault ≡ Memory) }
 {
     let mut inside = Vec::new(alloc);
-    for place in 0..(nodes.len() / 64 + 1) * 256 {
-        let chosen = (place % 16) as u64;
-        inside.push(inside_of(nodes, place / 256, chosen << (place / 16 % 16 * 4)))?;
+    for place in 0..(nodes.len() / 64 + 1) * 2048 {
+        let entry = inside_at(&inside, nodes, place);
+        inside.push(entry)?;
     }
     Ok(inside)
 }
