@@ -11,8 +11,10 @@ use Rattle.scan_core.specs.declared.masks.Kind.TheVariants.{Leads}
 use Rattle.scan_core.specs.declared.node.Node.{Node}
 use Rattle.scan_core.specs.declared.node.Node.TheVariants.{Take, First, Last, Choose, Back}
 use Rattle.scan_core.specs.Closures.{ArePeers, Closes, IsLeaving, Stays}
+use Rattle.scan_core.specs.declared.hops.Hop.{Hop}
+use Rattle.scan_core.specs.Hops.{AreHops, Hopped, HopsTo, no_hop}
 use Rattle.scan_core.specs.Sets.{LeadsOn, Flows, FlowsOn}
-use Rattle.scan_core.specs.Words.{IsIn, unset, Grows, IsMask, Visits}
+use Rattle.scan_core.specs.Words.{IsIn, unset, Grows, IsMask, Visits, width}
 use Rattle.scan_core.proofs.Insides.{left_bit, right_bit, either_bit}
 use Rattle.scan_core.proofs.Passings.{set_elsewhere}
 use Rattle.scan_core.proofs.Visitings.{Visiting, is_in_word, lead_bit}
@@ -23,6 +25,9 @@ leads_anywhere First at_first at_last from to h = absurd (false≢true h.0)
 leads_anywhere Last at_first at_last from to h = absurd (false≢true h.0)
 leads_anywhere (Choose skip) at_first at_last from to h = h
 leads_anywhere (Back by) at_first at_last from to h = h
+
+flow_anywhere : (code : List Node) (at_first at_last : Bool) (from to : ℕ) → Flows code false false from to → Flows code at_first at_last from to
+flow_anywhere code at_first at_last from to f = (f.0, f.1, leads_anywhere f.0 at_first at_last from to f.2)
 
 parts_anywhere : (code : List Node) (at_first at_last : Bool) (count from to : ℕ) → Parts (Flows code false false) count from to → Parts (Flows code at_first at_last) count from to
 parts_anywhere code at_first at_last zero from to p = p
@@ -136,8 +141,36 @@ close_more code at_first at_last at leaves left mask bit start old now new on on
     left_or k s e (inl h) = inl (e ∙ h)
     left_or k s e (inr h) = inr (λ to f. (g.exact to).1 (inl (h to f)))
 
-pub close_ends : (code : List Node) (at_first at_last : Bool) (at left leaves : ℕ) (start old now : List ℕ) (on : ℕ) → Closed code at start old → Visiting code at_first at_last at (bit_and (get_or old at 0) leaves) left old now on → left ≡ 0 → IsLeaving code (at * 64) leaves → Visits code at_first at_last at start now on
-close_ends code at_first at_last at left leaves start old now on c v e leaving = record {
+-- what the hops of a word lead to
+pub close_hops : (code : List Node) (hops : List Hop) (at_first at_last : Bool) (at pending left : ℕ) (old now new : List ℕ) (on on' : ℕ) → AreHops code (width code * 3) hops → at < width code → Visiting code at_first at_last at pending left old now on → Grows (Hopped hops at (get_or old at 0) 3) now new on on'
+    → Visiting code at_first at_last at pending left old new on'
+close_hops code hops at_first at_last at pending left old now new on on' are inside v g = record {
+  size = g.size ∙ v.size;
+  kept = λ number h. (g.exact number).1 (inl (v.kept number h));
+  from = λ number h. from number ((g.exact number).0 h);
+  low = omega (arith, v.low, g.low);
+  under = λ number l h. let w = g.low in v.under number (omega (arith, l, w)) (g.under number l h);
+  fuller = omega (arith, v.fuller, g.fuller);
+  less = λ l. elim (cases_lt on' on) [
+    | inl lower ↦ let s = g.less lower in let r = v.fuller in omega (arith, s, r)
+    | inr same ↦ let s = v.less (omega (arith, l, same)) in let r = g.fuller in omega (arith, s, r)
+  ];
+  within = v.within;
+  rest = λ k s h. elim (v.rest k s h) [ inl waits ↦ inl waits | inr led ↦ inr (λ to f. (g.exact to).1 (inl (led to f))) ];
+}
+  where
+    from : (number : ℕ) → IsIn now number ⊎ Hopped hops at (get_or old at 0) 3 number → IsIn old number ⊎ ((start : ℕ) × IsIn old start × Flows code at_first at_last start number)
+    from number (inl h) = v.from number h
+    from number (inr h) =
+        let place : (at * 3 + h.0) / 3 ≡ at = (let l = h.1 in omega (arith, l)) in
+        let hop = are.each (at * 3 + h.0) (let l = h.1 in omega (arith, l, inside)) in
+        let flow = hop.leads h.2 h.3 h.5 in
+        let here = subst (λ n. Flows code false false (n * 64 + h.2) (get_or hops (at * 3 + h.0) no_hop).to) place flow in
+        inr (at * 64 + h.2, (is_in_word old at h.2 h.3).0 h.4, flow_anywhere code at_first at_last (at * 64 + h.2) number (subst (Flows code false false (at * 64 + h.2)) (sym h.6) here))
+
+pub close_ends : (code : List Node) (hops : List Hop) (at_first at_last : Bool) (at left leaves : ℕ) (start old now new : List ℕ) (on on' : ℕ) → Closed code at start old → Visiting code at_first at_last at (bit_and (get_or old at 0) leaves) left old now on → left ≡ 0 → IsLeaving code hops at leaves → AreHops code (width code * 3) hops → at < width code
+    → Grows (Hopped hops at (get_or old at 0) 3) now new on on' → Visits code at_first at_last at start new on'
+close_ends code hops at_first at_last at left leaves start old now new on on' c w e leaving are inside g = record {
   size = v.size ∙ c.size;
   kept = λ number h. v.kept number (c.kept number h);
   from = λ number h. from number (v.from number h);
@@ -148,6 +181,9 @@ close_ends code at_first at_last at left leaves start old now on c v e leaving =
   done = λ last from to here h f. all from to here (v.under from (omega (arith, last, here)) h) f;
 }
   where
+    v : Visiting code at_first at_last at (bit_and (get_or old at 0) leaves) left old new on'
+    v = close_hops code hops at_first at_last at (bit_and (get_or old at 0) leaves) left old now new on on' are inside w g
+
     closed_from : (number : ℕ) → IsIn old number → (from : ℕ) × IsIn start from × FlowsOn code at_first at_last from number
     closed_from number h = let f = c.from number h in (f.0, f.1, (f.2.0, parts_anywhere code at_first at_last f.2.0 f.0 number f.2.1))
 
@@ -155,20 +191,21 @@ close_ends code at_first at_last at left leaves start old now on c v e leaving =
     from number (inl h) = closed_from number h
     from number (inr f) = let one = closed_from f.0 f.1 in (one.0, one.1, (suc one.2.0, (f.0, one.2.1, f.2)))
 
-    all : (from to : ℕ) → from / 64 ≡ at → IsIn old from → Flows code at_first at_last from to → IsIn now to
+    all : (from to : ℕ) → from / 64 ≡ at → IsIn old from → Flows code at_first at_last from to → IsIn new to
     all from to here h f =
         let same : from ≡ at * 64 + from % 64 = omega (arith, here) in
         let flow = subst (λ n. Flows code at_first at_last n to) same f in
         let one = (is_in_word old at (from % 64) (omega arith)).1 (subst (IsIn old) same h) in
         side one flow (leaving (from % 64) at_first at_last to (omega arith) flow)
       where
-        rested : (bit_at left (from % 64) ≡ 1) ⊎ ((to : ℕ) → Flows code at_first at_last (at * 64 + from % 64) to → IsIn now to) → Flows code at_first at_last (at * 64 + from % 64) to → IsIn now to
+        rested : (bit_at left (from % 64) ≡ 1) ⊎ ((to : ℕ) → Flows code at_first at_last (at * 64 + from % 64) to → IsIn new to) → Flows code at_first at_last (at * 64 + from % 64) to → IsIn new to
         rested (inl k) flow = let z = ap (λ w. bit_at w (from % 64)) e ∙ bit_at-zero (from % 64) in absurd (omega (arith, z, k))
         rested (inr k) flow = k to flow
 
-        side : bit_at (get_or old at 0) (from % 64) ≡ 1 → Flows code at_first at_last (at * 64 + from % 64) to → (bit_at leaves (from % 64) ≡ 1) ⊎ Stays code (at * 64 + from % 64) to → IsIn now to
+        side : bit_at (get_or old at 0) (from % 64) ≡ 1 → Flows code at_first at_last (at * 64 + from % 64) to → (bit_at leaves (from % 64) ≡ 1) ⊎ (Stays code (at * 64 + from % 64) to ⊎ HopsTo hops at (from % 64) to) → IsIn new to
         side one flow (inl b) = let m = bit_at_and (get_or old at 0) leaves (from % 64) in rested (v.rest (from % 64) (omega arith) (omega (arith, m, one, b))) flow
-        side one flow (inr stays) = v.kept to (c.closed (at * 64 + from % 64) to (omega arith) ((is_in_word old at (from % 64) (omega arith)).0 one) stays)
+        side one flow (inr (inl stays)) = v.kept to (c.closed (at * 64 + from % 64) to (omega arith) ((is_in_word old at (from % 64) (omega arith)).0 one) stays)
+        side one flow (inr (inr k)) = (g.exact to).1 (inr (k.0, k.1, from % 64, omega arith, one, k.2, k.3))
 
 -- none of the word's numbers leads on
 pub close_none : (code : List Node) (at_first at_last : Bool) (at : ℕ) (words leads : List ℕ) → IsMask code Leads 0 leads → bit_and (get_or words at 0) (get_or leads at 0) ≡ 0 → Visits code at_first at_last at words words (at + 1)

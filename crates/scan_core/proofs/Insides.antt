@@ -10,24 +10,39 @@ use Rattle.scan_core.specs.declared.node.Node.{Node}
 use Rattle.scan_core.specs.declared.node.Node.TheVariants.{Take, First, Last, Choose, Back}
 use Rattle.scan_core.specs.Closures.{AreInside, Closes, Stays, chosen_at}
 use Rattle.scan_core.specs.Code.{At}
+use Rattle.scan_core.specs.declared.hops.Hop.{Hop}
+use Rattle.scan_core.specs.Hops.{HopsTo}
 use Rattle.scan_core.specs.Sets.{LeadsOn, Flows, FlowsOn}
 use Rattle.scan_core.specs.Words.{width}
 use Rattle.scan_core.proofs.Enterings.{flows_of}
 use Rattle.scan_core.proofs.Tables.{get-front, get-last}
 use Rattle.scan_core.proofs.Visitings.{cleared}
 
-pub choose_stays : (code : List Node) (n skip : ℕ) (at_first at_last : Bool) (to : ℕ) → At code n (Choose skip) → (n + 1) / 64 ≡ n / 64 → (n + skip) / 64 ≡ n / 64 → Flows code at_first at_last n to → Stays code n to
-choose_stays code n skip at_first at_last to here next other f = side (flows_of code n (Choose skip) at_first at_last to here f)
+pub choose_stays : (code : List Node) (hops : List Hop) (at bit skip : ℕ) (at_first at_last : Bool) (to : ℕ) → At code (at * 64 + bit) (Choose skip) → bit < 64
+    → ((at * 64 + bit + 1) / 64 ≡ at) ⊎ HopsTo hops at bit (at * 64 + bit + 1) → ((at * 64 + bit + skip) / 64 ≡ at) ⊎ HopsTo hops at bit (at * 64 + bit + skip)
+    → Flows code at_first at_last (at * 64 + bit) to → Stays code (at * 64 + bit) to ⊎ HopsTo hops at bit to
+choose_stays code hops at bit skip at_first at_last to here h next other f = side (flows_of code (at * 64 + bit) (Choose skip) at_first at_last to here f) next other
   where
-    side : (to ≡ n + 1) ⊎ (to ≡ n + skip) → Stays code n to
-    side (inl e) = ((Choose skip, here, inl e), ap (λ k. k / 64) e ∙ next)
-    side (inr e) = ((Choose skip, here, inr e), ap (λ k. k / 64) e ∙ other)
+    side : (to ≡ at * 64 + bit + 1) ⊎ (to ≡ at * 64 + bit + skip) → ((at * 64 + bit + 1) / 64 ≡ at) ⊎ HopsTo hops at bit (at * 64 + bit + 1) → ((at * 64 + bit + skip) / 64 ≡ at) ⊎ HopsTo hops at bit (at * 64 + bit + skip)
+        → Stays code (at * 64 + bit) to ⊎ HopsTo hops at bit to
+    side (inl e) (inl near) o = inl ((Choose skip, here, inl e), omega (arith, e, near, h))
+    side (inl e) (inr hops_there) o = inr (subst (HopsTo hops at bit) (sym e) hops_there)
+    side (inr e) n (inl near) = inl ((Choose skip, here, inr e), omega (arith, e, near, h))
+    side (inr e) n (inr hops_there) = inr (subst (HopsTo hops at bit) (sym e) hops_there)
 
-pub back_stays : (code : List Node) (n by : ℕ) (at_first at_last : Bool) (to : ℕ) → At code n (Back by) → (n - by) / 64 ≡ n / 64 → Flows code at_first at_last n to → Stays code n to
-back_stays code n by at_first at_last to here same f =
-    let e : n ≡ to + by = flows_of code n (Back by) at_first at_last to here f in
-    let q : to ≡ n - by = omega (arith, e) in
-    ((Back by, here, e), ap (λ k. k / 64) q ∙ same)
+pub back_stays : (code : List Node) (hops : List Hop) (at bit by : ℕ) (at_first at_last : Bool) (to : ℕ) → At code (at * 64 + bit) (Back by) → bit < 64 → ((at * 64 + bit - by) / 64 ≡ at) ⊎ HopsTo hops at bit (at * 64 + bit - by)
+    → Flows code at_first at_last (at * 64 + bit) to → Stays code (at * 64 + bit) to ⊎ HopsTo hops at bit to
+back_stays code hops at bit by at_first at_last to here h same f = side same
+  where
+    e : at * 64 + bit ≡ to + by
+    e = flows_of code (at * 64 + bit) (Back by) at_first at_last to here f
+
+    q : to ≡ at * 64 + bit - by
+    q = omega (arith, e)
+
+    side : ((at * 64 + bit - by) / 64 ≡ at) ⊎ HopsTo hops at bit (at * 64 + bit - by) → Stays code (at * 64 + bit) to ⊎ HopsTo hops at bit to
+    side (inl near) = inl ((Back by, here, e), omega (arith, q, near, h))
+    side (inr hops_there) = inr (subst (HopsTo hops at bit) (sym q) hops_there)
 
 pub choose_peer : (code : List Node) (n other skip more : ℕ) (at_first at_last : Bool) (to : ℕ) → At code n (Choose skip) → At code other (Choose more) → (other + 1) / 64 ≡ other / 64 → n + skip ≡ other + more → Flows code at_first at_last other to → Stays code other to ⊎ Flows code at_first at_last n to
 choose_peer code n other skip more at_first at_last to here there next same f = side (flows_of code other (Choose more) at_first at_last to there f)
@@ -37,18 +52,19 @@ choose_peer code n other skip more at_first at_last to here there next same f = 
     side (inr e) = inr (Choose skip, here, inr (e ∙ sym same))
 
 -- the first bits of a word are looked at
-abbrev pub Leaving : List Node → ℕ → ℕ → ℕ → Type 0
-Leaving code from bit word = (b : ℕ) (at_first at_last : Bool) (to : ℕ) → b < bit → Flows code at_first at_last (from + b) to → (bit_at word b ≡ 1) ⊎ Stays code (from + b) to
+abbrev pub Leaving : List Node → List Hop → ℕ → ℕ → ℕ → Type 0
+Leaving code hops at bit word = (b : ℕ) (at_first at_last : Bool) (to : ℕ) → b < bit → Flows code at_first at_last (at * 64 + b) to → (bit_at word b ≡ 1) ⊎ (Stays code (at * 64 + b) to ⊎ HopsTo hops at b to)
 
-pub leaving_more : (code : List Node) (from bit word : ℕ) → Leaving code from bit word → bit < 64 → Leaving code from (bit + 1) (bit_or word (1 * 2 ^ bit % 2 ^ 64))
-leaving_more code from bit word before h b at_first at_last to l f = elim (cases_eq b bit) [
+pub leaving_more : (code : List Node) (hops : List Hop) (at bit word : ℕ) → Leaving code hops at bit word → bit < 64 → Leaving code hops at (bit + 1) (bit_or word (1 * 2 ^ bit % 2 ^ 64))
+leaving_more code hops at bit word before h b at_first at_last to l f = elim (cases_eq b bit) [
   | inl same ↦ inl (ap (bit_at (bit_or word (1 * 2 ^ bit % 2 ^ 64))) same ∙ bit_at_set_same w64 word bit h)
   | inr other ↦ elim (before b at_first at_last to (omega (arith, l, other)) f) [ inl k ↦ inl (bit_at_set_other w64 word bit h b other ∙ k) | inr s ↦ inr s ]
 ]
 
-pub leaving_skip : (code : List Node) (from bit word : ℕ) → Leaving code from bit word → ((at_first at_last : Bool) (to : ℕ) → Flows code at_first at_last (from + bit) to → Stays code (from + bit) to) → Leaving code from (bit + 1) word
-leaving_skip code from bit word before here b at_first at_last to l f = elim (cases_eq b bit) [
-  | inl same ↦ inr (subst (λ n. Stays code (from + n) to) (sym same) (here at_first at_last to (subst (λ n. Flows code at_first at_last (from + n) to) same f)))
+pub leaving_skip : (code : List Node) (hops : List Hop) (at bit word : ℕ) → Leaving code hops at bit word → ((at_first at_last : Bool) (to : ℕ) → Flows code at_first at_last (at * 64 + bit) to → Stays code (at * 64 + bit) to ⊎ HopsTo hops at bit to)
+    → Leaving code hops at (bit + 1) word
+leaving_skip code hops at bit word before here b at_first at_last to l f = elim (cases_eq b bit) [
+  | inl same ↦ inr (subst (λ n. Stays code (at * 64 + n) to ⊎ HopsTo hops at n to) (sym same) (here at_first at_last to (subst (λ n. Flows code at_first at_last (at * 64 + n) to) same f)))
   | inr other ↦ before b at_first at_last to (omega (arith, l, other)) f
 ]
 

@@ -22,3 +22,4 @@ pub mod Masking
 pub mod Insides
 pub mod Closings
 pub mod Shiftings
+pub mod Hoppings

@@ -3,6 +3,8 @@ use Rattle.std.specs.Prelude.{◌≡◌, ◌⊎◌, ℕ, ◌+◌, ◌*◌, ◌/�
 use Rattle.std.specs.Int.{bit_at}
 use Rattle.scan_core.specs.declared.closures.Closures.{Closures}
 use Rattle.scan_core.specs.declared.node.Node.{Node}
+use Rattle.scan_core.specs.declared.hops.Hop.{Hop}
+use Rattle.scan_core.specs.Hops.{AreHops, HopsTo}
 use Rattle.scan_core.specs.Sets.{Flows, FlowsOn}
 use Rattle.scan_core.specs.Words.{width}
 
@@ -10,9 +12,9 @@ use Rattle.scan_core.specs.Words.{width}
 abbrev pub Stays : List Node → ℕ → ℕ → Type 0
 Stays code from to = Flows code false false from to × (to / 64 ≡ from / 64)
 
--- where more than that follows, the bit is set
-abbrev pub IsLeaving : List Node → ℕ → ℕ → Type 0
-IsLeaving code from word = (bit : ℕ) (at_first at_last : Bool) (to : ℕ) → bit < 64 → Flows code at_first at_last (from + bit) to → (bit_at word bit ≡ 1) ⊎ Stays code (from + bit) to
+-- where more than that follows, and no hop leads there, the bit is set
+abbrev pub IsLeaving : List Node → List Hop → ℕ → ℕ → Type 0
+IsLeaving code hops at word = (bit : ℕ) (at_first at_last : Bool) (to : ℕ) → bit < 64 → Flows code at_first at_last (at * 64 + bit) to → (bit_at word bit ≡ 1) ⊎ (Stays code (at * 64 + bit) to ⊎ HopsTo hops at bit to)
 
 -- a number itself, and others of its word of which no more follows
 pub record ArePeers (code : List Node) (number word : ℕ) : Type 0 where
@@ -34,9 +36,9 @@ pub record AreInside (code : List Node) (count : ℕ) (inside : List ℕ) : Type
   pub size : length inside ≡ count
   pub each : (place : ℕ) → place < count → Closes code (place / 2048) (chosen_at place) (slice_index_or inside place 0)
 
-pub record AreLeaves (code : List Node) (leaves : List ℕ) : Type 0 where
+pub record AreLeaves (code : List Node) (hops : List Hop) (leaves : List ℕ) : Type 0 where
   pub size : length leaves ≡ width code
-  pub each : (at : ℕ) → at < width code → IsLeaving code (at * 64) (slice_index_or leaves at 0)
+  pub each : (at : ℕ) → at < width code → IsLeaving code hops at (slice_index_or leaves at 0)
 
 pub record AreAllPeers (code : List Node) (peers : List ℕ) : Type 0 where
   pub size : length peers ≡ width code * 64
@@ -44,5 +46,6 @@ pub record AreAllPeers (code : List Node) (peers : List ℕ) : Type 0 where
 
 pub record AreClosures (code : List Node) (closures : Closures) : Type 0 where
   pub inside : AreInside code (width code * 2048) closures.inside.items
-  pub leaves : AreLeaves code closures.leaves.items
+  pub hops : AreHops code (width code * 3) closures.hops.items
+  pub leaves : AreLeaves code closures.hops.items closures.leaves.items
   pub peers : AreAllPeers code closures.peers.items

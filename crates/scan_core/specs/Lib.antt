@@ -9,3 +9,4 @@ pub mod Built
 pub mod Shifts
 pub mod Words
 pub mod Closures
+pub mod Hops

@@ -1,17 +1,45 @@
-//! Entering all that follows without a byte, word by word: what is in the word by its closures, and then what is out of it.
+//! Entering all that follows without a byte, word by word: what is in the word by its closures, and then what is out of it, mostly by hops.
 
-ghost use Rattle.std.specs.Prelude.{◌≡◌, ◌<◌, length};
+ghost use Rattle.std.specs.Prelude.{◌≡◌, ◌<◌, ◌*◌, length};
 ghost use Rattle.scan_core.specs.Closures.{AreClosures};
+ghost use Rattle.scan_core.specs.Hops.{AreHops, Hopped};
 ghost use Rattle.scan_core.specs.declared.masks.Kind.TheVariants.{Leads};
 ghost use Rattle.scan_core.specs.Sets.{IsCode};
-ghost use Rattle.scan_core.specs.Words.{IsMask, SpreadsOut, Visits, width};
+ghost use Rattle.scan_core.specs.Words.{Grows, IsMask, SpreadsOut, Visits, width};
 
 use crate::closures::{Closures, closed};
+use crate::hops::{HOPS, Hop};
 use crate::node::Node;
-use crate::words::lead;
+use crate::words::{enter, lead};
+
+/// Enters what the hops of a word lead to from some of its numbers.
+#[inline(always)]
+fn hop(
+    words: &mut [u64],
+    nodes: &[Node],
+    hops: &[Hop],
+    at: usize,
+    word: u64,
+    before: usize,
+) -> usize
+    requires size { length words.old ≡ width nodes.now }
+    requires within { at < width nodes.now }
+    requires hops { AreHops nodes.now (width nodes.now * 3) hops.now }
+    ensures { Grows (Hopped hops.now at word 3) words.old words.new before result }
+{
+    let mut on = before;
+    for which in 0..HOPS {
+        let hop = &hops[at * HOPS + which];
+        if word & hop.from != 0 {
+            on = enter(words, hop.to, on);
+        }
+    }
+    on
+}
 
 /// Enters what the nodes of a word lead to without a byte. Returns the word to go on with: the next, or the first that is to
 /// be looked at again.
+#[inline(always)]
 fn close(
     words: &mut [u64],
     nodes: &[Node],
@@ -27,15 +55,16 @@ fn close(
     ensures { Visits nodes.now at_first at_last at words.old words.new result }
 {
     let word = words[at];
-    words[at] = word | closed(&closures.inside, nodes, at, word);
+    let all = word | closed(&closures.inside, nodes, at, word);
+    words[at] = all;
     let mut on = at + 1;
-    let mut left = words[at] & closures.leaves[at];
+    let mut left = all & closures.leaves[at];
     'bits: while left != 0 {
         let bit = left.trailing_zeros() as usize;
         left &= !closures.peers[at * 64 + bit];
         on = lead(words, nodes, at * 64 + bit, at_first, at_last, on);
     }
-    on
+    hop(words, nodes, &closures.hops, at, all, on)
 }
 
 /// The same, at once for a word of whose numbers none leads on.

@@ -4,9 +4,11 @@ ghost use Rattle.std.specs.Prelude.{◌≡◌, ◌⊎◌, ◌↔◌, ◌<◌, �
 ghost use Rattle.std.specs.Int.{bit_at};
 ghost use Rattle.bre_core.specs.declared.fault.BreFault.TheVariants.{Memory};
 ghost use Rattle.scan_core.specs.Closures.{AreAllPeers, AreClosures, AreInside, AreLeaves, ArePeers, Closes, IsLeaving, Stays, chosen_at};
+ghost use Rattle.scan_core.specs.Hops.{HopsTo};
 ghost use Rattle.scan_core.specs.Sets.{IsCode, Flows};
 ghost use Rattle.scan_core.specs.Words.{width};
 
+use crate::hops::{Hop, hops_of, is_hop};
 use crate::node::Node;
 use bre_core::BreFault;
 use std::alloc::Global;
@@ -16,17 +18,36 @@ use std::alloc::Global;
 pub struct Closures {
     /// For each word, each eight of its numbers, and each choice from these: what the chosen ones lead to in the word.
     pub inside: Vec<u64>,
+    /// For each word its hops.
+    pub hops: Vec<Hop>,
     /// The numbers whose nodes lead to more than that.
     pub leaves: Vec<u64>,
     /// For each number those of its word that lead to no more than it does, but for what is inside.
     pub peers: Vec<u64>,
 }
 
-/// Whether a node leads only to numbers of its word, at any place of a line.
-fn stays(nodes: &[Node], number: usize) -> bool
-    requires { IsCode nodes.now }
-    ensures { IsTrue result → (at_first at_last : Bool) (to : ℕ) → Flows nodes.now at_first at_last number to → Stays nodes.now number to }
+/// Whether a number is in a word, or one of the word's hops leads there from one of its numbers.
+fn is_met(hops: &[Hop], at: usize, bit: usize, to: usize) -> bool
+    requires at { at * 3 + 3 ≤ length hops.now }
+    requires bit { bit < 64 }
+    ensures { IsTrue result → (to / 64 ≡ at) ⊎ HopsTo hops.now at bit to }
 {
+    if to / 64 == at {
+        return true;
+    }
+    is_hop(hops, at, bit, to)
+}
+
+/// Whether a node leads only to numbers of its word, and by its hops, at any place of a line.
+fn stays(nodes: &[Node], hops: &[Hop], at: usize, bit: usize) -> bool
+    requires code { IsCode nodes.now }
+    requires at { at < width nodes.now }
+    requires hops { length hops.now ≡ width nodes.now * 3 }
+    requires bit { bit < 64 }
+    ensures { IsTrue result → (at_first at_last : Bool) (to : ℕ) → Flows nodes.now at_first at_last (at * 64 + bit) to
+        → Stays nodes.now (at * 64 + bit) to ⊎ HopsTo hops.now at bit to }
+{
+    let number = at * 64 + bit;
     if number >= nodes.len() {
         return true;
     }
@@ -34,12 +55,12 @@ fn stays(nodes: &[Node], number: usize) -> bool
         Node::Take(_) => true,
         Node::First | Node::Last => false,
         Node::Choose(skip) => {
-            if (number + 1) / 64 != number / 64 {
+            if !is_met(hops, at, bit, number + 1) {
                 return false;
             }
-            (number + *skip) / 64 == number / 64
+            is_met(hops, at, bit, number + *skip)
         }
-        Node::Back(by) => (number - *by) / 64 == number / 64,
+        Node::Back(by) => is_met(hops, at, bit, number - *by),
     }
 }
 
@@ -71,15 +92,16 @@ fn is_peer(nodes: &[Node], number: usize, other: usize) -> bool
     number + *skip == other + *more
 }
 
-/// The numbers of a word whose nodes lead out of it.
-fn leaving(nodes: &[Node], from: usize) -> u64
+/// The numbers of a word whose nodes lead out of it otherwise than by its hops.
+fn leaving(nodes: &[Node], hops: &[Hop], at: usize) -> u64
     requires code { IsCode nodes.now }
-    requires from { from ≤ length nodes.now }
-    ensures { IsLeaving nodes.now from result }
+    requires at { at < width nodes.now }
+    requires hops { length hops.now ≡ width nodes.now * 3 }
+    ensures { IsLeaving nodes.now hops.now at result }
 {
     let mut word: u64 = 0;
     for bit in 0..64usize {
-        if !stays(nodes, from + bit) {
+        if !stays(nodes, hops, at, bit) {
             word |= 1u64 << bit;
         }
     }
@@ -197,15 +219,16 @@ fn insides_of(alloc: Global, nodes: &[Node]) -> Result<Vec<u64>, BreFault>
     Ok(inside)
 }
 
-/// The numbers of each word whose nodes lead out of it.
-fn leaves_of(alloc: Global, nodes: &[Node]) -> Result<Vec<u64>, BreFault>
-    requires { IsCode nodes.now }
-    ensures ok { IfOk result (λ leaves. AreLeaves nodes.now leaves.items) }
+/// The numbers of each word whose nodes lead out of it otherwise than by its hops.
+fn leaves_of(alloc: Global, nodes: &[Node], hops: &[Hop]) -> Result<Vec<u64>, BreFault>
+    requires code { IsCode nodes.now }
+    requires hops { length hops.now ≡ width nodes.now * 3 }
+    ensures ok { IfOk result (λ leaves. AreLeaves nodes.now hops.now leaves.items) }
     ensures err { IfErr result (λ fault. fault ≡ Memory) }
 {
     let mut leaves = Vec::new(alloc);
     for at in 0..nodes.len() / 64 + 1 {
-        leaves.push(leaving(nodes, at * 64))?;
+        leaves.push(leaving(nodes, hops, at))?;
     }
     Ok(leaves)
 }
@@ -232,10 +255,12 @@ pub fn closures_of(alloc: Global, nodes: &[Node]) -> Result<Closures, BreFault>
     ensures err { IfErr result (λ fault. fault ≡ Memory) }
 {
     let inside = insides_of(alloc, nodes)?;
-    let leaves = leaves_of(alloc, nodes)?;
+    let hops = hops_of(alloc, nodes)?;
+    let leaves = leaves_of(alloc, nodes, &hops)?;
     let peers = all_peers(alloc, nodes)?;
     Ok(Closures {
         inside,
+        hops,
         leaves,
         peers,
     })

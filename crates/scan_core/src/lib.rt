@@ -12,6 +12,7 @@ mod closing;
 mod closures;
 mod compile;
 mod emit;
+mod hops;
 pub mod laws;
 mod masks;
 mod node;

@@ -1,7 +1,11 @@
-use Rattle.std.proofs.Common.{rules, ◌+◌, ◌*◌, ◌<◌, ◌^◌, ℕ, length, refl, sym, ◌∙◌, subst, arith, w64}
+use Rattle.std.proofs.Common.{rules, ◌≡◌, List, get_or, set, ◌+◌, ◌*◌, ◌<◌, ◌^◌, ℕ, length, refl, sym, ◌∙◌, subst, arith, w64}
+use Rattle.std.proofs.lemmas.List.{get_or-set_same}
 use Rattle.std.proofs.lemmas.Nat.Bits.{bit_at-trailing_zeros}
+use Rattle.std.specs.Prelude.{bit_or}
 use Rattle.std.specs.Int.{trailing_zeros}
 use Rattle.scan_core.specs.Closures.{ArePeers}
+use Rattle.scan_core.specs.Hops.{Hopped}
+use Rattle.scan_core.specs.Words.{Grows}
 use Rattle.scan_core.proofs.Enterings.{no_default}
 use Rattle.scan_core.proofs.Closings.{close_word, close_more, close_ends, peers_smaller}
 use Rattle.scan_core.proofs.closing.close.Goals as goal
@@ -30,5 +34,14 @@ bits-preserved c =
 
 pub returns : goal.returns
 returns c =
-    let closed = close_word c.args.nodes.now c.args.at _ c.closed.result c.args.words.now _ (omega (arith, c.requires.size, c.requires.within)) refl c.closed.ensures refl in
-    close_ends c.args.nodes.now c.args.at_first c.args.at_last c.args.at c.bits.left _ c.args.words.now _ c.bits.words c.bits.on closed c.bits.invariant (omega arith) (c.requires.closures.leaves.each c.args.at c.requires.within)
+    let before = c.args.words.now in
+    let all : ℕ = bit_or (get_or before c.args.at 0) c.closed.result in
+    let now : List ℕ = set before c.args.at all in
+    let inside : c.args.at < length before = omega (arith, c.requires.size, c.requires.within) in
+    let closed = close_word c.args.nodes.now c.args.at _ c.closed.result before _ inside refl c.closed.ensures refl in
+    let sets = c.requires.closures in
+    let hopped = subst (λ hops. Grows (Hopped hops c.args.at all 3) c.bits.words c.hop.new.words c.bits.on c.hop.result) c.deref-2.ensures.value c.hop.ensures in
+    let same : all ≡ get_or now c.args.at 0 = sym (get_or-set_same before c.args.at all 0 inside) in
+    close_ends c.args.nodes.now c.args.closures.now.hops.items c.args.at_first c.args.at_last c.args.at c.bits.left _ before now c.bits.words c.hop.new.words c.bits.on c.hop.result closed c.bits.invariant (omega arith)
+    (sets.leaves.each c.args.at c.requires.within) sets.hops c.requires.within
+    (subst (λ word. Grows (Hopped c.args.closures.now.hops.items c.args.at word 3) c.bits.words c.hop.new.words c.bits.on c.hop.result) same hopped)

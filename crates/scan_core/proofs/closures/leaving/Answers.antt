@@ -5,8 +5,8 @@ use Rattle.scan_core.proofs.closures.leaving.Goals.{then-not-stays, else-not-sta
 
 pub loop-bit-preserved : goal.loop-bit-preserved
 loop-bit-preserved c = elim c.if-not-stays.branch [
-  | then-not-stays w ↦ subst (Leaving c.args.nodes.now c.args.from (c.loop-bit.bit + 1)) (sym w.word-is) (leaving_more c.args.nodes.now c.args.from c.loop-bit.bit c.loop-bit.word c.loop-bit.invariant c.loop-bit-test.true)
-  | else-not-stays w ↦ subst (Leaving c.args.nodes.now c.args.from (c.loop-bit.bit + 1)) (sym w.word-is) (leaving_skip c.args.nodes.now c.args.from c.loop-bit.bit c.loop-bit.word c.loop-bit.invariant (c.stays.ensures w.if-not-stays.false))
+  | then-not-stays w ↦ subst (Leaving c.args.nodes.now c.args.hops.now c.args.at (c.loop-bit.bit + 1)) (sym w.word-is) (leaving_more c.args.nodes.now c.args.hops.now c.args.at c.loop-bit.bit c.loop-bit.word c.loop-bit.invariant c.loop-bit-test.true)
+  | else-not-stays w ↦ subst (Leaving c.args.nodes.now c.args.hops.now c.args.at (c.loop-bit.bit + 1)) (sym w.word-is) (leaving_skip c.args.nodes.now c.args.hops.now c.args.at c.loop-bit.bit c.loop-bit.word c.loop-bit.invariant (c.stays.ensures w.if-not-stays.false))
 ]
 
 pub returns : goal.returns

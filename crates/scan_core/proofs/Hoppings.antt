@@ -1,0 +1,91 @@
+-- Hops: numbers of a word that lead to the same one beyond it.
+use Rattle.std.proofs.Common.{◌≡◌, ◌⊎◌, inl, inr, ℕ, suc, ◌+◌, ◌*◌, ◌/◌, ◌%◌, ◌^◌, ◌<◌, ◌≤◌, false, List, [], ◌∷◌, ◌++◌, length, get_or, sym, refl, ap, ◌∙◌, subst, arith, length-append, w64}
+use Rattle.std.proofs.lemmas.Bool.{cases_eq}
+use Rattle.std.proofs.lemmas.Nat.{and_le_l}
+use Rattle.std.proofs.lemmas.Nat.Bits.{bit_at-trailing_zeros, bit_at_and, bit_at-lt, bit_at-zero, bit_at_set_same, bit_at_set_other}
+use Rattle.std.specs.Prelude.{bit_and, bit_or}
+use Rattle.std.specs.Int.{bit_at, trailing_zeros}
+use Rattle.scan_core.specs.declared.hops.Hop.{Hop}
+use Rattle.scan_core.specs.declared.node.Node.{Node}
+use Rattle.scan_core.specs.Hops.{AreHops, Hopped, IsHop, no_hop}
+use Rattle.scan_core.specs.Sets.{Flows}
+use Rattle.scan_core.specs.Words.{Grows}
+use Rattle.scan_core.proofs.Bits.{grows_none}
+use Rattle.scan_core.proofs.Growings.{grows_by, grows_both}
+use Rattle.scan_core.proofs.Tables.{get-front, get-last}
+
+-- the first numbers of a word that lead to a number
+abbrev pub From : List Node → ℕ → ℕ → ℕ → ℕ → Type 0
+From code at to count word = (bit : ℕ) → bit < 64 → bit_at word bit ≡ 1 → Flows code false false (at * 64 + bit) to
+
+pub from_starts : (code : List Node) (at to : ℕ) → From code at to 0 0
+from_starts code at to bit h is = let z = bit_at-zero bit in absurd (omega (arith, z, is))
+
+pub from_more : (code : List Node) (at to count word : ℕ) → From code at to count word → count < 64 → Flows code false false (at * 64 + count) to → From code at to (count + 1) (bit_or word (1 * 2 ^ count % 2 ^ 64))
+from_more code at to count word before h here bit small is = elim (cases_eq bit count) [
+  | inl same ↦ subst (λ n. Flows code false false (at * 64 + n) to) (sym same) here
+  | inr other ↦ before bit small (sym (bit_at_set_other w64 word count h bit other) ∙ is)
+]
+
+pub from_skip : (code : List Node) (at to count word : ℕ) → From code at to count word → From code at to (count + 1) word
+from_skip code at to count word before = before
+
+pub no_hop_is : (code : List Node) (at to : ℕ) → to ≤ length code → IsHop code at (record { from = 0; to = to })
+no_hop_is code at to h = record { within = h; leads = λ bit small is. let z = bit_at-zero bit in absurd (omega (arith, z, is)) }
+
+-- one hop more
+pub hop_pushed : (code : List Node) (hops new : List Hop) (count : ℕ) (hop : Hop) → AreHops code count hops → IsHop code (count / 3) hop → new ≡ hops ++ hop ∷ [] → AreHops code (count + 1) new
+hop_pushed code hops new count hop are here e = record {
+  size = let l = ap length e in let a = length-append hops (hop ∷ []) in let s = are.size in omega (arith, l, a, s);
+  each = λ k h. elim (cases_eq k count) [
+    | inl same ↦ subst (IsHop code (k / 3)) (sym (ap (λ l. get_or l k no_hop) e ∙ get-last hops hop no_hop k (same ∙ sym are.size))) (subst (λ n. IsHop code (n / 3) hop) (sym same) here)
+    | inr other ↦ subst (IsHop code (k / 3)) (sym (ap (λ l. get_or l k no_hop) e ∙ get-front hops (hop ∷ []) k no_hop (let s = are.size in omega (arith, h, other, s)))) (are.each k (omega (arith, h, other)))
+  ];
+}
+
+-- some of a word's numbers are those of a hop, or none
+pub one_of : (word from : ℕ) → word < 2 ^ 64 → (bit_and word from ≡ 0 → ⊥) → (bit : ℕ) × (bit < 64) × (bit_at word bit ≡ 1) × (bit_at from bit ≡ 1)
+one_of word from fits some =
+    let l = and_le_l word from in
+    let lowest = bit_at-trailing_zeros w64 (bit_and word from) (omega (arith, some)) (omega (arith, l, fits)) in
+    let bit : ℕ = trailing_zeros w64 (bit_and word from) in
+    let e = bit_at_and word from bit in
+    let is = lowest.1 in
+    let m = bit_at-lt word bit in
+    let n = bit_at-lt from bit in
+    (bit, lowest.0, omega (arith, e, is, m, n), omega (arith, e, is, m, n))
+
+none_of : (word from bit : ℕ) → bit_and word from ≡ 0 → bit_at word bit ≡ 1 → bit_at from bit ≡ 1 → ⊥
+none_of word from bit none here there =
+    let e = bit_at_and word from bit in
+    let z = ap (λ w. bit_at w bit) none ∙ bit_at-zero bit in
+    omega (arith, e, z, here, there)
+
+pub hopped_starts : (hops : List Hop) (at word : ℕ) (words : List ℕ) (on : ℕ) → Grows (Hopped hops at word 0) words words on on
+hopped_starts hops at word words on = grows_none (Hopped hops at word 0) words words on on refl refl (λ number h. let l = h.1 in absurd (omega (arith, l)))
+
+pub hopped_more : (hops : List Hop) (at word count : ℕ) (old now new : List ℕ) (before on on' : ℕ) → word < 2 ^ 64 → (bit_and word (get_or hops (at * 3 + count) no_hop).from ≡ 0 → ⊥) → Grows (Hopped hops at word count) old now before on → Grows (λ other. other ≡ (get_or hops (at * 3 + count) no_hop).to) now new on on'
+    → Grows (Hopped hops at word (count + 1)) old new before on'
+hopped_more hops at word count old now new before on on' fits some f g =
+    grows_by (λ n. Hopped hops at word count n ⊎ (n ≡ (get_or hops (at * 3 + count) no_hop).to)) (Hopped hops at word (count + 1)) old new before on' (grows_both (Hopped hops at word count) (λ other. other ≡ (get_or hops (at * 3 + count) no_hop).to) old now new before on on' f g) there here
+  where
+    there : (n : ℕ) → Hopped hops at word count n ⊎ (n ≡ (get_or hops (at * 3 + count) no_hop).to) → Hopped hops at word (count + 1) n
+    there n (inl h) = (h.0, (let l = h.1 in omega (arith, l)), h.2, h.3, h.4, h.5, h.6)
+    there n (inr h) = let one = one_of word (get_or hops (at * 3 + count) no_hop).from fits some in (count, omega arith, one.0, one.1, one.2, one.3, h)
+
+    here : (n : ℕ) → Hopped hops at word (count + 1) n → Hopped hops at word count n ⊎ (n ≡ (get_or hops (at * 3 + count) no_hop).to)
+    here n h = elim (cases_eq h.0 count) [
+      | inl same ↦ inr (h.6 ∙ ap (λ k. (get_or hops (at * 3 + k) no_hop).to) same)
+      | inr other ↦ inl (h.0, (let l = h.1 in omega (arith, l, other)), h.2, h.3, h.4, h.5, h.6)
+    ]
+
+pub hopped_skip : (hops : List Hop) (at word count : ℕ) (old now : List ℕ) (before on : ℕ) → bit_and word (get_or hops (at * 3 + count) no_hop).from ≡ 0 → Grows (Hopped hops at word count) old now before on → Grows (Hopped hops at word (count + 1)) old now before on
+hopped_skip hops at word count old now before on none f = grows_by (Hopped hops at word count) (Hopped hops at word (count + 1)) old now before on f
+    (λ n h. (h.0, (let l = h.1 in omega (arith, l)), h.2, h.3, h.4, h.5, h.6))
+    here
+  where
+    here : (n : ℕ) → Hopped hops at word (count + 1) n → Hopped hops at word count n
+    here n h = elim (cases_eq h.0 count) [
+      | inl same ↦ absurd (none_of word (get_or hops (at * 3 + count) no_hop).from h.2 none h.4 (ap (λ k. bit_at (get_or hops (at * 3 + k) no_hop).from h.2) (sym same) ∙ h.5))
+      | inr other ↦ (h.0, (let l = h.1 in omega (arith, l, other)), h.2, h.3, h.4, h.5, h.6)
+    ]
