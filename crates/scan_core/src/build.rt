@@ -16,7 +16,7 @@ use std::alloc::Global;
 use std::marker::Model;
 
 /// The most nodes of a code that has a table.
-const MOST_NODES: usize = 512;
+const MOST_NODES: usize = 8_191;
 
 /// The most sets of a table.
 const MOST_SETS: usize = 4096;
