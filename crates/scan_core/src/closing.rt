@@ -39,7 +39,6 @@ fn hop(
 
 /// Enters what the nodes of a word lead to without a byte. Returns the word to go on with: the next, or the first that is to
 /// be looked at again.
-#[inline(always)]
 fn close(
     words: &mut [u64],
     nodes: &[Node],
@@ -67,7 +66,7 @@ fn close(
     hop(words, nodes, &closures.hops, at, all, on)
 }
 
-/// The same, at once for a word of whose numbers none leads on.
+/// The same, at once for a word of whose numbers none leads on, or none leads out of it otherwise than by its hops.
 #[inline(always)]
 fn close_some(
     words: &mut [u64],
@@ -86,10 +85,16 @@ fn close_some(
     requires closures { AreClosures nodes.now closures.now }
     ensures { Visits nodes.now at_first at_last at words.old words.new result }
 {
-    if words[at] & leads[at] == 0 {
+    let word = words[at];
+    if word & leads[at] == 0 {
         return at + 1;
     }
-    close(words, nodes, closures, at, at_first, at_last)
+    let all = word | closed(&closures.inside, nodes, at, word);
+    if all & closures.leaves[at] != 0 {
+        return close(words, nodes, closures, at, at_first, at_last);
+    }
+    words[at] = all;
+    hop(words, nodes, &closures.hops, at, all, at + 1)
 }
 
 /// Enters all that the set leads to at one place, without a byte.

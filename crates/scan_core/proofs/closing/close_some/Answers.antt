@@ -1,5 +1,30 @@
-use Rattle.scan_core.proofs.Closings.{close_none}
+use Rattle.std.proofs.Common.{◌≡◌, ◌+◌, ◌<◌, ℕ, List, get_or, set, length, refl, sym, ap, ◌∙◌, subst, arith}
+use Rattle.std.proofs.lemmas.List.{get_or-set_same}
+use Rattle.std.specs.Prelude.{bit_and, bit_or}
+use Rattle.scan_core.specs.Hops.{Hopped}
+use Rattle.scan_core.specs.Words.{Grows}
+use Rattle.scan_core.proofs.Closings.{close_none, close_word, close_ends}
+use Rattle.scan_core.proofs.Enterings.{no_default}
+use Rattle.scan_core.proofs.Visitings.{visit_starts}
 use Rattle.scan_core.proofs.closing.close_some.Goals as goal
 
-pub returns-then-words-at-eq0 : goal.returns-then-words-at-eq0
-returns-then-words-at-eq0 c = close_none c.args.nodes.now c.args.at_first c.args.at_last c.args.at c.args.words.now c.args.leads.now c.requires.leads c.if-words-at-eq0.true
+pub returns-then-word-leads-eq0 : goal.returns-then-word-leads-eq0
+returns-then-word-leads-eq0 c = close_none c.args.nodes.now c.args.at_first c.args.at_last c.args.at c.args.words.now c.args.leads.now c.requires.leads c.if-word-leads-eq0.true
+
+pub returns : goal.returns
+returns c =
+    let before = c.args.words.now in
+    let at = c.args.at in
+    let leaves = c.args.closures.now.leaves.items in
+    let all : ℕ = bit_or (get_or before at 0) c.closed.result in
+    let now : List ℕ = set before at all in
+    let inside : at < length before = omega (arith, c.requires.size, c.requires.within) in
+    let closed = close_word c.args.nodes.now at _ c.closed.result before _ inside refl c.closed.ensures refl in
+    let sets = c.requires.closures in
+    let hopped = subst (λ hops. Grows (Hopped hops at all 3) now c.hop.new.words (at + 1) c.hop.result) c.deref-2.ensures.value c.hop.ensures in
+    let same : all ≡ get_or now at 0 = sym (get_or-set_same before at all 0 inside) in
+    let e = c.index.ensures ∙ no_default leaves at _ 0 (let s = sets.leaves.size in omega (arith, s, c.requires.within)) in
+    let none : bit_and (get_or now at 0) (get_or leaves at 0) ≡ 0 = ap (λ w. bit_and w (get_or leaves at 0)) (sym same) ∙ ap (bit_and all) (sym e) ∙ c.if-all-index-ne0.false in
+    close_ends c.args.nodes.now c.args.closures.now.hops.items c.args.at_first c.args.at_last at (bit_and (get_or now at 0) (get_or leaves at 0)) (get_or leaves at 0) before now now c.hop.new.words (at + 1) c.hop.result closed
+    (visit_starts c.args.nodes.now c.args.at_first c.args.at_last at (bit_and (get_or now at 0) (get_or leaves at 0)) now) none (sets.leaves.each at c.requires.within) sets.hops c.requires.within
+    (subst (λ word. Grows (Hopped c.args.closures.now.hops.items at word 3) now c.hop.new.words (at + 1) c.hop.result) same hopped)
