@@ -1,5 +1,5 @@
 -- A step of a set of words over a byte, word by word.
-use Rattle.std.proofs.Common.{◌≡◌, ◌↔◌, inl, inr, ℕ, zero, suc, ◌+◌, ◌*◌, ◌/◌, ◌%◌, ◌^◌, ◌<◌, ◌≤◌, List, length, get_or, set, min, refl, sym, ap, ◌∙◌, subst, arith}
+use Rattle.std.proofs.Common.{◌≡◌, ◌⊎◌, ◌↔◌, inl, inr, ℕ, zero, suc, ◌+◌, ◌*◌, ◌/◌, ◌%◌, ◌^◌, ◌<◌, ◌≤◌, List, length, get_or, set, min, refl, sym, ap, ◌∙◌, subst, arith}
 use Rattle.std.proofs.lemmas.Bool.{cases_eq, cases_lt}
 use Rattle.std.proofs.lemmas.List.{get_or-set_same, get_or-set_other, length-set}
 use Rattle.std.proofs.lemmas.Nat.Bits.{bit_at_and, bit_at_or, bit_at_lowest, bit_at-suc, bit_at-zero, bit_at_above, bit_at_cat_low}
@@ -15,6 +15,10 @@ use Rattle.scan_core.proofs.Visitings.{is_in_word, is_within}
 -- what a byte leads to from a set
 abbrev pub Led : List Node → ℕ → List ℕ → ℕ → Type 0
 Led code byte words number = (before : ℕ) × IsIn words before × Passes code byte before number
+
+-- the same, with the number where a match may begin
+abbrev pub LedOrFront : List Node → ℕ → List ℕ → ℕ → Type 0
+LedOrFront code byte words number = Led code byte words number ⊎ (number ≡ 0)
 
 -- the bits of a word that is shifted up by one, and of what comes in below
 shifted_low : (kept carry : ℕ) → carry < 2 → bit_at (bit_or (kept * 2 ^ 1 % 2 ^ 64) carry) 0 ≡ carry
@@ -70,18 +74,18 @@ set_elsewhere words at word number differs =
 -- the first words hold what the byte leads to
 pub record Passing (code : List Node) (byte : ℕ) (old now : List ℕ) (at carry : ℕ) : Type 0 where
   pub size : length now ≡ length old
-  pub past : (number : ℕ) → number < 64 * at → IsIn now number ↔ Led code byte old number
+  pub past : (number : ℕ) → number < 64 * at → IsIn now number ↔ LedOrFront code byte old number
   pub rest : (n : ℕ) → at ≤ n → get_or now n 0 ≡ get_or old n 0
   pub bit : carry < 2
-  pub over : (carry ≡ 1) ↔ Led code byte old (at * 64)
+  pub over : (carry ≡ 1) ↔ LedOrFront code byte old (at * 64)
 
-pub passing_starts : (code : List Node) (byte : ℕ) (old : List ℕ) → Passing code byte old old 0 0
+pub passing_starts : (code : List Node) (byte : ℕ) (old : List ℕ) → Passing code byte old old 0 1
 passing_starts code byte old = record {
   size = refl;
   past = λ number h. absurd (omega (arith, h));
   rest = λ n h. refl;
   bit = omega arith;
-  over = (λ h. absurd (omega (arith, h)), λ l. let e = l.2.3 in absurd (omega (arith, e)));
+  over = (λ h. inr refl, λ l. refl);
 }
 
 pub passing_more : (code : List Node) (byte : ℕ) (old now new takes : List ℕ) (from at carry kept : ℕ) → Passing code byte old now at carry → IsMask code (Takes byte) from takes → length old ≡ width code → at < length old
@@ -89,10 +93,10 @@ pub passing_more : (code : List Node) (byte : ℕ) (old now new takes : List ℕ
 passing_more code byte old now new takes from at carry kept p m size h ek fits en = record {
   size = ap length en ∙ length-set now at (bit_or (kept * 2 ^ 1 % 2 ^ 64) carry) ∙ p.size;
   past = λ number l. elim (cases_lt number (64 * at)) [
-    | inl before ↦ subst (λ w. IsIn w number ↔ Led code byte old number) (sym en) (earlier number before (p.past number before))
+    | inl before ↦ subst (λ w. IsIn w number ↔ LedOrFront code byte old number) (sym en) (earlier number before (p.past number before))
     | inr here ↦
         let same : number ≡ at * 64 + number % 64 = omega (arith, l, here) in
-        subst (λ n. IsIn new n ↔ Led code byte old n) (sym same) (inside (number % 64) (omega arith))
+        subst (λ n. IsIn new n ↔ LedOrFront code byte old n) (sym same) (inside (number % 64) (omega arith))
   ];
   rest = λ n l. ap (λ w. get_or w n 0) en ∙ get_or-set_other now at n (bit_or (kept * 2 ^ 1 % 2 ^ 64) carry) 0 (λ e. omega (arith, e, l)) ∙ p.rest n (omega (arith, l));
   bit = omega (arith, fits);
@@ -100,8 +104,8 @@ passing_more code byte old now new takes from at carry kept p m size h ek fits e
       let k = kept_is 63 (omega arith) in
       let e : at * 64 + 63 + 1 ≡ (at + 1) * 64 = omega arith in
       let top : bit_at kept 63 ≡ kept / 2 ^ 63 = omega (arith, fits) in (
-        λ c. subst (Led code byte old) e (k.0 (top ∙ c)),
-        λ l. sym top ∙ k.1 (subst (Led code byte old) (sym e) l),
+        λ c. inl (subst (Led code byte old) e (k.0 (top ∙ c))),
+        λ l. elim l [ inl led ↦ sym top ∙ k.1 (subst (Led code byte old) (sym e) led) | inr front ↦ absurd (omega (arith, front)) ],
       );
 }
   where
@@ -113,36 +117,40 @@ passing_more code byte old now new takes from at carry kept p m size h ek fits e
     read : get_or new at 0 ≡ bit_or (kept * 2 ^ 1 % 2 ^ 64) carry
     read = let s = p.size in ap (λ w. get_or w at 0) en ∙ get_or-set_same now at (bit_or (kept * 2 ^ 1 % 2 ^ 64) carry) 0 (omega (arith, h, s))
 
-    earlier : (number : ℕ) → number < 64 * at → IsIn now number ↔ Led code byte old number → IsIn (set now at (bit_or (kept * 2 ^ 1 % 2 ^ 64) carry)) number ↔ Led code byte old number
+    earlier : (number : ℕ) → number < 64 * at → IsIn now number ↔ LedOrFront code byte old number → IsIn (set now at (bit_or (kept * 2 ^ 1 % 2 ^ 64) carry)) number ↔ LedOrFront code byte old number
     earlier number l i =
         let e = set_elsewhere now at (bit_or (kept * 2 ^ 1 % 2 ^ 64) carry) number (λ q. omega (arith, q, l)) in
         (λ k. i.0 (e.0 k), λ k. e.1 (i.1 k))
 
-    inside : (bit : ℕ) → bit < 64 → IsIn new (at * 64 + bit) ↔ Led code byte old (at * 64 + bit)
+    inside : (bit : ℕ) → bit < 64 → IsIn new (at * 64 + bit) ↔ LedOrFront code byte old (at * 64 + bit)
     inside zero small =
         let w = is_in_word new at 0 small in
         let e = ap (λ x. bit_at x 0) read ∙ shifted_low kept carry p.bit in
         let z : at * 64 + 0 ≡ at * 64 = omega arith in (
-          λ k. subst (Led code byte old) (sym z) (p.over.0 (sym e ∙ w.1 k)),
-          λ k. w.0 (e ∙ p.over.1 (subst (Led code byte old) z k)),
+          λ k. subst (LedOrFront code byte old) (sym z) (p.over.0 (sym e ∙ w.1 k)),
+          λ k. w.0 (e ∙ p.over.1 (subst (LedOrFront code byte old) z k)),
         )
     inside (suc bit) small =
         let w = is_in_word new at (suc bit) small in
         let e = ap (λ x. bit_at x (suc bit)) read ∙ shifted_high kept carry bit p.bit (omega (arith, small)) in
         let k = kept_is bit (omega (arith, small)) in
         let z : at * 64 + bit + 1 ≡ at * 64 + suc bit = omega arith in (
-          λ i. subst (Led code byte old) z (k.0 (sym e ∙ w.1 i)),
-          λ l. w.0 (e ∙ k.1 (subst (Led code byte old) (sym z) l)),
+          λ i. inl (subst (Led code byte old) z (k.0 (sym e ∙ w.1 i))),
+          λ l. elim l [ inl led ↦ w.0 (e ∙ k.1 (subst (Led code byte old) (sym z) led)) | inr front ↦ absurd (omega (arith, front)) ],
         )
 
-pub passing_ends : (code : List Node) (byte : ℕ) (old now : List ℕ) (at carry : ℕ) → Passing code byte old now at carry → length old ≤ at → length old ≡ width code → (number : ℕ) → IsIn now number ↔ Led code byte old number
+pub passing_ends : (code : List Node) (byte : ℕ) (old now : List ℕ) (at carry : ℕ) → Passing code byte old now at carry → length old ≤ at → length old ≡ width code → (number : ℕ) → IsIn now number ↔ LedOrFront code byte old number
 passing_ends code byte old now at carry p h size number = (
   λ k. let l = is_within now number k in let s = p.size in (p.past number (omega (arith, l, s, h))).0 k,
-  λ k.
-      let l = pass_least code k.0 byte number k.2 in
-      let e = k.2.3 in
-      (p.past number (omega (arith, l, e, size, h))).1 k,
+  λ k. (p.past number (within k)).1 k,
 )
+  where
+    within : LedOrFront code byte old number → number < 64 * at
+    within (inl k) =
+        let l = pass_least code k.0 byte number k.2 in
+        let e = k.2.3 in
+        omega (arith, l, e, size, h)
+    within (inr e) = omega (arith, e, size, h)
 
 -- no bit of words that are 0
 pub none_in : (words : List ℕ) (at : ℕ) → ((n : ℕ) → n < at → get_or words n 0 ≡ 0) → length words ≤ at → (number : ℕ) → IsIn words number → ⊥

@@ -1,5 +1,5 @@
 -- A search by sets of words, place by place.
-use Rattle.std.proofs.Common.{◌≡◌, ◌↔◌, inl, inr, ℕ, suc, ◌+◌, ◌*◌, ◌<◌, ◌≤◌, Bool, true, false, IsTrue, List, length, slice_index, refl, sym, ap, ◌∙◌, subst, arith}
+use Rattle.std.proofs.Common.{◌≡◌, ◌⊎◌, ◌↔◌, inl, inr, ℕ, suc, ◌+◌, ◌*◌, ◌<◌, ◌≤◌, Bool, true, false, IsTrue, List, length, slice_index, refl, sym, ap, ◌∙◌, subst, arith}
 use Rattle.std.proofs.lemmas.Bool.{cases_eq, false≢true}
 use Rattle.scan_core.specs.declared.node.Node.{Node}
 use Rattle.scan_core.specs.Code.{Entered, weight}
@@ -14,26 +14,29 @@ use Rattle.scan_core.proofs.Enterings.{positions_most}
 -- the line was searched up to a place, and no match has ended
 pub record Searched (code : List Node) (line : List ℕ) (place : ℕ) (words : List ℕ) (steps : ℕ) : Type 0 where
   pub size : length words ≡ width code
-  pub came : (number : ℕ) → IsIn words number ↔ Came code line place number
+  pub came : (number : ℕ) → IsIn words number ↔ (Came code line place number ⊎ (number ≡ 0))
   pub none : (before : ℕ) → before < place → Entered code line (length code) before → ⊥
   pub counted : AreSteps code line place steps
   pub bound : steps ≤ place * (weight code + 1)
 
-pub search_starts : (code : List Node) (line words : List ℕ) → length words ≡ width code → ((number : ℕ) → IsIn words number → ⊥) → Searched code line 0 words 0
-search_starts code line words size empty = record {
-  size = size;
-  came = λ number. (λ h. absurd (empty number h), λ c. absurd (omega (arith, c.1)));
+pub search_starts : (code : List Node) (line empty words : List ℕ) (before on : ℕ) → length empty ≡ width code → ((number : ℕ) → IsIn empty number → ⊥) → Grows (λ number. number ≡ 0) empty words before on → Searched code line 0 words 0
+search_starts code line empty words before on size none g = record {
+  size = g.size ∙ size;
+  came = λ number. (
+    λ h. elim ((g.exact number).0 h) [ inl was ↦ absurd (none number was) | inr e ↦ inr e ],
+    λ c. elim c [ inl k ↦ absurd (omega (arith, k.1)) | inr e ↦ (g.exact number).1 (inr e) ],
+  );
   none = λ before h. absurd (omega (arith, h));
   counted = none_counted code line;
   bound = omega arith;
 }
 
 -- what is entered at a place
-pub entered_here : (code : List Node) (line : List ℕ) (place steps before on : ℕ) (at_first at_last : Bool) (old middle new : List ℕ) → Searched code line place old steps → IsPlace line place at_first at_last → Grows (λ number. number ≡ 0) old middle before on → SpreadsOut code at_first at_last middle new
+pub entered_here : (code : List Node) (line : List ℕ) (place steps : ℕ) (at_first at_last : Bool) (old new : List ℕ) → Searched code line place old steps → IsPlace line place at_first at_last → SpreadsOut code at_first at_last old new
     → (number : ℕ) → IsIn new number ↔ Entered code line number place
-entered_here code line place steps before on at_first at_last old middle new s p g o = closes_exact code line place at_first at_last (IsIn old) (IsIn new) p s.came (λ number. (
-  λ h. let f = (o.exact number).0 h in (f.0, (g.exact f.0).0 f.1, f.2),
-  λ f. (o.exact number).1 (f.0, (g.exact f.0).1 f.1, f.2),
+entered_here code line place steps at_first at_last old new s p o = closes_exact code line place at_first at_last (Came code line place) (IsIn new) p (λ number. (λ h. h, λ h. h)) (λ number. (
+  λ h. let f = (o.exact number).0 h in (f.0, (s.came f.0).0 f.1, f.2),
+  λ f. (o.exact number).1 (f.0, (s.came f.0).1 f.1, f.2),
 ))
 
 -- the set of a place has no more positions than the code
@@ -45,13 +48,16 @@ marked_here code line place words here number = (λ h. (here number).0 ((flags_a
 
 -- one byte more
 pub search_more : (code : List Node) (line : List ℕ) (place byte steps positions : ℕ) (old now new : List ℕ) (found : Bool) → Searched code line place old steps → ((number : ℕ) → IsIn now number ↔ Entered code line number place) → place < length line → byte ≡ slice_index line place → positions ≡ positions_among code (flags_of now)
-    → found ≡ false → (IsTrue found ↔ IsIn now (length code)) → length new ≡ width code → ((number : ℕ) → IsIn new number ↔ ((before : ℕ) × IsIn now before × Passes code byte before number)) → Searched code line (place + 1) new (steps + positions)
+    → found ≡ false → (IsTrue found ↔ IsIn now (length code)) → length new ≡ width code → ((number : ℕ) → IsIn new number ↔ (((before : ℕ) × IsIn now before × Passes code byte before number) ⊎ (number ≡ 0))) → Searched code line (place + 1) new (steps + positions)
 search_more code line place byte steps positions old now new found s here h e p absent test size passed = record {
   size = size;
   came = λ number.
       let one : suc place ≡ place + 1 = omega arith in
       let c = came_exact code line place byte (IsIn now) here h e number in
-      subst (λ n. IsIn new number ↔ Came code line n number) one (λ k. c.0 ((passed number).0 k), λ k. (passed number).1 (c.1 k));
+      subst (λ n. IsIn new number ↔ (Came code line n number ⊎ (number ≡ 0))) one (
+        λ k. elim ((passed number).0 k) [ inl led ↦ inl (c.0 led) | inr front ↦ inr front ],
+        λ k. elim k [ inl came ↦ (passed number).1 (inl (c.1 came)) | inr front ↦ (passed number).1 (inr front) ],
+      );
   none = λ before l k. elim (cases_eq before place) [
     | inl same ↦ absurd (false≢true (sym absent ∙ test.1 ((here (length code)).1 (subst (λ q. Entered code line (length code) q) same k))))
     | inr other ↦ s.none before (omega (arith, l, other)) k

@@ -31,8 +31,8 @@ pub fn search(
 {
     let mut steps = 0;
     clear(words);
+    enter(words, 0, 0);
     for place in 0..line.len() {
-        enter(words, 0, 0);
         spread(words, nodes, &masks.leads, closures, place == 0, false);
         steps += positions(words, nodes, &masks.counts) as u128;
         if has(words, nodes.len()) {
@@ -47,7 +47,6 @@ pub fn search(
             byte,
         );
     }
-    enter(words, 0, 0);
     spread(words, nodes, &masks.leads, closures, line.is_empty(), true);
     steps += positions(words, nodes, &masks.counts) as u128;
     Outcome {

@@ -1,6 +1,6 @@
 //! Sets of a code's numbers as words: a step of the whole set takes a few operations for 64 numbers.
 
-ghost use Rattle.std.specs.Prelude.{◌≡◌, ◌↔◌, ◌<◌, ◌≤◌, ◌+◌, ◌*◌, ℕ, IsTrue, length};
+ghost use Rattle.std.specs.Prelude.{◌≡◌, ◌⊎◌, ◌↔◌, ◌<◌, ◌≤◌, ◌+◌, ◌*◌, ℕ, IsTrue, length};
 ghost use Rattle.scan_core.specs.declared.masks.Kind.TheVariants.{Takes, Counts};
 ghost use Rattle.scan_core.specs.Sets.{IsCode, Flows, Passes, positions_among};
 ghost use Rattle.scan_core.specs.Words.{Grows, IsIn, IsMask, flags_of, width};
@@ -81,16 +81,17 @@ pub fn clear(words: &mut [u64])
     }
 }
 
-/// Makes of a set what a byte leads to from it. The numbers whose nodes take the byte stand from a place on.
+/// Makes of a set what a byte leads to from it, with number 0 beside it, since a match may begin there. The numbers whose nodes
+/// take the byte stand from a place on.
 #[inline(always)]
 pub fn pass(words: &mut [u64], nodes: &[Node], takes: &[u64], from: usize, byte: u8)
     requires size { length words.old ≡ width nodes.now }
     requires takes { IsMask nodes.now (Takes byte) from takes.now }
     requires takes_size { from + width nodes.now ≤ length takes.now }
     ensures size { length words.new ≡ length words.old }
-    ensures exact { (number : ℕ) → IsIn words.new number ↔ ((before : ℕ) × IsIn words.old before × Passes nodes.now byte before number) }
+    ensures exact { (number : ℕ) → IsIn words.new number ↔ (((before : ℕ) × IsIn words.old before × Passes nodes.now byte before number) ⊎ (number ≡ 0)) }
 {
-    let mut carry: u64 = 0;
+    let mut carry: u64 = 1;
     for at in 0..words.len() {
         let kept = words[at] & takes[from + at];
         words[at] = (kept << 1) | carry;

@@ -25,17 +25,17 @@ overflow_add-steps-2 c =
 
 pub returns-then-has-clause-outcome : goal.returns-then-has-clause-outcome
 returns-then-has-clause-outcome c =
-    let here = entered_here c.args.nodes.now c.args.line.now c.loop-place.place c.loop-place.steps 0 _ _ false _ _ _ c.loop-place.invariant (inner c.args.line.now c.loop-place.place _ c.loop-place-test.true refl) c.enter.ensures c.spread.ensures in
+    let here = entered_here c.args.nodes.now c.args.line.now c.loop-place.place c.loop-place.steps _ false _ _ c.loop-place.invariant (inner c.args.line.now c.loop-place.place _ c.loop-place-test.true refl) c.spread.ensures in
     search_found c.args.nodes.now c.args.line.now c.loop-place.place c.loop-place.steps c.positions.result c.loop-place.words c.spread.new.words c.loop-place.invariant here c.loop-place-test.true c.positions.ensures (c.has.ensures.0 c.if-has.true)
 
 pub loop-place-preserved : goal.loop-place-preserved
 loop-place-preserved c =
-    let here = entered_here c.args.nodes.now c.args.line.now c.loop-place.place c.loop-place.steps 0 _ _ false _ _ _ c.loop-place.invariant (inner c.args.line.now c.loop-place.place _ c.loop-place-test.true refl) c.enter.ensures c.spread.ensures in
+    let here = entered_here c.args.nodes.now c.args.line.now c.loop-place.place c.loop-place.steps _ false _ _ c.loop-place.invariant (inner c.args.line.now c.loop-place.place _ c.loop-place-test.true refl) c.spread.ensures in
     search_more c.args.nodes.now c.args.line.now c.loop-place.place _ c.loop-place.steps c.positions.result c.loop-place.words c.spread.new.words c.pass.new.words c.has.result c.loop-place.invariant here c.loop-place-test.true refl c.positions.ensures
-    c.if-has.false c.has.ensures (c.pass.ensures.size ∙ c.spread.ensures.size ∙ c.enter.ensures.size ∙ c.loop-place.invariant.size) c.pass.ensures.exact
+    c.if-has.false c.has.ensures (c.pass.ensures.size ∙ c.spread.ensures.size ∙ c.loop-place.invariant.size) c.pass.ensures.exact
 
 pub returns-clause-outcome : goal.returns-clause-outcome
 returns-clause-outcome c =
     let e : c.loop-place.place ≡ length c.args.line.now = omega arith in
-    let here = entered_here c.args.nodes.now c.args.line.now c.loop-place.place c.loop-place.steps 0 _ _ true _ _ _ c.loop-place.invariant (final c.args.line.now c.loop-place.place c.is_empty.result e c.is_empty.ensures) c.enter-2.ensures c.spread-2.ensures in
+    let here = entered_here c.args.nodes.now c.args.line.now c.loop-place.place c.loop-place.steps _ true _ _ c.loop-place.invariant (final c.args.line.now c.loop-place.place c.is_empty.result e c.is_empty.ensures) c.spread-2.ensures in
     search_ends c.args.nodes.now c.args.line.now c.loop-place.place c.loop-place.steps c.positions-2.result c.loop-place.words c.spread-2.new.words c.has-2.result c.loop-place.invariant here e c.positions-2.ensures c.has-2.ensures

@@ -1,8 +1,11 @@
 use Rattle.std.proofs.Common.{rules, ◌+◌, ◌<◌, ◌^◌, refl, arith, slice_index_or}
 use Rattle.std.proofs.lemmas.Nat.{and_le_l}
 use Rattle.std.specs.Prelude.{bit_and}
-use Rattle.scan_core.proofs.Passings.{passing_more, passing_ends}
+use Rattle.scan_core.proofs.Passings.{passing_starts, passing_more, passing_ends}
 use Rattle.scan_core.proofs.words.pass.Goals as goal
+
+pub loop-at-init : goal.loop-at-init
+loop-at-init c = passing_starts c.args.nodes.now c.args.byte c.args.words.now
 
 pub loop-at-preserved : goal.loop-at-preserved
 loop-at-preserved c =
