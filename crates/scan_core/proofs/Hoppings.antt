@@ -1,5 +1,5 @@
 -- Hops: numbers of a word that lead to the same one beyond it.
-use Rattle.std.proofs.Common.{◌≡◌, ◌⊎◌, inl, inr, ℕ, suc, ◌+◌, ◌*◌, ◌/◌, ◌%◌, ◌^◌, ◌<◌, ◌≤◌, false, List, [], ◌∷◌, ◌++◌, length, get_or, sym, refl, ap, ◌∙◌, subst, arith, length-append, w64}
+use Rattle.std.proofs.Common.{◌≡◌, ◌⊎◌, inl, inr, ℕ, suc, ◌+◌, ◌*◌, ◌/◌, ◌%◌, ◌^◌, ◌<◌, ◌≤◌, false, List, [], ◌∷◌, ◌++◌, length, get_or, set, min, sym, refl, ap, ◌∙◌, subst, arith, length-append, w64}
 use Rattle.std.proofs.lemmas.Bool.{cases_eq}
 use Rattle.std.proofs.lemmas.Nat.{and_le_l}
 use Rattle.std.proofs.lemmas.Nat.Bits.{bit_at-trailing_zeros, bit_at_and, bit_at-lt, bit_at-zero, bit_at_set_same, bit_at_set_other}
@@ -9,9 +9,11 @@ use Rattle.scan_core.specs.declared.hops.Hop.{Hop}
 use Rattle.scan_core.specs.declared.node.Node.{Node}
 use Rattle.scan_core.specs.Hops.{AreHops, Hopped, IsHop, no_hop}
 use Rattle.scan_core.specs.Sets.{Flows}
-use Rattle.scan_core.specs.Words.{Grows}
-use Rattle.scan_core.proofs.Bits.{grows_none}
+use Rattle.scan_core.specs.Words.{IsIn, Grows}
+use Rattle.scan_core.proofs.Bits.{grows_one, grows_none}
 use Rattle.scan_core.proofs.Growings.{grows_by, grows_both}
+use Rattle.scan_core.proofs.Insides.{bit_is}
+use Rattle.scan_core.proofs.Visitings.{is_in_word}
 use Rattle.scan_core.proofs.Tables.{get-front, get-last}
 
 -- the first numbers of a word that lead to a number
@@ -30,8 +32,9 @@ from_more code at to count word before h here bit small is = elim (cases_eq bit 
 pub from_skip : (code : List Node) (at to count word : ℕ) → From code at to count word → From code at to (count + 1) word
 from_skip code at to count word before = before
 
-pub no_hop_is : (code : List Node) (at to : ℕ) → to ≤ length code → IsHop code at (record { from = 0; to = to })
-no_hop_is code at to h = record { within = h; leads = λ bit small is. let z = bit_at-zero bit in absurd (omega (arith, z, is)) }
+-- no number leads anywhere
+pub none_leads : (code : List Node) (at to bit : ℕ) → bit_at 0 bit ≡ 1 → Flows code false false (at * 64 + bit) to
+none_leads code at to bit is = let z = bit_at-zero bit in absurd (omega (arith, z, is))
 
 -- one hop more
 pub hop_pushed : (code : List Node) (hops new : List Hop) (count : ℕ) (hop : Hop) → AreHops code count hops → IsHop code (count / 3) hop → new ≡ hops ++ hop ∷ [] → AreHops code (count + 1) new
@@ -89,3 +92,26 @@ hopped_skip hops at word count old now before on none f = grows_by (Hopped hops 
       | inl same ↦ absurd (none_of word (get_or hops (at * 3 + count) no_hop).from h.2 none h.4 (ap (λ k. bit_at (get_or hops (at * 3 + k) no_hop).from h.2) (sym same) ∙ h.5))
       | inr other ↦ (h.0, (let l = h.1 in omega (arith, l, other)), h.2, h.3, h.4, h.5, h.6)
     ]
+
+-- a number by its word and bit
+pub entered_is : (words : List ℕ) (number word bit : ℕ) → word ≡ number / 64 → bit ≡ 1 * 2 ^ (number % 64) % 2 ^ 64 → get_or words word 0 < 2 ^ 64 → (bit_and (get_or words word 0) bit ≡ 0 → ⊥) → IsIn words number
+entered_is words number word bit ew eb fits some =
+    let one = one_of (get_or words word 0) bit fits some in
+    let same : number ≡ word * 64 + one.0 = (bit_is word number one.0 (sym ew) one.1).0 (ap (λ x. bit_at x one.0) (sym eb) ∙ one.3) in
+    subst (IsIn words) (sym same) ((is_in_word words word one.0 one.1).0 one.2)
+
+pub absent_is : (words : List ℕ) (number word bit : ℕ) → word ≡ number / 64 → bit ≡ 1 * 2 ^ (number % 64) % 2 ^ 64 → bit_and (get_or words word 0) bit ≡ 0 → IsIn words number → ⊥
+absent_is words number word bit ew eb none h =
+    let same : number ≡ word * 64 + number % 64 = omega (arith, ew) in
+    let one = (is_in_word words word (number % 64) (omega arith)).1 (subst (IsIn words) same h) in
+    let two = ap (λ x. bit_at x (number % 64)) eb ∙ (bit_is word number (number % 64) (sym ew) (omega arith)).1 same in
+    none_of (get_or words word 0) bit (number % 64) none one two
+
+pub follow_new : (old new : List ℕ) (number word bit before on : ℕ) → number < 64 * length old → word ≡ number / 64 → bit ≡ 1 * 2 ^ (number % 64) % 2 ^ 64 → get_or old word 0 < 2 ^ 64 → bit_and (get_or old word 0) bit ≡ 0 → new ≡ set old word (bit_or (get_or old word 0) bit) → on ≡ min before word
+    → Grows (λ other. other ≡ number) old new before on
+follow_new old new number word bit before on h ew eb fits none en eo =
+    grows_one old new number (get_or old word 0) before on h (absent_is old number word bit ew eb none) (ap (λ k. get_or old k 0) ew) fits
+    (en ∙ ap (λ k. set old k (bit_or (get_or old word 0) bit)) ew ∙ ap (λ x. set old (number / 64) (bit_or (get_or old word 0) x)) eb) (eo ∙ ap (min before) ew)
+
+pub follow_old : (words : List ℕ) (number word bit on : ℕ) → word ≡ number / 64 → bit ≡ 1 * 2 ^ (number % 64) % 2 ^ 64 → get_or words word 0 < 2 ^ 64 → (bit_and (get_or words word 0) bit ≡ 0 → ⊥) → Grows (λ other. other ≡ number) words words on on
+follow_old words number word bit on ew eb fits some = grows_none (λ other. other ≡ number) words words on on refl refl (λ other e. subst (IsIn words) (sym e) (entered_is words number word bit ew eb fits some))

@@ -1,16 +1,18 @@
 -- Hops: numbers of a word that lead to the same one beyond it.
-use Rattle.std.specs.Prelude.{◌≡◌, ℕ, ◌+◌, ◌*◌, ◌/◌, ◌<◌, ◌≤◌, false, List, length, slice_index_or}
+use Rattle.std.specs.Prelude.{◌≡◌, ℕ, ◌+◌, ◌*◌, ◌/◌, ◌%◌, ◌^◌, ◌<◌, ◌≤◌, false, List, length, slice_index_or}
 use Rattle.std.specs.Int.{bit_at}
 use Rattle.scan_core.specs.declared.hops.Hop.{Hop}
 use Rattle.scan_core.specs.declared.node.Node.{Node}
 use Rattle.scan_core.specs.Sets.{Flows}
 
 abbrev pub no_hop : Hop
-no_hop = record { from = 0; to = 0 }
+no_hop = record { from = 0; to = 0; word = 0; bit = 0 }
 
 -- at any place, the numbers lead where the hop does
 pub record IsHop (code : List Node) (at : ℕ) (hop : Hop) : Type 0 where
   pub within : hop.to ≤ length code
+  pub word : hop.word ≡ hop.to / 64
+  pub bit : hop.bit ≡ 1 * 2 ^ (hop.to % 64) % 2 ^ 64
   pub leads : (bit : ℕ) → bit < 64 → bit_at hop.from bit ≡ 1 → Flows code false false (at * 64 + bit) hop.to
 
 -- the first hops, three for each word

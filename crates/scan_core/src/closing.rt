@@ -1,6 +1,6 @@
 //! Entering all that follows without a byte, word by word: what is in the word by its closures, and then what is out of it, mostly by hops.
 
-ghost use Rattle.std.specs.Prelude.{◌≡◌, ◌<◌, ◌*◌, length};
+ghost use Rattle.std.specs.Prelude.{◌≡◌, ◌<◌, ◌*◌, ◌/◌, ◌%◌, ◌^◌, length};
 ghost use Rattle.scan_core.specs.Closures.{AreClosures};
 ghost use Rattle.scan_core.specs.Hops.{AreHops, Hopped};
 ghost use Rattle.scan_core.specs.declared.masks.Kind.TheVariants.{Leads};
@@ -10,7 +10,23 @@ ghost use Rattle.scan_core.specs.Words.{Grows, IsMask, SpreadsOut, Visits, width
 use crate::closures::{Closures, closed};
 use crate::hops::{HOPS, Hop};
 use crate::node::Node;
-use crate::words::{enter, lead};
+use crate::words::lead;
+
+/// Enters what a hop leads to. Returns the word to go on with, as `enter` does.
+#[inline(always)]
+fn follow(words: &mut [u64], hop: &Hop, on: usize) -> usize
+    requires room { hop.now.to < 64 * length words.old }
+    requires word { hop.now.word ≡ hop.now.to / 64 }
+    requires bit { hop.now.bit ≡ 1 * 2 ^ (hop.now.to % 64) % 2 ^ 64 }
+    ensures { Grows (λ other. other ≡ hop.now.to) words.old words.new on result }
+{
+    let word = words[hop.word];
+    if word & hop.bit != 0 {
+        return on;
+    }
+    words[hop.word] = word | hop.bit;
+    on.min(hop.word)
+}
 
 /// Enters what the hops of a word lead to from some of its numbers.
 #[inline(always)]
@@ -31,7 +47,7 @@ fn hop(
     for which in 0..HOPS {
         let hop = &hops[at * HOPS + which];
         if word & hop.from != 0 {
-            on = enter(words, hop.to, on);
+            on = follow(words, hop, on);
         }
     }
     on

@@ -21,6 +21,9 @@ pub struct Hop {
     pub from: u64,
     /// What they lead to.
     pub to: usize,
+    /// The word of that number, and its bit there.
+    pub word: usize,
+    pub bit: u64,
 }
 
 /// Whether a node leads to a number without a byte, at any place of a line.
@@ -114,12 +117,16 @@ fn hop_of(nodes: &[Node], hops: &[Hop], at: usize) -> Hop
     ensures { IsHop nodes.now at result }
 {
     let to = next_of(nodes, hops, at);
-    if to / 64 == at {
-        return Hop { from: 0, to };
-    }
+    let from = if to / 64 == at {
+        0
+    } else {
+        from_of(nodes, at, to)
+    };
     Hop {
-        from: from_of(nodes, at, to),
+        from,
         to,
+        word: to / 64,
+        bit: 1u64 << (to % 64),
     }
 }
 
