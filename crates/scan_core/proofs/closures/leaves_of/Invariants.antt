@@ -1,4 +1,4 @@
-use Rattle.std.proofs.Common.{◌≡◌, ◌*◌, ◌<◌, ℕ, length, get_or}
+use Rattle.std.proofs.Common.{◌≡◌, ◌<◌, ℕ, length, get_or}
 use Rattle.scan_core.specs.Closures.{IsLeaving}
 use Rattle.scan_core.proofs.closures.leaves_of.Given as goal
 

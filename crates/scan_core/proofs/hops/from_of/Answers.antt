@@ -1,4 +1,4 @@
-use Rattle.std.proofs.Common.{◌+◌, sym, refl, subst, arith}
+use Rattle.std.proofs.Common.{◌+◌, sym, subst}
 use Rattle.scan_core.proofs.Hoppings.{From, from_more, from_skip, from_starts}
 use Rattle.scan_core.proofs.hops.from_of.Goals as goal
 use Rattle.scan_core.proofs.hops.from_of.Goals.{then-leads_to, else-leads_to}

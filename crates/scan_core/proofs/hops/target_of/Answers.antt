@@ -1,4 +1,4 @@
-use Rattle.std.proofs.Common.{rules, arith}
+use Rattle.std.proofs.Common.{rules}
 use Rattle.scan_core.proofs.Enterings.{node_here, target_in}
 use Rattle.scan_core.proofs.hops.target_of.Goals as goal
 
