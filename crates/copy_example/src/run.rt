@@ -50,6 +50,7 @@ impl Adapter for CopyAdapter {
 
 /// Copies the input of this name, says what went wrong on standard error, and returns the status: 0, or 1 where a fault was
 /// met.
+/// It takes memory for a buffer of 65,536 bytes and for messages.
 pub fn copy_input<I: Inputs, O: Outs>(
     alloc: Global,
     keep: bool,

@@ -38,7 +38,10 @@ pub struct Progress {
     failed: bool,
 }
 
-/// A whole run of a tool over the inputs of these names: its status is 1 where a fault was met.
+/// A whole run of a tool over the inputs of these names, in order (POSIX.1-2017, XBD 12.2: `-` is standard input; a later `-` is empty).
+/// It writes headers and what the tool makes of each input, and tells each fault on standard error; a fault of memory, of an output or
+/// of length ends the run. Its status is 1 where a fault was met, else 0. It takes memory for a buffer of 65,536 bytes and for what the
+/// tool's engine, headers and messages need.
 pub fn run_inputs<A: Adapter, I: Inputs, O: Outs>(
     alloc: Global,
     adapter: &A,

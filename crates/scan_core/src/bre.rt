@@ -58,13 +58,15 @@ impl Bre {
     /// Reads a basic regular expression (POSIX.1-2017, XBD 9.3, in the POSIX locale), in one pass over the text, and makes
     /// ready to match lines with it.
     ///
-    /// Fails with one of the kinds `Empty` to `Class` where the text is no pattern: the first fault from left to right,
-    /// with its place. Fails with `TooLarge` where a 256th group would be open at once, or where the whole text reads and
-    /// has more than 65,535 positions, and with `Memory` where a growth is refused.
-    ///
     /// A pattern keeps one entry for each of its tokens, of which it has no more than the text has bytes, at most two nodes
-    /// of 114 bytes for each of its positions, and where it has at most 512 nodes a table of up to 4,096 sets with 544 bytes
+    /// of 340 bytes for each of its positions, and where it has at most 8,191 nodes a table of up to 4,096 sets with 544 bytes
     /// for each; where these are at most nine, also 4,096 bytes of words.
+    ///
+    /// # Errors
+    ///
+    /// One of the kinds `Empty` to `Class` where the text is no pattern: the first fault from left to right, with its place.
+    /// `TooLarge` where a 256th group would be open at once, or where the whole text reads and has more than 65,535
+    /// positions. `Memory` where a growth is refused.
     pub fn read(alloc: Global, text: &[u8]) -> Result<Bre, BreFault>
         ensures reads { IfOk result (Reads text.now) }
         ensures groups { IfOk result (λ bre. depth_of bre ≤ 255) }
@@ -157,7 +159,9 @@ impl Bre {
 /// and each token takes up to n to the power of 3 steps, an interval as many times as its bound says. `Scan::matches`
 /// returns the same fast, and without memory.
 ///
-/// Fails with `Memory` alone.
+/// # Errors
+///
+/// `Memory` alone.
 pub fn matches_plain(alloc: Global, bre: &Bre, line: &[u8]) -> Result<bool, BreFault>
     ensures exact { IfOk result (λ found. found ≡ contains bre.now line.now) }
     ensures err { IfErr result (λ fault. fault ≡ Memory) }

@@ -305,7 +305,7 @@ impl Building {
 
 /// The table of a code: none where the pattern's end is entered at the front of each line, or where the code is long.
 ///
-/// It has up to 4,096 sets, and fewer where the code is long, with 512 bytes for each.
+/// It has up to 4,096 sets, and fewer where the code is long, with 512 bytes of entries for each, and its state.
 pub fn build(alloc: Global, nodes: &[Node]) -> Result<Option<Table>, BreFault>
     requires { IsCode nodes.now }
     ensures ok { IfOk result (λ made. IfSome made (IsTable nodes.now)) }

@@ -38,7 +38,9 @@ impl Scan {
     /// Room for patterns of as many positions as this one. It takes one bit for each number of a node, of which there may be
     /// two for each position.
     ///
-    /// Fails with `Memory` alone.
+    /// # Errors
+    ///
+    /// `Memory` where there is no room.
     pub fn new(alloc: Global, bre: &Bre) -> Result<Scan, BreFault>
         ensures positions { IfOk result (λ scan. scan.positions ≡ positions_of bre.now) }
         ensures steps { IfOk result (λ scan. scan.steps ≡ 0) }

@@ -18,7 +18,10 @@ use std::alloc::Global;
 use std::marker::Model;
 
 /// Cuts its input into files (POSIX.1-2017, XCU split; `-C` and `-n r/N` are GNU's). A file is opened with its first
-/// byte, and closed before the next is opened; where lines are dealt, all files are open at once.
+/// byte, and closed before the next is opened; where lines are dealt, files are closed at the end alone.
+///
+/// It takes memory for names; under `-C` for the open line after whole ones; and where lines are dealt, for one piece and a list of the
+/// files.
 #[derive(Drop)]
 pub struct Splitter {
     engine: Guarded<Ways>,
