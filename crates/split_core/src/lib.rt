@@ -21,6 +21,8 @@ mod round_splitter;
 mod round_tests;
 mod splitter;
 mod step;
+#[cfg(test)]
+mod test_texts;
 mod ways;
 
 pub use cut::{Cut, Limit};

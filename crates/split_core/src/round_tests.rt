@@ -4,6 +4,7 @@ ghost use Rattle.std.specs.Prelude.{◌≡◌, ◌<◌, ◌≤◌, false, length
 ghost use Rattle.split_core.specs.Ways.{Ready};
 
 use crate::round_plain::plain;
+use crate::test_texts::{DELIMITERS, SIZES, text_of};
 use crate::{Cut, Splitter};
 use ports_core::{Alphabet, Engine, Fault, MemOut, Names, Outs};
 use std::alloc::{AllocError, Global};
@@ -12,21 +13,6 @@ use std::test::Fail;
 
 /// The first names.
 const NAMES: [&str; 5] = ["xaa", "xab", "xac", "xad", "xae"];
-
-/// The bytes that lines end with.
-const DELIMITERS: [u8; 3] = [b'\n', 0, b'c'];
-
-/// For each size of a text: how many texts there are of three bytes, of which one is the delimiter, and how many ways
-/// to cut one into pieces.
-const SIZES: [(usize, u32, u32); 7] = [
-    (0, 1, 1),
-    (1, 3, 1),
-    (2, 9, 2),
-    (3, 27, 4),
-    (4, 81, 8),
-    (5, 243, 16),
-    (6, 729, 32),
-];
 
 #[test]
 fn deals_in_turn(rt: HostRuntime) -> Result<(), Fail> {
@@ -171,23 +157,6 @@ fn agree_on_size(
         }
     }
     Ok(true)
-}
-
-/// The text with this number: its bytes stand for the number's digits. Where lines end with another byte, a newline is
-/// a byte as any other.
-fn text_of(number: u32, delim: u8) -> [u8; 6] {
-    let other = if delim == b'\n' { b'b' } else { b'\n' };
-    let mut text = [delim; 6];
-    let mut left = number;
-    for byte in text.iter_mut() {
-        match left % 3 {
-            0 => *byte = b'a',
-            1 => *byte = other,
-            _ => {}
-        }
-        left /= 3;
-    }
-    text
 }
 
 fn agree_on_text(alloc: Global, text: &[u8], ways: u32, delim: u8) -> Result<bool, Fault> {
