@@ -4,6 +4,7 @@
 mod adapter;
 mod feeding;
 mod inputs;
+mod passing;
 
 pub use adapter::Adapter;
 pub use feeding::{Fed, feed_input, feed_nothing};

@@ -1,0 +1,1 @@
+use Rattle.ends_core.proofs.back.find_bytes.Goals as goal
