@@ -7,17 +7,18 @@ use Rattle.std.proofs.lemmas.Nat.Bits.{bit_at_and, bit_at_not, bit_at-lt, bit_at
 use Rattle.std.specs.Prelude.{bit_and, bit_or}
 use Rattle.std.specs.Int.{bit_at, bit_not}
 use Rattle.bre_core.specs.Match.{Parts}
-use Rattle.scan_core.specs.declared.masks.Kind.TheVariants.{Leads}
+use Rattle.scan_core.specs.declared.base.Base.{Base}
 use Rattle.scan_core.specs.declared.node.Node.{Node}
 use Rattle.scan_core.specs.declared.node.Node.TheVariants.{Take, First, Last, Choose, Back}
+use Rattle.scan_core.specs.Base.{IsBase}
 use Rattle.scan_core.specs.Closures.{ArePeers, Closes, IsLeaving, Stays}
 use Rattle.scan_core.specs.declared.hops.Hop.{Hop}
 use Rattle.scan_core.specs.Hops.{AreHops, Hopped, HopsTo, no_hop}
 use Rattle.scan_core.specs.Sets.{LeadsOn, Flows, FlowsOn}
-use Rattle.scan_core.specs.Words.{IsIn, unset, Grows, IsMask, Visits, width}
+use Rattle.scan_core.specs.Words.{IsIn, unset, Grows, Visits, width}
 use Rattle.scan_core.proofs.Insides.{left_bit, right_bit, either_bit}
 use Rattle.scan_core.proofs.Passings.{set_elsewhere}
-use Rattle.scan_core.proofs.Visitings.{Visiting, is_in_word, lead_bit}
+use Rattle.scan_core.proofs.Visitings.{Visiting, is_in_word}
 
 leads_anywhere : (node : Node) (at_first at_last : Bool) (from to : ℕ) → LeadsOn node false false from to → LeadsOn node at_first at_last from to
 leads_anywhere (Take bytes) at_first at_last from to h = h
@@ -29,7 +30,7 @@ leads_anywhere (Back by) at_first at_last from to h = h
 flow_anywhere : (code : List Node) (at_first at_last : Bool) (from to : ℕ) → Flows code false false from to → Flows code at_first at_last from to
 flow_anywhere code at_first at_last from to f = (f.0, f.1, leads_anywhere f.0 at_first at_last from to f.2)
 
-parts_anywhere : (code : List Node) (at_first at_last : Bool) (count from to : ℕ) → Parts (Flows code false false) count from to → Parts (Flows code at_first at_last) count from to
+pub parts_anywhere : (code : List Node) (at_first at_last : Bool) (count from to : ℕ) → Parts (Flows code false false) count from to → Parts (Flows code at_first at_last) count from to
 parts_anywhere code at_first at_last zero from to p = p
 parts_anywhere code at_first at_last (suc count) from to p = (p.0, parts_anywhere code at_first at_last count from p.0 p.1, (p.2.0, p.2.1, leads_anywhere p.2.0 at_first at_last p.0 to p.2.2))
 
@@ -207,9 +208,9 @@ close_ends code hops at_first at_last at left leaves start old now new on on' c 
         side one flow (inr (inl stays)) = v.kept to (c.closed (at * 64 + from % 64) to (omega arith) ((is_in_word old at (from % 64) (omega arith)).0 one) stays)
         side one flow (inr (inr k)) = (g.exact to).1 (inr (k.0, k.1, from % 64, omega arith, one, k.2, k.3))
 
--- none of the word's numbers leads on
-pub close_none : (code : List Node) (at_first at_last : Bool) (at : ℕ) (words leads : List ℕ) → IsMask code Leads 0 leads → bit_and (get_or words at 0) (get_or leads at 0) ≡ 0 → Visits code at_first at_last at words words (at + 1)
-close_none code at_first at_last at words leads m e = record {
+-- none of the word's numbers leads out of the base
+pub close_none : (code : List Node) (base : Base) (at_first at_last : Bool) (at : ℕ) (words : List ℕ) → IsBase code base → ((number : ℕ) → IsIn base.words.items number → IsIn words number) → at < width code → bit_and (get_or words at 0) (get_or base.leads.items at 0) ≡ 0 → Visits code at_first at_last at words words (at + 1)
+close_none code base at_first at_last at words b begun inside e = record {
   size = refl;
   kept = λ number h. h;
   from = λ number h. (number, h, (0, refl));
@@ -220,8 +221,10 @@ close_none code at_first at_last at words leads m e = record {
   done = λ last start to here h f.
       let same : start ≡ at * 64 + start % 64 = omega (arith, here) in
       let one = (is_in_word words at (start % 64) (omega arith)).1 (subst (IsIn words) same h) in
-      let two = ap (λ k. bit_at (get_or leads k 0) (start % 64)) (sym here) ∙ lead_bit code leads at_first at_last start to m f in
-      let both = bit_at_and (get_or words at 0) (get_or leads at 0) (start % 64) in
+      let both = bit_at_and (get_or words at 0) (get_or base.leads.items at 0) (start % 64) in
       let z = ap (λ w. bit_at w (start % 64)) e ∙ bit_at-zero (start % 64) in
-      absurd (omega (arith, one, two, both, z));
+      elim (b.leads.each at inside (start % 64) at_first at_last to (omega arith) (subst (λ n. Flows code at_first at_last n to) same f)) [
+        | inl two ↦ absurd (omega (arith, one, two, both, z))
+        | inr based ↦ begun to based
+      ];
 }

@@ -23,3 +23,4 @@ pub mod Insides
 pub mod Closings
 pub mod Shiftings
 pub mod Hoppings
+pub mod Bases

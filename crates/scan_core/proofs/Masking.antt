@@ -5,9 +5,9 @@ use Rattle.std.proofs.lemmas.Nat.Bits.{bit_at_set_same, bit_at_set_other, bit_at
 use Rattle.std.specs.Prelude.{bit_or}
 use Rattle.std.specs.Int.{bit_at}
 use Rattle.scan_core.specs.declared.masks.Kind.{Kind}
-use Rattle.scan_core.specs.declared.masks.Kind.TheVariants.{Takes, Leads}
+use Rattle.scan_core.specs.declared.masks.Kind.TheVariants.{Takes}
 use Rattle.scan_core.specs.declared.node.Node.{Node}
-use Rattle.scan_core.specs.Code.{At, is_lead, weight_of}
+use Rattle.scan_core.specs.Code.{At, weight_of}
 use Rattle.scan_core.specs.Words.{AddsMask, IsMask, IsOf, counted_at, width}
 use Rattle.scan_core.proofs.Enterings.{at_once, at_least}
 use Rattle.scan_core.proofs.Tables.{get-front, get-last}
@@ -96,13 +96,6 @@ take_more code old new byte t a = record {
         let g : (b + 1 + (byte - (b + 1))) * width code ≡ b * width code + width code + (byte - (b + 1)) * width code = grind arith in
         let s = t.size in
         omega (arith, f, g, s, l)
-
--- whether a number's node leads on
-pub lead_in : (code : List Node) (number : ℕ) (node : Node) → At code number node → IsTrue (is_lead node) ↔ IsOf code Leads number
-lead_in code number node here = (λ h. (node, here, h), λ is. subst (λ n. IsTrue (is_lead n)) (at_once code number is.0 node is.1 here) is.2)
-
-pub lead_out : (code : List Node) (number : ℕ) → length code ≤ number → IsOf code Leads number → ⊥
-lead_out code number h is = let l = at_least code number is.0 is.1 in omega (arith, l, h)
 
 pub counted_in : (code : List Node) (number : ℕ) (node : Node) → At code number node → weight_of node ≡ counted_at code number
 counted_in [] number node here = absurd here

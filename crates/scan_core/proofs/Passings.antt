@@ -10,15 +10,16 @@ use Rattle.scan_core.specs.declared.node.Node.{Node}
 use Rattle.scan_core.specs.Sets.{Passes}
 use Rattle.scan_core.specs.Words.{IsIn, width, IsMask}
 use Rattle.scan_core.proofs.Enterings.{pass_least}
+use Rattle.scan_core.proofs.Insides.{left_bit, right_bit, either_bit}
 use Rattle.scan_core.proofs.Visitings.{is_in_word, is_within}
 
 -- what a byte leads to from a set
 abbrev pub Led : List Node → ℕ → List ℕ → ℕ → Type 0
 Led code byte words number = (before : ℕ) × IsIn words before × Passes code byte before number
 
--- the same, with the number where a match may begin
-abbrev pub LedOrFront : List Node → ℕ → List ℕ → ℕ → Type 0
-LedOrFront code byte words number = Led code byte words number ⊎ (number ≡ 0)
+-- the same, with what is in each set
+abbrev pub LedOrBase : List Node → ℕ → List ℕ → List ℕ → ℕ → Type 0
+LedOrBase code byte base words number = Led code byte words number ⊎ IsIn base number
 
 -- the bits of a word that is shifted up by one, and of what comes in below
 shifted_low : (kept carry : ℕ) → carry < 2 → bit_at (bit_or (kept * 2 ^ 1 % 2 ^ 64) carry) 0 ≡ carry
@@ -72,40 +73,40 @@ set_elsewhere words at word number differs =
     (λ k. sym e ∙ k, λ k. e ∙ k)
 
 -- the first words hold what the byte leads to
-pub record Passing (code : List Node) (byte : ℕ) (old now : List ℕ) (at carry : ℕ) : Type 0 where
+pub record Passing (code : List Node) (byte : ℕ) (base old now : List ℕ) (at carry : ℕ) : Type 0 where
   pub size : length now ≡ length old
-  pub past : (number : ℕ) → number < 64 * at → IsIn now number ↔ LedOrFront code byte old number
+  pub past : (number : ℕ) → number < 64 * at → IsIn now number ↔ LedOrBase code byte base old number
   pub rest : (n : ℕ) → at ≤ n → get_or now n 0 ≡ get_or old n 0
   pub bit : carry < 2
-  pub over : (carry ≡ 1) ↔ LedOrFront code byte old (at * 64)
+  pub over : (carry ≡ 1) ↔ Led code byte old (at * 64)
 
-pub passing_starts : (code : List Node) (byte : ℕ) (old : List ℕ) → Passing code byte old old 0 1
-passing_starts code byte old = record {
+pub passing_starts : (code : List Node) (byte : ℕ) (base old : List ℕ) → Passing code byte base old old 0 0
+passing_starts code byte base old = record {
   size = refl;
   past = λ number h. absurd (omega (arith, h));
   rest = λ n h. refl;
   bit = omega arith;
-  over = (λ h. inr refl, λ l. refl);
+  over = (λ h. absurd (omega (arith, h)), λ l. absurd (let e = l.2.3 in omega (arith, e)));
 }
 
-pub passing_more : (code : List Node) (byte : ℕ) (old now new takes : List ℕ) (from at carry kept : ℕ) → Passing code byte old now at carry → IsMask code (Takes byte) from takes → length old ≡ width code → at < length old
-    → kept ≡ bit_and (get_or now at 0) (get_or takes (from + at) 0) → kept < 2 ^ 64 → new ≡ set now at (bit_or (kept * 2 ^ 1 % 2 ^ 64) carry) → Passing code byte old new (at + 1) (kept / 2 ^ 63)
-passing_more code byte old now new takes from at carry kept p m size h ek fits en = record {
-  size = ap length en ∙ length-set now at (bit_or (kept * 2 ^ 1 % 2 ^ 64) carry) ∙ p.size;
+pub passing_more : (code : List Node) (byte : ℕ) (base old now new takes : List ℕ) (from at carry kept : ℕ) → Passing code byte base old now at carry → IsMask code (Takes byte) from takes → length old ≡ width code → at < length old
+    → kept ≡ bit_and (get_or now at 0) (get_or takes (from + at) 0) → kept < 2 ^ 64 → new ≡ set now at (bit_or (bit_or (kept * 2 ^ 1 % 2 ^ 64) carry) (get_or base at 0)) → Passing code byte base old new (at + 1) (kept / 2 ^ 63)
+passing_more code byte base old now new takes from at carry kept p m size h ek fits en = record {
+  size = ap length en ∙ length-set now at (bit_or (bit_or (kept * 2 ^ 1 % 2 ^ 64) carry) (get_or base at 0)) ∙ p.size;
   past = λ number l. elim (cases_lt number (64 * at)) [
-    | inl before ↦ subst (λ w. IsIn w number ↔ LedOrFront code byte old number) (sym en) (earlier number before (p.past number before))
+    | inl before ↦ subst (λ w. IsIn w number ↔ LedOrBase code byte base old number) (sym en) (earlier number before (p.past number before))
     | inr here ↦
         let same : number ≡ at * 64 + number % 64 = omega (arith, l, here) in
-        subst (λ n. IsIn new n ↔ LedOrFront code byte old n) (sym same) (inside (number % 64) (omega arith))
+        subst (λ n. IsIn new n ↔ LedOrBase code byte base old n) (sym same) (joined (number % 64) (omega arith) (inside (number % 64) (omega arith)))
   ];
-  rest = λ n l. ap (λ w. get_or w n 0) en ∙ get_or-set_other now at n (bit_or (kept * 2 ^ 1 % 2 ^ 64) carry) 0 (λ e. omega (arith, e, l)) ∙ p.rest n (omega (arith, l));
+  rest = λ n l. ap (λ w. get_or w n 0) en ∙ get_or-set_other now at n (bit_or (bit_or (kept * 2 ^ 1 % 2 ^ 64) carry) (get_or base at 0)) 0 (λ e. omega (arith, e, l)) ∙ p.rest n (omega (arith, l));
   bit = omega (arith, fits);
   over =
       let k = kept_is 63 (omega arith) in
       let e : at * 64 + 63 + 1 ≡ (at + 1) * 64 = omega arith in
       let top : bit_at kept 63 ≡ kept / 2 ^ 63 = omega (arith, fits) in (
-        λ c. inl (subst (Led code byte old) e (k.0 (top ∙ c))),
-        λ l. elim l [ inl led ↦ sym top ∙ k.1 (subst (Led code byte old) (sym e) led) | inr front ↦ absurd (omega (arith, front)) ],
+        λ c. subst (Led code byte old) e (k.0 (top ∙ c)),
+        λ led. sym top ∙ k.1 (subst (Led code byte old) (sym e) led),
       );
 }
   where
@@ -114,43 +115,53 @@ passing_more code byte old now new takes from at carry kept p m size h ek fits e
         let e : kept ≡ bit_and (get_or old at 0) (get_or takes (from + at) 0) = ek ∙ ap (λ w. bit_and w (get_or takes (from + at) 0)) (p.rest at (omega arith)) in
         subst (λ w. (bit_at w bit ≡ 1) ↔ Led code byte old (at * 64 + bit + 1)) (sym e) (kept_bit code old takes byte from at bit m (omega (arith, size, h)) small)
 
-    read : get_or new at 0 ≡ bit_or (kept * 2 ^ 1 % 2 ^ 64) carry
-    read = let s = p.size in ap (λ w. get_or w at 0) en ∙ get_or-set_same now at (bit_or (kept * 2 ^ 1 % 2 ^ 64) carry) 0 (omega (arith, h, s))
+    read : get_or new at 0 ≡ bit_or (bit_or (kept * 2 ^ 1 % 2 ^ 64) carry) (get_or base at 0)
+    read = let s = p.size in ap (λ w. get_or w at 0) en ∙ get_or-set_same now at (bit_or (bit_or (kept * 2 ^ 1 % 2 ^ 64) carry) (get_or base at 0)) 0 (omega (arith, h, s))
 
-    earlier : (number : ℕ) → number < 64 * at → IsIn now number ↔ LedOrFront code byte old number → IsIn (set now at (bit_or (kept * 2 ^ 1 % 2 ^ 64) carry)) number ↔ LedOrFront code byte old number
+    earlier : (number : ℕ) → number < 64 * at → IsIn now number ↔ LedOrBase code byte base old number → IsIn (set now at (bit_or (bit_or (kept * 2 ^ 1 % 2 ^ 64) carry) (get_or base at 0))) number ↔ LedOrBase code byte base old number
     earlier number l i =
-        let e = set_elsewhere now at (bit_or (kept * 2 ^ 1 % 2 ^ 64) carry) number (λ q. omega (arith, q, l)) in
+        let e = set_elsewhere now at (bit_or (bit_or (kept * 2 ^ 1 % 2 ^ 64) carry) (get_or base at 0)) number (λ q. omega (arith, q, l)) in
         (λ k. i.0 (e.0 k), λ k. e.1 (i.1 k))
 
-    inside : (bit : ℕ) → bit < 64 → IsIn new (at * 64 + bit) ↔ LedOrFront code byte old (at * 64 + bit)
-    inside zero small =
-        let w = is_in_word new at 0 small in
-        let e = ap (λ x. bit_at x 0) read ∙ shifted_low kept carry p.bit in
-        let z : at * 64 + 0 ≡ at * 64 = omega arith in (
-          λ k. subst (LedOrFront code byte old) (sym z) (p.over.0 (sym e ∙ w.1 k)),
-          λ k. w.0 (e ∙ p.over.1 (subst (LedOrFront code byte old) z k)),
-        )
-    inside (suc bit) small =
-        let w = is_in_word new at (suc bit) small in
-        let e = ap (λ x. bit_at x (suc bit)) read ∙ shifted_high kept carry bit p.bit (omega (arith, small)) in
-        let k = kept_is bit (omega (arith, small)) in
-        let z : at * 64 + bit + 1 ≡ at * 64 + suc bit = omega arith in (
-          λ i. inl (subst (Led code byte old) z (k.0 (sym e ∙ w.1 i))),
-          λ l. elim l [ inl led ↦ w.0 (e ∙ k.1 (subst (Led code byte old) (sym z) led)) | inr front ↦ absurd (omega (arith, front)) ],
+    joined : (bit : ℕ) → bit < 64 → ((bit_at (bit_or (kept * 2 ^ 1 % 2 ^ 64) carry) bit ≡ 1) ↔ Led code byte old (at * 64 + bit)) → IsIn new (at * 64 + bit) ↔ LedOrBase code byte base old (at * 64 + bit)
+    joined bit small i =
+        let w = is_in_word new at bit small in
+        let b = is_in_word base at bit small in
+        let e = ap (λ x. bit_at x bit) read in (
+          λ k. elim (either_bit (bit_or (kept * 2 ^ 1 % 2 ^ 64) carry) (get_or base at 0) bit (sym e ∙ w.1 k)) [ inl led ↦ inl (i.0 led) | inr front ↦ inr (b.0 front) ],
+          λ l. elim l [
+            | inl led ↦ w.0 (e ∙ left_bit (bit_or (kept * 2 ^ 1 % 2 ^ 64) carry) (get_or base at 0) bit (i.1 led))
+            | inr front ↦ w.0 (e ∙ right_bit (bit_or (kept * 2 ^ 1 % 2 ^ 64) carry) (get_or base at 0) bit (b.1 front))
+          ],
         )
 
-pub passing_ends : (code : List Node) (byte : ℕ) (old now : List ℕ) (at carry : ℕ) → Passing code byte old now at carry → length old ≤ at → length old ≡ width code → (number : ℕ) → IsIn now number ↔ LedOrFront code byte old number
-passing_ends code byte old now at carry p h size number = (
+    inside : (bit : ℕ) → bit < 64 → (bit_at (bit_or (kept * 2 ^ 1 % 2 ^ 64) carry) bit ≡ 1) ↔ Led code byte old (at * 64 + bit)
+    inside zero small =
+        let e = shifted_low kept carry p.bit in
+        let z : at * 64 + 0 ≡ at * 64 = omega arith in (
+          λ k. subst (Led code byte old) (sym z) (p.over.0 (sym e ∙ k)),
+          λ k. e ∙ p.over.1 (subst (Led code byte old) z k),
+        )
+    inside (suc bit) small =
+        let e = shifted_high kept carry bit p.bit (omega (arith, small)) in
+        let k = kept_is bit (omega (arith, small)) in
+        let z : at * 64 + bit + 1 ≡ at * 64 + suc bit = omega arith in (
+          λ i. subst (Led code byte old) z (k.0 (sym e ∙ i)),
+          λ led. e ∙ k.1 (subst (Led code byte old) (sym z) led),
+        )
+
+pub passing_ends : (code : List Node) (byte : ℕ) (base old now : List ℕ) (at carry : ℕ) → Passing code byte base old now at carry → length old ≤ at → length old ≡ width code → length base ≡ width code → (number : ℕ) → IsIn now number ↔ LedOrBase code byte base old number
+passing_ends code byte base old now at carry p h size same number = (
   λ k. let l = is_within now number k in let s = p.size in (p.past number (omega (arith, l, s, h))).0 k,
   λ k. (p.past number (within k)).1 k,
 )
   where
-    within : LedOrFront code byte old number → number < 64 * at
+    within : LedOrBase code byte base old number → number < 64 * at
     within (inl k) =
         let l = pass_least code k.0 byte number k.2 in
         let e = k.2.3 in
         omega (arith, l, e, size, h)
-    within (inr e) = omega (arith, e, size, h)
+    within (inr front) = let l = is_within base number front in omega (arith, l, same, size, h)
 
 -- no bit of words that are 0
 pub none_in : (words : List ℕ) (at : ℕ) → ((n : ℕ) → n < at → get_or words n 0 ≡ 0) → length words ≤ at → (number : ℕ) → IsIn words number → ⊥

@@ -1,43 +1,54 @@
 -- A search by sets of words, place by place.
 use Rattle.std.proofs.Common.{◌≡◌, ◌⊎◌, ◌↔◌, inl, inr, ℕ, suc, ◌+◌, ◌*◌, ◌<◌, ◌≤◌, Bool, true, false, IsTrue, List, length, slice_index, refl, sym, ap, ◌∙◌, subst, arith}
 use Rattle.std.proofs.lemmas.Bool.{cases_eq, false≢true}
+use Rattle.scan_core.specs.declared.base.Base.{Base}
 use Rattle.scan_core.specs.declared.node.Node.{Node}
+use Rattle.scan_core.specs.Base.{IsBase}
 use Rattle.scan_core.specs.Code.{Entered, weight}
 use Rattle.scan_core.specs.Counted.{AreSteps}
-use Rattle.scan_core.specs.Sets.{IsMarked, Passes, Came, positions_among}
+use Rattle.scan_core.specs.Sets.{IsMarked, FlowsOn, Passes, Came, positions_among}
 use Rattle.scan_core.specs.Table.{IsOutcome}
-use Rattle.scan_core.specs.Words.{IsIn, width, flags_of, Grows, SpreadsOut}
+use Rattle.scan_core.specs.Words.{IsIn, width, flags_of, SpreadsOut}
 use Rattle.scan_core.proofs.Along.{IsPlace, closes_exact, came_exact, none_counted, one_counted, steps_more, steps_wider}
+use Rattle.scan_core.proofs.Closings.{parts_anywhere}
 use Rattle.scan_core.proofs.Countings.{flags_are}
 use Rattle.scan_core.proofs.Enterings.{positions_most}
+use Rattle.scan_core.proofs.Visitings.{flows_join}
 
 -- the line was searched up to a place, and no match has ended
 pub record Searched (code : List Node) (line : List ℕ) (place : ℕ) (words : List ℕ) (steps : ℕ) : Type 0 where
   pub size : length words ≡ width code
-  pub came : (number : ℕ) → IsIn words number ↔ (Came code line place number ⊎ (number ≡ 0))
+  pub came : (number : ℕ) → IsIn words number ↔ (Came code line place number ⊎ FlowsOn code false false 0 number)
   pub none : (before : ℕ) → before < place → Entered code line (length code) before → ⊥
   pub counted : AreSteps code line place steps
   pub bound : steps ≤ place * (weight code + 1)
 
-pub search_starts : (code : List Node) (line empty words : List ℕ) (before on : ℕ) → length empty ≡ width code → ((number : ℕ) → IsIn empty number → ⊥) → Grows (λ number. number ≡ 0) empty words before on → Searched code line 0 words 0
-search_starts code line empty words before on size none g = record {
-  size = g.size ∙ size;
+pub search_starts : (code : List Node) (line : List ℕ) (base : Base) (words : List ℕ) → IsBase code base → words ≡ base.words.items → Searched code line 0 words 0
+search_starts code line base words b e = record {
+  size = ap length e ∙ b.size;
   came = λ number. (
-    λ h. elim ((g.exact number).0 h) [ inl was ↦ absurd (none number was) | inr e ↦ inr e ],
-    λ c. elim c [ inl k ↦ absurd (omega (arith, k.1)) | inr e ↦ (g.exact number).1 (inr e) ],
+    λ h. inr ((b.exact number).0 (subst (λ w. IsIn w number) e h)),
+    λ c. elim c [ inl k ↦ absurd (omega (arith, k.1)) | inr f ↦ subst (λ w. IsIn w number) (sym e) ((b.exact number).1 f) ],
   );
   none = λ before h. absurd (omega (arith, h));
   counted = none_counted code line;
   bound = omega arith;
 }
 
+pub begun : (code : List Node) (line : List ℕ) (base : Base) (place steps : ℕ) (words : List ℕ) → IsBase code base → Searched code line place words steps → (number : ℕ) → IsIn base.words.items number → IsIn words number
+begun code line base place steps words b s number h = (s.came number).1 (inr ((b.exact number).0 h))
+
 -- what is entered at a place
 pub entered_here : (code : List Node) (line : List ℕ) (place steps : ℕ) (at_first at_last : Bool) (old new : List ℕ) → Searched code line place old steps → IsPlace line place at_first at_last → SpreadsOut code at_first at_last old new
     → (number : ℕ) → IsIn new number ↔ Entered code line number place
 entered_here code line place steps at_first at_last old new s p o = closes_exact code line place at_first at_last (Came code line place) (IsIn new) p (λ number. (λ h. h, λ h. h)) (λ number. (
-  λ h. let f = (o.exact number).0 h in (f.0, (s.came f.0).0 f.1, f.2),
-  λ f. (o.exact number).1 (f.0, (s.came f.0).1 f.1, f.2),
+  λ h. let f = (o.exact number).0 h in there f.0 number ((s.came f.0).0 f.1) f.2,
+  λ f. (o.exact number).1 (f.0, (s.came f.0).1 (elim f.1 [ inl came ↦ inl came | inr e ↦ inr (0, sym e) ]), f.2),
 ))
+  where
+    there : (from number : ℕ) → Came code line place from ⊎ FlowsOn code false false 0 from → FlowsOn code at_first at_last from number → (start : ℕ) × (Came code line place start ⊎ (start ≡ 0)) × FlowsOn code at_first at_last start number
+    there from number (inl came) f = (from, inl came, f)
+    there from number (inr flows) f = (0, inr refl, flows_join code at_first at_last f.0 0 from number (flows.0, parts_anywhere code at_first at_last flows.0 0 from flows.1) f.1)
 
 -- the set of a place has no more positions than the code
 pub few_positions : (code : List Node) (words : List ℕ) (positions : ℕ) → positions ≡ positions_among code (flags_of words) → positions ≤ weight code + 1
@@ -47,16 +58,16 @@ marked_here : (code : List Node) (line : List ℕ) (place : ℕ) (words : List �
 marked_here code line place words here number = (λ h. (here number).0 ((flags_are words number).0 h), λ e. (flags_are words number).1 ((here number).1 e))
 
 -- one byte more
-pub search_more : (code : List Node) (line : List ℕ) (place byte steps positions : ℕ) (old now new : List ℕ) (found : Bool) → Searched code line place old steps → ((number : ℕ) → IsIn now number ↔ Entered code line number place) → place < length line → byte ≡ slice_index line place → positions ≡ positions_among code (flags_of now)
-    → found ≡ false → (IsTrue found ↔ IsIn now (length code)) → length new ≡ width code → ((number : ℕ) → IsIn new number ↔ (((before : ℕ) × IsIn now before × Passes code byte before number) ⊎ (number ≡ 0))) → Searched code line (place + 1) new (steps + positions)
-search_more code line place byte steps positions old now new found s here h e p absent test size passed = record {
+pub search_more : (code : List Node) (line : List ℕ) (base : Base) (place byte steps positions : ℕ) (old now new : List ℕ) (found : Bool) → IsBase code base → Searched code line place old steps → ((number : ℕ) → IsIn now number ↔ Entered code line number place) → place < length line → byte ≡ slice_index line place → positions ≡ positions_among code (flags_of now)
+    → found ≡ false → (IsTrue found ↔ IsIn now (length code)) → length new ≡ width code → ((number : ℕ) → IsIn new number ↔ (((before : ℕ) × IsIn now before × Passes code byte before number) ⊎ IsIn base.words.items number)) → Searched code line (place + 1) new (steps + positions)
+search_more code line base place byte steps positions old now new found b s here h e p absent test size passed = record {
   size = size;
   came = λ number.
       let one : suc place ≡ place + 1 = omega arith in
       let c = came_exact code line place byte (IsIn now) here h e number in
-      subst (λ n. IsIn new number ↔ (Came code line n number ⊎ (number ≡ 0))) one (
-        λ k. elim ((passed number).0 k) [ inl led ↦ inl (c.0 led) | inr front ↦ inr front ],
-        λ k. elim k [ inl came ↦ (passed number).1 (inl (c.1 came)) | inr front ↦ (passed number).1 (inr front) ],
+      subst (λ n. IsIn new number ↔ (Came code line n number ⊎ FlowsOn code false false 0 number)) one (
+        λ k. elim ((passed number).0 k) [ inl led ↦ inl (c.0 led) | inr based ↦ inr ((b.exact number).0 based) ],
+        λ k. elim k [ inl came ↦ (passed number).1 (inl (c.1 came)) | inr flows ↦ (passed number).1 (inr ((b.exact number).1 flows)) ],
       );
   none = λ before l k. elim (cases_eq before place) [
     | inl same ↦ absurd (false≢true (sym absent ∙ test.1 ((here (length code)).1 (subst (λ q. Entered code line (length code) q) same k))))

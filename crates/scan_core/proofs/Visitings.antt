@@ -6,13 +6,9 @@ use Rattle.std.proofs.lemmas.Nat.Bits.{bit_at-zero, bit_at_clear_same, bit_at_cl
 use Rattle.std.specs.Prelude.{bit_and}
 use Rattle.std.specs.Int.{bit_at, bit_not}
 use Rattle.bre_core.specs.Match.{Parts}
-use Rattle.scan_core.specs.declared.masks.Kind.TheVariants.{Leads}
 use Rattle.scan_core.specs.declared.node.Node.{Node}
-use Rattle.scan_core.specs.declared.node.Node.TheVariants.{Take, First, Last, Choose, Back}
-use Rattle.scan_core.specs.Code.{is_lead}
-use Rattle.scan_core.specs.Sets.{LeadsOn, Flows, FlowsOn}
-use Rattle.scan_core.specs.Words.{IsIn, unset, IsMask, Visits, SpreadsOut}
-use Rattle.scan_core.proofs.Enterings.{at_least}
+use Rattle.scan_core.specs.Sets.{Flows, FlowsOn}
+use Rattle.scan_core.specs.Words.{IsIn, unset, Visits, SpreadsOut}
 
 pub is_in_word : (words : List ℕ) (at bit : ℕ) → bit < 64 → (bit_at (get_or words at 0) bit ≡ 1) ↔ IsIn words (at * 64 + bit)
 unfolding IsIn
@@ -71,20 +67,6 @@ visit_starts code at_first at_last at pending old = record {
   within = λ bit small h. h;
   rest = λ bit small h. inl h;
 }
-
-leads_on : (node : Node) (at_first at_last : Bool) (from to : ℕ) → LeadsOn node at_first at_last from to → IsTrue (is_lead node)
-leads_on (Take bytes) at_first at_last from to h = absurd h
-leads_on First at_first at_last from to h = refl
-leads_on Last at_first at_last from to h = refl
-leads_on (Choose skip) at_first at_last from to h = refl
-leads_on (Back by) at_first at_last from to h = refl
-
--- a node that leads on without a byte has its bit
-pub lead_bit : (code : List Node) (leads : List ℕ) (at_first at_last : Bool) (start to : ℕ) → IsMask code Leads 0 leads → Flows code at_first at_last start to → bit_at (get_or leads (start / 64) 0) (start % 64) ≡ 1
-lead_bit code leads at_first at_last start to m f =
-    let l = at_least code start f.0 f.1 in
-    let z : 0 + start / 64 ≡ start / 64 = omega arith in
-    ap (λ k. bit_at (get_or leads k 0) (start % 64)) (sym z) ∙ (m start (omega (arith, l))).1 (f.0, f.1, leads_on f.0 at_first at_last start to f.2)
 
 -- what the first words lead to was entered
 pub record Spreading (code : List Node) (at_first at_last : Bool) (old now : List ℕ) (at : ℕ) : Type 0 where

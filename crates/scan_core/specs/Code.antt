@@ -87,14 +87,6 @@ weight_of Last = 1
 weight_of (Choose skip) = 1
 weight_of (Back by) = 0
 
--- whether a node leads on without a byte
-abbrev pub is_lead : Node → Bool
-is_lead (Take bytes) = false
-is_lead First = true
-is_lead Last = true
-is_lead (Choose skip) = true
-is_lead (Back by) = true
-
 -- how many nodes are positions
 abbrev pub weight : List Node → ℕ
 weight [] = 0

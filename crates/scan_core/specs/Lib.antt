@@ -10,3 +10,4 @@ pub mod Shifts
 pub mod Words
 pub mod Closures
 pub mod Hops
+pub mod Base

@@ -2,10 +2,10 @@
 use Rattle.std.specs.Prelude.{◌≡◌, ◌⊎◌, ◌↔◌, ℕ, zero, suc, ◌+◌, ◌-◌, ◌*◌, ◌/◌, ◌%◌, ◌^◌, ◌<◌, ◌≤◌, ◌==◌, Bool, IsTrue, List, [], ◌∷◌, ◌++◌, length, slice_index_or}
 use Rattle.std.specs.Int.{bit_at}
 use Rattle.scan_core.specs.declared.masks.Kind.{Kind}
-use Rattle.scan_core.specs.declared.masks.Kind.TheVariants.{Takes, Leads, Counts}
+use Rattle.scan_core.specs.declared.masks.Kind.TheVariants.{Takes, Counts}
 use Rattle.scan_core.specs.declared.masks.Masks.{Masks}
 use Rattle.scan_core.specs.declared.node.Node.{Node}
-use Rattle.scan_core.specs.Code.{At, is_lead, weight_of}
+use Rattle.scan_core.specs.Code.{weight_of}
 use Rattle.scan_core.specs.Sets.{Flows, FlowsOn, Passes}
 
 unfoldable pub IsIn : List ℕ → ℕ → Type 0
@@ -47,7 +47,6 @@ counted_at (node ∷ code) (suc number) = counted_at code number
 
 abbrev pub IsOf : List Node → Kind → ℕ → Type 0
 IsOf code (Takes byte) number = Passes code byte number (number + 1)
-IsOf code Leads number = (node : Node) × At code number node × IsTrue (is_lead node)
 IsOf code Counts number = counted_at code number ≡ 1
 
 -- from a place on, words have the numbers of a kind
@@ -57,8 +56,6 @@ IsMask code kind from words = (number : ℕ) → number < 64 * width code → (b
 pub record IsMasks (code : List Node) (masks : Masks) : Type 0 where
   pub takes_size : length masks.takes.items ≡ 256 * width code
   pub takes : (byte : ℕ) → byte < 256 → IsMask code (Takes byte) (byte * width code) masks.takes.items
-  pub leads_size : length masks.leads.items ≡ width code
-  pub leads : IsMask code Leads 0 masks.leads.items
   pub counts_size : length masks.counts.items ≡ width code
   pub counts : IsMask code Counts 0 masks.counts.items
 

@@ -8,6 +8,7 @@ ghost use Rattle.bre_core.specs.declared.fault.BreFault.TheVariants.{Memory, Too
 ghost use Rattle.scan_core.specs.Code.{code_of, IsOrdered};
 ghost use Rattle.scan_core.specs.Table.{IsFound, IsOutcome};
 
+use crate::base::{Base, base_of};
 use crate::build::build;
 use crate::closures::{Closures, closures_of};
 use crate::compile::compile;
@@ -30,6 +31,7 @@ pub struct Bre {
     code: Vec<Node>,
     masks: Masks,
     closures: Closures,
+    base: Base,
     table: Option<Table>,
     shifts: Option<ShiftTable>,
 }
@@ -41,6 +43,7 @@ impl Model for Bre {
     ghost use Rattle.scan_core.specs.Code.{code_of, IsOrdered};
     ghost use Rattle.scan_core.specs.Table.{IsTable};
     ghost use Rattle.scan_core.specs.Shifts.{IsShiftTable};
+    ghost use Rattle.scan_core.specs.Base.{IsBase};
     ghost use Rattle.scan_core.specs.Closures.{AreClosures};
     ghost use Rattle.scan_core.specs.Words.{IsMasks};
 
@@ -51,7 +54,7 @@ impl Model for Bre {
     ghost view = { λ b. b.expression };
 
     ghost invariant = { λ b. (b.code.items ≡ code_of b.expression) × IsOrdered b.expression × (positions_of b.expression ≤ 65535)
-        × IsMasks b.code.items b.masks × IfSome b.table (IsTable b.code.items) × IfSome b.shifts (IsShiftTable b.code.items) × AreClosures b.code.items b.closures };
+        × IsMasks b.code.items b.masks × IfSome b.table (IsTable b.code.items) × IfSome b.shifts (IsShiftTable b.code.items) × AreClosures b.code.items b.closures × IsBase b.code.items b.base };
 }
 
 impl Bre {
@@ -79,6 +82,7 @@ impl Bre {
         let code = compile(alloc, &expression)?;
         let masks = masks_of(alloc, &code)?;
         let closures = closures_of(alloc, &code)?;
+        let base = base_of(alloc, &code, &closures)?;
         let table = build(alloc, &code)?;
         let shifts = shifts_of(alloc, &code, &table)?;
         Ok(Bre {
@@ -86,6 +90,7 @@ impl Bre {
             code,
             masks,
             closures,
+            base,
             table,
             shifts,
         })
@@ -150,7 +155,14 @@ impl Bre {
     {
         let code = &self.code;
         let width = code.len() / 64 + 1;
-        search(&self.masks, &self.closures, code, line, &mut words[..width])
+        search(
+            &self.masks,
+            &self.closures,
+            &self.base,
+            code,
+            line,
+            &mut words[..width],
+        )
     }
 }
 

@@ -1,12 +1,13 @@
 //! Entering all that follows without a byte, word by word: what is in the word by its closures, and then what is out of it, mostly by hops.
 
-ghost use Rattle.std.specs.Prelude.{◌≡◌, ◌<◌, ◌*◌, ◌/◌, ◌%◌, ◌^◌, length};
+ghost use Rattle.std.specs.Prelude.{◌≡◌, ◌<◌, ◌*◌, ◌/◌, ◌%◌, ◌^◌, ℕ, length};
+ghost use Rattle.scan_core.specs.Base.{IsBase};
 ghost use Rattle.scan_core.specs.Closures.{AreClosures};
 ghost use Rattle.scan_core.specs.Hops.{AreHops, Hopped};
-ghost use Rattle.scan_core.specs.declared.masks.Kind.TheVariants.{Leads};
 ghost use Rattle.scan_core.specs.Sets.{IsCode};
-ghost use Rattle.scan_core.specs.Words.{Grows, IsMask, SpreadsOut, Visits, width};
+ghost use Rattle.scan_core.specs.Words.{Grows, IsIn, SpreadsOut, Visits, width};
 
+use crate::base::Base;
 use crate::closures::{Closures, closed};
 use crate::hops::{HOPS, Hop};
 use crate::node::Node;
@@ -82,12 +83,13 @@ fn close(
     hop(words, nodes, &closures.hops, at, all, on)
 }
 
-/// The same, at once for a word of whose numbers none leads on, or none leads out of it otherwise than by its hops.
+/// The same, at once for a word of whose numbers none leads out of the base, which is in the set, or none leads out of the
+/// word otherwise than by its hops.
 #[inline(always)]
 fn close_some(
     words: &mut [u64],
     nodes: &[Node],
-    leads: &[u64],
+    base: &Base,
     closures: &Closures,
     at: usize,
     at_first: bool,
@@ -96,13 +98,13 @@ fn close_some(
     requires code { IsCode nodes.now }
     requires size { length words.old ≡ width nodes.now }
     requires within { at < width nodes.now }
-    requires leads { IsMask nodes.now Leads 0 leads.now }
-    requires leads_size { length leads.now ≡ width nodes.now }
+    requires base { IsBase nodes.now base.now }
+    requires begun { (number : ℕ) → IsIn base.now.words.items number → IsIn words.old number }
     requires closures { AreClosures nodes.now closures.now }
     ensures { Visits nodes.now at_first at_last at words.old words.new result }
 {
     let word = words[at];
-    if word & leads[at] == 0 {
+    if word & base.leads[at] == 0 {
         return at + 1;
     }
     let all = word | closed(&closures.inside, nodes, at, word);
@@ -113,25 +115,44 @@ fn close_some(
     hop(words, nodes, &closures.hops, at, all, at + 1)
 }
 
-/// Enters all that the set leads to at one place, without a byte.
+/// Enters all that a set leads to at one place, without a byte. The base is in the set.
 #[inline(always)]
 pub fn spread(
     words: &mut [u64],
     nodes: &[Node],
-    leads: &[u64],
+    base: &Base,
     closures: &Closures,
     at_first: bool,
     at_last: bool,
 )
     requires code { IsCode nodes.now }
     requires size { length words.old ≡ width nodes.now }
-    requires leads { IsMask nodes.now Leads 0 leads.now }
-    requires leads_size { length leads.now ≡ width nodes.now }
+    requires base { IsBase nodes.now base.now }
+    requires begun { (number : ℕ) → IsIn base.now.words.items number → IsIn words.old number }
     requires closures { AreClosures nodes.now closures.now }
     ensures { SpreadsOut nodes.now at_first at_last words.old words.new }
 {
     let mut at = 0;
     'words: while at < words.len() {
-        at = close_some(words, nodes, leads, closures, at, at_first, at_last);
+        at = close_some(words, nodes, base, closures, at, at_first, at_last);
+    }
+}
+
+/// The same for any set.
+pub fn spread_all(
+    words: &mut [u64],
+    nodes: &[Node],
+    closures: &Closures,
+    at_first: bool,
+    at_last: bool,
+)
+    requires code { IsCode nodes.now }
+    requires size { length words.old ≡ width nodes.now }
+    requires closures { AreClosures nodes.now closures.now }
+    ensures { SpreadsOut nodes.now at_first at_last words.old words.new }
+{
+    let mut at = 0;
+    'words: while at < words.len() {
+        at = close(words, nodes, closures, at, at_first, at_last);
     }
 }

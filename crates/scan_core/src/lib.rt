@@ -6,6 +6,7 @@
 //! end is entered exactly where the line contains a match, and that its positions are the pattern's, are laws.
 #![tactic(auto)]
 
+mod base;
 mod bre;
 mod build;
 mod closing;

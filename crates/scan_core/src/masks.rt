@@ -3,7 +3,7 @@
 ghost use Rattle.std.specs.Prelude.{◌≡◌, ◌↔◌, ◌<◌, ◌+◌, ◌^◌, ℕ, IsTrue, IfOk, IfErr, OnOk};
 ghost use Rattle.std.specs.Int.{bit_at};
 ghost use Rattle.bre_core.specs.declared.fault.BreFault.TheVariants.{Memory};
-ghost use Rattle.scan_core.specs.declared.masks.Kind.TheVariants.{Leads, Counts};
+ghost use Rattle.scan_core.specs.declared.masks.Kind.TheVariants.{Counts};
 ghost use Rattle.scan_core.specs.Words.{AddsMask, IsMasks, IsOf};
 
 use crate::node::Node;
@@ -16,8 +16,6 @@ use std::alloc::Global;
 pub enum Kind {
     /// Its node takes this byte.
     Takes(u8),
-    /// Its node leads on without a byte.
-    Leads,
     /// It is a position.
     Counts,
 }
@@ -27,21 +25,8 @@ pub enum Kind {
 pub struct Masks {
     /// For each byte, one after another, the numbers whose nodes take it.
     pub takes: Vec<u64>,
-    /// Those whose nodes lead on without a byte.
-    pub leads: Vec<u64>,
     /// Those that are positions.
     pub counts: Vec<u64>,
-}
-
-/// Whether a number's node leads on without a byte.
-fn leads(nodes: &[Node], number: usize) -> bool
-    ensures { IsTrue result ↔ IsOf nodes.now Leads number }
-{
-    if number < nodes.len() {
-        nodes[number].leads()
-    } else {
-        false
-    }
 }
 
 /// Whether a number is a position.
@@ -61,7 +46,6 @@ fn is_of(nodes: &[Node], kind: Kind, number: usize) -> bool
 {
     match kind {
         Kind::Takes(byte) => passes(nodes, number, byte),
-        Kind::Leads => leads(nodes, number),
         Kind::Counts => counts(nodes, number),
     }
 }
@@ -100,13 +84,7 @@ pub fn masks_of(alloc: Global, nodes: &[Node]) -> Result<Masks, BreFault>
     for byte in 0..256u16 {
         add(&mut takes, nodes, Kind::Takes(byte as u8))?;
     }
-    let mut leads = Vec::new(alloc);
-    add(&mut leads, nodes, Kind::Leads)?;
     let mut counts = Vec::new(alloc);
     add(&mut counts, nodes, Kind::Counts)?;
-    Ok(Masks {
-        takes,
-        leads,
-        counts,
-    })
+    Ok(Masks { takes, counts })
 }

@@ -20,7 +20,7 @@ pub enum Node {
 }
 
 impl Node {
-    ghost use Rattle.scan_core.specs.Code.{is_lead, weight_of};
+    ghost use Rattle.scan_core.specs.Code.{weight_of};
 
     /// The same node once more.
     pub fn copied(&self) -> Node
@@ -42,16 +42,6 @@ impl Node {
         match self {
             Node::Take(_) | Node::First | Node::Last | Node::Choose(_) => 1,
             Node::Back(_) => 0,
-        }
-    }
-
-    /// Whether it leads on without a byte.
-    pub fn leads(&self) -> bool
-        ensures { result ≡ is_lead self.now }
-    {
-        match self {
-            Node::Take(_) => false,
-            Node::First | Node::Last | Node::Choose(_) | Node::Back(_) => true,
         }
     }
 }

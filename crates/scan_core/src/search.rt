@@ -1,39 +1,42 @@
 //! Searching a line place by place, with the set of what is entered at each.
 
 ghost use Rattle.std.specs.Prelude.{◌≡◌, length};
+ghost use Rattle.scan_core.specs.Base.{IsBase};
 ghost use Rattle.scan_core.specs.Closures.{AreClosures};
 ghost use Rattle.scan_core.specs.Sets.{IsCode};
 ghost use Rattle.scan_core.specs.Table.{IsOutcome};
 ghost use Rattle.scan_core.specs.Words.{IsMasks, width};
 
+use crate::base::Base;
 use crate::closing::spread;
 use crate::closures::Closures;
 use crate::masks::Masks;
 use crate::node::Node;
 use crate::walk::Outcome;
-use crate::words::{clear, enter, has, pass, positions};
+use crate::words::{has, pass, positions};
 
 /// Whether the code's end is entered at some place of the line, with the positions that are entered at each place. The
-/// masks and closures are those of these nodes, and `words` is room for a set.
+/// masks, closures and base are those of these nodes, and `words` is room for a set.
 pub fn search(
     masks: &Masks,
     closures: &Closures,
+    base: &Base,
     nodes: &[Node],
     line: &[u8],
     words: &mut [u64],
 ) -> Outcome
     requires masks { IsMasks nodes.now masks.now }
     requires closures { AreClosures nodes.now closures.now }
+    requires base { IsBase nodes.now base.now }
     requires code { IsCode nodes.now }
     requires room { length words.old ≡ width nodes.now }
     ensures size { length words.new ≡ length words.old }
     ensures outcome { IsOutcome nodes.now line.now result }
 {
     let mut steps = 0;
-    clear(words);
-    enter(words, 0, 0);
+    words.copy_from_slice(&base.words);
     for place in 0..line.len() {
-        spread(words, nodes, &masks.leads, closures, place == 0, false);
+        spread(words, nodes, base, closures, place == 0, false);
         steps += positions(words, nodes, &masks.counts) as u128;
         if has(words, nodes.len()) {
             return Outcome { found: true, steps };
@@ -42,12 +45,13 @@ pub fn search(
         pass(
             words,
             nodes,
+            &base.words,
             &masks.takes,
             byte as usize * words.len(),
             byte,
         );
     }
-    spread(words, nodes, &masks.leads, closures, line.is_empty(), true);
+    spread(words, nodes, base, closures, line.is_empty(), true);
     steps += positions(words, nodes, &masks.counts) as u128;
     Outcome {
         found: has(words, nodes.len()),

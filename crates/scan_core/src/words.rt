@@ -81,20 +81,21 @@ pub fn clear(words: &mut [u64])
     }
 }
 
-/// Makes of a set what a byte leads to from it, with number 0 beside it, since a match may begin there. The numbers whose nodes
-/// take the byte stand from a place on.
+/// Makes of a set what a byte leads to from it, with what is in each set. The numbers whose nodes take the byte stand from a
+/// place on.
 #[inline(always)]
-pub fn pass(words: &mut [u64], nodes: &[Node], takes: &[u64], from: usize, byte: u8)
+pub fn pass(words: &mut [u64], nodes: &[Node], base: &[u64], takes: &[u64], from: usize, byte: u8)
     requires size { length words.old ≡ width nodes.now }
+    requires base { length base.now ≡ width nodes.now }
     requires takes { IsMask nodes.now (Takes byte) from takes.now }
     requires takes_size { from + width nodes.now ≤ length takes.now }
     ensures size { length words.new ≡ length words.old }
-    ensures exact { (number : ℕ) → IsIn words.new number ↔ (((before : ℕ) × IsIn words.old before × Passes nodes.now byte before number) ⊎ (number ≡ 0)) }
+    ensures exact { (number : ℕ) → IsIn words.new number ↔ (((before : ℕ) × IsIn words.old before × Passes nodes.now byte before number) ⊎ IsIn base.now number) }
 {
-    let mut carry: u64 = 1;
+    let mut carry: u64 = 0;
     for at in 0..words.len() {
         let kept = words[at] & takes[from + at];
-        words[at] = (kept << 1) | carry;
+        words[at] = (kept << 1) | carry | base[at];
         carry = kept >> 63;
     }
 }

@@ -8,8 +8,11 @@ use Rattle.scan_core.proofs.Enterings.{no_default}
 use Rattle.scan_core.proofs.Visitings.{visit_starts}
 use Rattle.scan_core.proofs.closing.close_some.Goals as goal
 
-pub returns-then-word-leads-eq0 : goal.returns-then-word-leads-eq0
-returns-then-word-leads-eq0 c = close_none c.args.nodes.now c.args.at_first c.args.at_last c.args.at c.args.words.now c.args.leads.now c.requires.leads c.if-word-leads-eq0.true
+pub returns-then-word-index-eq0 : goal.returns-then-word-index-eq0
+returns-then-word-index-eq0 c =
+    let leads = c.args.base.now.leads.items in
+    let e = c.index.ensures ∙ no_default leads c.args.at _ 0 (let s = c.requires.base.leads.size in omega (arith, s, c.requires.within)) in
+    close_none c.args.nodes.now c.args.base.now c.args.at_first c.args.at_last c.args.at c.args.words.now c.requires.base c.requires.begun c.requires.within (ap (bit_and (get_or c.args.words.now c.args.at 0)) (sym e) ∙ c.if-word-index-eq0.true)
 
 pub returns : goal.returns
 returns c =
@@ -23,7 +26,7 @@ returns c =
     let sets = c.requires.closures in
     let hopped = subst (λ hops. Grows (Hopped hops at all 3) now c.hop.new.words (at + 1) c.hop.result) c.deref-2.ensures.value c.hop.ensures in
     let same : all ≡ get_or now at 0 = sym (get_or-set_same before at all 0 inside) in
-    let e = c.index.ensures ∙ no_default leaves at _ 0 (let s = sets.leaves.size in omega (arith, s, c.requires.within)) in
+    let e = c.index-2.ensures ∙ no_default leaves at _ 0 (let s = sets.leaves.size in omega (arith, s, c.requires.within)) in
     let none : bit_and (get_or now at 0) (get_or leaves at 0) ≡ 0 = ap (λ w. bit_and w (get_or leaves at 0)) (sym same) ∙ ap (bit_and all) (sym e) ∙ c.if-all-index-ne0.false in
     close_ends c.args.nodes.now c.args.closures.now.hops.items c.args.at_first c.args.at_last at (bit_and (get_or now at 0) (get_or leaves at 0)) (get_or leaves at 0) before now now c.hop.new.words (at + 1) c.hop.result closed
     (visit_starts c.args.nodes.now c.args.at_first c.args.at_last at (bit_and (get_or now at 0) (get_or leaves at 0)) now) none (sets.leaves.each at c.requires.within) sets.hops c.requires.within

@@ -2,4 +2,4 @@ use Rattle.scan_core.proofs.Passings.{Passing}
 use Rattle.scan_core.proofs.words.pass.Given as goal
 
 abbrev pub invariant-loop-at : goal.invariant-loop-at
-invariant-loop-at l = Passing l.nodes l.byte l.fn.words l.words l.at l.carry
+invariant-loop-at l = Passing l.nodes l.byte l.base l.fn.words l.words l.at l.carry

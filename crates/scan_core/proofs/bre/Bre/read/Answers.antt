@@ -1,4 +1,5 @@
 use Rattle.std.proofs.Common.{IfSome, length, sym, ap, ◌∙◌, subst, arith}
+use Rattle.scan_core.specs.Base.{IsBase}
 use Rattle.scan_core.specs.Closures.{AreClosures}
 use Rattle.scan_core.specs.Sets.{IsCode}
 use Rattle.scan_core.specs.Shifts.{IsShiftTable}
@@ -16,8 +17,14 @@ closures_of-requires-clause-short c =
     let r = enough_room c.in_ok-expression.expression c.in_ok-code.ensures.order in
     omega (arith, l, r, c.in_ok-expression.ensures.size)
 
+pub base_of-requires-clause-code : goal.base_of-requires-clause-code
+base_of-requires-clause-code c = subst IsCode (sym (c.deref-3.ensures.value ∙ c.in_ok-code.ensures.ok)) (is_code c.in_ok-expression.expression c.in_ok-code.ensures.order)
+
+pub base_of-requires-clause-closures : goal.base_of-requires-clause-closures
+base_of-requires-clause-closures c = subst (λ code. AreClosures code c.in_ok-closures.closures) (c.deref-2.ensures.value ∙ sym c.deref-3.ensures.value) c.in_ok-closures.ensures.ok
+
 pub build-requires : goal.build-requires
-build-requires c = subst IsCode (sym (c.deref-3.ensures.value ∙ c.in_ok-code.ensures.ok)) (is_code c.in_ok-expression.expression c.in_ok-code.ensures.order)
+build-requires c = subst IsCode (sym (c.deref-4.ensures.value ∙ c.in_ok-code.ensures.ok)) (is_code c.in_ok-expression.expression c.in_ok-code.ensures.order)
 
 pub invariant_of-result : goal.invariant_of-result
 invariant_of-result c = (
@@ -25,7 +32,8 @@ invariant_of-result c = (
   c.in_ok-code.ensures.order,
   c.in_ok-expression.ensures.size,
   subst (λ code. IsMasks code c.in_ok-masks.masks) c.deref.ensures.value c.in_ok-masks.ensures.ok,
-  subst (λ code. IfSome c.in_ok-table.table (IsTable code)) c.deref-3.ensures.value c.in_ok-table.ensures.ok,
-  subst (λ code. IfSome c.in_ok-shifts.shifts (IsShiftTable code)) c.deref-4.ensures.value c.in_ok-shifts.ensures.ok,
+  subst (λ code. IfSome c.in_ok-table.table (IsTable code)) c.deref-4.ensures.value c.in_ok-table.ensures.ok,
+  subst (λ code. IfSome c.in_ok-shifts.shifts (IsShiftTable code)) c.deref-5.ensures.value c.in_ok-shifts.ensures.ok,
   subst (λ code. AreClosures code c.in_ok-closures.closures) c.deref-2.ensures.value c.in_ok-closures.ensures.ok,
+  subst (λ code. IsBase code c.in_ok-base.base) c.deref-3.ensures.value c.in_ok-base.ensures.ok,
 )

@@ -1,0 +1,56 @@
+-- What is in each set.
+use Rattle.std.proofs.Common.{◌≡◌, ◌⊎◌, ◌↔◌, inl, inr, ℕ, ◌+◌, ◌-◌, ◌*◌, ◌%◌, ◌^◌, ◌<◌, Bool, false, List, length, refl, sym, ap, ◌∙◌, subst, arith, w64}
+use Rattle.std.proofs.lemmas.Bool.{cases_eq}
+use Rattle.std.proofs.lemmas.Nat.Bits.{bit_at_set_same, bit_at_set_other}
+use Rattle.std.specs.Prelude.{bit_or}
+use Rattle.std.specs.Int.{bit_at}
+use Rattle.scan_core.specs.declared.node.Node.{Node}
+use Rattle.scan_core.specs.declared.node.Node.TheVariants.{First, Last, Choose, Back}
+use Rattle.scan_core.specs.Code.{At}
+use Rattle.scan_core.specs.Sets.{Flows, FlowsOn}
+use Rattle.scan_core.specs.Words.{IsIn, Grows, SpreadsOut}
+use Rattle.scan_core.proofs.Enterings.{flows_of}
+
+-- the first bits of a word are looked at
+abbrev pub Leading : List Node → List ℕ → ℕ → ℕ → ℕ → Type 0
+Leading code words at count word = (bit : ℕ) (at_first at_last : Bool) (to : ℕ) → bit < count → Flows code at_first at_last (at * 64 + bit) to → (bit_at word bit ≡ 1) ⊎ IsIn words to
+
+pub leading_more : (code : List Node) (words : List ℕ) (at count word : ℕ) → Leading code words at count word → count < 64 → Leading code words at (count + 1) (bit_or word (1 * 2 ^ count % 2 ^ 64))
+leading_more code words at count word before h bit at_first at_last to l f = elim (cases_eq bit count) [
+  | inl same ↦ inl (ap (bit_at (bit_or word (1 * 2 ^ count % 2 ^ 64))) same ∙ bit_at_set_same w64 word count h)
+  | inr other ↦ elim (before bit at_first at_last to (omega (arith, l, other)) f) [ inl k ↦ inl (bit_at_set_other w64 word count h bit other ∙ k) | inr s ↦ inr s ]
+]
+
+pub leading_skip : (code : List Node) (words : List ℕ) (at count word : ℕ) → Leading code words at count word → ((at_first at_last : Bool) (to : ℕ) → Flows code at_first at_last (at * 64 + count) to → IsIn words to) → Leading code words at (count + 1) word
+leading_skip code words at count word before here bit at_first at_last to l f = elim (cases_eq bit count) [
+  | inl same ↦ inr (here at_first at_last to (subst (λ n. Flows code at_first at_last (at * 64 + n) to) same f))
+  | inr other ↦ before bit at_first at_last to (omega (arith, l, other)) f
+]
+
+pub choose_within : (code : List Node) (words : List ℕ) (number skip : ℕ) (at_first at_last : Bool) (to : ℕ) → At code number (Choose skip) → IsIn words (number + 1) → IsIn words (number + skip) → Flows code at_first at_last number to → IsIn words to
+choose_within code words number skip at_first at_last to here next other f = side (flows_of code number (Choose skip) at_first at_last to here f)
+  where
+    side : (to ≡ number + 1) ⊎ (to ≡ number + skip) → IsIn words to
+    side (inl e) = subst (IsIn words) (sym e) next
+    side (inr e) = subst (IsIn words) (sym e) other
+
+-- number 0 alone was entered, and then all that it leads to
+pub begins_exact : (code : List Node) (empty one new : List ℕ) (before on : ℕ) → ((number : ℕ) → IsIn empty number → ⊥) → Grows (λ number. number ≡ 0) empty one before on → SpreadsOut code false false one new → (number : ℕ) → IsIn new number ↔ FlowsOn code false false 0 number
+begins_exact code empty one new before on none g s number = (
+  λ h. let f = (s.exact number).0 h in subst (λ n. FlowsOn code false false n number) (zero_only f.0 ((g.exact f.0).0 f.1)) f.2,
+  λ f. (s.exact number).1 (0, (g.exact 0).1 (inr refl), f),
+)
+  where
+    zero_only : (from : ℕ) → IsIn empty from ⊎ (from ≡ 0) → from ≡ 0
+    zero_only from (inl h) = absurd (none from h)
+    zero_only from (inr e) = e
+
+pub anchor_within : (code : List Node) (words : List ℕ) (number : ℕ) (read : Node) (at_first at_last : Bool) (to : ℕ) → At code number read → (read ≡ First) ⊎ (read ≡ Last) → IsIn words (number + 1) → Flows code at_first at_last number to → IsIn words to
+anchor_within code words number read at_first at_last to here (inl e) next f = let l = flows_of code number First at_first at_last to (subst (At code number) e here) f in subst (IsIn words) (sym l.1) next
+anchor_within code words number read at_first at_last to here (inr e) next f = let l = flows_of code number Last at_first at_last to (subst (At code number) e here) f in subst (IsIn words) (sym l.1) next
+
+pub back_within : (code : List Node) (words : List ℕ) (number by : ℕ) (at_first at_last : Bool) (to : ℕ) → At code number (Back by) → IsIn words (number - by) → Flows code at_first at_last number to → IsIn words to
+back_within code words number by at_first at_last to here before f =
+    let e : number ≡ to + by = flows_of code number (Back by) at_first at_last to here f in
+    let q : number - by ≡ to = omega (arith, e) in
+    subst (IsIn words) q before
