@@ -101,13 +101,16 @@ peers_smaller code at left mask bit m l is p =
       | inr other ↦ let s = and_le_l left (bit_not w64 mask) in omega (arith, s, other)
     ]
 
--- a node that leads out of the word, and its peers with it
-pub close_more : (code : List Node) (at_first at_last : Bool) (at leaves left mask bit : ℕ) (start old now new : List ℕ) (on on' : ℕ) → Closed code at start old → Visiting code at_first at_last at (bit_and (get_or old at 0) leaves) left old now on → bit < 64 → bit_at left bit ≡ 1 → mask < 2 ^ 64 → ArePeers code (at * 64 + bit) mask
-    → Grows (Flows code at_first at_last (at * 64 + bit)) now new on on' → Visiting code at_first at_last at (bit_and (get_or old at 0) leaves) (bit_and left (bit_not w64 mask)) old new on'
-close_more code at_first at_last at leaves left mask bit start old now new on on' closed v small here m p g = record {
+-- numbers that the old ones lead to were added
+visit_more : (code : List Node) (at_first at_last : Bool) (at pending left still : ℕ) (Added : ℕ → Type 0) (old now new : List ℕ) (on on' : ℕ) → Visiting code at_first at_last at pending left old now on → Grows Added now new on on'
+    → ((number : ℕ) → Added number → (start : ℕ) × IsIn old start × Flows code at_first at_last start number)
+    → ((bit : ℕ) → bit < 64 → bit_at still bit ≡ 1 → bit_at pending bit ≡ 1)
+    → ((bit : ℕ) → bit < 64 → bit_at pending bit ≡ 1 → (bit_at still bit ≡ 1) ⊎ ((to : ℕ) → Flows code at_first at_last (at * 64 + bit) to → IsIn new to))
+    → Visiting code at_first at_last at pending still old new on'
+visit_more code at_first at_last at pending left still Added old now new on on' v g led within rest = record {
   size = g.size ∙ v.size;
   kept = λ number h. (g.exact number).1 (inl (v.kept number h));
-  from = λ number h. from number ((g.exact number).0 h);
+  from = λ number h. elim ((g.exact number).0 h) [ inl was ↦ v.from number was | inr added ↦ inr (led number added) ];
   low = omega (arith, v.low, g.low);
   under = λ number l h. let w = g.low in v.under number (omega (arith, l, w)) (g.under number l h);
   fuller = omega (arith, v.fuller, g.fuller);
@@ -115,19 +118,24 @@ close_more code at_first at_last at leaves left mask bit start old now new on on
     | inl lower ↦ let s = g.less lower in let r = v.fuller in omega (arith, s, r)
     | inr same ↦ let s = v.less (omega (arith, l, same)) in let r = g.fuller in omega (arith, s, r)
   ];
-  within = λ k s h. let b = masked left mask k m s in v.within k s (let l = bit_at-lt left k in omega (arith, h, b, l));
-  rest = λ k s h. elim (cases_eq (bit_at mask k) 1) [
-    | inl peer ↦ inr (λ to f. peer_led k s h to (others k s peer to f))
-    | inr other ↦ left_or k s (let b = masked left mask k m s in let l = bit_at-lt mask k in omega (arith, b, l, other)) (v.rest k s h)
-  ];
+  within = within;
+  rest = rest;
 }
+
+-- a node that leads out of the word, and its peers with it
+pub close_more : (code : List Node) (at_first at_last : Bool) (at leaves left mask bit : ℕ) (start old now new : List ℕ) (on on' : ℕ) → Closed code at start old → Visiting code at_first at_last at (bit_and (get_or old at 0) leaves) left old now on → bit < 64 → bit_at left bit ≡ 1 → mask < 2 ^ 64 → ArePeers code (at * 64 + bit) mask
+    → Grows (Flows code at_first at_last (at * 64 + bit)) now new on on' → Visiting code at_first at_last at (bit_and (get_or old at 0) leaves) (bit_and left (bit_not w64 mask)) old new on'
+close_more code at_first at_last at leaves left mask bit start old now new on on' closed v small here m p g =
+    visit_more code at_first at_last at (bit_and (get_or old at 0) leaves) left (bit_and left (bit_not w64 mask)) (Flows code at_first at_last (at * 64 + bit)) old now new on on' v g
+    (λ number f. (at * 64 + bit, in_old bit small (v.within bit small here), f))
+    (λ k s h. let b = masked left mask k m s in v.within k s (let l = bit_at-lt left k in omega (arith, h, b, l)))
+    (λ k s h. elim (cases_eq (bit_at mask k) 1) [
+      | inl peer ↦ inr (λ to f. peer_led k s h to (others k s peer to f))
+      | inr other ↦ left_or k s (let b = masked left mask k m s in let l = bit_at-lt mask k in omega (arith, b, l, other)) (v.rest k s h)
+    ])
   where
     in_old : (k : ℕ) → k < 64 → bit_at (bit_and (get_or old at 0) leaves) k ≡ 1 → IsIn old (at * 64 + k)
     in_old k s h = (is_in_word old at k s).0 (let b = bit_at_and (get_or old at 0) leaves k in omega (arith, h, b))
-
-    from : (number : ℕ) → IsIn now number ⊎ Flows code at_first at_last (at * 64 + bit) number → IsIn old number ⊎ ((start : ℕ) × IsIn old start × Flows code at_first at_last start number)
-    from number (inl h) = v.from number h
-    from number (inr f) = inr (at * 64 + bit, in_old bit small (v.within bit small here), f)
 
     others : (k : ℕ) → k < 64 → bit_at mask k ≡ 1 → (to : ℕ) → Flows code at_first at_last (at * 64 + k) to → Stays code (at * 64 + k) to ⊎ Flows code at_first at_last (at * 64 + bit) to
     others k s peer to f =
@@ -145,29 +153,17 @@ close_more code at_first at_last at leaves left mask bit start old now new on on
 -- what the hops of a word lead to
 pub close_hops : (code : List Node) (hops : List Hop) (at_first at_last : Bool) (at pending left : ℕ) (old now new : List ℕ) (on on' : ℕ) → AreHops code (width code * 3) hops → at < width code → Visiting code at_first at_last at pending left old now on → Grows (Hopped hops at (get_or old at 0) 3) now new on on'
     → Visiting code at_first at_last at pending left old new on'
-close_hops code hops at_first at_last at pending left old now new on on' are inside v g = record {
-  size = g.size ∙ v.size;
-  kept = λ number h. (g.exact number).1 (inl (v.kept number h));
-  from = λ number h. from number ((g.exact number).0 h);
-  low = omega (arith, v.low, g.low);
-  under = λ number l h. let w = g.low in v.under number (omega (arith, l, w)) (g.under number l h);
-  fuller = omega (arith, v.fuller, g.fuller);
-  less = λ l. elim (cases_lt on' on) [
-    | inl lower ↦ let s = g.less lower in let r = v.fuller in omega (arith, s, r)
-    | inr same ↦ let s = v.less (omega (arith, l, same)) in let r = g.fuller in omega (arith, s, r)
-  ];
-  within = v.within;
-  rest = λ k s h. elim (v.rest k s h) [ inl waits ↦ inl waits | inr led ↦ inr (λ to f. (g.exact to).1 (inl (led to f))) ];
-}
+close_hops code hops at_first at_last at pending left old now new on on' are inside v g =
+    visit_more code at_first at_last at pending left left (Hopped hops at (get_or old at 0) 3) old now new on on' v g from v.within
+    (λ k s h. elim (v.rest k s h) [ inl waits ↦ inl waits | inr led ↦ inr (λ to f. (g.exact to).1 (inl (led to f))) ])
   where
-    from : (number : ℕ) → IsIn now number ⊎ Hopped hops at (get_or old at 0) 3 number → IsIn old number ⊎ ((start : ℕ) × IsIn old start × Flows code at_first at_last start number)
-    from number (inl h) = v.from number h
-    from number (inr h) =
+    from : (number : ℕ) → Hopped hops at (get_or old at 0) 3 number → (start : ℕ) × IsIn old start × Flows code at_first at_last start number
+    from number h =
         let place : (at * 3 + h.0) / 3 ≡ at = (let l = h.1 in omega (arith, l)) in
         let hop = are.each (at * 3 + h.0) (let l = h.1 in omega (arith, l, inside)) in
         let flow = hop.leads h.2 h.3 h.5 in
         let here = subst (λ n. Flows code false false (n * 64 + h.2) (get_or hops (at * 3 + h.0) no_hop).to) place flow in
-        inr (at * 64 + h.2, (is_in_word old at h.2 h.3).0 h.4, flow_anywhere code at_first at_last (at * 64 + h.2) number (subst (Flows code false false (at * 64 + h.2)) (sym h.6) here))
+        (at * 64 + h.2, (is_in_word old at h.2 h.3).0 h.4, flow_anywhere code at_first at_last (at * 64 + h.2) number (subst (Flows code false false (at * 64 + h.2)) (sym h.6) here))
 
 pub close_ends : (code : List Node) (hops : List Hop) (at_first at_last : Bool) (at left leaves : ℕ) (start old now new : List ℕ) (on on' : ℕ) → Closed code at start old → Visiting code at_first at_last at (bit_and (get_or old at 0) leaves) left old now on → left ≡ 0 → IsLeaving code hops at leaves → AreHops code (width code * 3) hops → at < width code
     → Grows (Hopped hops at (get_or old at 0) 3) now new on on' → Visits code at_first at_last at start new on'

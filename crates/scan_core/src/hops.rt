@@ -21,7 +21,8 @@ pub struct Hop {
     pub from: u64,
     /// What they lead to.
     pub to: usize,
-    /// The word of that number, and its bit there.
+    /// The word of that number, and its bit there. They follow from the number, and are kept so that following a hop takes no
+    /// shift.
     pub word: usize,
     pub bit: u64,
 }
