@@ -27,7 +27,7 @@ leads_anywhere Last at_first at_last from to h = absurd (false≢true h.0)
 leads_anywhere (Choose skip) at_first at_last from to h = h
 leads_anywhere (Back by) at_first at_last from to h = h
 
-flow_anywhere : (code : List Node) (at_first at_last : Bool) (from to : ℕ) → Flows code false false from to → Flows code at_first at_last from to
+pub flow_anywhere : (code : List Node) (at_first at_last : Bool) (from to : ℕ) → Flows code false false from to → Flows code at_first at_last from to
 flow_anywhere code at_first at_last from to f = (f.0, f.1, leads_anywhere f.0 at_first at_last from to f.2)
 
 pub parts_anywhere : (code : List Node) (at_first at_last : Bool) (count from to : ℕ) → Parts (Flows code false false) count from to → Parts (Flows code at_first at_last) count from to

@@ -58,7 +58,7 @@ one_of word from fits some =
     let n = bit_at-lt from bit in
     (bit, lowest.0, omega (arith, e, is, m, n), omega (arith, e, is, m, n))
 
-none_of : (word from bit : ℕ) → bit_and word from ≡ 0 → bit_at word bit ≡ 1 → bit_at from bit ≡ 1 → ⊥
+pub none_of : (word from bit : ℕ) → bit_and word from ≡ 0 → bit_at word bit ≡ 1 → bit_at from bit ≡ 1 → ⊥
 none_of word from bit none here there =
     let e = bit_at_and word from bit in
     let z = ap (λ w. bit_at w bit) none ∙ bit_at-zero bit in

@@ -24,3 +24,5 @@ pub mod Closings
 pub mod Shiftings
 pub mod Hoppings
 pub mod Bases
+pub mod Landed
+pub mod Apart

@@ -3,6 +3,7 @@ use Rattle.std.specs.Prelude.{◌≡◌, ◌⊎◌, ◌↔◌, ℕ, ◌+◌, ◌
 use Rattle.std.specs.Int.{bit_at}
 use Rattle.scan_core.specs.declared.base.Base.{Base}
 use Rattle.scan_core.specs.declared.node.Node.{Node}
+use Rattle.scan_core.specs.Landings.{AreLandings, AreOthers}
 use Rattle.scan_core.specs.Sets.{Flows, FlowsOn}
 use Rattle.scan_core.specs.Words.{IsIn, width}
 
@@ -18,3 +19,5 @@ pub record IsBase (code : List Node) (base : Base) : Type 0 where
   pub size : length base.words.items ≡ width code
   pub exact : (number : ℕ) → IsIn base.words.items number ↔ FlowsOn code false false 0 number
   pub leads : AreLeads code base.words.items base.leads.items
+  pub landings : AreLandings code base.landings.items
+  pub others : AreOthers code base.words.items base.landings.items base.others.items

@@ -11,3 +11,4 @@ pub mod Words
 pub mod Closures
 pub mod Hops
 pub mod Base
+pub mod Landings

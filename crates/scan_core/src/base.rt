@@ -1,14 +1,18 @@
 //! What is in each set: a search begins at every place, so number 0 is entered there, and with it all that it leads to.
 
-ghost use Rattle.std.specs.Prelude.{◌≡◌, ◌⊎◌, ◌↔◌, ◌<◌, ◌+◌, ◌*◌, ◌/◌, ℕ, Bool, false, IsTrue, IfOk, IfErr, length};
+ghost use Rattle.std.specs.Prelude.{◌≡◌, ◌⊎◌, ◌↔◌, ◌<◌, ◌+◌, ◌*◌, ◌/◌, ℕ, Bool, false, IsTrue, IfOk, IfErr, [], length};
 ghost use Rattle.bre_core.specs.declared.fault.BreFault.TheVariants.{Memory};
 ghost use Rattle.scan_core.specs.Base.{AreLeads, IsBase, IsLeading};
 ghost use Rattle.scan_core.specs.Closures.{AreClosures};
+ghost use Rattle.scan_core.specs.Hops.{AreHops};
+ghost use Rattle.scan_core.specs.Landings.{AreLandings, AreOthers};
 ghost use Rattle.scan_core.specs.Sets.{IsCode, Flows, FlowsOn};
 ghost use Rattle.scan_core.specs.Words.{IsIn, width};
 
 use crate::closing::spread_all;
 use crate::closures::Closures;
+use crate::hops::Hop;
+use crate::landing::{Landing, add_landings, others_of};
 use crate::node::Node;
 use crate::words::{clear, enter, has};
 use bre_core::BreFault;
@@ -21,6 +25,10 @@ pub struct Base {
     pub words: Vec<u64>,
     /// The numbers whose nodes lead to others than these without a byte.
     pub leads: Vec<u64>,
+    /// Hops to numbers other than these that lead nowhere.
+    pub landings: Vec<Landing>,
+    /// The numbers whose nodes lead out of their word and of these otherwise than by the landings.
+    pub others: Vec<u64>,
 }
 
 /// Whether a node leads only to numbers of a set, at any place of a line.
@@ -75,6 +83,31 @@ fn leads_of(alloc: Global, nodes: &[Node], words: &[u64]) -> Result<Vec<u64>, Br
     Ok(leads)
 }
 
+/// Adds the landings of all words. Returns the numbers whose nodes lead out of their word and of the base otherwise.
+fn land_all(
+    alloc: Global,
+    nodes: &[Node],
+    hops: &[Hop],
+    base: &[u64],
+    landings: &mut Vec<Landing>,
+) -> Result<Vec<u64>, BreFault>
+    requires code { IsCode nodes.now }
+    requires hops { AreHops nodes.now (width nodes.now * 3) hops.now }
+    requires size { length base.now ≡ width nodes.now }
+    requires none { landings.old.items ≡ [] }
+    ensures sound { IfOk result (λ _. AreLandings nodes.now landings.new.items) }
+    ensures ok { IfOk result (λ others. AreOthers nodes.now base.now landings.new.items others.items) }
+    ensures err { IfErr result (λ fault. fault ≡ Memory) }
+{
+    let mut others = Vec::new(alloc);
+    for at in 0..nodes.len() / 64 + 1 {
+        let start = landings.len();
+        add_landings(landings, nodes, hops, base, at)?;
+        others.push(others_of(nodes, base, landings, start, at))?;
+    }
+    Ok(others)
+}
+
 /// Makes a set what number 0 leads to without a byte.
 fn begin(words: &mut [u64], nodes: &[Node], closures: &Closures)
     requires code { IsCode nodes.now }
@@ -98,5 +131,12 @@ pub fn base_of(alloc: Global, nodes: &[Node], closures: &Closures) -> Result<Bas
     let mut words = vec![in alloc; 0u64; nodes.len() / 64 + 1]?;
     begin(&mut words, nodes, closures);
     let leads = leads_of(alloc, nodes, &words)?;
-    Ok(Base { words, leads })
+    let mut landings = Vec::new(alloc);
+    let others = land_all(alloc, nodes, &closures.hops, &words, &mut landings)?;
+    Ok(Base {
+        words,
+        leads,
+        landings,
+        others,
+    })
 }

@@ -4,12 +4,14 @@ ghost use Rattle.std.specs.Prelude.{◌≡◌, ◌<◌, ◌*◌, ◌/◌, ◌%�
 ghost use Rattle.scan_core.specs.Base.{IsBase};
 ghost use Rattle.scan_core.specs.Closures.{AreClosures};
 ghost use Rattle.scan_core.specs.Hops.{AreHops, Hopped};
+ghost use Rattle.scan_core.specs.Landings.{ClosesWords};
 ghost use Rattle.scan_core.specs.Sets.{IsCode};
 ghost use Rattle.scan_core.specs.Words.{Grows, IsIn, SpreadsOut, Visits, width};
 
 use crate::base::Base;
 use crate::closures::{Closures, closed};
 use crate::hops::{HOPS, Hop};
+use crate::landing::land;
 use crate::node::Node;
 use crate::words::lead;
 
@@ -115,9 +117,29 @@ fn close_some(
     hop(words, nodes, &closures.hops, at, all, at + 1)
 }
 
-/// Enters all that a set leads to at one place, without a byte. The base is in the set.
+/// Closes each word, as far as the word itself goes. Returns 0 if then nothing is missing but what the landings lead to.
 #[inline(always)]
-pub fn spread(
+fn close_words(words: &mut [u64], nodes: &[Node], base: &Base, closures: &Closures) -> u64
+    requires size { length words.old ≡ width nodes.now }
+    requires base { IsBase nodes.now base.now }
+    requires begun { (number : ℕ) → IsIn base.now.words.items number → IsIn words.old number }
+    requires closures { AreClosures nodes.now closures.now }
+    ensures { ClosesWords nodes.now base.now.landings.items words.old words.new result }
+{
+    let mut over = 0;
+    for at in 0..words.len() {
+        let word = words[at];
+        if word & base.leads[at] != 0 {
+            let all = word | closed(&closures.inside, nodes, at, word);
+            words[at] = all;
+            over |= all & base.others[at];
+        }
+    }
+    over
+}
+
+/// Enters all that a set leads to at one place, without a byte, word by word. The base is in the set.
+fn spread_words(
     words: &mut [u64],
     nodes: &[Node],
     base: &Base,
@@ -138,7 +160,32 @@ pub fn spread(
     }
 }
 
-/// The same for any set.
+/// The same. Mostly each word is closed by itself, and then the landings are followed: no word waits for another.
+#[inline(always)]
+pub fn spread(
+    words: &mut [u64],
+    nodes: &[Node],
+    base: &Base,
+    closures: &Closures,
+    at_first: bool,
+    at_last: bool,
+)
+    requires code { IsCode nodes.now }
+    requires size { length words.old ≡ width nodes.now }
+    requires base { IsBase nodes.now base.now }
+    requires begun { (number : ℕ) → IsIn base.now.words.items number → IsIn words.old number }
+    requires closures { AreClosures nodes.now closures.now }
+    ensures { SpreadsOut nodes.now at_first at_last words.old words.new }
+{
+    let over = close_words(words, nodes, base, closures);
+    if over == 0 {
+        land(words, nodes, &base.landings);
+        return;
+    }
+    spread_words(words, nodes, base, closures, at_first, at_last);
+}
+
+/// The same for any set, looking at each word.
 pub fn spread_all(
     words: &mut [u64],
     nodes: &[Node],

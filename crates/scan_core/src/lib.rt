@@ -14,6 +14,7 @@ mod closures;
 mod compile;
 mod emit;
 mod hops;
+mod landing;
 pub mod laws;
 mod masks;
 mod node;

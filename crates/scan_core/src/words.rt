@@ -29,6 +29,16 @@ pub fn enter(words: &mut [u64], number: usize, on: usize) -> usize
     on.min(number / 64)
 }
 
+/// Enters a number where something holds, with no branch.
+#[inline(always)]
+pub fn enter_if(words: &mut [u64], number: usize, holds: bool)
+    requires { number < 64 * length words.old }
+    ensures size { length words.new ≡ length words.old }
+    ensures exact { (other : ℕ) → IsIn words.new other ↔ (IsIn words.old other ⊎ (IsTrue holds × (other ≡ number))) }
+{
+    words[number / 64] |= (holds as u64) << (number % 64);
+}
+
 /// Enters what a node leads to without a byte at one place: the line's first, its last, or neither.
 #[inline(always)]
 pub fn lead(

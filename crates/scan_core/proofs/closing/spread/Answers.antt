@@ -1,18 +1,12 @@
-use Rattle.std.proofs.Common.{◌≡◌, ◌+◌, ◌*◌, ◌-◌, length, ap, arith}
-use Rattle.scan_core.specs.Words.{unset}
-use Rattle.scan_core.proofs.Visitings.{spreading_more, spreading_ends, smaller}
+use Rattle.std.proofs.Common.{subst}
+use Rattle.scan_core.specs.Landings.{HasLanded}
+use Rattle.scan_core.proofs.Apart.{spread_landed, spread_after}
 use Rattle.scan_core.proofs.closing.spread.Goals as goal
 
-pub words-smaller : goal.words-smaller
-words-smaller c =
-    let v = c.close_some-at.ensures in
-    let e : length c.close_some-at.new.words ≡ length c.words.words = v.size in
-    let s = smaller (unset c.words.words) (unset c.close_some-at.new.words) (length c.words.words) c.words.at c.close_some-at.result v.low (omega arith) v.fuller v.less in
-    let q = ap (λ n. unset c.close_some-at.new.words * (n + 1) + (n - c.close_some-at.result)) e in
-    omega (arith, s, q)
-
-pub words-preserved : goal.words-preserved
-words-preserved c = spreading_more c.args.nodes.now c.args.at_first c.args.at_last c.args.words.now c.words.words c.close_some-at.new.words c.words.at c.close_some-at.result c.words.invariant c.close_some-at.ensures
+pub returns-then-over-eq0 : goal.returns-then-over-eq0
+returns-then-over-eq0 c =
+    spread_landed c.args.nodes.now c.args.base.now.landings.items c.args.at_first c.args.at_last c.args.words.now c.close_words-over.new.words c.land.new.words c.close_words-over.result c.close_words-over.ensures c.if-over-eq0.true
+    (subst (λ landings. HasLanded c.args.nodes.now landings c.close_words-over.new.words c.land.new.words) c.deref.ensures.value c.land.ensures)
 
 pub returns : goal.returns
-returns c = spreading_ends c.args.nodes.now c.args.at_first c.args.at_last c.args.words.now c.words.words c.words.at c.words.invariant (omega arith)
+returns c = spread_after c.args.nodes.now c.args.base.now.landings.items c.args.at_first c.args.at_last c.args.words.now c.close_words-over.new.words c.spread_words.new.words c.close_words-over.result c.close_words-over.ensures c.spread_words.ensures

@@ -1,7 +1,7 @@
 use Rattle.std.proofs.Common.{◌+◌, ◌*◌, ◌-◌, length}
 use Rattle.scan_core.specs.Words.{unset}
 use Rattle.scan_core.proofs.Visitings.{Spreading}
-use Rattle.scan_core.proofs.closing.spread.Given as goal
+use Rattle.scan_core.proofs.closing.spread_words.Given as goal
 
 abbrev pub invariant-words : goal.invariant-words
 invariant-words l = Spreading l.nodes l.at_first l.at_last l.fn.words l.words l.at

@@ -1,0 +1,205 @@
+-- Entering what landings lead to.
+use Rattle.std.proofs.Common.{◌≡◌, ◌⊎◌, ◌↔◌, inl, inr, ℕ, zero, suc, ◌+◌, ◌*◌, ◌-◌, ◌/◌, ◌%◌, ◌^◌, ◌<◌, ◌≤◌, Bool, true, false, IsTrue, List, [], ◌∷◌, ◌++◌, length, get_or, set, eqb, not, refl, sym, ap, ◌∙◌, subst, arith, length-append, eqb-true, w64}
+use Rattle.std.proofs.lemmas.Bool.{cases_eq, cases_lt, false≢true}
+use Rattle.std.proofs.lemmas.List.{get_or-set_same}
+use Rattle.std.proofs.lemmas.Nat.Bits.{bit_at-zero, bit_at_set_same, bit_at_set_other}
+use Rattle.std.specs.Prelude.{bit_and, bit_or}
+use Rattle.std.specs.Int.{bit_at}
+use mir.Val.{bool_byte}
+use Rattle.scan_core.specs.declared.hops.Hop.{Hop}
+use Rattle.scan_core.specs.declared.landing.Landing.{Landing}
+use Rattle.scan_core.specs.declared.node.Node.{Node}
+use Rattle.scan_core.specs.declared.node.Node.TheVariants.{Choose, Back}
+use Rattle.scan_core.specs.Code.{At}
+use Rattle.scan_core.specs.Hops.{AreHops, IsHop, no_hop}
+use Rattle.scan_core.specs.Landings.{AreLandings, Ends, HasLanded, IsLanding, IsOther, Lands, LandsOn, no_landing}
+use Rattle.scan_core.specs.Sets.{Flows}
+use Rattle.scan_core.specs.Words.{IsIn, width}
+use Rattle.scan_core.proofs.Enterings.{flows_of}
+use Rattle.scan_core.proofs.Hoppings.{one_of, none_of}
+use Rattle.scan_core.proofs.Insides.{bit_is, left_bit, right_bit, either_bit}
+use Rattle.scan_core.proofs.Passings.{set_elsewhere}
+use Rattle.scan_core.proofs.Tables.{get-front, get-last}
+use Rattle.scan_core.proofs.Visitings.{is_in_word}
+
+-- a number's bit where something holds
+bit_if : (number bit : ℕ) (holds : Bool) → bit < 64 → (bit_at (bool_byte holds * 2 ^ (number % 64) % 2 ^ 64) bit ≡ 1) ↔ (IsTrue holds × (number ≡ number / 64 * 64 + bit))
+bit_if number bit true small = let b = bit_is (number / 64) number bit refl small in (λ k. (refl, b.0 k), λ h. b.1 h.1)
+bit_if number bit false small =
+    let none : 0 * 2 ^ (number % 64) % 2 ^ 64 ≡ 0 = omega arith in
+    let z = ap (λ x. bit_at x bit) none ∙ bit_at-zero bit in
+    (λ k. absurd (omega (arith, z, k)), λ h. absurd (false≢true h.0))
+
+pub enters_if : (words new : List ℕ) (number : ℕ) (holds : Bool) → number < 64 * length words → new ≡ set words (number / 64) (bit_or (get_or words (number / 64) 0) (bool_byte holds * 2 ^ (number % 64) % 2 ^ 64))
+    → (other : ℕ) → IsIn new other ↔ (IsIn words other ⊎ (IsTrue holds × (other ≡ number)))
+enters_if words new number holds h en other = elim (cases_eq (other / 64) (number / 64)) [
+  | inl same ↦
+      let e : other ≡ number / 64 * 64 + other % 64 = omega (arith, same) in
+      let b = bit_if number (other % 64) holds (omega arith) in
+      let w = is_in_word new (number / 64) (other % 64) (omega arith) in
+      let o = is_in_word words (number / 64) (other % 64) (omega arith) in
+      let r = ap (λ x. bit_at x (other % 64)) read in (
+        λ k. elim (either_bit before added (other % 64) (sym r ∙ w.1 (subst (IsIn new) e k))) [ inl was ↦ inl (subst (IsIn words) (sym e) (o.0 was)) | inr one ↦ let q = b.0 one in inr (q.0, e ∙ sym q.1) ],
+        λ k. elim k [
+          | inl was ↦ subst (IsIn new) (sym e) (w.0 (r ∙ left_bit before added (other % 64) (o.1 (subst (IsIn words) e was))))
+          | inr q ↦ subst (IsIn new) (sym e) (w.0 (r ∙ right_bit before added (other % 64) (b.1 (q.0, sym q.1 ∙ e))))
+        ],
+      )
+  | inr differs ↦
+      let s = set_elsewhere words (number / 64) (bit_or before added) other differs in (
+        λ k. inl (s.0 (subst (λ l. IsIn l other) en k)),
+        λ k. elim k [ inl was ↦ subst (λ l. IsIn l other) (sym en) (s.1 was) | inr q ↦ absurd (differs (ap (λ n. n / 64) q.1)) ],
+      )
+]
+  where
+    before : ℕ
+    before = get_or words (number / 64) 0
+
+    added : ℕ
+    added = bool_byte holds * 2 ^ (number % 64) % 2 ^ 64
+
+    read : get_or new (number / 64) 0 ≡ bit_or (get_or words (number / 64) 0) (bool_byte holds * 2 ^ (number % 64) % 2 ^ 64)
+    read = ap (λ l. get_or l (number / 64) 0) en ∙ get_or-set_same words (number / 64) (bit_or (get_or words (number / 64) 0) (bool_byte holds * 2 ^ (number % 64) % 2 ^ 64)) 0 (omega (arith, h))
+
+-- the last landings were followed
+pub record Landing_on (code : List Node) (landings : List Landing) (old now : List ℕ) (count : ℕ) : Type 0 where
+  pub size : length now ≡ length old
+  pub kept : (number : ℕ) → IsIn old number → IsIn now number
+  pub from : (number : ℕ) → IsIn now number → IsIn old number ⊎ (Ends code number × ((start : ℕ) × IsIn old start × Flows code false false start number))
+  pub led : (place : ℕ) → length landings ≤ place + count → place < length landings → (bit : ℕ) → bit < 64 → bit_at (get_or landings place no_landing).from bit ≡ 1 → IsIn old ((get_or landings place no_landing).at * 64 + bit) → IsIn now (get_or landings place no_landing).to
+
+pub land_starts : (code : List Node) (landings : List Landing) (old : List ℕ) → Landing_on code landings old old 0
+land_starts code landings old = record { size = refl; kept = λ n h. h; from = λ n h. inl h; led = λ place l h. absurd (omega (arith, l, h)) }
+
+pub land_more : (code : List Node) (landings : List Landing) (old now new : List ℕ) (count : ℕ) (landing : Landing) (holds : Bool) → Landing_on code landings old now count → AreLandings code landings → count < length landings → landing ≡ get_or landings (length landings - 1 - count) no_landing → get_or now landing.at 0 < 2 ^ 64
+    → (IsTrue holds → bit_and (get_or now landing.at 0) landing.from ≡ 0 → ⊥) → ((bit_and (get_or now landing.at 0) landing.from ≡ 0 → ⊥) → IsTrue holds)
+    → length new ≡ length now → ((other : ℕ) → IsIn new other ↔ (IsIn now other ⊎ (IsTrue holds × (other ≡ landing.to)))) → Landing_on code landings old new (count + 1)
+land_more code landings old now new count landing holds s are h el fits some all size exact = record {
+  size = size ∙ s.size;
+  kept = λ n k. (exact n).1 (inl (s.kept n k));
+  from = λ n k. elim ((exact n).0 k) [ inl was ↦ s.from n was | inr new ↦ entered n new.0 new.1 ];
+  led = λ place l inside bit small one k. elim (cases_eq place last) [
+    | inl same ↦
+        let e : get_or landings place no_landing ≡ landing = ap (λ p. get_or landings p no_landing) same ∙ sym el in
+        subst (λ x. IsIn new x.to) (sym e) (reached bit small (subst (λ x. bit_at x.from bit ≡ 1) e one) (subst (λ x. IsIn old (x.at * 64 + bit)) e k))
+    | inr other ↦ (exact (get_or landings place no_landing).to).1 (inl (s.led place (omega (arith, l, inside, other, h)) inside bit small one k))
+  ];
+}
+  where
+    last : ℕ
+    last = length landings - 1 - count
+
+    is : IsLanding code landing
+    is = subst (IsLanding code) (sym el) (are (length landings - 1 - count) (omega (arith, h)))
+
+    begun : (number bit : ℕ) → number ≡ landing.to → Flows code false false (landing.at * 64 + bit) landing.to → IsIn old (landing.at * 64 + bit) ⊎ (Ends code (landing.at * 64 + bit) × ((start : ℕ) × IsIn old start × Flows code false false start (landing.at * 64 + bit))) → IsIn old number ⊎ (Ends code number × ((start : ℕ) × IsIn old start × Flows code false false start number))
+    begun number bit e flow (inl was) = inr (subst (Ends code) (sym e) is.ends, (landing.at * 64 + bit, was, subst (Flows code false false (landing.at * 64 + bit)) (sym e) flow))
+    begun number bit e flow (inr new) = absurd (new.0 false false landing.to flow)
+
+    entered : (number : ℕ) → IsTrue holds → number ≡ landing.to → IsIn old number ⊎ (Ends code number × ((start : ℕ) × IsIn old start × Flows code false false start number))
+    entered number t e =
+        let one = one_of (get_or now landing.at 0) landing.from fits (some t) in
+        begun number one.0 e (is.leads one.0 one.1 one.3) (s.from (landing.at * 64 + one.0) ((is_in_word now landing.at one.0 one.1).0 one.2))
+
+    reached : (bit : ℕ) → bit < 64 → bit_at landing.from bit ≡ 1 → IsIn old (landing.at * 64 + bit) → IsIn new landing.to
+    reached bit small one k =
+        let here = (is_in_word now landing.at bit small).1 (s.kept (landing.at * 64 + bit) k) in
+        (exact landing.to).1 (inr (all (λ none. none_of (get_or now landing.at 0) landing.from bit none here one), refl))
+
+pub land_ends : (code : List Node) (landings : List Landing) (old now : List ℕ) (count : ℕ) → Landing_on code landings old now count → length landings ≤ count → HasLanded code landings old now
+land_ends code landings old now count s h = record {
+  size = s.size;
+  kept = s.kept;
+  from = s.from;
+  led = λ at bit to small k on. subst (IsIn now) (sym on.4) (s.led on.0 (omega (arith, h)) on.1 bit small on.3 (subst (λ n. IsIn old (n * 64 + bit)) (sym on.2) k));
+}
+
+-- landings are added
+pub record Adding (code : List Node) (old now : List Landing) : Type 0 where
+  pub sound : AreLandings code now
+  pub longer : length old ≤ length now
+  pub front : (place : ℕ) → place < length old → get_or now place no_landing ≡ get_or old place no_landing
+
+pub adding_starts : (code : List Node) (old : List Landing) → AreLandings code old → Adding code old old
+adding_starts code old are = record { sound = are; longer = omega arith; front = λ place h. refl }
+
+pub adding_more : (code : List Node) (old now new : List Landing) (landing : Landing) → Adding code old now → IsLanding code landing → new ≡ now ++ landing ∷ [] → Adding code old new
+adding_more code old now new landing a is e = record {
+  sound = λ place h. elim (cases_eq place (length now)) [
+    | inl same ↦ subst (IsLanding code) (sym (ap (λ l. get_or l place no_landing) e ∙ get-last now landing no_landing place same)) is
+    | inr other ↦ subst (IsLanding code) (sym (kept place (omega (arith, h, other, one)))) (a.sound place (omega (arith, h, other, one)))
+  ];
+  longer = omega (arith, a.longer, one);
+  front = λ place h. kept place (let l = a.longer in omega (arith, h, l)) ∙ a.front place h;
+}
+  where
+    one : length new ≡ length now + 1
+    one = ap length e ∙ length-append now (landing ∷ [])
+
+    kept : (place : ℕ) → place < length now → get_or new place no_landing ≡ get_or now place no_landing
+    kept place h = ap (λ l. get_or l place no_landing) e ∙ get-front now (landing ∷ []) place no_landing h
+
+pub hop_lands : (code : List Node) (hops : List Hop) (at which : ℕ) (hop : Hop) → AreHops code (width code * 3) hops → at < width code → which < 3 → hop ≡ get_or hops (at * 3 + which) no_hop → Ends code hop.to → IsLanding code (record { at = at; from = hop.from; to = hop.to })
+hop_lands code hops at which hop are h l e ends =
+    let place : (at * 3 + which) / 3 ≡ at = omega (arith, l) in
+    let is = subst (λ x. IsHop code at x) (sym e) (subst (λ n. IsHop code n (get_or hops (at * 3 + which) no_hop)) place (are.each (at * 3 + which) (omega (arith, l, h)))) in
+    record { at = h; within = is.within; leads = is.leads; ends = ends }
+
+-- what a node leads to by its word, the base and the landings
+pub choose_settled : (code : List Node) (base : List ℕ) (landings : List Landing) (at bit skip : ℕ) (at_first at_last : Bool) (to : ℕ) → At code (at * 64 + bit) (Choose skip) → Lands base landings at bit (at * 64 + bit + 1) → Lands base landings at bit (at * 64 + bit + skip) → Flows code at_first at_last (at * 64 + bit) to
+    → Flows code false false (at * 64 + bit) to × Lands base landings at bit to
+choose_settled code base landings at bit skip at_first at_last to here next other f = side (flows_of code (at * 64 + bit) (Choose skip) at_first at_last to here f)
+  where
+    side : (to ≡ at * 64 + bit + 1) ⊎ (to ≡ at * 64 + bit + skip) → Flows code false false (at * 64 + bit) to × Lands base landings at bit to
+    side (inl e) = ((Choose skip, here, inl e), subst (Lands base landings at bit) (sym e) next)
+    side (inr e) = ((Choose skip, here, inr e), subst (Lands base landings at bit) (sym e) other)
+
+pub back_settled : (code : List Node) (base : List ℕ) (landings : List Landing) (at bit by : ℕ) (at_first at_last : Bool) (to : ℕ) → At code (at * 64 + bit) (Back by) → Lands base landings at bit (at * 64 + bit - by) → Flows code at_first at_last (at * 64 + bit) to
+    → Flows code false false (at * 64 + bit) to × Lands base landings at bit to
+back_settled code base landings at bit by at_first at_last to here before f =
+    let e : at * 64 + bit ≡ to + by = flows_of code (at * 64 + bit) (Back by) at_first at_last to here f in
+    let q : at * 64 + bit - by ≡ to = omega (arith, e) in
+    ((Back by, here, e), subst (Lands base landings at bit) q before)
+
+-- the first bits of a word are looked at
+abbrev pub Others : List Node → List ℕ → List Landing → ℕ → ℕ → ℕ → Type 0
+Others code base landings at count word = (bit : ℕ) (at_first at_last : Bool) (to : ℕ) → bit < count → Flows code at_first at_last (at * 64 + bit) to → (bit_at word bit ≡ 1) ⊎ (Flows code false false (at * 64 + bit) to × Lands base landings at bit to)
+
+pub others_more : (code : List Node) (base : List ℕ) (landings : List Landing) (at count word : ℕ) → Others code base landings at count word → count < 64 → Others code base landings at (count + 1) (bit_or word (1 * 2 ^ count % 2 ^ 64))
+others_more code base landings at count word before h bit at_first at_last to l f = elim (cases_eq bit count) [
+  | inl same ↦ inl (ap (bit_at (bit_or word (1 * 2 ^ count % 2 ^ 64))) same ∙ bit_at_set_same w64 word count h)
+  | inr other ↦ elim (before bit at_first at_last to (omega (arith, l, other)) f) [ inl k ↦ inl (bit_at_set_other w64 word count h bit other ∙ k) | inr s ↦ inr s ]
+]
+
+pub others_skip : (code : List Node) (base : List ℕ) (landings : List Landing) (at count word : ℕ) → Others code base landings at count word → ((at_first at_last : Bool) (to : ℕ) → Flows code at_first at_last (at * 64 + count) to → Flows code false false (at * 64 + count) to × Lands base landings at count to)
+    → Others code base landings at (count + 1) word
+others_skip code base landings at count word before here bit at_first at_last to l f = elim (cases_eq bit count) [
+  | inl same ↦ inr (subst (λ n. Flows code false false (at * 64 + n) to × Lands base landings at n to) (sym same) (here at_first at_last to (subst (λ n. Flows code at_first at_last (at * 64 + n) to) same f)))
+  | inr other ↦ before bit at_first at_last to (omega (arith, l, other)) f
+]
+
+pub not_zero : (n : ℕ) → IsTrue (not (eqb n 0)) → n ≡ 0 → ⊥
+not_zero zero t e = false≢true t
+not_zero (suc n) t e = omega (arith, e)
+
+not_true : (b : Bool) → (b ≡ true → ⊥) → IsTrue (not b)
+not_true true h = absurd (h refl)
+not_true false h = refl
+
+pub is_not_zero : (n : ℕ) → (n ≡ 0 → ⊥) → IsTrue (not (eqb n 0))
+is_not_zero n h = not_true (eqb n 0) (λ e. h (eqb-true n 0 e))
+
+-- what a landing leads to stays when others are added
+pub lands_kept : (base : List ℕ) (old new : List Landing) (at bit to : ℕ) → length old ≤ length new → ((place : ℕ) → place < length old → get_or new place no_landing ≡ get_or old place no_landing) → Lands base old at bit to → Lands base new at bit to
+lands_kept base old new at bit to longer front (inl near) = inl near
+lands_kept base old new at bit to longer front (inr (inl based)) = inr (inl based)
+lands_kept base old new at bit to longer front (inr (inr on)) =
+    let e = front on.0 on.1 in
+    let l = on.1 in
+    inr (inr (on.0, omega (arith, l, longer), ap (λ x. x.at) e ∙ on.2, ap (λ x. bit_at x.from bit) e ∙ on.3, on.4 ∙ sym (ap (λ x. x.to) e)))
+
+pub other_kept : (code : List Node) (base : List ℕ) (old new : List Landing) (at word : ℕ) → length old ≤ length new → ((place : ℕ) → place < length old → get_or new place no_landing ≡ get_or old place no_landing) → IsOther code base old at word → IsOther code base new at word
+other_kept code base old new at word longer front is bit at_first at_last to small f = elim (is bit at_first at_last to small f) [
+  | inl one ↦ inl one
+  | inr led ↦ inr (led.0, lands_kept base old new at bit to longer front led.1)
+]
