@@ -36,7 +36,22 @@ fn ends(nodes: &[Node], number: usize) -> bool
     }
 }
 
-/// Adds those hops of a word that are landings, but not to numbers of the base, which are in each set.
+/// Whether a hop is a landing: to a number that leads nowhere, and that isn't in each set anyway.
+fn is_landing(nodes: &[Node], base: &[u64], hop: &Hop) -> bool
+    requires size { length base.now ≡ width nodes.now }
+    requires within { hop.now.to ≤ length nodes.now }
+    ensures { IsTrue result → Ends nodes.now hop.now.to }
+{
+    if hop.from == 0 {
+        return false;
+    }
+    if has(base, hop.to) {
+        return false;
+    }
+    ends(nodes, hop.to)
+}
+
+/// Adds those hops of a word that are landings.
 pub fn add_landings(
     landings: &mut Vec<Landing>,
     nodes: &[Node],
@@ -56,14 +71,12 @@ pub fn add_landings(
 {
     for which in 0..HOPS {
         let hop = &hops[at * HOPS + which];
-        if ends(nodes, hop.to) {
-            if !has(base, hop.to) {
-                landings.push(Landing {
-                    at,
-                    from: hop.from,
-                    to: hop.to,
-                })?;
-            }
+        if is_landing(nodes, base, hop) {
+            landings.push(Landing {
+                at,
+                from: hop.from,
+                to: hop.to,
+            })?;
         }
     }
     Ok(())
