@@ -1,5 +1,5 @@
 -- Closing each word by itself, before the landings are followed.
-use Rattle.std.proofs.Common.{◌≡◌, ◌⊎◌, inl, inr, ℕ, zero, suc, ◌+◌, ◌*◌, ◌/◌, ◌%◌, ◌<◌, ◌≤◌, Bool, false, List, length, get_or, set, refl, sym, ap, ◌∙◌, subst, arith}
+use Rattle.std.proofs.Common.{◌≡◌, ◌⊎◌, inl, inr, ℕ, suc, ◌+◌, ◌*◌, ◌/◌, ◌%◌, ◌<◌, ◌≤◌, Bool, false, List, length, get_or, set, refl, sym, ap, ◌∙◌, subst, arith}
 use Rattle.std.proofs.lemmas.Bool.{cases_lt}
 use Rattle.std.proofs.lemmas.List.{get_or-set_same}
 use Rattle.std.proofs.lemmas.Nat.{le_or_l}
@@ -16,7 +16,7 @@ use Rattle.scan_core.specs.Sets.{Flows, FlowsOn}
 use Rattle.scan_core.specs.Words.{IsIn, SpreadsOut, width}
 use Rattle.scan_core.proofs.Closings.{Closed, close_word, flow_anywhere, parts_anywhere}
 use Rattle.scan_core.proofs.Insides.{right_bit}
-use Rattle.scan_core.proofs.Visitings.{Spreading, flows_join, is_in_word, is_within, spreading_ends}
+use Rattle.scan_core.proofs.Visitings.{flows_join, is_in_word, is_within, spreading_ends}
 
 -- the first words were closed
 pub record Apart (code : List Node) (landings : List Landing) (old now : List ℕ) (count over : ℕ) : Type 0 where

@@ -1,6 +1,6 @@
 -- Entering what landings lead to.
 use Rattle.std.proofs.Common.{◌≡◌, ◌⊎◌, ◌↔◌, inl, inr, ℕ, zero, suc, ◌+◌, ◌*◌, ◌-◌, ◌/◌, ◌%◌, ◌^◌, ◌<◌, ◌≤◌, Bool, true, false, IsTrue, List, [], ◌∷◌, ◌++◌, length, get_or, set, eqb, not, refl, sym, ap, ◌∙◌, subst, arith, length-append, eqb-true, w64}
-use Rattle.std.proofs.lemmas.Bool.{cases_eq, cases_lt, false≢true}
+use Rattle.std.proofs.lemmas.Bool.{cases_eq, false≢true}
 use Rattle.std.proofs.lemmas.List.{get_or-set_same}
 use Rattle.std.proofs.lemmas.Nat.Bits.{bit_at-zero, bit_at_set_same, bit_at_set_other}
 use Rattle.std.specs.Prelude.{bit_and, bit_or}
@@ -12,7 +12,7 @@ use Rattle.scan_core.specs.declared.node.Node.{Node}
 use Rattle.scan_core.specs.declared.node.Node.TheVariants.{Choose, Back}
 use Rattle.scan_core.specs.Code.{At}
 use Rattle.scan_core.specs.Hops.{AreHops, IsHop, no_hop}
-use Rattle.scan_core.specs.Landings.{AreLandings, Ends, HasLanded, IsLanding, IsOther, Lands, LandsOn, no_landing}
+use Rattle.scan_core.specs.Landings.{AreLandings, Ends, HasLanded, IsLanding, IsOther, Lands, no_landing}
 use Rattle.scan_core.specs.Sets.{Flows}
 use Rattle.scan_core.specs.Words.{IsIn, width}
 use Rattle.scan_core.proofs.Enterings.{flows_of}

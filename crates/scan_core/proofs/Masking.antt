@@ -1,5 +1,5 @@
 -- The words of the numbers of a kind.
-use Rattle.std.proofs.Common.{◌≡◌, ◌↔◌, inl, inr, ℕ, zero, suc, ◌+◌, ◌*◌, ◌-◌, ◌/◌, ◌%◌, ◌^◌, ◌<◌, ◌≤◌, IsTrue, List, [], ◌∷◌, ◌++◌, length, get_or, refl, sym, ap, ◌∙◌, subst, arith, length-append, w64}
+use Rattle.std.proofs.Common.{◌≡◌, ◌↔◌, inl, inr, ℕ, zero, suc, ◌+◌, ◌*◌, ◌-◌, ◌/◌, ◌%◌, ◌^◌, ◌<◌, ◌≤◌, List, [], ◌∷◌, ◌++◌, length, get_or, refl, sym, ap, ◌∙◌, subst, arith, length-append, w64}
 use Rattle.std.proofs.lemmas.Bool.{cases_eq, cases_lt}
 use Rattle.std.proofs.lemmas.Nat.Bits.{bit_at_set_same, bit_at_set_other, bit_at-zero}
 use Rattle.std.specs.Prelude.{bit_or}
@@ -9,7 +9,6 @@ use Rattle.scan_core.specs.declared.masks.Kind.TheVariants.{Takes}
 use Rattle.scan_core.specs.declared.node.Node.{Node}
 use Rattle.scan_core.specs.Code.{At, weight_of}
 use Rattle.scan_core.specs.Words.{AddsMask, IsMask, IsOf, counted_at, width}
-use Rattle.scan_core.proofs.Enterings.{at_once, at_least}
 use Rattle.scan_core.proofs.Tables.{get-front, get-last}
 
 -- the first bits of a word are those of a kind

@@ -1,5 +1,5 @@
 -- Sets of a code's numbers as words, 64 numbers in each.
-use Rattle.std.specs.Prelude.{◌≡◌, ◌⊎◌, ◌↔◌, ℕ, zero, suc, ◌+◌, ◌-◌, ◌*◌, ◌/◌, ◌%◌, ◌^◌, ◌<◌, ◌≤◌, ◌==◌, Bool, IsTrue, List, [], ◌∷◌, ◌++◌, length, slice_index_or}
+use Rattle.std.specs.Prelude.{◌≡◌, ◌⊎◌, ◌↔◌, ℕ, zero, suc, ◌+◌, ◌-◌, ◌*◌, ◌/◌, ◌%◌, ◌^◌, ◌<◌, ◌≤◌, ◌==◌, Bool, List, [], ◌∷◌, ◌++◌, length, slice_index_or}
 use Rattle.std.specs.Int.{bit_at}
 use Rattle.scan_core.specs.declared.masks.Kind.{Kind}
 use Rattle.scan_core.specs.declared.masks.Kind.TheVariants.{Takes, Counts}

@@ -1,4 +1,4 @@
-use Rattle.std.proofs.Common.{rules, ◌≡◌, ◌+◌, ◌*◌, ◌<◌, refl, arith}
+use Rattle.std.proofs.Common.{rules, refl, arith}
 use Rattle.scan_core.proofs.Bases.{anchor_within, choose_within, back_within}
 use Rattle.scan_core.proofs.Enterings.{node_here, target_in, at_least, flows_of}
 use Rattle.scan_core.proofs.base.is_within.Goals as goal

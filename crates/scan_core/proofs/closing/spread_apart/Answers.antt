@@ -1,7 +1,7 @@
 use Rattle.std.proofs.Common.{subst}
 use Rattle.scan_core.specs.Landings.{HasLanded}
 use Rattle.scan_core.proofs.Apart.{spread_landed, spread_after}
-use Rattle.scan_core.proofs.closing.spread.Goals as goal
+use Rattle.scan_core.proofs.closing.spread_apart.Goals as goal
 
 pub returns-then-over-eq0 : goal.returns-then-over-eq0
 returns-then-over-eq0 c =
