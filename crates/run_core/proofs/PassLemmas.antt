@@ -1,9 +1,9 @@
 -- Lemmas on the end of an input that is written at once.
-use Rattle.std.proofs.Common.{◌≡◌, ℕ, ◌-◌, ◌<◌, ◌≤◌, min, Bool, true, false, not, ◌&&◌, IsTrue, List, [], ◌∷◌, ◌++◌, length, map, take, drop, Option, Some, None, Result, Ok, Err, arith, length-drop, inl, inr, refl, sym, ◌∙◌, ap, subst, if◌then◌else◌}
+use Rattle.std.proofs.Common.{◌≡◌, ℕ, ◌-◌, ◌<◌, ◌≤◌, min, Bool, true, false, not, ◌&&◌, IsTrue, List, [], ◌∷◌, ◌++◌, length, map, take, drop, Option, Some, None, Result, Err, arith, length-drop, inl, inr, refl, sym, ◌∙◌, ap, subst, if◌then◌else◌}
 use Rattle.std.proofs.lemmas.List.{append-nil, drop_all}
 use Rattle.std.proofs.lemmas.Bool.{false≢true}
 use Rattle.std.proofs.lemmas.Option.{none-some}
-use Rattle.ports_core.specs.Slot.{Slot, changed_at, is_writable, slot_at, with_broken, with_written, told_of}
+use Rattle.ports_core.specs.Slot.{Slot, changed_at, is_writable, slot_at}
 use Rattle.ports_core.specs.Source.{Content, Source, BrokeOff, Gave, count_left, gives, is_readable, skips, source_at, without}
 use Rattle.ports_core.specs.Part.{File, FilesBegin, Part, OutputsAt, StoppedBetween, IsBeginning, nothing, only_out, told_file}
 use Rattle.ports_core.specs.Swept.{Swept}

@@ -10,7 +10,7 @@ use Rattle.run_core.specs.Feeding.{BreaksOnly, KeepsOthers, LeavesOf, OfContent,
 use Rattle.run_core.specs.Input.{Input, World, IsFor, is_dash, input_of, inputs_from, next_slot, empty}
 use Rattle.run_core.specs.Reading.{AreDone, AreUntouched, AsksAtMost, IsDone, IsLeft, IsUntouched, Leaves, TakesOne, count_after}
 use Rattle.run_core.specs.RunSteps.{KeepsOther, OfSource, standard_source}
-use Rattle.run_core.proofs.FeedingLemmas.{readable_within, reads_none, sound_at}
+use Rattle.run_core.proofs.FeedingLemmas.{readable_within, sound_at}
 
 -- one input more
 

@@ -1,7 +1,7 @@
-use Rattle.std.proofs.Common.{◌≡◌, ◌≤◌, ap, sym, subst}
+use Rattle.std.proofs.Common.{◌≤◌, sym, subst}
 use Rattle.ports_core.specs.Source.{source_at}
 use Rattle.ports_core.proofs.HandedOn.{handed_on}
-use Rattle.run_core.proofs.FeedingLemmas.{keeps_again, reads_none}
+use Rattle.run_core.proofs.FeedingLemmas.{keeps_again}
 use Rattle.run_core.proofs.InputLemmas.{fed_as, not_opened}
 use Rattle.run_core.proofs.PassLemmas.{ends_fed, ends_read, fed_from, skipped_asked, skipped_left, skipped_others, skipped_readable}
 use Rattle.run_core.proofs.ReadingLemmas.{unread_slot}

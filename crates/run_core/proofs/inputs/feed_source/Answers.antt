@@ -1,5 +1,5 @@
 use Rattle.ports_core.proofs.HandedOn.{handed_on}
-use Rattle.run_core.proofs.InputLemmas.{fed_none, keeps_all, none_opened, of_slot}
+use Rattle.run_core.proofs.InputLemmas.{none_opened, of_slot}
 use Rattle.run_core.proofs.ReadingLemmas.{asks_from, still_within}
 use Rattle.run_core.proofs.inputs.feed_source.Goals as goal
 

@@ -1,5 +1,4 @@
-use Rattle.std.proofs.Common.{◌≡◌, ◌++◌, ◌∙◌, [], take, ap, sym, refl, subst, arith, true}
-use Rattle.ports_core.specs.Source.{source_at}
+use Rattle.std.proofs.Common.{◌++◌, ◌∙◌, [], take, refl, arith}
 use Rattle.ports_core.proofs.PartLemmas.{nothing_out, out_more}
 use Rattle.ports_core.proofs.SlotSteps.{writable_within, written_writable}
 use Rattle.run_core.specs.Passing.{whole, broke_off}
