@@ -281,10 +281,6 @@ impl Inputs for CutIn {
 
     ghost told = { true };
 
-    fn tells(&self) -> bool {
-        true
-    }
-
     fn open(&mut self, name: &str) -> Result<usize, Fault> {
         self.inputs.open(name)
     }

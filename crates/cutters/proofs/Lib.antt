@@ -1,7 +1,7 @@
 pub mod AdapterLemmas
 pub mod CsplitLemmas
 pub mod RunLemmas
-pub mod EndLemmas
+pub mod SkipLemmas
 pub mod SpeakerLemmas
 pub mod FollowingLemmas
 pub mod ProgramLemmas

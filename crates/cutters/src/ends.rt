@@ -3,7 +3,7 @@
 ghost use Rattle.std.specs.Prelude.{◌≡◌, map};
 ghost use Rattle.cutters.specs.Tasks.{has_headers, head_task, is_minus, is_plus, tail_task};
 
-use ends_core::{Head, Tail, find_last_ahead};
+use ends_core::{Head, Tail, skip_to_last};
 use ports_core::{Fault, Inputs, Outs, Tool};
 use run_core::Adapter;
 use seg_core::count::{Count, Sign};
@@ -84,21 +84,13 @@ impl<'a, 'b> Adapter for TailAdapter<'a, 'b> {
         )
     }
 
-    /// The last lines or bytes are an input's end. The place of the nth from the front isn't looked for.
-    fn find_end<I: Inputs>(
-        &self,
-        slot: usize,
-        left: u64,
-        buffer: &mut [u8],
-        inputs: &I,
-    ) -> Option<u64> {
+    /// Of the last lines or bytes nothing before them is needed.
+    fn skip<I: Inputs>(&self, slot: usize, buffer: &mut [u8], inputs: &mut I) {
         let settings = self.settings;
         let Count { sign, amount } = settings.count;
-        if is_plus(sign) {
-            return None;
+        if !is_plus(sign) {
+            skip_to_last(inputs, slot, settings.unit, amount, settings.delim, buffer);
         }
-        let unit = settings.unit;
-        find_last_ahead(inputs, slot, left, unit, amount, settings.delim, buffer)
     }
 }
 

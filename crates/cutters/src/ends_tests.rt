@@ -60,32 +60,6 @@ fn puts_headers_before_several(rt: HostRuntime) -> Result<(), Fail> {
 }
 
 #[test]
-fn writes_the_end_of_a_long_file(rt: HostRuntime) -> Result<(), Fail> {
-    // Longer than what is read at once, so that it is looked for from the end.
-    let mut text = [b'\n'; 70_000];
-    for byte in text[..2_000].iter_mut() {
-        *byte = b'x';
-    }
-    text[69_998] = b'y';
-    let files: [File<'_>; 2] = [("f", &text), ("g", b"c")];
-    let rows: [(&[&str], &[u8]); 6] = [
-        (&["tail", "-n", "2", "f"], b"\ny\n"),
-        (&["tail", "-c", "3", "f"], b"\ny\n"),
-        (&["tail", "-n", "0", "f"], b""),
-        (&["tail", "-z", "-c", "2", "f"], b"y\n"),
-        (
-            &["tail", "-n", "1", "f", "g"],
-            b"==> f <==\ny\n\n==> g <==\nc",
-        ),
-        (&["tail", "-n", "99999", "f"], &text),
-    ];
-    for row in rows {
-        puts_out(&rt, rt.alloc(), row.0, &files, b"", row.1)?;
-    }
-    Ok(())
-}
-
-#[test]
 fn puts_headers_as_asked(rt: HostRuntime) -> Result<(), Fail> {
     let one = b"==> f <==\na\n".as_slice();
     let both = b"==> f <==\na\n\n==> g <==\nc".as_slice();

@@ -1,132 +1,93 @@
--- Where the last lines of a text begin.
-use Rattle.std.proofs.Common.{◌≡◌, ℕ, ◌+◌, ◌-◌, ◌<◌, ◌≤◌, ◌==◌, zero, suc, Bool, true, false, List, [], ◌∷◌, ◌++◌, length, take, drop, refl, sym, ◌∙◌, ap, arith, length-append, if◌then◌else◌}
-use Rattle.std.proofs.Math.Seq.{take-add}
-use Rattle.std.proofs.lemmas.List.{drop_all, drop_at, drop-append-le, drop-drop, drop-take, length-drop, length-take, take-append-drop, take-append-le, take-take}
-use Rattle.std.specs.Prelude.{min}
+-- What may be passed over on the way to the last lines or bytes.
+use Rattle.std.proofs.Common.{◌≡◌, ℕ, ◌+◌, ◌-◌, ◌<◌, ◌≤◌, Bool, true, false, cond, eqb, IsTrue, Some, None, List, [], ◌∷◌, ◌++◌, length, take, drop, refl, sym, ◌∙◌, ap, subst, arith, length-append, inl, inr}
+use Rattle.std.specs.Prelude.{if◌then◌else◌}
 use Rattle.std.specs.List.{onto_first}
-use Rattle.ports_core.specs.Source.{Shows}
-use Rattle.seg_core.specs.Line.{BeginsAt, FallsShort, after_lines, delimiters, ends_with, joined, last_lines, line_count, lines_of}
+use Rattle.std.proofs.lemmas.List.{drop_all, drop-drop, take-append-drop}
+use Rattle.std.proofs.lemmas.Option.{none-some}
+use Rattle.seg_core.specs.Line.{lines_of, delimiters, line_count}
 use Rattle.seg_core.proofs.Delimiters.{delimiters-append}
-use Rattle.seg_core.proofs.LineCounts.{ends_with-append, ends_with-some}
-use Rattle.seg_core.proofs.LinesOf.{joined-lines_of, lines_of-append}
+use Rattle.seg_core.proofs.EndLines.{line_count_near, after_lines-past}
+use Rattle.ports_core.specs.Slot.{changed_at}
+use Rattle.ports_core.specs.Source.{Source, Shows, count_left, skips, source_at}
+use Rattle.ends_core.specs.declared.unit.Unit.{Unit as Counted}
+use Rattle.ends_core.specs.declared.unit.Unit.TheVariants.{Lines, Bytes}
+use Rattle.ends_core.specs.Ends.{size, measure, behind_of, last_of}
+use Rattle.ends_core.specs.EndsLaws.{behind_of-append}
+use Rattle.ends_core.specs.Back.{HasMore, SkipsTo, stays, passes}
 
-count_step : (is : Bool) (byte n : ℕ) (lines : List (List ℕ)) → length lines ≡ n + 1 → length (if is then (byte ∷ []) ∷ lines else onto_first byte lines) ≡ (if is then n + 1 else n) + 1
-count_step true byte n lines is = omega arith
-count_step false byte n [] is = omega arith
-count_step false byte n (line ∷ lines) is = is
+count_step : (is_delim : Bool) (byte n m : ℕ) (lines : List (List ℕ)) → length lines ≡ n + m → 0 < m
+    → length (cond is_delim ((byte ∷ []) ∷ lines) (onto_first byte lines)) ≡ cond is_delim (n + 1) n + m
+count_step true byte n m lines is some = omega arith
+count_step false byte n m [] is some = omega arith
+count_step false byte n m (line ∷ lines) is some = is
 
-one_line : (is : Bool) (byte : ℕ) → length (if is then (byte ∷ []) ∷ [] else onto_first byte []) ≡ 1
-one_line true byte = refl
-one_line false byte = refl
+-- how many lines a text has that goes on
+count-append : (delim : ℕ) (x y : List ℕ) → 0 < line_count delim y → line_count delim (x ++ y) ≡ delimiters delim x + line_count delim y
+count-append delim [] y some = omega arith
+count-append delim (byte ∷ x) y some = count_step (eqb byte delim) byte (delimiters delim x) (line_count delim y) (lines_of delim (x ++ y)) (count-append delim x y some) some
 
--- each delimiter before the last byte ends a line after which another one follows
-lines_and_last : (delim : ℕ) (x : List ℕ) (last : ℕ) → line_count delim (x ++ last ∷ []) ≡ delimiters delim x + 1
-lines_and_last delim [] last = one_line (last == delim) last
-lines_and_last delim (byte ∷ x) last = count_step (byte == delim) byte (delimiters delim x) (lines_of delim (x ++ last ∷ [])) (lines_and_last delim x last)
+size-append : (delim : ℕ) (unit : Counted) (n : ℕ) (x y : List ℕ) → n < measure delim unit y → size delim unit (x ++ y) ≡ measure delim unit x + size delim unit y
+size-append delim Lines n x y many = count-append delim x y (let near = (line_count_near delim y).0 in omega arith)
+size-append delim Bytes n x y many = length-append x y
 
-lines_and_one : (delim : ℕ) (x y : List ℕ) → length y ≡ 1 → line_count delim (x ++ y) ≡ delimiters delim x + 1
-lines_and_one delim x [] one = omega (arith, one)
-lines_and_one delim x (last ∷ []) one = lines_and_last delim x last
-lines_and_one delim x (last ∷ next ∷ y) one = absurd (omega (arith, one))
+behind-past : (delim : ℕ) (unit : Counted) (n : ℕ) (x : List ℕ) → measure delim unit x < n → behind_of delim unit n x ≡ []
+behind-past delim Lines n x past = after_lines-past delim n x past
+behind-past delim Bytes n x past = drop_all n x (omega arith)
 
--- the text without its last byte
-abbrev pub but_one : List ℕ → List ℕ
-but_one x = take (length x - 1) x
+measure-size : (delim : ℕ) (unit : Counted) (x : List ℕ) → measure delim unit x ≤ size delim unit x
+measure-size delim Lines x = (line_count_near delim x).0
+measure-size delim Bytes x = omega arith
 
-one_left : (x : List ℕ) → 0 < length x → length (drop (length x - 1) x) ≡ 1
-one_left x some = let rest = length-drop (length x - 1) x in omega (arith, rest, some)
+-- where more came than the last n, what stands before that is not among them
+pub last_after : (delim : ℕ) (unit : Counted) (n : ℕ) (x y : List ℕ) → n < measure delim unit y → last_of delim unit n (x ++ y) ≡ last_of delim unit n y
+last_after delim unit n x y many =
+    let all : size delim unit (x ++ y) ≡ measure delim unit x + size delim unit y = size-append delim unit n x y many in
+    let most : measure delim unit y ≤ size delim unit y = measure-size delim unit y in
+    let past : measure delim unit x < size delim unit (x ++ y) - n = omega arith in
+    let rest : size delim unit (x ++ y) - n - measure delim unit x ≡ size delim unit y - n = omega arith in
+    behind_of-append delim unit (size delim unit (x ++ y) - n) x y
+    ∙ ap (λ none. none ++ behind_of delim unit (size delim unit (x ++ y) - n - measure delim unit x) y) (behind-past delim unit (size delim unit (x ++ y) - n) x past)
+    ∙ ap (λ k. behind_of delim unit k y) rest
 
-but_one_shorter : (x : List ℕ) → 0 < length x → length (but_one x) ≡ length x - 1
-but_one_shorter x some = let size : length (but_one x) ≡ min (length x - 1) (length x) = length-take (length x - 1) x in omega (arith, size, some)
+last_from : (delim : ℕ) (unit : Counted) (n place : ℕ) (x : List ℕ) → HasMore delim unit n x place → last_of delim unit n (drop place x) ≡ last_of delim unit n x
+last_from delim unit n place x (inl none) = ap (λ k. last_of delim unit n (drop k x)) none
+last_from delim unit n place x (inr many) = sym (last_after delim unit n (take place x) (drop place x) many) ∙ ap (last_of delim unit n) (take-append-drop place x)
 
-all_lines : (delim : ℕ) (x : List ℕ) → 0 < length x → line_count delim x ≡ delimiters delim (but_one x) + 1
-all_lines delim x some = ap (line_count delim) (sym (take-append-drop (length x - 1) x)) ∙ lines_and_one delim (but_one x) (drop (length x - 1) x) (one_left x some)
+pub last_of_rest : (delim : ℕ) (unit kind : Counted) (n place : ℕ) (x : List ℕ) → unit ≡ kind → HasMore delim kind n x place → last_of delim unit n (drop place x) ≡ last_of delim unit n x
+last_of_rest delim unit kind n place x is more = last_from delim unit n place x (subst (λ those. HasMore delim those n x place) (sym is) more)
 
--- a text of so many lines after a complete one is the last lines
-last_are : (delim n : ℕ) (front y : List ℕ) → ends_with delim front ≡ true → line_count delim y ≡ n → y ≡ last_lines delim n (front ++ y)
-last_are delim n front y closed count =
-    let cut : lines_of delim (front ++ y) ≡ lines_of delim front ++ lines_of delim y = lines_of-append delim front y closed in
-    let size : line_count delim (front ++ y) ≡ line_count delim front + line_count delim y = ap length cut ∙ length-append (lines_of delim front) (lines_of delim y) in
-    let place : line_count delim (front ++ y) - n ≡ line_count delim front = omega (arith, size, count) in
-    sym (ap (λ k. after_lines delim k (front ++ y)) place ∙ ap (λ lines. joined (drop (line_count delim front) lines)) cut ∙ ap joined (drop_at (lines_of delim front) (lines_of delim y) (line_count delim front) refl) ∙ joined-lines_of delim y)
+-- a block before a place
+delimiters_from : (delim place size : ℕ) (x block : List ℕ) → Shows x place block → length block ≡ size → delimiters delim (drop place x) ≡ delimiters delim block + delimiters delim (drop (place + size) x)
+delimiters_from delim place size x block shows long =
+    ap (delimiters delim) (sym (take-append-drop (length block) (drop place x)))
+    ∙ delimiters-append delim (take (length block) (drop place x)) (drop (length block) (drop place x))
+    ∙ ap (λ those. delimiters delim those + delimiters delim (drop (length block) (drop place x))) (sym shows)
+    ∙ ap (λ those. delimiters delim block + delimiters delim those) (drop-drop (length block) place x ∙ ap (λ k. drop (place + k) x) long)
 
--- they begin after the delimiter that is the n-th from the end, where the last byte isn't counted
-pub begins_last : (delim n at : ℕ) (x : List ℕ) → 0 < length x → BeginsAt delim n (but_one x) at → drop at x ≡ last_lines delim n x
-begins_last delim n at x some begins =
-    let shorter = but_one_shorter x some in
-    let within : at ≤ length (but_one x) = begins.within in
-    let front : take at (but_one x) ≡ take at x = take-take at (length x - 1) x (omega (arith, within, shorter)) in
-    let rest : drop at x ≡ drop at (but_one x) ++ drop (length x - 1) x = ap (drop at) (sym (take-append-drop (length x - 1) x)) ∙ drop-append-le at (but_one x) (drop (length x - 1) x) within in
-    let count : line_count delim (drop at x) ≡ n = ap (line_count delim) rest ∙ lines_and_one delim (drop at (but_one x)) (drop (length x - 1) x) (one_left x some) ∙ begins.counted in
-    last_are delim n (take at x) (drop at x) (ap (ends_with delim) (sym front) ∙ begins.after) count ∙ ap (last_lines delim n) (take-append-drop at x)
+-- how many delimiters stand after the block's front, where count - wanted stand after its end
+pub count_before : (delim end size count wanted : ℕ) (x block : List ℕ) → Shows x (end - size) block → length block ≡ size → size ≤ end → count ≡ wanted + delimiters delim (drop end x) → delimiters delim (drop (end - size) x) ≡ delimiters delim block + (count - wanted)
+count_before delim end size count wanted x block shows long within so_far =
+    let place : end - size + size ≡ end = omega arith in
+    let after : delimiters delim (drop end x) ≡ count - wanted = omega arith in
+    delimiters_from delim (end - size) size x block shows long ∙ ap (λ k. delimiters delim block + delimiters delim (drop k x)) place ∙ ap (λ k. delimiters delim block + k) after
 
--- a text without as many lines is all of them
-pub few_last : (delim n : ℕ) (x : List ℕ) → delimiters delim (but_one x) < n → x ≡ last_lines delim n x
-few_last delim n [] few = sym (let none : 0 - n ≡ 0 = omega arith in ap (λ k. joined (drop k [])) none)
-few_last delim n (byte ∷ x) few =
-    let count = all_lines delim (byte ∷ x) (omega arith) in
-    let none : line_count delim (byte ∷ x) - n ≡ 0 = omega (arith, count, few) in
-    sym (ap (λ k. after_lines delim k (byte ∷ x)) none ∙ joined-lines_of delim (byte ∷ x))
+pub enough_lines : (delim end size count wanted found : ℕ) (x block : List ℕ) → Shows x (end - size) block → length block ≡ size → size ≤ end → found ≡ delimiters delim block → wanted < found → count ≡ wanted + delimiters delim (drop end x) → HasMore delim Lines count x (end - size)
+enough_lines delim end size count wanted found x block shows long within counts more so_far =
+    let here = count_before delim end size count wanted x block shows long within so_far in
+    inr (omega (arith, here, counts, more, so_far))
 
--- a block of the text is one of the text without its last byte
-block_of : (x : List ℕ) (from size : ℕ) → from + size ≤ length x - 1 → take size (drop from x) ≡ take size (drop from (but_one x))
-block_of x from size within =
-    let more = length x - 1 - from in
-    let all : from + more ≡ length x - 1 = omega (arith, within) in
-    sym (ap (λ k. take size (drop from (take k x))) (sym all) ∙ ap (take size) (drop-take from more x) ∙ take-take size more (drop from x) (omega (arith, within)))
+pub more_lines : (delim end size count wanted found : ℕ) (x block : List ℕ) → Shows x (end - size) block → length block ≡ size → size ≤ end → found ≡ delimiters delim block → found ≤ wanted → count ≡ wanted + delimiters delim (drop end x) → count ≡ wanted - found + delimiters delim (drop (end - size) x)
+more_lines delim end size count wanted found x block shows long within counts few so_far =
+    let here = count_before delim end size count wanted x block shows long within so_far in
+    omega (arith, here, counts, few, so_far)
 
-pub block_then : (y : List ℕ) (from size : ℕ) → drop from y ≡ take size (drop from y) ++ drop (from + size) y
-block_then y from size = sym (take-append-drop size (drop from y)) ∙ ap (λ rest. take size (drop from y) ++ rest) (drop-drop size from y)
+-- an input whose bytes are counted doesn't break off
+counted_ends : (breaks_off : Bool) (n left : ℕ) → (if breaks_off then None else Some n) ≡ Some left → breaks_off ≡ false
+counted_ends false n left is = refl
+counted_ends true n left is = absurd (none-some left is)
 
--- where the walk from the end stands: so many delimiters are still wanted before this place
-abbrev pub IsWanted : ℕ → ℕ → ℕ → ℕ → List ℕ → Type 0
-IsWanted delim count wanted end x = count ≡ wanted + delimiters delim (drop end (but_one x))
-
-pub wanted_first : (delim count end : ℕ) (x : List ℕ) → end ≡ length x - 1 → IsWanted delim count count end x
-wanted_first delim count end x is =
-    let size : length (but_one x) ≡ min (length x - 1) (length x) = length-take (length x - 1) x in
-    let none : drop end (but_one x) ≡ [] = drop_all end (but_one x) (omega (arith, size, is)) in
-    let zero_more : delimiters delim (drop end (but_one x)) ≡ 0 = ap (delimiters delim) none in omega (arith, zero_more)
-
--- so many in the block, so many fewer before it
-pub wanted_before : (delim count wanted end from size found : ℕ) (x block : List ℕ) → IsWanted delim count wanted end x → from + size ≡ end → end ≤ length x - 1 → block ≡ take size (drop from x) → FallsShort delim wanted block found
-    → IsWanted delim count (wanted - found) from x
-wanted_before delim count wanted end from size found x block is place within are short =
-    let here : block ≡ take size (drop from (but_one x)) = are ∙ block_of x from size (omega (arith, place, within)) in
-    let all : delimiters delim (drop from (but_one x)) ≡ delimiters delim block + delimiters delim (drop end (but_one x)) =
-    ap (delimiters delim) (block_then (but_one x) from size) ∙ delimiters-append delim (take size (drop from (but_one x))) (drop (from + size) (but_one x))
-    ∙ ap (λ those. delimiters delim those + delimiters delim (drop (from + size) (but_one x))) (sym here) ∙ ap (λ k. delimiters delim block + delimiters delim (drop k (but_one x))) place in
-    let counted = short.counted in let fewer = short.fewer in omega (arith, is, all, counted, fewer)
-
--- the wanted one stands in the block
-pub begins_in : (delim count wanted end from size at : ℕ) (x block : List ℕ) → IsWanted delim count wanted end x → from + size ≡ end → end ≤ length x - 1 → block ≡ take size (drop from x) → BeginsAt delim wanted block at → BeginsAt delim count (but_one x) (from + at)
-begins_in delim count wanted end from size at x block is place within are begins =
-    let here : block ≡ take size (drop from (but_one x)) = are ∙ block_of x from size (omega (arith, place, within)) in
-    let all : drop from (but_one x) ≡ block ++ drop end (but_one x) = block_then (but_one x) from size ∙ ap (λ those. those ++ drop (from + size) (but_one x)) (sym here) ∙ ap (λ k. block ++ drop k (but_one x)) place in
-    let inner : at ≤ length block = begins.within in
-    let long : length block + length (drop end (but_one x)) ≡ length (but_one x) - from = sym (ap length all ∙ length-append block (drop end (but_one x))) ∙ length-drop from (but_one x) in
-    let front : take (from + at) (but_one x) ≡ take from (but_one x) ++ take at block =
-    take-add from at (but_one x) ∙ ap (λ those. take from (but_one x) ++ take at those) all ∙ ap (λ those. take from (but_one x) ++ those) (take_of at block (drop end (but_one x)) inner) in
-    let rest : drop (from + at) (but_one x) ≡ drop at block ++ drop end (but_one x) = sym (drop-drop at from (but_one x)) ∙ ap (drop at) all ∙ drop-append-le at block (drop end (but_one x)) inner in
-    let some : 0 < length (take at block) = ends_with-some delim (take at block) begins.after in
-    let taken : length (take at block) ≡ min at (length block) = length-take at block in
-    let after : delimiters delim (drop (from + at) (but_one x)) ≡ delimiters delim (drop at block) + delimiters delim (drop end (but_one x)) = ap (delimiters delim) rest ∙ delimiters-append delim (drop at block) (drop end (but_one x)) in
-    let counted = begins.counted in record {
-      within = omega (arith, long, inner, some, taken);
-      after = ap (ends_with delim) front ∙ ends_with-append delim (take from (but_one x)) (take at block) some ∙ begins.after;
-      counted = omega (arith, after, counted, is);
-    } where
-      take_of : (at : ℕ) (block rest : List ℕ) → at ≤ length block → take at (block ++ rest) ≡ take at block
-      take_of zero block rest few = refl
-      take_of (suc at) [] rest few = absurd (omega (arith, few))
-      take_of (suc at) (byte ∷ block) rest few = ap (λ those. byte ∷ those) (take_of at block rest (omega (arith, few)))
-
--- the walk came to the front
-pub all_wanted : (delim count wanted end : ℕ) (x : List ℕ) → IsWanted delim count wanted end x → end ≡ 0 → 0 < wanted → x ≡ last_lines delim count x
-all_wanted delim count wanted end x is front some =
-    let all : delimiters delim (drop end (but_one x)) ≡ delimiters delim (but_one x) = ap (λ k. delimiters delim (drop k (but_one x))) front in
-    few_last delim count x (omega (arith, all, is, some))
-
--- a block that was looked at
-pub shown : (there text : List ℕ) (from size : ℕ) (block : List ℕ) → there ≡ text → length block ≡ size → Shows there from block → block ≡ take size (drop from text)
-shown there text from size block same long is = is ∙ ap (λ k. take k (drop from there)) long ∙ ap (λ those. take size (drop from those)) same
+pub passed_over : (told could : Bool) (delim : ℕ) (unit : Counted) (n slot front left : ℕ) (old new : List Source) → (told ≡ true → count_left (source_at old slot).left ≡ Some left) → (IsTrue could → new ≡ changed_at slot (skips front) old) → (could ≡ false → new ≡ old)
+    → (told ≡ true → last_of delim unit n (drop front (source_at old slot).left.bytes) ≡ last_of delim unit n (source_at old slot).left.bytes) → SkipsTo told delim unit n slot old new
+passed_over told true delim unit n slot front left old new counts passed same last =
+    passes front (passed refl) (λ t. (counted_ends (source_at old slot).left.breaks_off (length (source_at old slot).left.bytes) left (counts t), last t))
+passed_over told false delim unit n slot front left old new counts passed same last = stays (same refl)

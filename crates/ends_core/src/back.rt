@@ -1,12 +1,11 @@
-//! Where the last lines or bytes of a text begin, looked for from its end.
-ghost use Rattle.std.specs.Prelude.{◌≡◌, ◌<◌, ◌≤◌, ◌-◌, ℕ, List, Bool, true, length, drop, IsTrue, IfSome};
-ghost use Rattle.seg_core.specs.Line.{last_lines};
+//! Where the last lines or bytes of a text stand, looked for from its end.
+ghost use Rattle.std.specs.Prelude.{◌≡◌, ◌<◌, ◌≤◌, ℕ, List, Bool, true, length, drop, IsTrue};
 ghost use Rattle.ports_core.specs.Source.{Shows};
 ghost use Rattle.ends_core.specs.Ends.{last_of};
+ghost use Rattle.ends_core.specs.Back.{HasMore};
 
 use crate::Unit;
-use seg_core::line_back::reach_back;
-use seg_core::line_reach::ReachBack;
+use seg_core::line::count_delimiters;
 
 /// A text of which any stretch can be looked at, whatever stands before it.
 pub trait Looks {
@@ -22,10 +21,11 @@ pub trait Looks {
         ensures same { bytes self.new ≡ bytes self.old };
 }
 
-/// Where the last `count` lines or bytes of a text of `len` bytes begin. None where the text isn't longer than the
-/// buffer, or where a look fails. The first look is at the last byte, to see that the text is as long as that. The others
-/// go from the end on by blocks of at most the buffer's length, until all of the last lines or bytes were looked at: so
-/// what can't be read is met before any of it is written. Lines end with `delim`. It takes no memory.
+/// How many bytes of a text of `len` bytes may be passed over where its last `count` lines or bytes are wanted: they
+/// are the last of what is left, too. What is left is longer than they are by at most the buffer's length and a line,
+/// or by a byte. 0 where the text isn't longer than the buffer, or where a look fails. A look is at most at the
+/// buffer's length, from the end on: for lines at all that is left, for bytes at the last one, to see that the text
+/// is as long as that. Lines end with `delim`. It takes no memory.
 pub fn find_last<L: Looks>(
     text: &mut L,
     len: u64,
@@ -33,78 +33,60 @@ pub fn find_last<L: Looks>(
     count: u64,
     delim: u8,
     buffer: &mut [u8],
-) -> Option<u64>
+) -> u64
     requires room { 0 < length buffer.old }
     requires len { L.told ≡ true → len ≡ length (L.bytes text.old) }
-    ensures within { IfSome result (λ from. from ≤ len) }
-    ensures last { IfSome result (λ from. L.told ≡ true → drop from (L.bytes text.old) ≡ last_of delim unit count (L.bytes text.old)) }
+    ensures within { result ≤ len }
+    ensures last { L.told ≡ true → last_of delim unit count (drop result (L.bytes text.old)) ≡ last_of delim unit count (L.bytes text.old) }
     ensures same { L.bytes text.new ≡ L.bytes text.old }
 {
     if len <= buffer.len() as u64 {
-        return None;
-    }
-    if !text.look(len - 1, &mut buffer[..1]) {
-        return None;
+        return 0;
     }
     match unit {
         Unit::Lines => find_lines(text, len, count, delim, buffer),
-        Unit::Bytes => find_bytes(text, len, count, buffer),
+        Unit::Bytes => find_bytes(text, len, count, &mut buffer[..1]),
     }
 }
 
-/// Where the last bytes begin, once all of them were looked at.
-fn find_bytes<L: Looks>(text: &mut L, len: u64, count: u64, buffer: &mut [u8]) -> Option<u64>
-    requires room { 0 < length buffer.old }
-    ensures exact { IfSome result (λ from. from ≡ len - count) }
-    ensures same { L.bytes text.new ≡ L.bytes text.old }
-{
-    let from = len.saturating_sub(count);
-    let mut end = len;
-    'walk: while from < end {
-        let size = block_size(end - from, buffer.len());
-        end -= size as u64;
-        if !text.look(end, &mut buffer[..size]) {
-            return None;
-        }
-    }
-    Some(from)
-}
-
-/// Where the last lines begin: after the delimiter that is the `count`-th from the end, where the last byte isn't counted,
-/// since no line follows it.
-fn find_lines<L: Looks>(
-    text: &mut L,
-    len: u64,
-    count: u64,
-    delim: u8,
-    buffer: &mut [u8],
-) -> Option<u64>
-    requires room { 0 < length buffer.old }
+/// The same for bytes: all but one more than are wanted, if the last one is there.
+fn find_bytes<L: Looks>(text: &mut L, len: u64, count: u64, last: &mut [u8]) -> u64
     requires some { 0 < len }
     requires len { L.told ≡ true → len ≡ length (L.bytes text.old) }
-    ensures within { IfSome result (λ from. from ≤ len) }
-    ensures last { IfSome result (λ from. L.told ≡ true → drop from (L.bytes text.old) ≡ last_lines delim count (L.bytes text.old)) }
+    ensures within { result ≤ len }
+    ensures more { L.told ≡ true → HasMore 0 Unit.Bytes count (L.bytes text.old) result }
     ensures same { L.bytes text.new ≡ L.bytes text.old }
 {
-    if count == 0 {
-        return Some(len);
+    if !text.look(len - 1, last) {
+        return 0;
     }
-    let mut end = len - 1;
+    len.saturating_sub(count).saturating_sub(1)
+}
+
+/// The same for lines: up to a place after which more delimiters stand than lines are wanted.
+fn find_lines<L: Looks>(text: &mut L, len: u64, count: u64, delim: u8, buffer: &mut [u8]) -> u64
+    requires room { 0 < length buffer.old }
+    requires len { L.told ≡ true → len ≡ length (L.bytes text.old) }
+    ensures within { result ≤ len }
+    ensures more { L.told ≡ true → HasMore delim Unit.Lines count (L.bytes text.old) result }
+    ensures same { L.bytes text.new ≡ L.bytes text.old }
+{
+    let mut end = len;
     let mut wanted = count;
     'walk: while 0 < end {
         let size = block_size(end, buffer.len());
-        let from = end - size as u64;
+        end -= size as u64;
         let block = &mut buffer[..size];
-        if !text.look(from, block) {
-            return None;
+        if !text.look(end, block) {
+            return 0;
         }
-        match reach_back(block, wanted, delim) {
-            ReachBack::Begins(at) => return Some(from + at as u64),
-            ReachBack::Short(found) => wanted -= found as u64,
+        let found = count_delimiters(block, delim) as u64;
+        if wanted < found {
+            return end;
         }
-        end = from;
+        wanted -= found;
     }
-    Some(0)
+    0
 }
 
 /// How many bytes are looked at before a place that isn't the front.

@@ -1,5 +1,6 @@
--- Where the lines of a text begin that come after the first n.
+-- Where the last lines of a text begin, and those after the first n.
 use Rattle.std.proofs.Common.{◌≡◌, ℕ, ◌+◌, ◌-◌, ◌<◌, ◌≤◌, ◌==◌, zero, suc, Bool, true, false, List, [], ◌∷◌, ◌++◌, length, take, drop, refl, sym, ◌∙◌, ap, arith, length-append, if◌then◌else◌}
+use Rattle.std.proofs.Math.Seq.{take-add}
 use Rattle.std.proofs.lemmas.List.{drop_all, drop_at, drop-append-le, drop-drop, drop-take, length-drop, length-take, take-append-drop, take-append-le, take-take}
 use Rattle.std.specs.Prelude.{min}
 use Rattle.std.specs.List.{onto_first}
@@ -9,9 +10,125 @@ use Rattle.seg_core.proofs.LineCounts.{ends_with-append, ends_with-some}
 use Rattle.seg_core.proofs.LinesOf.{joined-lines_of, lines_of-append}
 use Rattle.seg_core.proofs.FirstLines.{EndsAt-enough, EndsAt-rest}
 use Rattle.seg_core.proofs.EndLines.{after_lines-append, after_lines-past}
-use Rattle.ends_core.proofs.BackLemmas.{block_then}
 use Rattle.ends_core.specs.EndsLaws.{behind_of-append}
 use Rattle.ends_core.specs.declared.unit.Unit.TheVariants.{Lines}
+
+count_step : (is : Bool) (byte n : ℕ) (lines : List (List ℕ)) → length lines ≡ n + 1 → length (if is then (byte ∷ []) ∷ lines else onto_first byte lines) ≡ (if is then n + 1 else n) + 1
+count_step true byte n lines is = omega arith
+count_step false byte n [] is = omega arith
+count_step false byte n (line ∷ lines) is = is
+
+one_line : (is : Bool) (byte : ℕ) → length (if is then (byte ∷ []) ∷ [] else onto_first byte []) ≡ 1
+one_line true byte = refl
+one_line false byte = refl
+
+-- each delimiter before the last byte ends a line after which another one follows
+lines_and_last : (delim : ℕ) (x : List ℕ) (last : ℕ) → line_count delim (x ++ last ∷ []) ≡ delimiters delim x + 1
+lines_and_last delim [] last = one_line (last == delim) last
+lines_and_last delim (byte ∷ x) last = count_step (byte == delim) byte (delimiters delim x) (lines_of delim (x ++ last ∷ [])) (lines_and_last delim x last)
+
+lines_and_one : (delim : ℕ) (x y : List ℕ) → length y ≡ 1 → line_count delim (x ++ y) ≡ delimiters delim x + 1
+lines_and_one delim x [] one = omega (arith, one)
+lines_and_one delim x (last ∷ []) one = lines_and_last delim x last
+lines_and_one delim x (last ∷ next ∷ y) one = absurd (omega (arith, one))
+
+-- the text without its last byte
+abbrev pub but_one : List ℕ → List ℕ
+but_one x = take (length x - 1) x
+
+one_left : (x : List ℕ) → 0 < length x → length (drop (length x - 1) x) ≡ 1
+one_left x some = let rest = length-drop (length x - 1) x in omega (arith, rest, some)
+
+but_one_shorter : (x : List ℕ) → 0 < length x → length (but_one x) ≡ length x - 1
+but_one_shorter x some = let size : length (but_one x) ≡ min (length x - 1) (length x) = length-take (length x - 1) x in omega (arith, size, some)
+
+all_lines : (delim : ℕ) (x : List ℕ) → 0 < length x → line_count delim x ≡ delimiters delim (but_one x) + 1
+all_lines delim x some = ap (line_count delim) (sym (take-append-drop (length x - 1) x)) ∙ lines_and_one delim (but_one x) (drop (length x - 1) x) (one_left x some)
+
+-- a text of so many lines after a complete one is the last lines
+last_are : (delim n : ℕ) (front y : List ℕ) → ends_with delim front ≡ true → line_count delim y ≡ n → y ≡ last_lines delim n (front ++ y)
+last_are delim n front y closed count =
+    let cut : lines_of delim (front ++ y) ≡ lines_of delim front ++ lines_of delim y = lines_of-append delim front y closed in
+    let size : line_count delim (front ++ y) ≡ line_count delim front + line_count delim y = ap length cut ∙ length-append (lines_of delim front) (lines_of delim y) in
+    let place : line_count delim (front ++ y) - n ≡ line_count delim front = omega (arith, size, count) in
+    sym (ap (λ k. after_lines delim k (front ++ y)) place ∙ ap (λ lines. joined (drop (line_count delim front) lines)) cut ∙ ap joined (drop_at (lines_of delim front) (lines_of delim y) (line_count delim front) refl) ∙ joined-lines_of delim y)
+
+-- they begin after the delimiter that is the n-th from the end, where the last byte isn't counted
+pub begins_last : (delim n at : ℕ) (x : List ℕ) → 0 < length x → BeginsAt delim n (but_one x) at → drop at x ≡ last_lines delim n x
+begins_last delim n at x some begins =
+    let shorter = but_one_shorter x some in
+    let within : at ≤ length (but_one x) = begins.within in
+    let front : take at (but_one x) ≡ take at x = take-take at (length x - 1) x (omega (arith, within, shorter)) in
+    let rest : drop at x ≡ drop at (but_one x) ++ drop (length x - 1) x = ap (drop at) (sym (take-append-drop (length x - 1) x)) ∙ drop-append-le at (but_one x) (drop (length x - 1) x) within in
+    let count : line_count delim (drop at x) ≡ n = ap (line_count delim) rest ∙ lines_and_one delim (drop at (but_one x)) (drop (length x - 1) x) (one_left x some) ∙ begins.counted in
+    last_are delim n (take at x) (drop at x) (ap (ends_with delim) (sym front) ∙ begins.after) count ∙ ap (last_lines delim n) (take-append-drop at x)
+
+-- a text without as many lines is all of them
+pub few_last : (delim n : ℕ) (x : List ℕ) → delimiters delim (but_one x) < n → x ≡ last_lines delim n x
+few_last delim n [] few = sym (let none : 0 - n ≡ 0 = omega arith in ap (λ k. joined (drop k [])) none)
+few_last delim n (byte ∷ x) few =
+    let count = all_lines delim (byte ∷ x) (omega arith) in
+    let none : line_count delim (byte ∷ x) - n ≡ 0 = omega (arith, count, few) in
+    sym (ap (λ k. after_lines delim k (byte ∷ x)) none ∙ joined-lines_of delim (byte ∷ x))
+
+-- a block of the text is one of the text without its last byte
+block_of : (x : List ℕ) (from size : ℕ) → from + size ≤ length x - 1 → take size (drop from x) ≡ take size (drop from (but_one x))
+block_of x from size within =
+    let more = length x - 1 - from in
+    let all : from + more ≡ length x - 1 = omega (arith, within) in
+    sym (ap (λ k. take size (drop from (take k x))) (sym all) ∙ ap (take size) (drop-take from more x) ∙ take-take size more (drop from x) (omega (arith, within)))
+
+block_then : (y : List ℕ) (from size : ℕ) → drop from y ≡ take size (drop from y) ++ drop (from + size) y
+block_then y from size = sym (take-append-drop size (drop from y)) ∙ ap (λ rest. take size (drop from y) ++ rest) (drop-drop size from y)
+
+-- where the walk from the end stands: so many delimiters are still wanted before this place
+abbrev pub IsWanted : ℕ → ℕ → ℕ → ℕ → List ℕ → Type 0
+IsWanted delim count wanted end x = count ≡ wanted + delimiters delim (drop end (but_one x))
+
+pub wanted_first : (delim count end : ℕ) (x : List ℕ) → end ≡ length x - 1 → IsWanted delim count count end x
+wanted_first delim count end x is =
+    let size : length (but_one x) ≡ min (length x - 1) (length x) = length-take (length x - 1) x in
+    let none : drop end (but_one x) ≡ [] = drop_all end (but_one x) (omega (arith, size, is)) in
+    let zero_more : delimiters delim (drop end (but_one x)) ≡ 0 = ap (delimiters delim) none in omega (arith, zero_more)
+
+-- so many in the block, so many fewer before it
+pub wanted_before : (delim count wanted end from size found : ℕ) (x block : List ℕ) → IsWanted delim count wanted end x → from + size ≡ end → end ≤ length x - 1 → block ≡ take size (drop from x) → FallsShort delim wanted block found
+    → IsWanted delim count (wanted - found) from x
+wanted_before delim count wanted end from size found x block is place within are short =
+    let here : block ≡ take size (drop from (but_one x)) = are ∙ block_of x from size (omega (arith, place, within)) in
+    let all : delimiters delim (drop from (but_one x)) ≡ delimiters delim block + delimiters delim (drop end (but_one x)) =
+    ap (delimiters delim) (block_then (but_one x) from size) ∙ delimiters-append delim (take size (drop from (but_one x))) (drop (from + size) (but_one x))
+    ∙ ap (λ those. delimiters delim those + delimiters delim (drop (from + size) (but_one x))) (sym here) ∙ ap (λ k. delimiters delim block + delimiters delim (drop k (but_one x))) place in
+    let counted = short.counted in let fewer = short.fewer in omega (arith, is, all, counted, fewer)
+
+-- the wanted one stands in the block
+pub begins_in : (delim count wanted end from size at : ℕ) (x block : List ℕ) → IsWanted delim count wanted end x → from + size ≡ end → end ≤ length x - 1 → block ≡ take size (drop from x) → BeginsAt delim wanted block at → BeginsAt delim count (but_one x) (from + at)
+begins_in delim count wanted end from size at x block is place within are begins =
+    let here : block ≡ take size (drop from (but_one x)) = are ∙ block_of x from size (omega (arith, place, within)) in
+    let all : drop from (but_one x) ≡ block ++ drop end (but_one x) = block_then (but_one x) from size ∙ ap (λ those. those ++ drop (from + size) (but_one x)) (sym here) ∙ ap (λ k. block ++ drop k (but_one x)) place in
+    let inner : at ≤ length block = begins.within in
+    let long : length block + length (drop end (but_one x)) ≡ length (but_one x) - from = sym (ap length all ∙ length-append block (drop end (but_one x))) ∙ length-drop from (but_one x) in
+    let front : take (from + at) (but_one x) ≡ take from (but_one x) ++ take at block =
+    take-add from at (but_one x) ∙ ap (λ those. take from (but_one x) ++ take at those) all ∙ ap (λ those. take from (but_one x) ++ those) (take_of at block (drop end (but_one x)) inner) in
+    let rest : drop (from + at) (but_one x) ≡ drop at block ++ drop end (but_one x) = sym (drop-drop at from (but_one x)) ∙ ap (drop at) all ∙ drop-append-le at block (drop end (but_one x)) inner in
+    let some : 0 < length (take at block) = ends_with-some delim (take at block) begins.after in
+    let taken : length (take at block) ≡ min at (length block) = length-take at block in
+    let after : delimiters delim (drop (from + at) (but_one x)) ≡ delimiters delim (drop at block) + delimiters delim (drop end (but_one x)) = ap (delimiters delim) rest ∙ delimiters-append delim (drop at block) (drop end (but_one x)) in
+    let counted = begins.counted in record {
+      within = omega (arith, long, inner, some, taken);
+      after = ap (ends_with delim) front ∙ ends_with-append delim (take from (but_one x)) (take at block) some ∙ begins.after;
+      counted = omega (arith, after, counted, is);
+    } where
+      take_of : (at : ℕ) (block rest : List ℕ) → at ≤ length block → take at (block ++ rest) ≡ take at block
+      take_of zero block rest few = refl
+      take_of (suc at) [] rest few = absurd (omega (arith, few))
+      take_of (suc at) (byte ∷ block) rest few = ap (λ those. byte ∷ those) (take_of at block rest (omega (arith, few)))
+
+-- the walk came to the front
+pub all_wanted : (delim count wanted end : ℕ) (x : List ℕ) → IsWanted delim count wanted end x → end ≡ 0 → 0 < wanted → x ≡ last_lines delim count x
+all_wanted delim count wanted end x is front some =
+    let all : delimiters delim (drop end (but_one x)) ≡ delimiters delim (but_one x) = ap (λ k. delimiters delim (drop k (but_one x))) front in
+    few_last delim count x (omega (arith, all, is, some))
 
 -- after the first lines of a block
 pub passed_in : (delim left at size end : ℕ) (x block rest : List ℕ) → block ≡ take size (drop at x) → EndsAt delim left block end → rest ≡ after_lines delim left (drop at x) → drop (at + end) x ≡ rest

@@ -250,30 +250,16 @@ pub not_opened : (told : Bool) (work : Work) (opening : Needs) (most : ℕ) (con
 not_opened told work opening most content WasRead old new fault short read = stopped fault short.unjudged _ opens read short.reached short.why short.stop short.swept
 
 -- what was fed to the engine that was opened
-pub fed_as : {E : Type 0} (Holds : E → List ℕ → Type 0) (Owns : E → ℕ → List Slot → Type 0) (work : E → Work) (Ready : E → List Slot → Type 0) (fed : E → ℕ) (asked : Work) (opening : Needs) (told told_in : Bool) (old mid new : List Slot) (engine : E) (there : Content) (after : Source) (most : ℕ) (result : Result Fed Fault)
-    → Opens Holds Owns work Ready fed asked told old mid engine
-    → ((before : List Slot) (opening : Needs) → Owns engine (length before) mid → OutputsAt told before ((work engine).settled []) mid → OfContent told_in there (λ content. FedAs told before (work engine) opening most content (LeavesOf told_in content after) new result × BreaksOnly told_in content after))
-    → OfContent told_in there (λ content. FedAs told old asked opening most content (LeavesOf told_in content after) new result × BreaksOnly told_in content after)
-fed_as Holds Owns work Ready fed asked opening told told_in old mid new engine there after most result had feeds =
-    subst (λ (those : Work). OfContent told_in there (λ content. FedAs told old those opening most content (LeavesOf told_in content after) new result × BreaksOnly told_in content after)) had.does
-    (feeds old opening had.owns (subst (λ (those : Work). OutputsAt told old (those.settled []) mid) (sym had.does) had.outputs))
-
--- what became of a source that is an input
-pub of_slot : (told told_in : Bool) (work : Work) (opening : Needs) (most slot : ℕ) (source : Option ℕ) (sources left : List Source) (old new : List Slot) (result : Result Fed Fault) → source ≡ Some slot → slot < length left → (told_in ≡ true → ReadsFor work.is_complete most (source_at sources slot).left (source_at left slot).left)
-    → OfContent told_in (source_at sources slot).left (λ content. FedAs told old work opening most content (LeavesOf told_in content (source_at left slot)) new result × BreaksOnly told_in content (source_at left slot))
-    → OfSource told_in source sources (λ content. FedAs told old work opening most content (Leaves told_in content source left) new result × IsDone told_in work.is_complete most source (Some content) left)
-of_slot told told_in work opening most slot source sources left old new result is within reads fed =
-    subst (λ from. OfSource told_in from sources (λ content. FedAs told old work opening most content (Leaves told_in content from left) new result × IsDone told_in work.is_complete most from (Some content) left)) (sym is)
-    (left_of told_in work.is_complete most slot (source_at sources slot).left left (λ content. FedAs told old work opening most content (LeavesOf told_in content (source_at left slot)) new result) within reads fed)
-
--- an engine for an input without bytes that could not be opened
-pub none_opened : (told told_in : Bool) (work : Work) (opening : Needs) (most : ℕ) (source : Option ℕ) (sources : List Source) (old new : List Slot) (fault : Fault) → source ≡ None → OpensShort work opening told old new fault
-    → OfSource told_in source sources (λ content. FedAs told old work opening most content (Leaves told_in content source sources) new (Err fault) × IsDone told_in work.is_complete most source (Some content) sources)
-none_opened told told_in work opening most source sources old new fault is short =
-    subst (λ from. OfSource told_in from sources (λ content. FedAs told old work opening most content (Leaves told_in content from sources) new (Err fault) × IsDone told_in work.is_complete most from (Some content) sources)) (sym is) (
-      not_opened told work opening most empty (λ read. Unit {0}) old new fault short tt,
-      tt,
-    )
+pub fed_as : {E : Type 0} (Holds : E → List ℕ → Type 0) (Owns : E → ℕ → List Slot → Type 0) (work : E → Work) (Ready : E → List Slot → Type 0) (fed : E → ℕ) (asked : Work) (opening : Needs) (told told_in : Bool) (old mid new : List Slot) (engine : E) (source : Option ℕ) (slot : ℕ) (sources left : List Source) (most : ℕ) (result : Result Fed Fault)
+    → source ≡ Some slot → Opens Holds Owns work Ready fed asked told old mid engine → slot < length left
+    → ((before : List Slot) (opening : Needs) → Owns engine (length before) mid → OutputsAt told before ((work engine).settled []) mid → OfContent told_in (source_at sources slot).left (λ content. FedAs told before (work engine) opening most content (LeavesOf told_in content (source_at left slot)) new result × BreaksOnly told_in content (source_at left slot)))
+    → (told_in ≡ true → ReadsFor (work engine).is_complete most (source_at sources slot).left (source_at left slot).left)
+    → OfSource told_in source sources (λ content. FedAs told old asked opening most content (Leaves told_in content source left) new result × IsDone told_in asked.is_complete most source (Some content) left)
+fed_as Holds Owns work Ready fed asked opening told told_in old mid new engine source slot sources left most result is had within feeds reads =
+    subst (λ from. OfSource told_in from sources (λ content. FedAs told old asked opening most content (Leaves told_in content from left) new result × IsDone told_in asked.is_complete most from (Some content) left)) (sym is)
+    (subst (λ (those : Work). OfContent told_in (source_at sources slot).left (λ content. FedAs told old those opening most content (LeavesOf told_in content (source_at left slot)) new result × IsDone told_in those.is_complete most (Some slot) (Some content) left)) had.does
+    (left_of told_in (work engine).is_complete most slot (source_at sources slot).left left (λ content. FedAs told old (work engine) opening most content (LeavesOf told_in content (source_at left slot)) new result) within reads
+    (feeds old opening had.owns (subst (λ (those : Work). OutputsAt told old (those.settled []) mid) (sym had.does) had.outputs))))
 
 pub fed_none : {E : Type 0} (Holds : E → List ℕ → Type 0) (Owns : E → ℕ → List Slot → Type 0) (work : E → Work) (Ready : E → List Slot → Type 0) (fed : E → ℕ) (asked : Work) (opening : Needs) (told told_in : Bool) (old mid new : List Slot) (engine : E) (source : Option ℕ) (sources left : List Source) (most : ℕ) (result : Result Fed Fault)
     → source ≡ None → Opens Holds Owns work Ready fed asked told old mid engine

@@ -6,11 +6,11 @@ use native.Mathlib.Decide.{ℕ_discrete}
 use Rattle.ports_core.specs.Source.{Content, Source, source_at, source_of, is_readable, missing, Opens, OpensNothing, IsFresh}
 use Rattle.ports_core.specs.Source as from
 use Rattle.ports_core.specs.declared.fault.Fault.{Fault}
-use Rattle.run_core.specs.Feeding.{BreaksOnly, KeepsOthers, LeavesOf, OfContent, ReadsFor}
+use Rattle.run_core.specs.Feeding.{BreaksOnly, KeepsOthers, OfContent, ReadsFor}
 use Rattle.run_core.specs.Input.{Input, World, IsFor, is_dash, input_of, inputs_from, next_slot, empty}
 use Rattle.run_core.specs.Reading.{AreDone, AreUntouched, AsksAtMost, IsDone, IsLeft, IsUntouched, Leaves, TakesOne, count_after}
 use Rattle.run_core.specs.RunSteps.{KeepsOther, OfSource, standard_source}
-use Rattle.run_core.proofs.FeedingLemmas.{readable_within, sound_at}
+use Rattle.run_core.proofs.FeedingLemmas.{readable_within, reads_none, sound_at}
 
 -- one input more
 
@@ -45,15 +45,14 @@ asks_from most slot source old new is keeps there = asks_there most slot old new
 -- what is left of the input of a source
 
 -- an input of which nothing was read
-pub unread_slot : (told : Bool) (slot : ℕ) (sources : List Source) (Q : Content → Type 0) → IsTrue (is_readable sources slot) → ((content : Content) → LeavesOf told content (source_at sources slot) [] → Q content)
-    → OfContent told (source_at sources slot).left (λ content. Q content × BreaksOnly told content (source_at sources slot))
-unread_slot true slot sources Q can holds = let there = (source_at sources slot).left in (there, λ t. refl, (holds there (sound_at sources slot can, λ t. refl), λ untold. absurd (false≢true (sym untold))))
-unread_slot false slot sources Q can holds = (empty, λ t. absurd (false≢true t), (holds empty (sound_at sources slot can, λ t. absurd (false≢true t)), λ untold breaks. absurd (false≢true breaks)))
-
--- the same of a source
-pub unread_source : (told : Bool) (source : Option ℕ) (sources : List Source) (Q : Content → Type 0) → IfSome source (λ slot. IsTrue (is_readable sources slot)) → ((content : Content) → Leaves told content source sources [] → Q content) → OfSource told source sources Q
-unread_source told None sources Q can holds = holds empty tt
-unread_source told (Some slot) sources Q can holds = let (content, is, (there, breaks)) = unread_slot told slot sources Q can holds in (content, is, there)
+pub unread_source : (told : Bool) (is_complete : List ℕ → Bool) (most : ℕ) (source : Option ℕ) (sources : List Source) (Q : Content → Type 0) → IfSome source (λ slot. IsTrue (is_readable sources slot))
+    → ((content : Content) → Leaves told content source sources [] → IsDone told is_complete most source (Some content) sources → Q content) → OfSource told source sources Q
+unread_source told is_complete most None sources Q can holds = holds empty tt tt
+unread_source true is_complete most (Some slot) sources Q can holds =
+    let there = (source_at sources slot).left in
+    (there, λ t. refl, holds there (sound_at sources slot can, λ t. refl) (readable_within sources slot can, (λ t. reads_none is_complete most there there refl, λ untold. absurd (false≢true (sym untold)))))
+unread_source false is_complete most (Some slot) sources Q can holds =
+    (empty, λ t. absurd (false≢true t), holds empty (sound_at sources slot can, λ t. absurd (false≢true t)) (readable_within sources slot can, (λ t. absurd (false≢true t), λ untold breaks. absurd (false≢true breaks))))
 
 -- an input that could be read is still there
 pub still_within : (source : Option ℕ) (slot : ℕ) (old new : List Source) → source ≡ Some slot → IfSome source (λ slot. IsTrue (is_readable old slot)) → KeepsOthers slot old new → slot < length new

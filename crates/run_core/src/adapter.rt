@@ -1,7 +1,7 @@
-ghost use Rattle.std.specs.Prelude.{◌≡◌, ◌<◌, ◌≤◌, true, length, Some, IfOk, IfErr, IfSome, IsTrue};
+ghost use Rattle.std.specs.Prelude.{◌≡◌, ◌<◌, ◌≤◌, length, IfOk, IfErr, IsTrue};
 ghost use Rattle.ports_core.specs.Slot.{is_writable};
-ghost use Rattle.ports_core.specs.Source.{count_left, is_readable, source_at};
-ghost use Rattle.run_core.specs.Passing.{IsEnd, Waits};
+ghost use Rattle.ports_core.specs.Source.{is_readable};
+ghost use Rattle.run_core.specs.Skipping.{Skips, stays};
 ghost use Rattle.run_core.specs.Task.{Task};
 ghost use Rattle.run_core.specs.RunSteps.{Opens, OpensShort};
 
@@ -41,26 +41,16 @@ pub trait Adapter {
         ensures ok { IfOk result (Opens Self.Driven.Holds Self.Driven.Owns Self.Driven.work Self.Driven.Ready Self.Driven.fed (task self.now).work O.told (O.slots outs.old) (O.slots outs.new)) }
         ensures err { IfErr result (OpensShort (task self.now).work (task self.now).opening O.told (O.slots outs.old) (O.slots outs.new)) };
 
-    /// Where in the `left` bytes of an input the end begins that is all that is made of it, if nothing is written before
-    /// the input ends, and that end can be found without reading what stands before it. By itself it finds none.
-    fn find_end<I: Inputs>(
-        &self,
-        slot: usize,
-        left: u64,
-        buffer: &mut [u8],
-        inputs: &I,
-    ) -> Option<u64>
+    /// Passes over a front of an input that its work doesn't need, before the engine that was opened for it is fed. By
+    /// itself it passes over nothing.
+    fn skip<I: Inputs>(&self, slot: usize, buffer: &mut [u8], inputs: &mut I)
         requires room { 0 < length buffer.old }
-        requires input { IsTrue (is_readable (I.sources inputs.now) slot) }
-        requires left { I.told ≡ true → count_left (source_at (I.sources inputs.now) slot).left ≡ Some left }
-        ensures within { IfSome result (λ from. from ≤ left) }
-        ensures waits { IfSome result (λ from. Waits (task self.now).work) }
-        ensures end { IfSome result (λ from. I.told ≡ true → IsEnd (task self.now).work from (source_at (I.sources inputs.now) slot).left) }
+        requires input { IsTrue (is_readable (I.sources inputs.old) slot) }
+        ensures skips { Skips I.told (task self.now).work slot (I.sources inputs.old) (I.sources inputs.new) }
+        ensures laid { I.laid inputs.new ≡ I.laid inputs.old }
     {
         let _ = slot;
-        let _ = left;
         let _ = buffer;
         let _ = inputs;
-        None
     }
 }

@@ -1,5 +1,5 @@
 //! The inputs of a run, one after another.
-ghost use Rattle.std.specs.Prelude.{◌≡◌, ◌<◌, ◌≤◌, ◌^◌, ◌||◌, ℕ, List, [], Some, None, true, false, map, length, IfOk, IfErr, IfSome, IfNone, OnOk, OnErr, IsTrue};
+ghost use Rattle.std.specs.Prelude.{◌≡◌, ◌<◌, ◌≤◌, ◌^◌, ◌||◌, ℕ, List, [], Some, None, true, false, map, length, IfOk, IfErr, IfSome, OnOk, OnErr, IsTrue};
 ghost use Rattle.ports_core.specs.Slot.{Slot, is_open, slot_at, is_writable, streams, told_of, with_written};
 ghost use Rattle.ports_core.specs.Source.{source_at, is_readable, IsFresh};
 ghost use Rattle.ports_core.specs.Part.{Part, OutputsAt};
@@ -7,7 +7,6 @@ ghost use Rattle.ports_core.specs.Engine.{is_verdict};
 ghost use Rattle.ports_core.specs.Work.{Needs};
 ghost use Rattle.run_core.specs.Feeding.{BreaksOnly, FedAs, KeepsOthers, LeavesOf, OfContent, ReadsFor};
 ghost use Rattle.run_core.specs.Input.{has_dash, is_dash, next_slot};
-ghost use Rattle.run_core.specs.Passing.{SkipsTo};
 ghost use Rattle.run_core.specs.Reading.{AsksAtMost, IsDone, Leaves, TakesOne, count_after};
 ghost use Rattle.run_core.specs.RunEnds.{EndsAs, RunsOver, streams_with, largest_piece};
 ghost use Rattle.run_core.specs.RunSteps.{HasStreams, HeaderFails, KeepsOther, OfName, OfSource, TookAll, TookInput, is_unopened, standard_source, world_of};
@@ -15,7 +14,6 @@ ghost use Rattle.run_core.specs.Task.{Task, header_text, of_content, of_input};
 
 use crate::adapter::Adapter;
 use crate::feeding::{Fed, feed_input, feed_nothing, is_verdict};
-use crate::passing::pass_on;
 use ports_core::{Fault, Inputs, Outs, STANDARD_INPUT, header, say, tell, write_whole};
 use std::alloc::Global;
 
@@ -282,7 +280,7 @@ fn put_header<A: Adapter, O: Outs>(
     Ok(write_whole(outs, 0, &text)?)
 }
 
-/// Does the tool's work on all of a source.
+/// Feeds all of a source to an engine of its own.
 ///
 /// # Errors
 ///
@@ -305,79 +303,54 @@ fn feed_source<A: Adapter, I: Inputs, O: Outs>(
     ensures others { KeepsOther source (I.sources inputs.old) (I.sources inputs.new) }
     ensures laid { I.laid inputs.new ≡ I.laid inputs.old }
 {
+    let coming = coming_from(source, inputs);
+    let mut engine = job.adapter.open(job.alloc, coming, outs)?;
     match source {
-        Some(slot) => feed_slot(job, slot, buffer, inputs, outs),
-        None => {
-            let mut engine = job.adapter.open(job.alloc, 0, outs)?;
-            feed_nothing(&mut engine, outs)
-        }
+        Some(slot) => feed_slot(job, &mut engine, slot, buffer, inputs, outs),
+        None => feed_nothing(&mut engine, outs),
     }
 }
 
-/// Does the tool's work on all of an input: writes its end where that is all that is made of it and can be found, and
-/// else feeds the input to an engine of its own.
+/// How many bytes a source says that it has left; 0 where it doesn't say.
+fn coming_from<I: Inputs>(source: Option<usize>, inputs: &I) -> u64
+    requires input { IfSome source (λ slot. IsTrue (is_readable (I.sources inputs.now) slot)) }
+{
+    match source {
+        Some(slot) => inputs.left(slot).unwrap_or(0),
+        None => 0,
+    }
+}
+
+/// Feeds an engine of the tool what it needs of an input.
 ///
 /// # Errors
 ///
 /// The engine's fault.
 fn feed_slot<A: Adapter, I: Inputs, O: Outs>(
     job: &Job<'_, A>,
+    engine: &mut A::Driven,
     slot: usize,
     buffer: &mut [u8],
     inputs: &mut I,
     outs: &mut O,
 ) -> Result<Fed, Fault>
     requires room { 0 < length buffer.old }
+    requires does { A.Driven.work engine.old ≡ (A.task job.now.adapter.now).work }
+    requires fresh { A.Driven.Holds engine.old [] }
+    requires bound { A.Driven.fed engine.old < 2 ^ 63 }
     requires input { IsTrue (is_readable (I.sources inputs.old) slot) }
-    requires streams { 2 ≤ length (O.slots outs.old) }
-    requires output { IsTrue (is_writable (O.slots outs.old) 0) }
-    ensures fed { OfContent I.told (source_at (I.sources inputs.old) slot).left
-        (λ content. FedAs O.told (O.slots outs.old) (A.task job.now.adapter.now).work (A.task job.now.adapter.now).opening (length buffer.old) content (LeavesOf I.told content (source_at (I.sources inputs.new) slot)) (O.slots outs.new) result
+    requires output { A.Driven.Ready engine.old (O.slots outs.old) }
+    requires owns { (first : ℕ) × A.Driven.Owns engine.old first (O.slots outs.old) }
+    ensures ends { (before : List Slot) (opening : Needs) → A.Driven.Owns engine.old (length before) (O.slots outs.old) → OutputsAt O.told before ((A.Driven.work engine.old).settled []) (O.slots outs.old)
+        → OfContent I.told (source_at (I.sources inputs.old) slot).left
+        (λ content. FedAs O.told before (A.Driven.work engine.old) opening (length buffer.old) content (LeavesOf I.told content (source_at (I.sources inputs.new) slot)) (O.slots outs.new) result
         × BreaksOnly I.told content (source_at (I.sources inputs.new) slot)) }
-    ensures reads { I.told ≡ true → ReadsFor (A.task job.now.adapter.now).work.is_complete (length buffer.old) (source_at (I.sources inputs.old) slot).left (source_at (I.sources inputs.new) slot).left }
+    ensures reads { I.told ≡ true → ReadsFor (A.Driven.work engine.old).is_complete (length buffer.old) (source_at (I.sources inputs.old) slot).left (source_at (I.sources inputs.new) slot).left }
     ensures asked { (source_at (I.sources inputs.old) slot).asked ≤ length buffer.old → (source_at (I.sources inputs.new) slot).asked ≤ length buffer.old }
+    ensures broke { IfOk result (λ fed. fed ≡ Fed.Broken → (source_at (I.sources inputs.new) slot).is_broken ≡ true) }
     ensures laid { I.laid inputs.new ≡ I.laid inputs.old }
     ensures others { KeepsOthers slot (I.sources inputs.old) (I.sources inputs.new) }
 {
-    if let Some(left) = skip_to_end(job, slot, buffer, inputs, outs) {
-        return pass_on(slot, left, buffer, inputs, outs);
-    }
-    let coming = inputs.left(slot).unwrap_or(0);
-    let mut engine = job.adapter.open(job.alloc, coming, outs)?;
-    feed_input(&mut engine, slot, buffer, inputs, outs)
-}
-
-/// Passes over what stands before the end of an input that is all that is made of it, and returns how many bytes that end
-/// has. None where it isn't found or can't be come to; nothing was passed over then.
-fn skip_to_end<A: Adapter, I: Inputs, O: Outs>(
-    job: &Job<'_, A>,
-    slot: usize,
-    buffer: &mut [u8],
-    inputs: &mut I,
-    outs: &O,
-) -> Option<u64>
-    requires room { 0 < length buffer.old }
-    requires input { IsTrue (is_readable (I.sources inputs.old) slot) }
-    ensures skips { IfSome result (SkipsTo I.told O.told (A.task job.now.adapter.now).work slot (I.sources inputs.old) (I.sources inputs.new)) }
-    ensures stays { IfNone result (I.sources inputs.new ≡ I.sources inputs.old) }
-    ensures laid { I.laid inputs.new ≡ I.laid inputs.old }
-{
-    if !tells_enough(inputs, outs) {
-        return None;
-    }
-    let left = inputs.left(slot)?;
-    let from = job.adapter.find_end(slot, left, buffer, inputs)?;
-    if inputs.skip(slot, from, left) {
-        Some(left - from)
-    } else {
-        None
-    }
-}
-
-/// Whether inputs tell their bytes, and so whether a read of them fails, if outputs tell what was written: after some of
-/// the end was written, a read that fails would leave more than is made of an input that breaks off.
-fn tells_enough<I: Inputs, O: Outs>(inputs: &I, outs: &O) -> bool
-    ensures { IsTrue result → O.told ≡ true → I.told ≡ true }
-{
-    if outs.tells() { inputs.tells() } else { true }
+    job.adapter.skip(slot, buffer, inputs);
+    feed_input(engine, slot, buffer, inputs, outs)
 }

@@ -4,7 +4,6 @@
 mod adapter;
 mod feeding;
 mod inputs;
-mod passing;
 
 pub use adapter::Adapter;
 pub use feeding::{Fed, feed_input, feed_nothing};

@@ -1,15 +1,13 @@
-use Rattle.std.proofs.Common.{◌≡◌, ◌-◌, ◌<◌, ◌≤◌, length, true}
-use Rattle.ends_core.proofs.BackLemmas.{IsWanted}
+use Rattle.std.proofs.Common.{◌≡◌, ◌+◌, ◌≤◌, ◌<◌, drop, length, true}
+use Rattle.seg_core.specs.Line.{delimiters}
 use Rattle.ends_core.proofs.back.find_lines.Given as goal
 
 abbrev pub invariant-walk : goal.invariant-walk
-invariant-walk g l = record {
-  lines : g.L.Looks.told ≡ true → IsWanted l.delim l.count l.wanted l.end (g.L.Looks.bytes l.fn.text);
-  some : 0 < l.wanted;
-  within : l.end ≤ l.len - 1;
-  same : g.L.Looks.bytes l.text ≡ g.L.Looks.bytes l.fn.text;
-  room : 0 < length l.buffer;
-}
+invariant-walk g l =
+    (g.L.Looks.bytes l.text ≡ g.L.Looks.bytes l.fn.text)
+    × (l.end ≤ l.len)
+    × (0 < length l.buffer)
+    × (g.L.Looks.told ≡ true → l.count ≡ l.wanted + delimiters l.delim (drop l.end (g.L.Looks.bytes l.fn.text)))
 
 abbrev pub decreases-walk : goal.decreases-walk
 decreases-walk g l = l.end

@@ -1,8 +1,7 @@
 use Rattle.std.proofs.Common.{◌≡◌, ◌∙◌, ◌+◌, ◌-◌, ◌++◌, ◌<◌, ap, arith, drop, length, min, take}
 use Rattle.watch_core.specs.Snapshot.{latest}
 use Rattle.watch_core.specs.Watched.{open_contents, watched_at}
-use Rattle.ends_core.proofs.BackLemmas.{all_wanted, begins_in, begins_last, wanted_before}
-use Rattle.follow_core.proofs.StartLemmas.{block_read, room_kept}
+use Rattle.follow_core.proofs.StartLemmas.{all_wanted, begins_in, begins_last, block_read, room_kept, wanted_before}
 use Rattle.follow_core.proofs.start.find_last_lines.Goals as goal
 
 pub returns-in-Begins-clause-part : goal.returns-in-Begins-clause-part

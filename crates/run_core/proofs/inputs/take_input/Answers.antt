@@ -16,7 +16,7 @@ feed_source-requires-clause-output g c = let had = c.requires.outputs in part_wr
 
 pub returns-in_err-put_header-clause-took : goal.returns-in_err-put_header-clause-took
 returns-in_err-put_header-clause-took g c so_far error opened at =
-    rw (handed_on _ _ c.from_residual.ensures.1) (unread_source _ _ _ _ c.requires.input (λ content unread. stopped_in_header _ _ _ _ _ _ _ content _ _ _ so_far error _ _ _ c.in_err-put_header.field-0.0 c.in_err-put_header.ensures.due unread at c.in_err-put_header.ensures.err))
+    rw (handed_on _ _ c.from_residual.ensures.1) (unread_source _ (g.A.Adapter.task c.args.job.now.adapter.now).work.is_complete 0 _ _ _ c.requires.input (λ content unread done. stopped_in_header _ _ _ _ _ _ _ content _ _ _ so_far error _ _ _ c.in_err-put_header.field-0.0 c.in_err-put_header.ensures.due unread at c.in_err-put_header.ensures.err))
 
 pub returns-in_err-put_header-clause-others : goal.returns-in_err-put_header-clause-others
 returns-in_err-put_header-clause-others g c = keeps_all _ _

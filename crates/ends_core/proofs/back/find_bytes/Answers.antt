@@ -1,1 +1,0 @@
-use Rattle.ends_core.proofs.back.find_bytes.Goals as goal
