@@ -163,7 +163,7 @@ pub inside_starts : (code : List Node) (at word : ℕ) → Insiding code at word
 inside_starts code at word = record { kept = λ bit h k. k; from_word = λ number h k. (number, h, k, (0, refl)); within = λ bit h k. k; rest = λ bit h k. inl k }
 
 -- what isn't in a word yet
-fresh_bit : (found all bit : ℕ) → all < 2 ^ 64 → bit < 64 → bit_at (bit_and found (bit_not w64 all)) bit ≡ min (bit_at found bit) (1 - bit_at all bit)
+pub fresh_bit : (found all bit : ℕ) → all < 2 ^ 64 → bit < 64 → bit_at (bit_and found (bit_not w64 all)) bit ≡ min (bit_at found bit) (1 - bit_at all bit)
 fresh_bit found all bit m l = bit_at_and found (bit_not w64 all) bit ∙ ap (min (bit_at found bit)) (bit_at_not w64 all bit m l)
 
 pub inside_more : (code : List Node) (at word all left bit found : ℕ) → Insiding code at word all left → all < 2 ^ 64 → bit < 64 → bit_at left bit ≡ 1 → ((to : ℕ) → to < 64 → (bit_at found to ≡ 1) ↔ Flows code false false (at * 64 + bit) (at * 64 + to))
@@ -330,10 +330,10 @@ fitted n i h =
     let q : n % 2 ^ 64 ≡ bit_and n (2 ^ (64 + 0) - 2 ^ 0) = omega (arith, e) in
     ap (λ x. bit_at x i) q ∙ b ∙ omega (arith, o, l)
 
-placed_below : (n s i : ℕ) → i < 64 → i < s → bit_at (n * 2 ^ s % 2 ^ 64) i ≡ 0
+pub placed_below : (n s i : ℕ) → i < 64 → i < s → bit_at (n * 2 ^ s % 2 ^ 64) i ≡ 0
 placed_below n s i h l = fitted (n * 2 ^ s) i h ∙ ap (λ x. bit_at x i) (omega arith) ∙ bit_at_cat_low n s 0 i l ∙ bit_at-zero i
 
-placed : (n s i : ℕ) → i < 64 → s ≤ i → bit_at (n * 2 ^ s % 2 ^ 64) i ≡ bit_at n (i - s)
+pub placed : (n s i : ℕ) → i < 64 → s ≤ i → bit_at (n * 2 ^ s % 2 ^ 64) i ≡ bit_at n (i - s)
 placed n s i h l = fitted (n * 2 ^ s) i h ∙ ap (λ x. bit_at x i) (omega arith) ∙ bit_at_cat_high n s 0 i (search rules) l
 
 -- the bits of a number are those of its lower and of its higher four bits
@@ -418,11 +418,11 @@ entry_of_halves code inside place i low high = closes_both code (place / 2048) _
     bits bit h = ap (λ n. bit_at (n * 2 ^ (place / 256 % 8 * 8) % 2 ^ 64) bit) chosen ∙ halved_placed (place / 16 % 16) (place % 16) (place / 256 % 8 * 8) bit (omega arith) h
 
 -- what is so of each entry of a list and of one more
-pub pushed : (So : ℕ → ℕ → Type 0) (list new : List ℕ) (count entry : ℕ) → length list ≡ count → ((k : ℕ) → k < count → So k (get_or list k 0)) → So count entry → new ≡ list ++ entry ∷ [] → (k : ℕ) → k < count + 1 → So k (get_or new k 0)
-pushed So list new count entry size before here e k h = elim (cases_eq k count) [
-  | inl same ↦ subst (So k) (sym (ap (λ l. get_or l k 0) e ∙ get-last list entry 0 k (same ∙ sym size))) (subst (λ n. So n entry) (sym same) here)
-  | inr other ↦ subst (So k) (sym (ap (λ l. get_or l k 0) e ∙ get-front list (entry ∷ []) k 0 (omega (arith, h, other, size)))) (before k (omega (arith, h, other)))
+pub pushed : {X : Type 0} (d : X) (So : ℕ → X → Type 0) (list new : List X) (count : ℕ) (entry : X) → length list ≡ count → ((k : ℕ) → k < count → So k (get_or list k d)) → So count entry → new ≡ list ++ entry ∷ [] → (k : ℕ) → k < count + 1 → So k (get_or new k d)
+pushed d So list new count entry size before here e k h = elim (cases_eq k count) [
+  | inl same ↦ subst (So k) (sym (ap (λ l. get_or l k d) e ∙ get-last list entry d k (same ∙ sym size))) (subst (λ n. So n entry) (sym same) here)
+  | inr other ↦ subst (So k) (sym (ap (λ l. get_or l k d) e ∙ get-front list (entry ∷ []) k d (omega (arith, h, other, size)))) (before k (omega (arith, h, other)))
 ]
 
-pub one_longer : (list new : List ℕ) (count entry : ℕ) → length list ≡ count → new ≡ list ++ entry ∷ [] → length new ≡ count + 1
+pub one_longer : {X : Type 0} (list new : List X) (count : ℕ) (entry : X) → length list ≡ count → new ≡ list ++ entry ∷ [] → length new ≡ count + 1
 one_longer list new count entry size e = let l = ap length e in let a = length-append list (entry ∷ []) in omega (arith, l, a, size)

@@ -20,6 +20,7 @@ pub mod Inners
 pub mod Tables
 pub mod Masking
 pub mod Insides
+pub mod Nexts
 pub mod Closings
 pub mod Shiftings
 pub mod Hoppings

@@ -1,5 +1,5 @@
 -- What numbers lead to without a byte, ready to be looked up.
-use Rattle.std.specs.Prelude.{◌≡◌, ◌⊎◌, ℕ, ◌+◌, ◌*◌, ◌/◌, ◌%◌, ◌^◌, ◌<◌, Bool, false, List, length, slice_index_or}
+use Rattle.std.specs.Prelude.{◌≡◌, ◌⊎◌, ℕ, ◌+◌, ◌*◌, ◌/◌, ◌%◌, ◌^◌, ◌<◌, Bool, false, Option, None, IfSome, List, length, slice_index_or}
 use Rattle.std.specs.Int.{bit_at}
 use Rattle.scan_core.specs.declared.closures.Closures.{Closures}
 use Rattle.scan_core.specs.declared.node.Node.{Node}
@@ -27,6 +27,11 @@ pub record Closes (code : List Node) (at chosen all : ℕ) : Type 0 where
   pub from_chosen : (number : ℕ) → number < 64 → bit_at all number ≡ 1 → (bit : ℕ) × (bit < 64) × (bit_at chosen bit ≡ 1) × FlowsOn code false false (at * 64 + bit) (at * 64 + number)
   pub closed : (number to : ℕ) → number < 64 → to < 64 → bit_at all number ≡ 1 → Flows code false false (at * 64 + number) (at * 64 + to) → bit_at all to ≡ 1
 
+-- the numbers that are led to in a word: each follows the only one that leads to it there, and leads nowhere in the word
+pub record AreNexts (code : List Node) (at nexts : ℕ) : Type 0 where
+  pub only : (bit to : ℕ) → bit < 64 → to < 64 → Flows code false false (at * 64 + bit) (at * 64 + to) → (to ≡ bit + 1) × (bit_at nexts to ≡ 1) × (bit_at nexts bit ≡ 1 → ⊥)
+  pub leads : (bit : ℕ) → bit + 1 < 64 → bit_at nexts (bit + 1) ≡ 1 → Flows code false false (at * 64 + bit) (at * 64 + (bit + 1))
+
 -- the numbers that a place of the table is for: a choice from eight of a word
 abbrev pub chosen_at : ℕ → ℕ
 chosen_at place = place % 256 * 2 ^ (place / 256 % 8 * 8) % 2 ^ 64
@@ -35,6 +40,10 @@ chosen_at place = place % 256 * 2 ^ (place / 256 % 8 * 8) % 2 ^ 64
 pub record AreInside (code : List Node) (count : ℕ) (inside : List ℕ) : Type 0 where
   pub size : length inside ≡ count
   pub each : (place : ℕ) → place < count → Closes code (place / 2048) (chosen_at place) (slice_index_or inside place 0)
+
+pub record AreAllNexts (code : List Node) (nexts : List (Option ℕ)) : Type 0 where
+  pub size : length nexts ≡ width code
+  pub each : (at : ℕ) → at < width code → IfSome (slice_index_or nexts at None) (AreNexts code at)
 
 pub record AreLeaves (code : List Node) (hops : List Hop) (leaves : List ℕ) : Type 0 where
   pub size : length leaves ≡ width code
@@ -46,6 +55,7 @@ pub record AreAllPeers (code : List Node) (peers : List ℕ) : Type 0 where
 
 pub record AreClosures (code : List Node) (closures : Closures) : Type 0 where
   pub inside : AreInside code (width code * 2048) closures.inside.items
+  pub nexts : AreAllNexts code closures.nexts.items
   pub hops : AreHops code (width code * 3) closures.hops.items
   pub leaves : AreLeaves code closures.hops.items closures.leaves.items
   pub peers : AreAllPeers code closures.peers.items

@@ -114,7 +114,7 @@ impl Bre {
 
     /// Whether a line that isn't empty has a match, by the pattern's table; `None` where there is no table, or no room in it
     /// for a set that the line leads to.
-    pub(crate) fn walk(&self, line: &[u8]) -> Option<Outcome>
+    pub fn walk(&self, line: &[u8]) -> Option<Outcome>
         requires { 0 < length line.now }
         ensures outcome { IfSome result (IsOutcome (code_of self.now) line.now) }
         ensures order { IsOrdered self.now }
@@ -147,7 +147,7 @@ impl Bre {
 
     /// Whether a line has a match, by sets of what is entered at each place. `words` is room for a set: a bit for each of
     /// twice as many numbers as the pattern has positions.
-    pub(crate) fn search(&self, line: &[u8], words: &mut [u64]) -> Outcome
+    pub fn search(&self, line: &[u8], words: &mut [u64]) -> Outcome
         requires { length words.old ≡ 2 * positions_of self.now / 64 + 1 }
         ensures size { length words.new ≡ length words.old }
         ensures outcome { IsOutcome (code_of self.now) line.now result }

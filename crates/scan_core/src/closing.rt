@@ -9,7 +9,7 @@ ghost use Rattle.scan_core.specs.Sets.{IsCode};
 ghost use Rattle.scan_core.specs.Words.{Grows, IsIn, SpreadsOut, Visits, width};
 
 use crate::base::Base;
-use crate::closures::{Closures, closed};
+use crate::closures::{Closures, closed, looked_up};
 use crate::hops::{HOPS, Hop};
 use crate::landing::land;
 use crate::node::Node;
@@ -73,7 +73,7 @@ fn close(
     ensures { Visits nodes.now at_first at_last at words.old words.new result }
 {
     let word = words[at];
-    let all = word | closed(&closures.inside, nodes, at, word);
+    let all = word | looked_up(&closures.inside, nodes, at, word);
     words[at] = all;
     let mut on = at + 1;
     let mut left = all & closures.leaves[at];
@@ -109,7 +109,7 @@ fn close_some(
     if word & base.leads[at] == 0 {
         return at + 1;
     }
-    let all = word | closed(&closures.inside, nodes, at, word);
+    let all = word | looked_up(&closures.inside, nodes, at, word);
     if all & closures.leaves[at] != 0 {
         return close(words, nodes, closures, at, at_first, at_last);
     }
@@ -130,7 +130,7 @@ fn close_words(words: &mut [u64], nodes: &[Node], base: &Base, closures: &Closur
     for at in 0..words.len() {
         let word = words[at];
         if word & base.leads[at] != 0 {
-            let all = word | closed(&closures.inside, nodes, at, word);
+            let all = word | closed(closures, nodes, at, word);
             words[at] = all;
             over |= all & base.others[at];
         }

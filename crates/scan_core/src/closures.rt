@@ -1,9 +1,9 @@
-//! What follows without a byte, ready to be looked up: within a word for eight numbers at once.
+//! What follows without a byte, ready to be looked up: within a word for eight numbers at once, or for all by a shift.
 
-ghost use Rattle.std.specs.Prelude.{◌≡◌, ◌⊎◌, ◌↔◌, ◌<◌, ◌≤◌, ◌+◌, ◌*◌, ◌/◌, ◌%◌, ◌^◌, ℕ, Bool, false, IsTrue, IfOk, IfErr, length};
+ghost use Rattle.std.specs.Prelude.{◌≡◌, ◌⊎◌, ◌↔◌, ◌<◌, ◌≤◌, ◌+◌, ◌*◌, ◌/◌, ◌%◌, ◌^◌, ℕ, Bool, false, IsTrue, IfOk, IfErr, IfSome, length};
 ghost use Rattle.std.specs.Int.{bit_at};
 ghost use Rattle.bre_core.specs.declared.fault.BreFault.TheVariants.{Memory};
-ghost use Rattle.scan_core.specs.Closures.{AreAllPeers, AreClosures, AreInside, AreLeaves, ArePeers, Closes, IsLeaving, Stays, chosen_at};
+ghost use Rattle.scan_core.specs.Closures.{AreAllNexts, AreAllPeers, AreClosures, AreInside, AreLeaves, AreNexts, ArePeers, Closes, IsLeaving, Stays, chosen_at};
 ghost use Rattle.scan_core.specs.Hops.{HopsTo};
 ghost use Rattle.scan_core.specs.Sets.{IsCode, Flows};
 ghost use Rattle.scan_core.specs.Words.{width};
@@ -18,6 +18,8 @@ use std::alloc::Global;
 pub struct Closures {
     /// For each word, each eight of its numbers, and each choice from these: what the chosen ones lead to in the word.
     pub inside: Vec<u64>,
+    /// For each word, if numbers lead in it only to the next one, and none leads on from there: those that are led to.
+    pub nexts: Vec<Option<u64>>,
     /// For each word its hops.
     pub hops: Vec<Hop>,
     /// The numbers whose nodes lead to more than that.
@@ -170,9 +172,29 @@ fn inside_of(nodes: &[Node], at: usize, word: u64) -> u64
     all
 }
 
-/// What the numbers of a word lead to in it.
+/// The numbers that are led to in a word, if each follows the only one that leads to it there, and leads nowhere in the word.
+fn nexts_in(nodes: &[Node], at: usize) -> Option<u64>
+    requires code { IsCode nodes.now }
+    requires at { at < width nodes.now }
+    ensures { IfSome result (AreNexts nodes.now at) }
+{
+    let mut nexts: u64 = 0;
+    for bit in 0..64usize {
+        let led = targets(nodes, at, bit);
+        if led & !(2u64 << bit) != 0 {
+            return None;
+        }
+        nexts |= led;
+    }
+    if (nexts << 1) & nexts != 0 {
+        return None;
+    }
+    Some(nexts)
+}
+
+/// What the numbers of a word lead to in it, looked up for eight of them at once.
 #[inline(always)]
-pub fn closed(inside: &[u64], nodes: &[Node], at: usize, word: u64) -> u64
+pub fn looked_up(inside: &[u64], nodes: &[Node], at: usize, word: u64) -> u64
     requires inside { AreInside nodes.now (width nodes.now * 2048) inside.now }
     requires at { at < width nodes.now }
     ensures { Closes nodes.now at word result }
@@ -183,6 +205,19 @@ pub fn closed(inside: &[u64], nodes: &[Node], at: usize, word: u64) -> u64
         all |= row[eight * 256 + ((word >> (eight * 8)) % 256) as usize];
     }
     all
+}
+
+/// What the numbers of a word lead to in it: by a shift where that is enough, and else looked up.
+#[inline(always)]
+pub fn closed(closures: &Closures, nodes: &[Node], at: usize, word: u64) -> u64
+    requires closures { AreClosures nodes.now closures.now }
+    requires at { at < width nodes.now }
+    ensures { Closes nodes.now at word result }
+{
+    match closures.nexts[at] {
+        Some(nexts) => word | ((word << 1) & nexts),
+        None => looked_up(&closures.inside, nodes, at, word),
+    }
 }
 
 /// What one choice from eight numbers leads to in their word: what its lower and its higher four lead to is in the table
@@ -247,6 +282,19 @@ fn all_peers(alloc: Global, nodes: &[Node]) -> Result<Vec<u64>, BreFault>
     Ok(peers)
 }
 
+/// The numbers that are led to in each word, as `nexts_in` finds them.
+fn all_nexts(alloc: Global, nodes: &[Node]) -> Result<Vec<Option<u64>>, BreFault>
+    requires { IsCode nodes.now }
+    ensures ok { IfOk result (λ nexts. AreAllNexts nodes.now nexts.items) }
+    ensures err { IfErr result (λ fault. fault ≡ Memory) }
+{
+    let mut nexts = Vec::new(alloc);
+    for at in 0..nodes.len() / 64 + 1 {
+        nexts.push(nexts_in(nodes, at))?;
+    }
+    Ok(nexts)
+}
+
 /// The closures of a code.
 pub fn closures_of(alloc: Global, nodes: &[Node]) -> Result<Closures, BreFault>
     requires code { IsCode nodes.now }
@@ -255,11 +303,13 @@ pub fn closures_of(alloc: Global, nodes: &[Node]) -> Result<Closures, BreFault>
     ensures err { IfErr result (λ fault. fault ≡ Memory) }
 {
     let inside = insides_of(alloc, nodes)?;
+    let nexts = all_nexts(alloc, nodes)?;
     let hops = hops_of(alloc, nodes)?;
     let leaves = leaves_of(alloc, nodes, &hops)?;
     let peers = all_peers(alloc, nodes)?;
     Ok(Closures {
         inside,
+        nexts,
         hops,
         leaves,
         peers,

@@ -31,6 +31,4 @@ mod words;
 pub use bre::{Bre, matches_plain};
 pub use bre_core::BreFault;
 pub use scan::Scan;
-
-#[cfg(test)]
-mod tests;
+pub use walk::Outcome;

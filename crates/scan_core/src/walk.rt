@@ -9,7 +9,9 @@ use crate::table::{STOP, Table, UNKNOWN};
 /// Whether a line has a match, and the steps that a search takes for it.
 #[derive(Clone, Copy, Debug)]
 pub struct Outcome {
+    /// Whether some stretch of it matches.
     pub found: bool,
+    /// How many positions were entered, each once at a place.
     pub steps: u128,
 }
 

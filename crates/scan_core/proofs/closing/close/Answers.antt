@@ -28,17 +28,17 @@ bits-preserved c =
     let inside : place < length c.args.closures.now.peers.items = omega (arith, all.size, lowest.0, c.requires.within) in
     let e = c.index-in-bits.ensures ∙ no_default c.args.closures.now.peers.items place _ 0 inside in
     let fits : c.index-in-bits.result.now < 2 ^ 64 = search rules in
-    let closed = close_word c.args.nodes.now c.args.at _ c.closed.result c.args.words.now _ (omega (arith, c.requires.size, c.requires.within)) refl c.closed.ensures refl in
+    let closed = close_word c.args.nodes.now c.args.at _ c.looked_up.result c.args.words.now _ (omega (arith, c.requires.size, c.requires.within)) refl c.looked_up.ensures refl in
     close_more c.args.nodes.now c.args.at_first c.args.at_last c.args.at _ c.bits.left c.index-in-bits.result.now (trailing_zeros w64 c.bits.left) c.args.words.now _ _ _ _ _ closed c.bits.invariant lowest.0 lowest.1 fits
     (subst (ArePeers c.args.nodes.now place) (sym e) (all.each place (omega (arith, lowest.0, c.requires.within)))) c.lead-on.ensures
 
 pub returns : goal.returns
 returns c =
     let before = c.args.words.now in
-    let all : ℕ = bit_or (get_or before c.args.at 0) c.closed.result in
+    let all : ℕ = bit_or (get_or before c.args.at 0) c.looked_up.result in
     let now : List ℕ = set before c.args.at all in
     let inside : c.args.at < length before = omega (arith, c.requires.size, c.requires.within) in
-    let closed = close_word c.args.nodes.now c.args.at _ c.closed.result before _ inside refl c.closed.ensures refl in
+    let closed = close_word c.args.nodes.now c.args.at _ c.looked_up.result before _ inside refl c.looked_up.ensures refl in
     let sets = c.requires.closures in
     let hopped = subst (λ hops. Grows (Hopped hops c.args.at all 3) c.bits.words c.hop.new.words c.bits.on c.hop.result) c.deref-2.ensures.value c.hop.ensures in
     let same : all ≡ get_or now c.args.at 0 = sym (get_or-set_same before c.args.at all 0 inside) in

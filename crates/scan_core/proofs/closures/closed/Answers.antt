@@ -1,14 +1,11 @@
-use Rattle.std.proofs.Common.{◌+◌, ◌*◌, ◌/◌, ◌%◌, ◌^◌, ◌-◌, ◌<◌, ℕ, drop, ◌∙◌, subst, arith}
-use Rattle.std.proofs.lemmas.List.{get_or-take, get_or-drop}
-use Rattle.scan_core.proofs.Insides.{Joining, join_more, join_ends}
+use Rattle.std.proofs.Common.{IfSome, None, ◌∙◌, sym, subst, arith}
+use Rattle.scan_core.specs.Closures.{AreNexts}
+use Rattle.scan_core.proofs.Inners.{any_default}
+use Rattle.scan_core.proofs.Nexts.{close_nexts}
 use Rattle.scan_core.proofs.closures.closed.Goals as goal
 
-pub loop-eight-preserved : goal.loop-eight-preserved
-loop-eight-preserved c =
-    let place : ℕ = c.loop-eight.eight * 256 + c.args.word / 2 ^ (c.loop-eight.eight * 8) % 256 in
-    let within : place < c.args.at * 2048 + 2048 - c.args.at * 2048 = omega (arith, c.loop-eight-test.true) in
-    join_more c.args.nodes.now c.args.inside.now c.args.at c.args.word c.loop-eight.eight c.loop-eight.all _ c.loop-eight.invariant c.requires.inside c.requires.at c.loop-eight-test.true c.ranges.word.fits
-    (get_or-take _ (drop (c.args.at * 2048) c.args.inside.now) place 0 within ∙ get_or-drop (c.args.at * 2048) c.args.inside.now place 0)
-
-pub returns : goal.returns
-returns c = join_ends c.args.nodes.now c.args.at c.args.word c.loop-eight.all (subst (λ n. Joining c.args.nodes.now c.args.at c.args.word n c.loop-eight.all) (omega arith) c.loop-eight.invariant)
+pub returns-in-Some : goal.returns-in-Some
+returns-in-Some c =
+    let nexts = c.requires.closures.nexts in
+    let e = c.index.ensures ∙ any_default c.args.closures.now.nexts.items c.args.at _ None (let s = nexts.size in omega (arith, s, c.requires.at)) in
+    close_nexts c.args.nodes.now c.args.at c.args.word c.in-Some.nexts (subst (λ found. IfSome found (AreNexts c.args.nodes.now c.args.at)) (sym e ∙ c.in-Some.is) (nexts.each c.args.at c.requires.at))
