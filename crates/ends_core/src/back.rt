@@ -7,6 +7,9 @@ ghost use Rattle.ends_core.specs.Back.{HasMore};
 use crate::Unit;
 use seg_core::line::count_delimiters;
 
+/// One part in this many of a text shows how long its lines are.
+const SAMPLE: u64 = 16;
+
 /// A text of which any stretch can be looked at, whatever stands before it.
 pub trait Looks {
     /// Its bytes.
@@ -23,9 +26,10 @@ pub trait Looks {
 
 /// How many bytes of a text of `len` bytes may be passed over where its last `count` lines or bytes are wanted: they
 /// are the last of what is left, too. What is left is longer than they are by at most the buffer's length and a line,
-/// or by a byte. 0 where the text isn't longer than the buffer, or where a look fails. A look is at most at the
-/// buffer's length, from the end on: for lines at all that is left, for bytes at the last one, to see that the text
-/// is as long as that. Lines end with `delim`. It takes no memory.
+/// or by a byte. 0 where the text isn't longer than the buffer, where a look fails, or where most of the text seems to
+/// be wanted, which is then read only once. A look is at most at the buffer's length, from the end on: for lines at all
+/// that is left, for bytes at the last one, to see that the text is as long as that. Lines end with `delim`. It takes
+/// no memory.
 pub fn find_last<L: Looks>(
     text: &mut L,
     len: u64,
@@ -85,8 +89,23 @@ fn find_lines<L: Looks>(text: &mut L, len: u64, count: u64, delim: u8, buffer: &
             return end;
         }
         wanted -= found;
+        if is_mostly_wanted(len, end, count, count - wanted) {
+            return 0;
+        }
     }
     0
+}
+
+/// Whether more than half of a text of `len` bytes seems to be wanted, by what stands after a place, once that is a
+/// sixteenth of it: `found` of the `count` lines that are wanted.
+fn is_mostly_wanted(len: u64, place: u64, count: u64, found: u64) -> bool
+    requires { place ≤ len }
+{
+    let seen = len - place;
+    if seen < len / SAMPLE {
+        return false;
+    }
+    u128::from(found) * u128::from(len / 2) <= u128::from(count) * u128::from(seen)
 }
 
 /// How many bytes are looked at before a place that isn't the front.

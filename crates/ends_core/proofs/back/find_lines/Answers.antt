@@ -23,4 +23,5 @@ walk-preserved g c =
       (λ told. more_lines _ c.walk.end c.block_size-size.result _ c.walk.wanted c.count_delimiters-found.result (g.L.Looks.bytes c.args.text.now) c.look.new.buffer
           (subst (λ text. Shows text (c.walk.end - c.block_size-size.result) c.look.new.buffer) c.walk.invariant.0 (c.look.ensures.shows c.if-not-look.false told))
           long c.block_size-size.ensures.there c.count_delimiters-found.ensures c.if-wanted-found.false (c.walk.invariant.3 told)),
+      omega (arith, c.walk.invariant.4),
     )

@@ -8,6 +8,7 @@ invariant-walk g l =
     × (l.end ≤ l.len)
     × (0 < length l.buffer)
     × (g.L.Looks.told ≡ true → l.count ≡ l.wanted + delimiters l.delim (drop l.end (g.L.Looks.bytes l.fn.text)))
+    × (l.wanted ≤ l.count)
 
 abbrev pub decreases-walk : goal.decreases-walk
 decreases-walk g l = l.end
