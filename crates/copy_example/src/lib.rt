@@ -3,8 +3,6 @@
 
 mod copier;
 mod run;
-#[cfg(test)]
-mod tests;
 
 pub use copier::Copier;
 pub use run::{CopyAdapter, copy_input};

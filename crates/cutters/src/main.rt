@@ -1,40 +1,15 @@
 //! `cutters`: the tools that cut files, in one program.
 #![tactic(auto)]
 
-mod args;
-mod csplit;
-#[cfg(test)]
-mod csplit_run_tests;
-mod ends;
-#[cfg(test)]
-mod ends_tests;
-mod follow;
-#[cfg(test)]
-mod follow_tests;
-#[cfg(test)]
-mod left;
-mod program;
-#[cfg(test)]
-mod refused_tests;
-mod run;
-mod split;
-#[cfg(test)]
-mod split_run_tests;
-#[cfg(test)]
-mod tee_tests;
-#[cfg(test)]
-mod tests;
-
 ghost use Rattle.std.specs.Prelude.{◌≡◌};
 ghost use Rattle.ports_core.specs.Slot.{streams};
 ghost use Rattle.ports_core.specs.Source.{IsFresh};
 
-use crate::args::{ArgsFault, read_args};
-use crate::program::run_words;
 use ports_core::{DirIn, DirOut, Fault, Tool, say, write_whole};
 use std::alloc::{AllocError, Global};
 use std::fs;
 use std::process::ExitCode;
+use tools_core::{ArgsFault, read_args, run_words};
 use watch_core::DirWatch;
 
 /// The output for messages.

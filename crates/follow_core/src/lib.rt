@@ -15,8 +15,6 @@ mod notice;
 mod printer;
 mod reading;
 mod revisit;
-#[cfg(test)]
-mod row_tests;
 mod run;
 mod start;
 mod visiting;

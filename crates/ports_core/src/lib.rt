@@ -7,8 +7,6 @@ mod dir_in;
 mod dir_out;
 mod dir_slot;
 mod dir_stream;
-#[cfg(test)]
-mod dir_tests;
 mod engine;
 mod fault;
 mod guarded;
@@ -18,17 +16,11 @@ mod length;
 mod mem_in;
 mod mem_out;
 mod messages;
-#[cfg(test)]
-mod name_tests;
 mod names;
 mod outs;
-#[cfg(test)]
-mod seek_tests;
 mod slot;
 mod stage;
 mod sweep;
-#[cfg(test)]
-mod tests;
 mod text;
 mod tool;
 mod whole;

@@ -12,5 +12,3 @@ mod line_blocks;
 pub mod line_iter;
 pub mod line_reach;
 pub mod line_window;
-#[cfg(test)]
-mod window_tests;

@@ -7,22 +7,12 @@ mod deal;
 mod files;
 mod gathered;
 mod laws;
-#[cfg(test)]
-mod part_plain;
 mod part_stage;
-#[cfg(test)]
-mod part_tests;
 mod parts;
 mod round_files;
-#[cfg(test)]
-mod round_plain;
 mod round_splitter;
-#[cfg(test)]
-mod round_tests;
 mod splitter;
 mod step;
-#[cfg(test)]
-mod test_texts;
 mod ways;
 
 pub use cut::{Cut, Limit};

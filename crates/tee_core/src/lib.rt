@@ -4,8 +4,6 @@
 mod laws;
 mod run;
 mod tee;
-#[cfg(test)]
-mod tests;
 
 pub use laws::agreed_is_settled;
 pub use run::run_tee;

@@ -3,13 +3,9 @@
 
 mod dir_name;
 mod dir_watch;
-#[cfg(test)]
-mod dir_watch_tests;
 mod edit;
 mod mem_watch;
 mod mem_world;
-#[cfg(test)]
-mod tests;
 mod watch;
 
 pub use dir_watch::DirWatch;

@@ -2,25 +2,15 @@
 #![tactic(auto)]
 
 mod csplit_settings;
-#[cfg(test)]
-mod csplit_tests;
 mod csplit_words;
 mod ends_words;
 mod laws;
 mod settings;
 mod spelled;
 mod spelling;
-#[cfg(test)]
-mod spelling_tests;
-#[cfg(test)]
-mod split_tests;
 mod split_words;
 mod table;
-#[cfg(test)]
-mod tail_tests;
 mod tail_words;
-#[cfg(test)]
-mod tee_tests;
 mod tee_words;
 mod value;
 mod words;
@@ -33,5 +23,8 @@ pub use laws::{
     tail_options_ask, tee_options_ask, values_are_spelled_alike,
 };
 pub use settings::{EndsSettings, Headers, Settings, SplitSettings, TailSettings, TeeSettings};
-pub use value::Followed;
+pub use spelled::{Chosen, Operand, Spelled};
+pub use spelling::read_given;
+pub use table::{Choice, Kind, OptionRow, Takes, ToolRow};
+pub use value::{Followed, MOST_LOOKS, Value};
 pub use words::{find_tool, read_words};

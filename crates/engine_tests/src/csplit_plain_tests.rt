@@ -1,0 +1,306 @@
+//! The engine beside the plain program: lists of operands on short texts, cut into pieces in each way.
+ghost use Rattle.std.specs.Prelude.{◌≡◌, ◌≤◌, false, length, IsTrue};
+ghost use Rattle.ports_core.specs.Slot.{is_writable};
+ghost use Rattle.csplit_core.specs.CsplitState.{IsReady};
+
+use crate::csplit_plain::{Made, plain};
+use crate::csplit_tests::{close, feed, open};
+use csplit_core::{Csplitter, Operands, Style, read_operands};
+use ports_core::{Fault, MemOut, Outs};
+use std::alloc::Global;
+use std::test::Fail;
+
+/// Where operands cut.
+const TARGETS: [&str; 19] = [
+    "/b/-3", "/b/-2", "/b/-1", "/b/", "/b/+1", "/b/+2", "/b/+3", "%b%-3", "%b%-2", "%b%-1", "%b%",
+    "%b%+1", "%b%+2", "%b%+3", "/a/", "1", "2", "3", "5",
+];
+
+/// How often they are performed again.
+const TIMES: [&str; 3] = ["{1}", "{2}", "{*}"];
+
+/// For each size of a text of bytes: how many texts there are of two letters and a newline, and how many ways to cut one
+/// into pieces.
+const SIZES: [(usize, u32, usize); 7] = [
+    (0, 1, 1),
+    (1, 3, 1),
+    (2, 9, 2),
+    (3, 27, 4),
+    (4, 81, 8),
+    (5, 243, 16),
+    (6, 729, 32),
+];
+
+/// The ways to cut a text of six bytes: a piece ends after each byte whose bit is set.
+const CUTS: [u32; 32] = [
+    0, 1, 2, 3, 4, 5, 6, 7, 8, 9, 10, 11, 12, 13, 14, 15, 16, 17, 18, 19, 20, 21, 22, 23, 24, 25,
+    26, 27, 28, 29, 30, 31,
+];
+
+/// Some ways to cut a longer text: whole, byte by byte, by lines, and in pieces of two bytes that end before a newline.
+const LONG_CUTS: [u32; 4] = [0, 0xffff, 0xaaaa, 0x5555];
+
+/// Every text of up to six bytes in every cutting: each target alone and repeated once.
+#[test]
+fn cuts_bytes_as_the_plain_program(rt: HostRuntime) -> Result<(), Fail> {
+    for target in TARGETS {
+        assert!(rt; agrees_on_bytes(rt.alloc(), &[target])?, "at {target}");
+        assert!(rt;
+            agrees_on_bytes(rt.alloc(), &[target, "{1}"])?,
+            "at {target} and once more"
+        );
+    }
+    Ok(())
+}
+
+/// The same texts: each target repeated twice, and as often as it can be.
+#[test]
+fn repeats_in_bytes_as_the_plain_program(rt: HostRuntime) -> Result<(), Fail> {
+    for target in TARGETS {
+        for times in ["{2}", "{*}"] {
+            assert!(rt;
+                agrees_on_bytes(rt.alloc(), &[target, times])?,
+                "at {target} {times}"
+            );
+        }
+    }
+    Ok(())
+}
+
+/// The same texts: each target before a pattern with an offset that goes back, before one with an offset that goes on, before one
+/// that is skipped, and before a line number.
+#[test]
+fn cuts_bytes_twice_as_the_plain_program(rt: HostRuntime) -> Result<(), Fail> {
+    for first in TARGETS {
+        for second in ["/b/-1", "/a/+1", "%a%", "3"] {
+            assert!(rt;
+                agrees_on_bytes(rt.alloc(), &[first, second])?,
+                "at {first} {second}"
+            );
+        }
+    }
+    Ok(())
+}
+
+/// The same texts: each target after a skipped pattern, after a line number, and after a repeated pattern.
+#[test]
+fn goes_on_in_bytes_as_the_plain_program(rt: HostRuntime) -> Result<(), Fail> {
+    for target in TARGETS {
+        for first in ["%b%", "2"] {
+            assert!(rt;
+                agrees_on_bytes(rt.alloc(), &[first, target])?,
+                "at {first} {target}"
+            );
+        }
+        assert!(rt;
+            agrees_on_bytes(rt.alloc(), &["/b/+1", "{1}", target])?,
+            "at a repeated pattern and {target}"
+        );
+    }
+    Ok(())
+}
+
+/// Every text of up to six lines `a` or `b`, the last of them open or not, in some cuttings: each target before each other.
+#[test]
+fn cuts_lines_as_the_plain_program(rt: HostRuntime) -> Result<(), Fail> {
+    for first in TARGETS {
+        for second in TARGETS {
+            assert!(rt;
+                agrees_on_lines(rt.alloc(), &[first, second])?,
+                "at {first} {second}"
+            );
+        }
+    }
+    Ok(())
+}
+
+/// The same texts, and targets of which one is repeated.
+#[test]
+fn repeats_as_the_plain_program(rt: HostRuntime) -> Result<(), Fail> {
+    for target in TARGETS {
+        for times in TIMES {
+            assert!(rt;
+                agrees_on_lines(rt.alloc(), &[target, times, "/b/+1"])?,
+                "at {target} {times} and a pattern"
+            );
+            assert!(rt;
+                agrees_on_lines(rt.alloc(), &["%a%", target, times, "7"])?,
+                "at a pattern, {target} {times} and a number"
+            );
+        }
+    }
+    Ok(())
+}
+
+/// Whether the engine agrees with the plain program on each short text of bytes. Words that are no operands are passed over.
+fn agrees_on_bytes(alloc: Global, words: &[&str]) -> Result<bool, Fault> {
+    let Ok(operands) = read_operands(alloc, words) else {
+        return Ok(true);
+    };
+    for (size, texts, ways) in SIZES {
+        for number in 0..texts {
+            let text = bytes_of(number);
+            if let Some(text) = text.get(..size)
+                && !agrees_on_text(alloc, &operands, text, CUTS.get(..ways).unwrap_or(&[]))?
+            {
+                return Ok(false);
+            }
+        }
+    }
+    Ok(true)
+}
+
+/// The same of texts of lines.
+fn agrees_on_lines(alloc: Global, words: &[&str]) -> Result<bool, Fault> {
+    let Ok(operands) = read_operands(alloc, words) else {
+        return Ok(true);
+    };
+    for size in 0..13u32 {
+        for number in 0..lines_of_size(size) {
+            let text = lines_of(number);
+            if let Some(text) = text.get(..size as usize)
+                && !agrees_on_text(alloc, &operands, text, &LONG_CUTS)?
+            {
+                return Ok(false);
+            }
+        }
+    }
+    Ok(true)
+}
+
+/// How many texts there are of lines with one letter of two, of this many bytes.
+fn lines_of_size(size: u32) -> u32 {
+    1u32.checked_shl((size / 2).saturating_add(size % 2))
+        .unwrap_or(0)
+}
+
+/// The text of bytes with this number: its bytes stand for the number's digits.
+fn bytes_of(number: u32) -> [u8; 6] {
+    let mut text = [b'\n'; 6];
+    let mut left = number;
+    for byte in text.iter_mut() {
+        match left % 3 {
+            0 => *byte = b'a',
+            1 => *byte = b'b',
+            _ => {}
+        }
+        left /= 3;
+    }
+    text
+}
+
+/// The text of lines with this number: each line's letter stands for a bit.
+fn lines_of(number: u32) -> [u8; 12] {
+    let mut text = [b'\n'; 12];
+    let mut left = number;
+    let mut is_letter = true;
+    for byte in text.iter_mut() {
+        if is_letter {
+            *byte = if left % 2 == 0 { b'a' } else { b'b' };
+            left /= 2;
+        }
+        is_letter = !is_letter;
+    }
+    text
+}
+
+/// Whether both agree on a text, with and without empty files, with and without the lines at cuts.
+fn agrees_on_text(
+    alloc: Global,
+    operands: &Operands,
+    text: &[u8],
+    cuttings: &[u32],
+) -> Result<bool, Fault> {
+    for options in 0..8 {
+        let style = Style {
+            prefix: String::from_str(alloc, "xx")?,
+            digits: 2,
+            keep: options % 2 == 1,
+            quiet: false,
+            elide: options / 2 % 2 == 1,
+            suppress: options / 4 == 1,
+        };
+        if !agrees_under(alloc, operands, &style, text, cuttings)? {
+            return Ok(false);
+        }
+    }
+    Ok(true)
+}
+
+fn agrees_under(
+    alloc: Global,
+    operands: &Operands,
+    style: &Style,
+    text: &[u8],
+    cuttings: &[u32],
+) -> Result<bool, Fault> {
+    let made = plain(alloc, operands.as_slice(), style, text)?;
+    for cuts in cuttings {
+        let mut outs = MemOut::new(alloc)?;
+        let end = run(alloc, style, operands, text, *cuts, &mut outs);
+        if end.err() != made.verdict || !has_made(alloc, &outs, &made, style.keep)? {
+            return Ok(false);
+        }
+    }
+    Ok(true)
+}
+
+/// Cuts a text that comes in pieces: a piece ends after each byte whose bit in `cuts` is set.
+fn run(
+    alloc: Global,
+    style: &Style,
+    operands: &Operands,
+    text: &[u8],
+    cuts: u32,
+    outs: &mut MemOut,
+) -> Result<(), Fault>
+    requires streams { 2 ≤ length outs.old }
+    requires output { IsTrue (is_writable outs.old 0) }
+{
+    let mut engine = open(alloc, style.try_clone(alloc)?, operands, outs)?;
+    feed_cut(&mut engine, text, cuts, outs)?;
+    close(&mut engine, outs)
+}
+
+fn feed_cut(
+    engine: &mut Csplitter<'_>,
+    text: &[u8],
+    cuts: u32,
+    outs: &mut MemOut,
+) -> Result<(), Fault>
+    requires { engine.old.is_over ≡ false → IsReady engine.old.stage outs.old }
+    ensures { engine.new.is_over ≡ false → IsReady engine.new.stage outs.new }
+{
+    let mut cuts = cuts;
+    let mut start = 0;
+    let mut end = 0;
+    while end < text.len() {
+        end += 1;
+        let is_cut = cuts % 2 == 1;
+        cuts /= 2;
+        if is_cut || end == text.len() {
+            feed(engine, &text[start..end], outs)?;
+            start = end;
+        }
+    }
+    Ok(())
+}
+
+/// Whether just these files were made, their sizes were written, and all of them were removed where a fault ended the
+/// cutting.
+fn has_made(alloc: Global, outs: &MemOut, made: &Made<'_>, keep: bool) -> Result<bool, Fault> {
+    let are_removed = made.verdict.is_some() && !keep;
+    let mut sizes = Vec::new(alloc);
+    let mut slot = 2usize;
+    for file in &made.files {
+        if outs.bytes(slot) != *file || outs.removed(slot) != are_removed {
+            return Ok(false);
+        }
+        if file.len() >= 10 {
+            sizes.push(b'1')?;
+        }
+        sizes.extend_from_slice(&[b'0' + (file.len() % 10) as u8, b'\n'])?;
+        slot = slot.saturating_add(1);
+    }
+    Ok(outs.name(slot).is_empty() && outs.bytes(0) == sizes.as_slice())
+}

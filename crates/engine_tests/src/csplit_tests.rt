@@ -1,0 +1,414 @@
+//! What files are made of an input, row by row, whatever the pieces that it comes in.
+ghost use Rattle.std.specs.Prelude.{◌≡◌, ◌≤◌, false, length, IfOk, IsTrue};
+ghost use Rattle.ports_core.specs.Slot.{is_writable};
+ghost use Rattle.csplit_core.specs.CsplitState.{IsReady};
+
+use csplit_core::{Csplitter, Operands, Style, read_operands};
+use ports_core::{Engine, Fault, MemOut, Outs};
+use std::alloc::{AllocError, Global};
+use std::process::Abort;
+use std::test::Fail;
+
+/// Which options are given beside the operands.
+#[derive(Clone, Copy)]
+enum Options {
+    Plain,
+    Keep,
+    Quiet,
+    Elide,
+    Suppress,
+    SuppressElide,
+}
+
+/// Options, operands, an input, the fault with which it ends, the sizes that are written, and the files that are left.
+type Row<'a> = (
+    Options,
+    &'a [&'a str],
+    &'a [u8],
+    Option<Fault>,
+    &'a [u8],
+    &'a [&'a [u8]],
+);
+
+/// How long the pieces are that an input comes in.
+const SIZES: [usize; 4] = [1, 2, 3, 100];
+
+#[test]
+fn cuts_into_sections(rt: HostRuntime) -> Result<(), Fail> {
+    check_rows(&rt, rt.alloc(), &SECTIONS)
+}
+
+const SECTIONS: [Row<'static>; 16] = [
+    (
+        Options::Plain,
+        &["/^b/", "{*}"],
+        b"b1\nx\nb2\ny\n",
+        None,
+        b"0\n5\n5\n",
+        &[b"", b"b1\nx\n", b"b2\ny\n"],
+    ),
+    (
+        Options::Elide,
+        &["/^b/", "{*}"],
+        b"b1\nx\nb2\ny\n",
+        None,
+        b"5\n5\n",
+        &[b"b1\nx\n", b"b2\ny\n"],
+    ),
+    (
+        Options::Quiet,
+        &["/^b/", "{*}"],
+        b"b1\nx\nb2\ny\n",
+        None,
+        b"",
+        &[b"", b"b1\nx\n", b"b2\ny\n"],
+    ),
+    (
+        Options::Plain,
+        &["/c/-1"],
+        b"a\nb\nc\nd\n",
+        None,
+        b"2\n6\n",
+        &[b"a\n", b"b\nc\nd\n"],
+    ),
+    (
+        Options::Plain,
+        &["2", "{*}"],
+        b"1\n2\n3\n4\n5\n",
+        None,
+        b"2\n4\n4\n",
+        &[b"1\n", b"2\n3\n", b"4\n5\n"],
+    ),
+    (
+        Options::Plain,
+        &["2", "/b/"],
+        b"a\nb\nb\n",
+        None,
+        b"2\n2\n2\n",
+        &[b"a\n", b"b\n", b"b\n"],
+    ),
+    (
+        Options::Plain,
+        &["/b/-1", "{*}"],
+        b"a\nb\nb\nc\n",
+        None,
+        b"0\n2\n6\n",
+        &[b"", b"a\n", b"b\nb\nc\n"],
+    ),
+    (
+        Options::Plain,
+        &["%b%", "/d/"],
+        b"a\nb\nc\nd\ne\n",
+        None,
+        b"4\n4\n",
+        &[b"b\nc\n", b"d\ne\n"],
+    ),
+    (
+        Options::Plain,
+        &["/b/+1", "/d/"],
+        b"a\nb\nc\nd\ne\n",
+        None,
+        b"4\n2\n4\n",
+        &[b"a\nb\n", b"c\n", b"d\ne\n"],
+    ),
+    (
+        Options::Plain,
+        &["/a\\/b/"],
+        b"x\na/b\n",
+        None,
+        b"2\n4\n",
+        &[b"x\n", b"a/b\n"],
+    ),
+    (
+        Options::Plain,
+        &["/b/", "{*}", "9"],
+        b"a\nb\n",
+        None,
+        b"2\n2\n",
+        &[b"a\n", b"b\n"],
+    ),
+    (
+        Options::Plain,
+        &["%b%", "{*}"],
+        b"a\nb\nc\n",
+        None,
+        b"",
+        &[],
+    ),
+    (
+        Options::Plain,
+        &["/b/"],
+        b"a\nb",
+        None,
+        b"2\n1\n",
+        &[b"a\n", b"b"],
+    ),
+    (
+        Options::Plain,
+        &["/b/-2", "/d/"],
+        b"x\na\nz\nb\nc\nd",
+        None,
+        b"2\n8\n1\n",
+        &[b"x\n", b"a\nz\nb\nc\n", b"d"],
+    ),
+    (
+        Options::Plain,
+        &["3", "/b/", "{1}"],
+        b"1\n2\n3\nb\n4\nb\n5\n",
+        None,
+        b"4\n2\n4\n4\n",
+        &[b"1\n2\n", b"3\n", b"b\n4\n", b"b\n5\n"],
+    ),
+    (Options::Plain, &["/b/", "{*}"], b"", None, b"0\n", &[b""]),
+];
+
+#[test]
+fn leaves_out_the_line_at_a_cut(rt: HostRuntime) -> Result<(), Fail> {
+    check_rows(&rt, rt.alloc(), &SUPPRESSED)
+}
+
+const SUPPRESSED: [Row<'static>; 6] = [
+    (
+        Options::Suppress,
+        &["/b/"],
+        b"a\nb\nc\n",
+        None,
+        b"2\n2\n",
+        &[b"a\n", b"c\n"],
+    ),
+    (
+        Options::Suppress,
+        &["2", "{*}"],
+        b"1\n2\n3\n4\n5\n",
+        None,
+        b"2\n2\n2\n",
+        &[b"1\n", b"3\n", b"5\n"],
+    ),
+    (
+        Options::Suppress,
+        &["/b/", "{*}"],
+        b"a\nb\nb\nc\n",
+        None,
+        b"2\n0\n2\n",
+        &[b"a\n", b"", b"c\n"],
+    ),
+    (
+        Options::SuppressElide,
+        &["/b/", "{*}"],
+        b"a\nb\nb\nc\n",
+        None,
+        b"2\n2\n",
+        &[b"a\n", b"c\n"],
+    ),
+    (
+        Options::Suppress,
+        &["/b/-1", "{*}"],
+        b"a\nb\nb\nc\n",
+        None,
+        b"0\n0\n4\n",
+        &[b"", b"", b"b\nc\n"],
+    ),
+    (
+        Options::Suppress,
+        &["2"],
+        b"a\nb\n",
+        None,
+        b"2\n0\n",
+        &[b"a\n", b""],
+    ),
+];
+
+#[test]
+fn ends_where_an_operand_finds_no_line(rt: HostRuntime) -> Result<(), Fail> {
+    check_rows(&rt, rt.alloc(), &FAULTS)
+}
+
+const FAULTS: [Row<'static>; 8] = [
+    (
+        Options::Keep,
+        &["/c/-3"],
+        b"a\nb\nc\nd\n",
+        Some(Fault::Range(0, 0)),
+        b"0\n",
+        &[b""],
+    ),
+    (
+        Options::Keep,
+        &["2", "{3}"],
+        b"1\n2\n3\n4\n5\n",
+        Some(Fault::Range(0, 2)),
+        b"2\n4\n4\n",
+        &[b"1\n", b"2\n3\n", b"4\n5\n"],
+    ),
+    (
+        Options::Keep,
+        &["/x/"],
+        b"a\nb\n",
+        Some(Fault::NoMatch(0, 0)),
+        b"4\n",
+        &[b"a\nb\n"],
+    ),
+    (
+        Options::Keep,
+        &["/b/", "{2}"],
+        b"a\nb\nc",
+        Some(Fault::NoMatch(0, 1)),
+        b"2\n3\n",
+        &[b"a\n", b"b\nc"],
+    ),
+    (
+        Options::Keep,
+        &["/b/+5"],
+        b"a\nb\n",
+        Some(Fault::Range(0, 0)),
+        b"4\n",
+        &[b"a\nb\n"],
+    ),
+    (
+        Options::Keep,
+        &["1", "%x%"],
+        b"a\n",
+        Some(Fault::NoMatch(1, 0)),
+        b"0\n",
+        &[b""],
+    ),
+    (
+        Options::Suppress,
+        &["2", "2"],
+        b"a\nb\nc\n",
+        Some(Fault::Range(1, 0)),
+        b"2\n0\n",
+        &[],
+    ),
+    (
+        Options::Plain,
+        &["/x/"],
+        b"a\nb\n",
+        Some(Fault::NoMatch(0, 0)),
+        b"4\n",
+        &[],
+    ),
+];
+
+/// Cuts the input of each row, in pieces of each size.
+fn check_rows(rt: &impl Abort, alloc: Global, rows: &[Row<'_>]) -> Result<(), Fail> {
+    for row in rows {
+        for size in SIZES {
+            check_row(rt, alloc, row, size)?;
+        }
+    }
+    Ok(())
+}
+
+fn check_row(rt: &impl Abort, alloc: Global, row: &Row<'_>, size: usize) -> Result<(), Fail> {
+    let (options, words, input, fault, sizes, files) = row;
+    let mut outs = MemOut::new(alloc)?;
+    let style = style_of(alloc, *options)?;
+    let operands = read_operands(alloc, words).expect(rt, "these are operands");
+    let end = run(alloc, style, &operands, input, size, &mut outs);
+    assert!(rt; end.err() == *fault, "at {words:?} in pieces of {size}");
+    assert!(rt; has_left(&outs, files), "at {words:?} in pieces of {size}");
+    assert_eq!(rt; outs.bytes(0), *sizes, "at {words:?} in pieces of {size}");
+    Ok(())
+}
+
+/// Operands, what comes in, how many bytes wait then, and the first file's bytes. A line that lacks its newline waits.
+type Wait<'a> = (&'a [&'a str], &'a [u8], u64, &'a [u8]);
+
+#[test]
+fn holds_what_an_offset_may_take_back(rt: HostRuntime) -> Result<(), Fail> {
+    let rows: [Wait<'_>; 6] = [
+        (&["/c/-1"], b"a\nb\n", 2, b"a\n"),
+        (&["/c/-1"], b"a\nb\nc", 3, b"a\n"),
+        (&["/c/"], b"a\nb\n", 0, b"a\nb\n"),
+        (&["/c/-9223372036854775807"], b"a\nb\nd", 5, b""),
+        (&["3"], b"a\nb", 1, b"a\n"),
+        (&["/a/+2"], b"a\nb", 1, b"a\n"),
+    ];
+    for (words, input, held, first) in rows {
+        let mut outs = MemOut::new(rt.alloc())?;
+        let style = style_of(rt.alloc(), Options::Plain)?;
+        let operands = read_operands(rt.alloc(), words).expect(&rt, "these are operands");
+        let mut engine = open(rt.alloc(), style, &operands, &mut outs)?;
+        feed(&mut engine, input, &mut outs)?;
+        assert_eq!(rt; engine.held(), held, "at {words:?}");
+        assert_eq!(rt; outs.bytes(2), first, "at {words:?}");
+    }
+    Ok(())
+}
+
+fn style_of(alloc: Global, options: Options) -> Result<Style, AllocError> {
+    Ok(Style {
+        prefix: String::from_str(alloc, "xx")?,
+        digits: 2,
+        keep: matches!(options, Options::Keep),
+        quiet: matches!(options, Options::Quiet),
+        elide: matches!(options, Options::Elide | Options::SuppressElide),
+        suppress: matches!(options, Options::Suppress | Options::SuppressElide),
+    })
+}
+
+/// Cuts an input that comes in pieces of this size.
+fn run(
+    alloc: Global,
+    style: Style,
+    operands: &Operands,
+    input: &[u8],
+    size: usize,
+    outs: &mut MemOut,
+) -> Result<(), Fault>
+    requires streams { 2 ≤ length outs.old }
+    requires output { IsTrue (is_writable outs.old 0) }
+{
+    let mut engine = open(alloc, style, operands, outs)?;
+    for piece in input.chunks(size.max(1)) {
+        feed(&mut engine, piece, outs)?;
+    }
+    close(&mut engine, outs)
+}
+
+pub fn open<'o>(
+    alloc: Global,
+    style: Style,
+    operands: &'o Operands,
+    outs: &mut MemOut,
+) -> Result<Csplitter<'o>, Fault>
+    requires streams { 2 ≤ length outs.old }
+    requires output { IsTrue (is_writable outs.old 0) }
+    ensures { IfOk result (λ engine. IsReady engine.stage outs.new) }
+{
+    Csplitter::open(alloc, operands, style, outs)
+}
+
+pub fn feed(engine: &mut Csplitter<'_>, piece: &[u8], outs: &mut MemOut) -> Result<(), Fault>
+    requires { engine.old.is_over ≡ false → IsReady engine.old.stage outs.old }
+    ensures { engine.new.is_over ≡ false → IsReady engine.new.stage outs.new }
+{
+    engine.feed(piece, outs)
+}
+
+pub fn close(engine: &mut Csplitter<'_>, outs: &mut MemOut) -> Result<(), Fault>
+    requires { engine.old.is_over ≡ false → IsReady engine.old.stage outs.old }
+{
+    engine.close(outs)
+}
+
+/// Whether just these files were made, with these bytes.
+fn has_files(outs: &MemOut, files: &[&[u8]]) -> bool {
+    let mut slot = 2usize;
+    for file in files {
+        if outs.name(slot).is_empty() || outs.bytes(slot) != *file {
+            return false;
+        }
+        slot = slot.saturating_add(1);
+    }
+    outs.name(slot).is_empty()
+}
+
+/// Whether just these files are there, with these bytes: no other was made, or the first was removed.
+fn has_left(outs: &MemOut, files: &[&[u8]]) -> bool {
+    if files.is_empty() && outs.removed(2) {
+        return true;
+    }
+    has_files(outs, files)
+}

@@ -1,0 +1,353 @@
+//! What is written after each piece. Contracts say it of any piece, and the rows here show it.
+use crate::ends_plain::{Asked, Side};
+use crate::play::{Step, play};
+use ends_core::{Head, Tail, Unit};
+use ports_core::{Fault, MemOut};
+use std::alloc::Global;
+use std::process::Abort;
+use std::test::Fail;
+
+/// Which part is written, of lines or bytes, the count, the byte with which lines end, and the steps with an engine.
+type Row<'a> = (Side, Unit, u64, u8, &'a [Step<'a>]);
+
+#[test]
+fn writes_each_piece_at_once(rt: HostRuntime) -> Result<(), Fail> {
+    play_rows(&rt, rt.alloc(), FIRST)
+}
+
+const FIRST: &[Row<'static>] = &[
+    (
+        Side::First,
+        Unit::Lines,
+        2,
+        b'\n',
+        &[
+            Step::Feed(b"a"),
+            Step::Wrote(b"a"),
+            Step::Feed(b"\n"),
+            Step::Wrote(b"a\n"),
+            Step::Done(false),
+            Step::Feed(b"b"),
+            Step::Wrote(b"a\nb"),
+            Step::Feed(b"\nc\nd"),
+            Step::Done(true),
+            Step::Feed(b"e\n"),
+            Step::Waits(0),
+            Step::Close,
+            Step::Wrote(b"a\nb\n"),
+            Step::CloseFails(Fault::Failed),
+            Step::FeedFails(b"f", Fault::Failed),
+        ],
+    ),
+    (
+        Side::First,
+        Unit::Bytes,
+        3,
+        b'\n',
+        &[
+            Step::Feed(b"ab"),
+            Step::Feed(b""),
+            Step::Feed(b"cd"),
+            Step::Wrote(b"abc"),
+            Step::Done(true),
+        ],
+    ),
+    (
+        Side::First,
+        Unit::Bytes,
+        9,
+        b'\n',
+        &[
+            Step::Limit(0, 1),
+            Step::FeedFails(b"ab", Fault::Write(0)),
+            Step::Wrote(b"a"),
+            Step::Broken(0),
+            Step::FeedFails(b"cd", Fault::Failed),
+            Step::Wrote(b"a"),
+        ],
+    ),
+    (
+        Side::First,
+        Unit::Lines,
+        1,
+        0,
+        &[
+            Step::Feed(b"a\nb"),
+            Step::Done(false),
+            Step::Feed(b"\0c\n"),
+            Step::Done(true),
+            Step::Wrote(b"a\nb\0"),
+        ],
+    ),
+];
+
+#[test]
+fn holds_back_the_last(rt: HostRuntime) -> Result<(), Fail> {
+    play_rows(&rt, rt.alloc(), BUT_LAST)
+}
+
+const BUT_LAST: &[Row<'static>] = &[
+    (
+        Side::ButLast,
+        Unit::Lines,
+        2,
+        b'\n',
+        &[
+            Step::Feed(b"a"),
+            Step::Feed(b"\n"),
+            Step::Feed(b"b"),
+            Step::Feed(b"\n"),
+            Step::Wrote(b""),
+            Step::Waits(4),
+            Step::Feed(b"c"),
+            Step::Wrote(b"a\n"),
+            Step::Done(false),
+            Step::Close,
+            Step::Wrote(b"a\n"),
+        ],
+    ),
+    (
+        Side::ButLast,
+        Unit::Bytes,
+        3,
+        b'\n',
+        &[
+            Step::Feed(b"abcd"),
+            Step::Wrote(b"a"),
+            Step::Waits(3),
+            Step::Feed(b"e"),
+            Step::Waits(3),
+            Step::Close,
+            Step::Wrote(b"ab"),
+        ],
+    ),
+    (
+        Side::ButLast,
+        Unit::Lines,
+        1,
+        b'\n',
+        &[
+            OPEN_LINE,
+            Step::Wrote(b"a\n"),
+            Step::Close,
+            Step::Wrote(b"a\n"),
+        ],
+    ),
+    (
+        Side::ButLast,
+        Unit::Lines,
+        1,
+        b'\n',
+        &[
+            OPEN_LINE,
+            Step::Feed(b"c"),
+            Step::Close,
+            Step::Wrote(b"a\n"),
+        ],
+    ),
+    (
+        Side::ButLast,
+        Unit::Lines,
+        1,
+        b'\n',
+        &[
+            OPEN_LINE,
+            Step::Feed(b"\n"),
+            Step::Close,
+            Step::Wrote(b"a\n"),
+        ],
+    ),
+    (
+        Side::ButLast,
+        Unit::Lines,
+        1,
+        b'\n',
+        &[
+            OPEN_LINE,
+            Step::Feed(b"\nc"),
+            Step::Close,
+            Step::Wrote(b"a\nb\n"),
+        ],
+    ),
+];
+
+/// What follows decides whether the second line is written.
+const OPEN_LINE: Step<'static> = Step::Feed(b"a\nb");
+
+#[test]
+fn writes_the_last_at_the_end(rt: HostRuntime) -> Result<(), Fail> {
+    play_rows(&rt, rt.alloc(), LAST)
+}
+
+const LAST: &[Row<'static>] = &[
+    (
+        Side::Last,
+        Unit::Lines,
+        1,
+        b'\n',
+        &[
+            Step::Feed(b"a\nb\nc"),
+            Step::Waits(1),
+            Step::Done(false),
+            Step::Wrote(b""),
+            Step::Close,
+            Step::Wrote(b"c"),
+            Step::CloseFails(Fault::Failed),
+        ],
+    ),
+    (
+        Side::Last,
+        Unit::Lines,
+        2,
+        b'\n',
+        &[
+            THREE_LINES,
+            Step::Waits(3),
+            Step::Close,
+            Step::Wrote(b"b\nc"),
+        ],
+    ),
+    (
+        Side::Last,
+        Unit::Lines,
+        0,
+        b'\n',
+        &[THREE_LINES, Step::Close, Step::Wrote(b"")],
+    ),
+    (
+        Side::Last,
+        Unit::Bytes,
+        2,
+        b'\n',
+        &[
+            Step::Feed(b"ab"),
+            Step::Waits(2),
+            Step::Feed(b"cde"),
+            Step::Waits(2),
+            Step::Close,
+            Step::Wrote(b"de"),
+        ],
+    ),
+    (
+        Side::Last,
+        Unit::Bytes,
+        1,
+        b'\n',
+        &[Step::Feed(b"ab\n"), Step::Close, Step::Wrote(b"\n")],
+    ),
+    (
+        Side::Last,
+        Unit::Bytes,
+        3,
+        b'\n',
+        &[Step::Feed(b"ab"), Step::Close, Step::Wrote(b"ab")],
+    ),
+    (
+        Side::Last,
+        Unit::Lines,
+        2,
+        b',',
+        &[COMMAS, Step::Close, Step::Wrote(b"y\n,z")],
+    ),
+    (
+        Side::Last,
+        Unit::Lines,
+        1,
+        b',',
+        &[COMMAS, Step::Close, Step::Wrote(b"z")],
+    ),
+];
+
+const THREE_LINES: Step<'static> = Step::Feed(b"a\nb\nc");
+
+const COMMAS: Step<'static> = Step::Feed(b"x,y\n,z");
+
+#[test]
+fn writes_all_from_the_nth_on(rt: HostRuntime) -> Result<(), Fail> {
+    play_rows(&rt, rt.alloc(), FROM_NTH)
+}
+
+const FROM_NTH: &[Row<'static>] = &[
+    (
+        Side::FromNth,
+        Unit::Lines,
+        2,
+        b'\n',
+        &[
+            THREE_LINES,
+            Step::Wrote(b"b\nc"),
+            Step::Close,
+            Step::Wrote(b"b\nc"),
+        ],
+    ),
+    (
+        Side::FromNth,
+        Unit::Lines,
+        0,
+        b'\n',
+        &[THREE_LINES, Step::Close, Step::Wrote(b"a\nb\nc")],
+    ),
+    (
+        Side::FromNth,
+        Unit::Bytes,
+        3,
+        b'\n',
+        &[Step::Feed(b"abcde"), Step::Close, Step::Wrote(b"cde")],
+    ),
+    (
+        Side::FromNth,
+        Unit::Lines,
+        2,
+        b',',
+        &[COMMAS, Step::Close, Step::Wrote(b"y\n,z")],
+    ),
+];
+
+/// Takes the steps of each row with an engine of its own.
+fn play_rows(rt: &impl Abort, alloc: Global, rows: &[Row<'_>]) -> Result<(), Fail> {
+    for (side, unit, count, delim, steps) in rows {
+        let asked = Asked {
+            side: *side,
+            unit: *unit,
+            count: *count,
+            delim: *delim,
+        };
+        play_row(rt, alloc, asked, steps)?;
+    }
+    Ok(())
+}
+
+fn play_row(rt: &impl Abort, alloc: Global, asked: Asked, steps: &[Step<'_>]) -> Result<(), Fault> {
+    match asked.side {
+        Side::First => play_head(rt, alloc, asked, false, steps),
+        Side::ButLast => play_head(rt, alloc, asked, true, steps),
+        Side::Last => play_tail(rt, alloc, asked, false, steps),
+        Side::FromNth => play_tail(rt, alloc, asked, true, steps),
+    }
+}
+
+fn play_head(
+    rt: &impl Abort,
+    alloc: Global,
+    asked: Asked,
+    but_last: bool,
+    steps: &[Step<'_>],
+) -> Result<(), Fault> {
+    let mut outs = MemOut::new(alloc)?;
+    let mut head = Head::open(alloc, asked.unit, but_last, asked.count, asked.delim)?;
+    play(rt, &mut head, &mut outs, steps);
+    Ok(())
+}
+
+fn play_tail(
+    rt: &impl Abort,
+    alloc: Global,
+    asked: Asked,
+    from_nth: bool,
+    steps: &[Step<'_>],
+) -> Result<(), Fault> {
+    let mut outs = MemOut::new(alloc)?;
+    let mut tail = Tail::open(alloc, asked.unit, from_nth, asked.count, asked.delim)?;
+    play(rt, &mut tail, &mut outs, steps);
+    Ok(())
+}

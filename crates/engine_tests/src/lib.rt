@@ -1,0 +1,37 @@
+//! Tests of the engines: `ends_core`, `split_core`, `csplit_core`, `tee_core`, `follow_core` and `copy_example`.
+#![tactic(auto)]
+
+#[cfg(test)]
+mod copy_tests;
+#[cfg(test)]
+mod csplit_plain;
+#[cfg(test)]
+mod csplit_plain_tests;
+#[cfg(test)]
+mod csplit_tests;
+#[cfg(test)]
+mod ends_plain;
+#[cfg(test)]
+mod ends_plain_tests;
+#[cfg(test)]
+mod ends_tests;
+#[cfg(test)]
+mod follow_tests;
+#[cfg(test)]
+mod operand_tests;
+#[cfg(test)]
+mod part_plain;
+#[cfg(test)]
+mod part_tests;
+#[cfg(test)]
+mod play;
+#[cfg(test)]
+mod round_plain;
+#[cfg(test)]
+mod round_tests;
+#[cfg(test)]
+mod skip_tests;
+#[cfg(test)]
+mod tee_tests;
+#[cfg(test)]
+mod test_texts;

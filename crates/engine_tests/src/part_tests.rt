@@ -1,0 +1,589 @@
+//! Cutting into parts that follow one another: what each file gets, row by row, and each short text, cut into
+//! pieces in each way, beside the plain program.
+ghost use Rattle.std.specs.Prelude.{◌≡◌, ◌<◌, ◌≤◌, false, length, IfOk};
+ghost use Rattle.split_core.specs.Parts.{most};
+ghost use Rattle.split_core.specs.Ways.{Ready};
+
+use crate::part_plain::plain_parts;
+use crate::play::{Step, close, feed, has_files, play};
+use crate::test_texts::{DELIMITERS, SIZES, text_of};
+use ports_core::{Alphabet, Fault, MemOut, Names, Outs};
+use split_core::{Cut, Limit, Splitter};
+use std::alloc::{AllocError, Global};
+use std::process::Abort;
+use std::test::Fail;
+
+/// Where a text is cut, and the steps with an engine that does so. Its files are xaa, xab and so on.
+type Row<'a> = (Limit, &'a [Step<'a>]);
+
+/// A text with a line that no file of four bytes takes whole.
+const LONG_LINE: &[u8] = b"b\naaaaaaaaaa\nc\n";
+
+#[test]
+fn cuts_into_files(rt: HostRuntime) -> Result<(), Fail> {
+    play_rows(&rt, rt.alloc(), WHOLE)
+}
+
+const WHOLE: &[Row<'static>] = &[
+    (
+        Limit::Lines(2, b'\n'),
+        &[
+            Step::Feed(b"a\nb\nc"),
+            Step::Close,
+            Step::Files(&[b"a\nb\n", b"c"]),
+        ],
+    ),
+    (
+        Limit::Lines(2, b'\n'),
+        &[Step::Feed(b""), Step::Close, Step::Files(&[])],
+    ),
+    (
+        Limit::Bytes(2),
+        &[Step::Feed(b""), Step::Close, Step::Files(&[])],
+    ),
+    (
+        Limit::LineBytes(2, b'\n'),
+        &[Step::Feed(b""), Step::Close, Step::Files(&[])],
+    ),
+    (
+        Limit::Lines(3, b'\n'),
+        &[
+            Step::Feed(b"a\nb\nc\nd"),
+            Step::Close,
+            Step::Files(&[b"a\nb\nc\n", b"d"]),
+        ],
+    ),
+    (
+        Limit::Bytes(4),
+        &[
+            Step::Feed(b"abcdefghij"),
+            Step::Close,
+            Step::Files(&[b"abcd", b"efgh", b"ij"]),
+        ],
+    ),
+    (
+        Limit::LineBytes(4, b'\n'),
+        &[
+            Step::Feed(b"a\nbc"),
+            Step::Close,
+            Step::Files(&[b"a\n", b"bc"]),
+        ],
+    ),
+    (
+        Limit::LineBytes(5, b'\n'),
+        &[Step::Feed(b"a\nbc"), Step::Close, Step::Files(&[b"a\nbc"])],
+    ),
+    (
+        Limit::LineBytes(4, b'\n'),
+        &[
+            Step::Feed(LONG_LINE),
+            Step::Close,
+            Step::Files(&[b"b\n", b"aaaa", b"aaaa", b"aa\n", b"c\n"]),
+            Step::Name(2, "xaa"),
+            Step::Name(6, "xae"),
+            Step::Wrote(b""),
+        ],
+    ),
+    (
+        Limit::Lines(1, b','),
+        &[
+            Step::Feed(b"a,b,c"),
+            Step::Close,
+            Step::Files(&[b"a,", b"b,", b"c"]),
+        ],
+    ),
+    (
+        Limit::LineBytes(4, b':'),
+        &[
+            Step::Feed(b"b:aaaaa:c:"),
+            Step::Close,
+            Step::Files(&[b"b:", b"aaaa", b"a:c:"]),
+        ],
+    ),
+];
+
+#[test]
+fn cuts_pieces_as_it_cuts_the_whole(rt: HostRuntime) -> Result<(), Fail> {
+    let files: [&[u8]; 5] = [b"b\n", b"aaaa", b"aaaa", b"aa\n", b"c\n"];
+    let mut outs = MemOut::new(rt.alloc())?;
+    outs.short(1);
+    let mut splitter = open(rt.alloc(), Limit::LineBytes(4, b'\n'), &mut outs)?;
+    assert!(rt; feed_cut(&mut splitter, &mut outs, LONG_LINE, u32::MAX, &files)?);
+    assert_eq!(rt; close(&mut splitter, &mut outs), Ok(()));
+    assert!(rt; has_files(&outs, &files));
+    Ok(())
+}
+
+#[test]
+fn what_follows_decides_where_an_open_line_goes(rt: HostRuntime) -> Result<(), Fail> {
+    play_rows(&rt, rt.alloc(), WAITING)
+}
+
+const WAITING: &[Row<'static>] = &[
+    (
+        Limit::LineBytes(4, b'\n'),
+        &[
+            OPEN_LINE,
+            Step::Waits(1),
+            Step::Files(&[b"a\n"]),
+            Step::Feed(b"c"),
+            Step::Waits(0),
+            Step::Files(&[b"a\n", b"bc"]),
+            Step::Close,
+            Step::Files(&[b"a\n", b"bc"]),
+        ],
+    ),
+    (
+        Limit::LineBytes(4, b'\n'),
+        &[
+            OPEN_LINE,
+            Step::Feed(b"\n"),
+            Step::Close,
+            Step::Files(&[b"a\nb\n"]),
+        ],
+    ),
+    (
+        Limit::LineBytes(4, b'\n'),
+        &[OPEN_LINE, Step::Close, Step::Files(&[b"a\nb"])],
+    ),
+    (
+        Limit::LineBytes(4, b'\n'),
+        &[Step::Feed(b"aa"), NONE_WAITS, Step::Files(&[b"aa"])],
+    ),
+    (
+        Limit::Lines(2, b'\n'),
+        &[OPEN_LINE, NONE_WAITS, Step::Files(&[b"a\nb"])],
+    ),
+    (
+        Limit::Bytes(4),
+        &[
+            OPEN_LINE,
+            NONE_WAITS,
+            Step::Files(&[b"a\nb"]),
+            Step::Done(false),
+        ],
+    ),
+    (
+        Limit::Lines(2, b'\n'),
+        &[
+            Step::Feed(b""),
+            NONE_WAITS,
+            Step::Files(&[]),
+            Step::Done(false),
+        ],
+    ),
+];
+
+const OPEN_LINE: Step<'static> = Step::Feed(b"a\nb");
+
+const NONE_WAITS: Step<'static> = Step::Waits(0);
+
+#[test]
+fn opens_a_file_with_its_first_byte(rt: HostRuntime) -> Result<(), Fail> {
+    play_rows(&rt, rt.alloc(), OPENED)
+}
+
+const OPENED: &[Row<'static>] = &[(
+    Limit::Bytes(2),
+    &[
+        Step::Feed(b""),
+        Step::Files(&[]),
+        Step::Feed(b"ab"),
+        Step::Files(&[b"ab"]),
+        Step::Feed(b"c"),
+        Step::Files(&[b"ab", b"c"]),
+    ],
+)];
+
+#[test]
+fn stops_at_a_broken_file(rt: HostRuntime) -> Result<(), Fail> {
+    play_rows(&rt, rt.alloc(), BROKEN)
+}
+
+const BROKEN: &[Row<'static>] = &[
+    (
+        Limit::Lines(1, b'\n'),
+        &[
+            Step::Limit(2, 1),
+            Step::FeedFails(b"ab\ncd\n", Fault::Write(2)),
+            Step::Broken(2),
+            Step::Files(&[b"a"]),
+            Step::FeedFails(b"ef\n", Fault::Failed),
+            Step::CloseFails(Fault::Failed),
+            Step::Files(&[b"a"]),
+        ],
+    ),
+    (
+        Limit::Lines(2, b'\n'),
+        &[
+            Step::Feed(b"a"),
+            Step::FailAt(1),
+            Step::CloseFails(Fault::Write(2)),
+            Step::Files(&[b"a"]),
+        ],
+    ),
+    (
+        Limit::Lines(2, b'\n'),
+        &[
+            Step::Feed(b"a"),
+            Step::Close,
+            Step::FeedFails(b"b", Fault::Failed),
+            Step::CloseFails(Fault::Failed),
+            Step::Files(&[b"a"]),
+        ],
+    ),
+];
+
+/// A line of the first file takes an open, a write and a close; the next file is opened after these.
+#[test]
+fn closes_a_file_before_it_opens_the_next(rt: HostRuntime) -> Result<(), Fail> {
+    play_rows(&rt, rt.alloc(), IN_ORDER)
+}
+
+const IN_ORDER: &[Row<'static>] = &[
+    (
+        Limit::Lines(1, b'\n'),
+        &[
+            Step::FailAt(1),
+            Step::FeedFails(TWO_LINES, Fault::Open(2)),
+            Step::Files(&[b""]),
+            AFTER,
+            Step::Files(&[b""]),
+        ],
+    ),
+    (
+        Limit::Lines(1, b'\n'),
+        &[
+            Step::FailAt(2),
+            Step::FeedFails(TWO_LINES, Fault::Write(2)),
+            Step::Files(&[b""]),
+            AFTER,
+            Step::Files(&[b""]),
+        ],
+    ),
+    (
+        Limit::Lines(1, b'\n'),
+        &[
+            Step::FailAt(3),
+            Step::FeedFails(TWO_LINES, Fault::Write(2)),
+            Step::Files(&[b"a\n"]),
+            AFTER,
+            Step::CloseFails(Fault::Failed),
+            Step::Files(&[b"a\n"]),
+        ],
+    ),
+    (
+        Limit::Lines(1, b'\n'),
+        &[
+            Step::FailAt(4),
+            Step::FeedFails(TWO_LINES, Fault::Open(3)),
+            Step::Files(&[b"a\n", b""]),
+            AFTER,
+            Step::CloseFails(Fault::Failed),
+            Step::Files(&[b"a\n", b""]),
+        ],
+    ),
+];
+
+const TWO_LINES: &[u8] = b"a\nb\n";
+
+const AFTER: Step<'static> = Step::FeedFails(b"c", Fault::Failed);
+
+/// Takes the steps of each row with an engine of its own.
+fn play_rows(rt: &impl Abort, alloc: Global, rows: &[Row<'_>]) -> Result<(), Fail> {
+    for (limit, steps) in rows {
+        play_row(rt, alloc, *limit, steps)?;
+    }
+    Ok(())
+}
+
+fn play_row(rt: &impl Abort, alloc: Global, limit: Limit, steps: &[Step<'_>]) -> Result<(), Fault> {
+    let mut outs = MemOut::new(alloc)?;
+    let mut splitter = open(alloc, limit, &mut outs)?;
+    play(rt, &mut splitter, &mut outs, steps);
+    Ok(())
+}
+
+/// The cut, the alphabet, width and widening of the names, and the steps with an engine.
+type NamesRow<'a> = (Cut, Alphabet, bool, &'a [Step<'a>]);
+
+#[test]
+fn ends_where_no_name_is_left(rt: HostRuntime) -> Result<(), Fail> {
+    for (cut, alphabet, auto, steps) in NAMES {
+        play_names(&rt, rt.alloc(), *cut, *alphabet, *auto, steps)?;
+    }
+    Ok(())
+}
+
+const NAMES: &[NamesRow<'static>] = &[
+    (
+        Cut::Bytes(1),
+        Alphabet::Digits,
+        false,
+        &[
+            Step::Feed(b"0123456789"),
+            TEN_FILES,
+            Step::Name(2, "x0"),
+            Step::Name(11, "x9"),
+            Step::FeedFails(b"A", Fault::Suffixes),
+            TEN_FILES,
+            Step::FeedFails(b"B", Fault::Failed),
+            Step::CloseFails(Fault::Failed),
+            TEN_FILES,
+        ],
+    ),
+    (
+        Cut::Bytes(1),
+        Alphabet::Digits,
+        false,
+        &[Step::Feed(b"0123456789"), Step::Close, TEN_FILES],
+    ),
+    (
+        Cut::Lines(1),
+        Alphabet::Letters,
+        true,
+        &[
+            Step::Feed(&[b'\n'; 651]),
+            Step::Close,
+            Step::Name(651, "xyz"),
+            Step::Name(652, "xzaaa"),
+            Step::Name(653, ""),
+        ],
+    ),
+    (
+        Cut::Lines(1),
+        Alphabet::Digits,
+        true,
+        &[
+            Step::Feed(&[b'\n'; 91]),
+            Step::Close,
+            Step::Name(91, "x89"),
+            Step::Name(92, "x9000"),
+            Step::Name(93, ""),
+        ],
+    ),
+];
+
+const TEN_FILES: Step<'static> = Step::Files(&[
+    b"0", b"1", b"2", b"3", b"4", b"5", b"6", b"7", b"8", b"9",
+]);
+
+/// Takes the steps with an engine whose names are one character long, or widen from two.
+fn play_names(
+    rt: &impl Abort,
+    alloc: Global,
+    cut: Cut,
+    alphabet: Alphabet,
+    auto: bool,
+    steps: &[Step<'_>],
+) -> Result<(), Fault> {
+    let width = if auto { 2 } else { 1 };
+    let mut outs = MemOut::new(alloc)?;
+    let names = Names::new(alloc, "x", alphabet, width, auto, "")?;
+    let mut splitter = open_with(alloc, cut, names, &mut outs)?;
+    play(rt, &mut splitter, &mut outs, steps);
+    Ok(())
+}
+
+/// A splitter of parts that follow one another, with these names.
+fn open_with(alloc: Global, cut: Cut, names: Names, outs: &mut MemOut) -> Result<Splitter, Fault>
+    requires fresh { names.drawn ≡ 0 }
+    requires streams { 2 ≤ length outs.old }
+    ensures { IfOk result (λ splitter. Ready splitter.stage outs.new) }
+{
+    match cut {
+        Cut::Lines(most) if most > 0 => {
+            Splitter::open(alloc, Cut::Lines(most), names, false, b'\n', outs)
+        }
+        Cut::Bytes(most) if most > 0 => {
+            Splitter::open(alloc, Cut::Bytes(most), names, false, b'\n', outs)
+        }
+        _ => Err(Fault::Failed),
+    }
+}
+
+/// The number of a limit.
+fn most_of(limit: Limit) -> u64
+    ensures { result ≡ most limit }
+{
+    match limit {
+        Limit::Lines(most, _) | Limit::Bytes(most) | Limit::LineBytes(most, _) => most,
+    }
+}
+
+/// A splitter whose files have the names xaa, xab and so on.
+fn open(alloc: Global, limit: Limit, outs: &mut MemOut) -> Result<Splitter, Fault>
+    requires { 2 ≤ length outs.old }
+    ensures { IfOk result (λ splitter. Ready splitter.stage outs.new) }
+{
+    if most_of(limit) == 0 {
+        return Err(Fault::Failed);
+    }
+    let names = Names::new(alloc, "x", Alphabet::Letters, 2, true, "")?;
+    match limit {
+        Limit::Lines(most, delim) => {
+            Splitter::open(alloc, Cut::Lines(most), names, false, delim, outs)
+        }
+        Limit::Bytes(most) => { Splitter::open(alloc, Cut::Bytes(most), names, false, b'\n', outs) }
+        Limit::LineBytes(most, delim) => {
+            Splitter::open(alloc, Cut::LineBytes(most), names, false, delim, outs)
+        }
+    }
+}
+
+/// What the number of a limit counts.
+#[derive(Clone, Copy)]
+enum Kind {
+    Lines,
+    Bytes,
+    LineBytes,
+}
+
+impl Kind {
+    fn limit(self, most: u64, delim: u8) -> Limit {
+        match self {
+            Kind::Lines => Limit::Lines(most, delim),
+            Kind::Bytes => Limit::Bytes(most),
+            Kind::LineBytes => Limit::LineBytes(most, delim),
+        }
+    }
+}
+
+#[test]
+fn cuts_lines_as_the_plain_program(rt: HostRuntime) -> Result<(), Fail> {
+    for delim in DELIMITERS {
+        for (size, texts, ways) in SIZES {
+            assert!(rt;
+                agrees_on_size(rt.alloc(), Kind::Lines, delim, size, texts, ways)?,
+                "of size {size}, ended with {delim}"
+            );
+        }
+    }
+    Ok(())
+}
+
+#[test]
+fn cuts_bytes_as_the_plain_program(rt: HostRuntime) -> Result<(), Fail> {
+    for (size, texts, ways) in SIZES {
+        assert!(rt;
+            agrees_on_size(rt.alloc(), Kind::Bytes, b'\n', size, texts, ways)?,
+            "of size {size}"
+        );
+    }
+    Ok(())
+}
+
+#[test]
+fn cuts_whole_lines_as_the_plain_program(rt: HostRuntime) -> Result<(), Fail> {
+    for delim in DELIMITERS {
+        for (size, texts, ways) in SIZES {
+            assert!(rt;
+                agrees_on_size(rt.alloc(), Kind::LineBytes, delim, size, texts, ways)?,
+                "of size {size}, ended with {delim}"
+            );
+        }
+    }
+    Ok(())
+}
+
+/// Whether the engine agrees with the plain program on each text of this size.
+fn agrees_on_size(
+    alloc: Global,
+    kind: Kind,
+    delim: u8,
+    size: usize,
+    texts: u32,
+    ways: u32,
+) -> Result<bool, Fault> {
+    for number in 0..texts {
+        let text = text_of(number, delim);
+        if let Some(text) = text.get(..size)
+            && !agrees_on_text(alloc, kind, delim, text, ways)?
+        {
+            return Ok(false);
+        }
+    }
+    Ok(true)
+}
+
+fn agrees_on_text(
+    alloc: Global,
+    kind: Kind,
+    delim: u8,
+    text: &[u8],
+    ways: u32,
+) -> Result<bool, Fault> {
+    for most in 1..5 {
+        if !agrees_under(alloc, kind.limit(most, delim), text, ways)? {
+            return Ok(false);
+        }
+    }
+    Ok(true)
+}
+
+fn agrees_under(alloc: Global, limit: Limit, text: &[u8], ways: u32) -> Result<bool, Fault> {
+    let files = match plain_parts(alloc, limit, text) {
+        Ok(files) => files,
+        Err(AllocError) => return Err(Fault::Memory),
+    };
+    for cuts in 0..ways {
+        let mut outs = MemOut::new(alloc)?;
+        let mut splitter = open(alloc, limit, &mut outs)?;
+        if !feed_cut(&mut splitter, &mut outs, text, cuts, &files)? {
+            return Ok(false);
+        }
+        close(&mut splitter, &mut outs)?;
+        if !has_files(&outs, &files) {
+            return Ok(false);
+        }
+    }
+    Ok(true)
+}
+
+/// Feeds a text in pieces: a piece ends after each byte whose bit in `cuts` is set. It returns whether, after each
+/// piece, what came in is in these files, but for what waits.
+fn feed_cut(
+    splitter: &mut Splitter,
+    outs: &mut MemOut,
+    text: &[u8],
+    cuts: u32,
+    files: &[&[u8]],
+) -> Result<bool, Fault>
+    requires { splitter.old.is_over ≡ false → Ready splitter.old.stage outs.old }
+    ensures { splitter.new.is_over ≡ false → Ready splitter.new.stage outs.new }
+{
+    let mut cuts = cuts;
+    let mut start = 0;
+    let mut end = 0;
+    while end < text.len() {
+        end += 1;
+        let is_cut = cuts % 2 == 1;
+        cuts /= 2;
+        if is_cut || end == text.len() {
+            feed(splitter, outs, &text[start..end])?;
+            start = end;
+            if !has_begun(outs, files, end.saturating_sub(splitter.held() as usize)) {
+                return Ok(false);
+            }
+        }
+    }
+    Ok(true)
+}
+
+/// Whether the files have `out` bytes in all, and each has the beginning of what it is to get.
+fn has_begun(outs: &MemOut, files: &[&[u8]], out: usize) -> bool {
+    let mut slot = 2usize;
+    let mut left = out;
+    for file in files {
+        if left == 0 {
+            break;
+        }
+        let size = left.min(file.len());
+        if file.get(..size) != Some(outs.bytes(slot)) {
+            return false;
+        }
+        left = left.saturating_sub(size);
+        slot = slot.saturating_add(1);
+    }
+    left == 0 && outs.name(slot).is_empty()
+}

@@ -1,0 +1,308 @@
+//! Lines dealt in turn, row by row, and the engine beside the plain program on each short text, cut into pieces in
+//! each way.
+ghost use Rattle.std.specs.Prelude.{◌≡◌, ◌<◌, ◌≤◌, false, length, IfOk, OnOk};
+ghost use Rattle.split_core.specs.Ways.{Ready};
+
+use crate::play::{Step, play};
+use crate::round_plain::plain;
+use crate::test_texts::{DELIMITERS, SIZES, text_of};
+use ports_core::{Alphabet, Engine, Fault, MemOut, Names, Outs};
+use split_core::{Cut, Splitter};
+use std::alloc::{AllocError, Global};
+use std::process::Abort;
+use std::test::Fail;
+
+/// The first names.
+const NAMES: [&str; 5] = ["xaa", "xab", "xac", "xad", "xae"];
+
+/// Lines that are dealt to this many files, without empty ones or with them, the byte that they end with, and the steps
+/// with an engine. Its files are xaa, xab and so on.
+type Row<'a> = (u64, bool, u8, &'a [Step<'a>]);
+
+#[test]
+fn deals_in_turn(rt: HostRuntime) -> Result<(), Fail> {
+    for (count, elide, delim, steps) in ROWS {
+        play_row(&rt, rt.alloc(), *count, *elide, *delim, steps)?;
+    }
+    Ok(())
+}
+
+const ROWS: &[Row<'static>] = &[
+    (
+        3,
+        false,
+        b'\n',
+        &[
+            Step::Feed(b"a\nb\nc\nd"),
+            Step::Files(&[b"a\nd", b"b\n", b"c\n"]),
+            Step::Done(false),
+            Step::Feed(b"e\nf"),
+            Step::Close,
+            Step::Name(2, "xaa"),
+            Step::Files(&[b"a\nde\n", b"b\nf", b"c\n"]),
+            Step::Name(4, "xac"),
+            Step::Wrote(b""),
+            Step::CloseFails(Fault::Failed),
+            Step::FeedFails(b"g", Fault::Failed),
+        ],
+    ),
+    (
+        3,
+        false,
+        b'\n',
+        &[
+            Step::Close,
+            Step::Name(4, "xac"),
+            Step::Files(&[b"", b"", b""]),
+        ],
+    ),
+    (3, true, b'\n', &[Step::Close, Step::Files(&[])]),
+    (
+        3,
+        true,
+        b'\n',
+        &[
+            Step::Feed(b"a"),
+            Step::Files(&[b"a"]),
+            Step::Feed(b"\nb"),
+            Step::Close,
+            Step::Files(&[b"a\n", b"b"]),
+            Step::Name(3, "xab"),
+        ],
+    ),
+    (
+        3,
+        false,
+        b'\n',
+        &[
+            Step::Limit(3, 1),
+            Step::FeedFails(b"a\nb\nc\n", Fault::Write(3)),
+            Step::Files(&[b"a\n", b"b", b""]),
+            Step::FeedFails(b"d\n", Fault::Failed),
+            Step::Files(&[b"a\n", b"b", b""]),
+        ],
+    ),
+    (
+        3,
+        true,
+        b'\n',
+        &[
+            Step::FailAt(3),
+            Step::FeedFails(b"a\nb\nc\n", Fault::Open(3)),
+            Step::Files(&[b"a\n", b""]),
+        ],
+    ),
+    (
+        2,
+        false,
+        0,
+        &[
+            Step::Feed(b"a\0b\n\0c"),
+            Step::Close,
+            Step::Files(&[b"a\0c", b"b\n\0"]),
+        ],
+    ),
+];
+
+/// Takes the steps with an engine of its own.
+fn play_row(
+    rt: &impl Abort,
+    alloc: Global,
+    count: u64,
+    elide: bool,
+    delim: u8,
+    steps: &[Step<'_>],
+) -> Result<(), Fault> {
+    if count == 0 {
+        return Err(Fault::Failed);
+    }
+    let mut outs = MemOut::new(alloc)?;
+    let mut engine = start(alloc, count, elide, delim, &mut outs)?;
+    play(rt, &mut engine, &mut outs, steps);
+    Ok(())
+}
+
+#[test]
+fn stops_where_a_file_is_not_opened(rt: HostRuntime) -> Result<(), Fail> {
+    let mut outs = MemOut::new(rt.alloc())?;
+    outs.fail_at(2);
+    assert!(rt; start(rt.alloc(), 3, false, b'\n', &mut outs).is_err());
+    assert!(rt; outs.broken(3));
+    assert_eq!(rt; outs.name(4), "");
+    Ok(())
+}
+
+#[test]
+fn deals_many_lines_of_a_piece(rt: HostRuntime) -> Result<(), Fail> {
+    let mut text = [b'x'; 600];
+    for place in 0..600 {
+        if place % 3 == 2 || place % 7 == 0 || place > 560 {
+            text[place] = b'\n';
+        }
+    }
+    for count in [1, 2, 5, 64, 65] {
+        assert!(rt;
+            agree_on_pieces(rt.alloc(), count, &text, b'\n')?,
+            "for {count}"
+        );
+        assert!(rt;
+            agree_on_pieces(rt.alloc(), count, &text, b'x')?,
+            "for {count}"
+        );
+    }
+    Ok(())
+}
+
+#[test]
+fn does_as_the_plain_program(rt: HostRuntime) -> Result<(), Fail> {
+    for delim in DELIMITERS {
+        for (size, texts, ways) in SIZES {
+            assert!(rt;
+                agree_on_size(rt.alloc(), size, texts, ways, delim)?,
+                "of size {size}, ended with {delim}"
+            );
+        }
+    }
+    Ok(())
+}
+
+/// Whether the engine agrees with the plain program on each text of this size.
+fn agree_on_size(
+    alloc: Global,
+    size: usize,
+    texts: u32,
+    ways: u32,
+    delim: u8,
+) -> Result<bool, Fault> {
+    for number in 0..texts {
+        let text = text_of(number, delim);
+        if let Some(text) = text.get(..size)
+            && !agree_on_text(alloc, text, ways, delim)?
+        {
+            return Ok(false);
+        }
+    }
+    Ok(true)
+}
+
+fn agree_on_text(alloc: Global, text: &[u8], ways: u32, delim: u8) -> Result<bool, Fault> {
+    for cuts in 0..ways {
+        for count in 1..5 {
+            let job = Job {
+                count,
+                elide: false,
+                delim,
+            };
+            let eliding = Job { elide: true, ..job };
+            if !agrees(alloc, job, text, cuts)? || !agrees(alloc, eliding, text, cuts)? {
+                return Ok(false);
+            }
+        }
+    }
+    Ok(true)
+}
+
+/// Whether a long text gives what it should, in one piece and in two.
+fn agree_on_pieces(alloc: Global, count: u64, text: &[u8], delim: u8) -> Result<bool, Fault> {
+    let job = Job {
+        count,
+        elide: false,
+        delim,
+    };
+    for cuts in [0, 1, 1 << 7, 1 << 30] {
+        if count > 0 && !agrees(alloc, job, text, cuts)? {
+            return Ok(false);
+        }
+    }
+    Ok(true)
+}
+
+/// How lines are dealt.
+#[derive(Clone, Copy)]
+struct Job {
+    /// To how many files.
+    count: u64,
+    /// Whether empty files are left out.
+    elide: bool,
+    /// The byte that lines end with.
+    delim: u8,
+}
+
+/// Whether all files have what they should, before the end and at the end.
+fn agrees(alloc: Global, job: Job, text: &[u8], cuts: u32) -> Result<bool, Fault>
+    requires { 0 < job.count }
+{
+    let mut outs = MemOut::new(alloc)?;
+    let mut engine = start(alloc, job.count, job.elide, job.delim, &mut outs)?;
+    feed_in_pieces(&mut engine, &mut outs, text, cuts)?;
+    let early = has_all(alloc, job, text, &outs)?;
+    engine.close(&mut outs)?;
+    Ok(early && has_all(alloc, job, text, &outs)?)
+}
+
+/// Whether the files are those that are wanted: with `elide` none that is empty.
+fn has_all(alloc: Global, job: Job, text: &[u8], outs: &MemOut) -> Result<bool, Fault> {
+    let mut slot = 2usize;
+    for file in 0..job.count {
+        let wanted = match plain(alloc, job.count, file, text, job.delim) {
+            Ok(wanted) => wanted,
+            Err(AllocError) => return Err(Fault::Memory),
+        };
+        if job.elide && wanted.is_empty() {
+            continue;
+        }
+        if outs.bytes(slot) != wanted.as_slice() || !has_name(outs, slot) {
+            return Ok(false);
+        }
+        slot = slot.saturating_add(1);
+    }
+    Ok(outs.name(slot).is_empty())
+}
+
+/// Whether an output has the name of its place, if that is one of the first.
+fn has_name(outs: &MemOut, slot: usize) -> bool {
+    match NAMES.get(slot.saturating_sub(2)) {
+        Some(name) => outs.name(slot) == *name,
+        None => true,
+    }
+}
+
+fn start(
+    alloc: Global,
+    count: u64,
+    elide: bool,
+    delim: u8,
+    outs: &mut MemOut,
+) -> Result<Splitter, Fault>
+    requires some { 0 < count }
+    requires streams { 2 ≤ length outs.old }
+    ensures ready { IfOk result (λ engine. Ready engine.stage outs.new) }
+{
+    let names = Names::new(alloc, "x", Alphabet::Letters, 2, true, "")?;
+    Splitter::open(alloc, Cut::Round(count), names, elide, delim, outs)
+}
+
+/// Feeds a text in pieces: a piece ends after each byte whose bit in `cuts` is set.
+fn feed_in_pieces(
+    engine: &mut Splitter,
+    outs: &mut MemOut,
+    text: &[u8],
+    cuts: u32,
+) -> Result<(), Fault>
+    requires { Ready engine.old.stage outs.old }
+    ensures { OnOk result (Ready engine.new.stage outs.new) }
+{
+    let mut cuts = cuts;
+    let mut start = 0;
+    let mut end = 0;
+    while end < text.len() {
+        end += 1;
+        let is_cut = cuts % 2 == 1;
+        cuts /= 2;
+        if is_cut || end == text.len() {
+            engine.feed(&text[start..end], outs)?;
+            start = end;
+        }
+    }
+    Ok(())
+}

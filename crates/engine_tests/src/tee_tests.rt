@@ -1,0 +1,429 @@
+//! Whole runs over memory, which no clause can show to succeed: the outputs, messages and status.
+ghost use Rattle.std.specs.Prelude.{◌≡◌, ◌<◌, IfOk, OnOk};
+ghost use Rattle.ports_core.specs.Slot.{streams};
+ghost use Rattle.ports_core.specs.Source.{IsFresh};
+
+use crate::play::has_files;
+use ports_core::{Fault, Inputs, MemIn, MemOut, Mode, Outs};
+use std::alloc::Global;
+use std::process::Abort;
+use std::test::Fail;
+use tee_core::{Tee, run_tee};
+
+/// The input of nearly all runs.
+const INPUT: &[u8] = b"abcdef";
+
+/// What a run leaves.
+#[derive(Clone, Copy)]
+struct Left<'a> {
+    output: &'a [u8],
+    files: &'a [&'a [u8]],
+    messages: &'a [u8],
+    status: u8,
+}
+
+/// A standard input with these bytes, read by pieces of at most `piece`.
+fn inputs_of(alloc: Global, bytes: &[u8], piece: usize) -> Result<MemIn, Fault>
+    requires { 0 < piece }
+    ensures { IfOk result (λ inputs. IsFresh inputs.sources) }
+{
+    let mut inputs = MemIn::new(alloc)?;
+    inputs.input(bytes)?;
+    inputs.pieces(piece);
+    Ok(inputs)
+}
+
+/// Outputs where each slot of these takes that number of bytes and no more.
+fn outs_of(alloc: Global, limits: &[(usize, usize)]) -> Result<MemOut, Fault>
+    ensures { IfOk result (λ outs. outs ≡ streams) }
+{
+    let mut outs = MemOut::new(alloc)?;
+    for limit in limits {
+        outs.limit(limit.0, limit.1)?;
+    }
+    Ok(outs)
+}
+
+/// A run of `tee`: what it is given, and what it is to leave.
+#[derive(Clone, Copy)]
+struct Case<'a> {
+    /// The names of the files.
+    names: &'a [&'a str],
+    /// The bytes of standard input.
+    input: &'a [u8],
+    /// How long the pieces are that it comes in, at the most.
+    piece: usize,
+    /// After how many bytes it breaks off; none where it ends.
+    breaks_at: Option<usize>,
+    /// Outputs, and how many bytes each takes.
+    limits: &'a [(usize, usize)],
+    /// Which of the calls for outputs is refused; 0 where none is.
+    refused: u64,
+    left: Left<'a>,
+}
+
+/// Runs `tee` as the case says.
+fn check(rt: &impl Abort, alloc: Global, case: &Case<'_>) -> Result<(), Fault> {
+    let mut inputs = inputs_of(alloc, case.input, case.piece.max(1))?;
+    plan_break(&mut inputs, case.breaks_at)?;
+    let mut outs = outs_of(alloc, case.limits)?;
+    plan_refusal(&mut outs, case.refused);
+    let status = run_tee(alloc, case.names, Mode::Fresh, &mut inputs, &mut outs);
+    check_left(rt, &outs, case, status);
+    Ok(())
+}
+
+/// Has standard input break off there, if it is to.
+fn plan_break(inputs: &mut MemIn, at: Option<usize>) -> Result<(), Fault>
+    requires { IsFresh inputs.old.sources }
+    ensures { OnOk result (IsFresh inputs.new.sources) }
+{
+    match at {
+        Some(at) => inputs.break_at(0, at),
+        None => Ok(()),
+    }
+}
+
+/// Has the call for outputs with this number fail; 0 where none is to.
+fn plan_refusal(outs: &mut MemOut, call: u64)
+    ensures { outs.new ≡ outs.old }
+{
+    if call > 0 {
+        outs.fail_at(call);
+    }
+}
+
+/// Checks what the case's run has left.
+fn check_left(rt: &impl Abort, outs: &MemOut, case: &Case<'_>, status: u8) {
+    assert!(rt; has_left(outs, &case.left, status), "tee {:?}", case.names);
+}
+
+/// Whether standard output, the files, the messages and the status are these.
+fn has_left(outs: &MemOut, left: &Left<'_>, status: u8) -> bool {
+    outs.bytes(0) == left.output
+        && outs.bytes(1) == left.messages
+        && has_files(outs, left.files)
+        && status == left.status
+}
+
+/// What `tee s t` leaves where nothing breaks.
+const ALL: Left<'static> = Left {
+    output: b"abcdef",
+    files: &[b"abcdef", b"abcdef"],
+    messages: b"",
+    status: 0,
+};
+
+/// `tee s t` where nothing breaks, in one piece.
+const SOUND: Case<'static> = Case {
+    names: &["s", "t"],
+    input: INPUT,
+    piece: 65_536,
+    breaks_at: None,
+    limits: &[],
+    refused: 0,
+    left: ALL,
+};
+
+/// Runs each case, in its own pieces and in pieces of one byte.
+fn check_both(rt: &impl Abort, alloc: Global, cases: &[Case<'_>]) -> Result<(), Fail> {
+    for case in cases {
+        check(rt, alloc, case)?;
+        check(rt, alloc, &Case { piece: 1, ..*case })?;
+    }
+    Ok(())
+}
+
+/// Runs each case in its own pieces.
+fn check_each(rt: &impl Abort, alloc: Global, cases: &[Case<'_>]) -> Result<(), Fail> {
+    for case in cases {
+        check(rt, alloc, case)?;
+    }
+    Ok(())
+}
+
+#[test]
+fn every_output_gets_every_byte(rt: HostRuntime) -> Result<(), Fail> {
+    check_both(&rt, rt.alloc(), WHOLE)
+}
+
+const WHOLE: &[Case<'static>] = &[
+    SOUND,
+    Case {
+        names: &[],
+        left: Left { files: &[], ..ALL },
+        ..SOUND
+    },
+    Case {
+        names: &["s"],
+        input: b"",
+        left: Left {
+            output: b"",
+            files: &[b""],
+            ..ALL
+        },
+        ..SOUND
+    },
+];
+
+#[test]
+fn short_writes_are_gone_on_with(rt: HostRuntime) -> Result<(), Fail> {
+    let alloc = rt.alloc();
+    let mut inputs = inputs_of(alloc, INPUT, 4)?;
+    let mut outs = outs_of(alloc, &[])?;
+    outs.short(1);
+    let status = run_tee(alloc, &["s", "t"], Mode::Fresh, &mut inputs, &mut outs);
+    check_left(&rt, &outs, &SOUND, status);
+    Ok(())
+}
+
+#[test]
+fn hyphen_is_a_file(rt: HostRuntime) -> Result<(), Fail> {
+    let alloc = rt.alloc();
+    let mut inputs = inputs_of(alloc, b"ab", 1)?;
+    let mut outs = outs_of(alloc, &[])?;
+    let status = run_tee(alloc, &["-"], Mode::Append, &mut inputs, &mut outs);
+    assert_eq!(&rt; outs.bytes(0), b"ab".as_slice());
+    assert_eq!(&rt; outs.bytes(2), b"ab".as_slice());
+    assert_eq!(&rt; outs.name(2), "-");
+    assert_eq!(&rt; status, 0);
+    Ok(())
+}
+
+#[test]
+fn broken_output_alone_suffers(rt: HostRuntime) -> Result<(), Fail> {
+    check_both(&rt, rt.alloc(), BROKEN)
+}
+
+const BROKEN: &[Case<'static>] = &[
+    Case {
+        limits: &[(2, 3)],
+        left: Left {
+            files: &[b"abc", b"abcdef"],
+            messages: b"tee: cannot write 's'\n",
+            status: 1,
+            ..ALL
+        },
+        ..SOUND
+    },
+    Case {
+        limits: &[(0, 2)],
+        left: Left {
+            output: b"ab",
+            messages: b"tee: cannot write 'standard output'\n",
+            status: 1,
+            ..ALL
+        },
+        ..SOUND
+    },
+    Case {
+        limits: &[(0, 1), (2, 1), (3, 1)],
+        left: Left {
+            output: b"a",
+            files: &[b"a", b"a"],
+            messages: b"tee: cannot write 'standard output'\ntee: cannot write 's'\ntee: cannot write 't'\n",
+            status: 1,
+        },
+        ..SOUND
+    },
+    Case {
+        limits: &[(1, 11), (2, 0)],
+        left: Left {
+            files: &[b"", b"abcdef"],
+            messages: b"tee: cannot",
+            status: 1,
+            ..ALL
+        },
+        ..SOUND
+    },
+    Case {
+        breaks_at: Some(3),
+        limits: &[(3, 2)],
+        left: Left {
+            output: b"abc",
+            files: &[b"abc", b"ab"],
+            messages: b"tee: cannot write 't'\ntee: cannot read 'standard input'\n",
+            status: 1,
+        },
+        ..SOUND
+    },
+];
+
+#[test]
+fn messages_follow_the_calls(rt: HostRuntime) -> Result<(), Fail> {
+    check_each(&rt, rt.alloc(), IN_ORDER)
+}
+
+const IN_ORDER: &[Case<'static>] = &[
+    Case {
+        piece: 1,
+        limits: &[(0, 3), (2, 4), (3, 2)],
+        left: Left {
+            output: b"abc",
+            files: &[b"abcd", b"ab"],
+            messages: b"tee: cannot write 't'\ntee: cannot write 'standard output'\ntee: cannot write 's'\n",
+            status: 1,
+        },
+        ..SOUND
+    },
+    Case {
+        piece: 6,
+        limits: &[(0, 3), (2, 4), (3, 2)],
+        left: Left {
+            output: b"abc",
+            files: &[b"abcd", b"ab"],
+            messages: b"tee: cannot write 'standard output'\ntee: cannot write 's'\ntee: cannot write 't'\n",
+            status: 1,
+        },
+        ..SOUND
+    },
+];
+
+/// What is left where something was refused.
+const FAILED: Left<'static> = Left { status: 1, ..ALL };
+
+/// They are two opens, three writes and two closes; an output that broke is not asked again.
+#[test]
+fn each_call_is_refused(rt: HostRuntime) -> Result<(), Fail> {
+    check_each(&rt, rt.alloc(), REFUSED)
+}
+
+const REFUSED: &[Case<'static>] = &[
+    Case {
+        refused: 1,
+        left: Left {
+            files: &[b"", b"abcdef"],
+            messages: b"tee: cannot open 's'\n",
+            ..FAILED
+        },
+        ..SOUND
+    },
+    Case {
+        refused: 2,
+        left: Left {
+            files: &[b"abcdef", b""],
+            messages: b"tee: cannot open 't'\n",
+            ..FAILED
+        },
+        ..SOUND
+    },
+    Case {
+        refused: 3,
+        left: Left {
+            output: b"",
+            messages: b"tee: cannot write 'standard output'\n",
+            ..FAILED
+        },
+        ..SOUND
+    },
+    Case {
+        refused: 4,
+        left: Left {
+            files: &[b"", b"abcdef"],
+            messages: b"tee: cannot write 's'\n",
+            ..FAILED
+        },
+        ..SOUND
+    },
+    Case {
+        refused: 5,
+        left: Left {
+            files: &[b"abcdef", b""],
+            messages: b"tee: cannot write 't'\n",
+            ..FAILED
+        },
+        ..SOUND
+    },
+    Case {
+        refused: 6,
+        left: Left {
+            messages: b"tee: cannot write 's'\n",
+            ..FAILED
+        },
+        ..SOUND
+    },
+    Case {
+        refused: 7,
+        left: Left {
+            messages: b"tee: cannot write 't'\n",
+            ..FAILED
+        },
+        ..SOUND
+    },
+    Case {
+        refused: 8,
+        ..SOUND
+    },
+];
+
+/// In pieces of one byte there are two opens, eighteen writes and two closes.
+#[test]
+fn sound_outputs_have_every_byte(rt: HostRuntime) -> Result<(), Fail> {
+    for call in 1..24 {
+        let is_broken = run_refused(&rt, rt.alloc(), call)?;
+        assert_eq!(&rt; is_broken, call < 23);
+    }
+    Ok(())
+}
+
+/// Runs `tee s t` where a call is refused, checks that each sound output has all, and returns whether one broke.
+fn run_refused(rt: &impl Abort, alloc: Global, call: u64) -> Result<bool, Fault> {
+    let mut inputs = inputs_of(alloc, INPUT, 1)?;
+    let mut outs = outs_of(alloc, &[])?;
+    outs.fail_at(call);
+    let status = run_tee(alloc, &["s", "t"], Mode::Fresh, &mut inputs, &mut outs);
+    Ok(check_sound(rt, &outs, status))
+}
+
+/// Checks that each sound output has all, and a broken one a beginning, and returns whether one broke.
+fn check_sound(rt: &impl Abort, outs: &MemOut, status: u8) -> bool {
+    let mut is_broken = false;
+    for slot in [0, 2, 3] {
+        assert!(rt; INPUT.starts_with(outs.bytes(slot)));
+        assert!(rt; outs.broken(slot) || outs.bytes(slot) == INPUT);
+        is_broken |= outs.broken(slot);
+    }
+    assert_eq!(rt; status, u8::from(is_broken));
+    assert_eq!(rt; outs.bytes(1).is_empty(), !is_broken);
+    is_broken
+}
+
+/// How many outputs broke at each call, and what they have in the end.
+#[test]
+fn counts_what_broke(rt: HostRuntime) -> Result<(), Fail> {
+    let alloc = rt.alloc();
+    let mut outs = outs_of(alloc, &[(0, 1), (2, 3)])?;
+    let mut tee = Tee::open(alloc, &["s", "t"], Mode::Fresh, &mut outs)?;
+    assert_eq!(&rt; tee.feed(b"a", &mut outs), 0);
+    assert_eq!(&rt; tee.feed(b"bcdef", &mut outs), 2);
+    assert_eq!(&rt; tee.feed(b"g", &mut outs), 0);
+    assert_eq!(&rt; tee.close(&mut outs), 0);
+    assert_eq!(&rt; tee.close(&mut outs), 0);
+    assert_eq!(&rt; tee.feed(b"h", &mut outs), 0);
+    assert_eq!(&rt; outs.bytes(0), b"a".as_slice());
+    assert_eq!(&rt; outs.bytes(2), b"abc".as_slice());
+    assert_eq!(&rt; outs.bytes(3), b"abcdefg".as_slice());
+    Ok(())
+}
+
+/// Whether nothing was opened, since there was no memory for the run.
+fn is_unopened(outs: &MemOut) -> bool {
+    outs.name(2).is_empty() && !outs.broken(2)
+}
+
+/// It passes too where one allocation is refused, as `rt try --test --fail-alloc N` does.
+#[test]
+fn want_of_memory_harms_no_sound_output(rt: HostRuntime) -> Result<(), Fail> {
+    let alloc = rt.alloc();
+    let (Ok(mut inputs), Ok(mut outs)) = (inputs_of(alloc, INPUT, 1), outs_of(alloc, &[])) else {
+        return Ok(());
+    };
+    let status = run_tee(alloc, &["s", "t"], Mode::Fresh, &mut inputs, &mut outs);
+    if is_unopened(&outs) {
+        assert_eq!(&rt; outs.bytes(0), b"".as_slice());
+        assert_eq!(&rt; status, 1);
+        return Ok(());
+    }
+    let _ = check_sound(&rt, &outs, status);
+    Ok(())
+}

@@ -1,5 +1,0 @@
-use Rattle.std.proofs.Common.{refl}
-use Rattle.follow_core.proofs.row_tests.by_name.Goals as goal
-
-pub returns : goal.returns
-returns c = refl

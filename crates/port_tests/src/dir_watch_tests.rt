@@ -1,0 +1,427 @@
+//! The watch over real files, in a folder of its own that each test makes and removes.
+ghost use Rattle.std.specs.Prelude.{◌≡◌, true, IsTrue, IfOk, OnOk};
+ghost use Rattle.watch_core.specs.Watched.{is_readable, is_watchable};
+
+use crate::compare::same;
+use crate::folder::{append, make_file, make_folder};
+use ports_core::Fault;
+use std::fs;
+use std::process::Abort;
+use std::test::Fail;
+use std::time::{Duration, Instant};
+use watch_core::{DirWatch, Seen, Watch};
+
+fn id_of(found: Option<Seen>) -> Option<u128> {
+    match found {
+        Some(file) => Some(file.id),
+        None => None,
+    }
+}
+
+fn len_of(found: Option<Seen>) -> Option<u64> {
+    match found {
+        Some(file) => Some(file.len),
+        None => None,
+    }
+}
+
+/// A watch over one name.
+fn watch_of(rt: HostRuntime, name: &str) -> Result<DirWatch<HostRuntime>, Fault>
+    ensures { IfOk result (λ watch. IsTrue (is_watchable watch.watched 0)) }
+{
+    let mut watch = DirWatch::new(rt, rt.alloc());
+    watch.add(name)?;
+    Ok(watch)
+}
+
+/// What the name leads to at the next look.
+fn next_seen(watch: &mut DirWatch<HostRuntime>) -> Result<Option<Seen>, Fault>
+    requires { IsTrue (is_watchable watch.old.watched 0) }
+    ensures { OnOk result (IsTrue (is_watchable watch.new.watched 0)) }
+{
+    watch.turn()?;
+    let found = watch.look(0)?;
+    Ok(found)
+}
+
+/// Opens what the name leads to. None where it leads nowhere.
+fn opened(watch: &mut DirWatch<HostRuntime>) -> Result<bool, Fault>
+    requires { IsTrue (is_watchable watch.old.watched 0) }
+    ensures name { OnOk result (IsTrue (is_watchable watch.new.watched 0)) }
+    ensures file { IfOk result (λ is_there. IsTrue is_there → IsTrue (is_readable watch.new.watched 0)) }
+{
+    let is_there = watch.reopen(0)?;
+    Ok(is_there)
+}
+
+/// Opens what the name leads to, and gives its length. 0 where it leads nowhere.
+fn open_len(watch: &mut DirWatch<HostRuntime>) -> Result<u64, Fault>
+    requires { IsTrue (is_watchable watch.old.watched 0) }
+    ensures { OnOk result (IsTrue (is_watchable watch.new.watched 0)) }
+{
+    if opened(watch)? {
+        let len = watch.open_len(0)?;
+        return Ok(len);
+    }
+    Ok(0)
+}
+
+/// Opens what the name leads to, and reads it from a place on.
+fn read_at(watch: &mut DirWatch<HostRuntime>, from: u64, buffer: &mut [u8]) -> Result<usize, Fault>
+    requires { IsTrue (is_watchable watch.old.watched 0) }
+    ensures { OnOk result (IsTrue (is_watchable watch.new.watched 0)) }
+{
+    if opened(watch)? {
+        let n = watch.read_at(0, from, buffer)?;
+        return Ok(n);
+    }
+    Ok(0)
+}
+
+/// Whether the next look begins a second after it was asked for, or later.
+fn waits_long(rt: &HostRuntime, watch: &mut DirWatch<HostRuntime>) -> Result<bool, Fail>
+    ensures { OnOk result (watch.new.watched ≡ watch.old.watched) }
+{
+    let start = Instant::now(rt)?;
+    watch.turn()?;
+    Ok(start.elapsed(rt)? >= Duration::from_secs(1))
+}
+
+/// What is done in the folder or with the watch over one name in it, and what must come of it.
+#[derive(Clone, Copy)]
+enum Step<'a> {
+    /// A file of this name is made, with these bytes.
+    Make(&'a str, &'a [u8]),
+    /// These bytes are appended to a file.
+    Append(&'a str, &'a [u8]),
+    /// A file gets another name.
+    Rename(&'a str, &'a str),
+    /// A file is removed.
+    Remove(&'a str),
+    /// A look begins.
+    Turn,
+    /// A look begins, a second or more after it was asked for or at once.
+    Waits(bool),
+    /// At the next look the name leads to a file of this length, or nowhere.
+    Sees(Option<u64>),
+    /// What the name leads to is opened, if it leads anywhere.
+    Opens(bool),
+    /// What the name leads to is opened, and has this length.
+    OpensOf(u64),
+    /// What the name leads to is opened, a read from a place on gives this many bytes, and the buffer is then this.
+    Reads(u64, usize, &'a [u8]),
+    /// A file is open, or none.
+    IsOpen(bool),
+    /// The last two looks saw the same file, or another one.
+    SawSame(bool),
+    /// The file of the look before the last one is open.
+    EarlierIsOpen,
+    /// The file of the last look is open, or another one.
+    LatestIsOpen(bool),
+}
+
+/// What the last two looks saw.
+#[derive(Clone, Copy)]
+struct Looks {
+    earlier: Option<Seen>,
+    latest: Option<Seen>,
+}
+
+/// Makes a folder, takes all steps there with a watch over one name, and removes it.
+fn play(
+    abort: &impl Abort,
+    rt: &HostRuntime,
+    folder: &str,
+    name: &str,
+    steps: &[Step<'_>],
+) -> Result<(), Fail> {
+    make_folder(rt, folder)?;
+    let mut watch = watch_of(*rt, name)?;
+    let mut looks = Looks {
+        earlier: None,
+        latest: None,
+    };
+    let mut buffer = [0u8; 3];
+    let mut number = 0usize;
+    for step in steps {
+        let is_so = take(rt, &mut watch, &mut looks, &mut buffer, step)?;
+        assert!(abort; is_so, "at step {number}");
+        number = number.saturating_add(1);
+    }
+    fs::remove_dir_all(rt, folder)?;
+    Ok(())
+}
+
+/// Takes a step, and returns whether that came of it which must.
+fn take(
+    rt: &HostRuntime,
+    watch: &mut DirWatch<HostRuntime>,
+    looks: &mut Looks,
+    buffer: &mut [u8],
+    step: &Step<'_>,
+) -> Result<bool, Fail>
+    requires { IsTrue (is_watchable watch.old.watched 0) }
+    ensures { OnOk result (IsTrue (is_watchable watch.new.watched 0)) }
+{
+    match step {
+        Step::Turn | Step::Waits(_) => {
+            let is_so = begin(rt, watch, step)?;
+            Ok(is_so)
+        }
+        Step::Sees(len) => {
+            let found = next_seen(watch)?;
+            looks.earlier = looks.latest;
+            looks.latest = found;
+            Ok(len_of(found) == *len)
+        }
+        Step::Opens(is_there) => {
+            let found = opened(watch)?;
+            Ok(found == *is_there)
+        }
+        Step::OpensOf(len) => {
+            let found = open_len(watch)?;
+            Ok(found == *len)
+        }
+        Step::Reads(from, count, front) => {
+            let given = read_at(watch, *from, buffer)?;
+            Ok(given == *count && *buffer == **front)
+        }
+        _ => {
+            edit(rt, step)?;
+            Ok(is_open(watch, looks, step))
+        }
+    }
+}
+
+/// Begins a look, and returns whether that took as long as the step says, if it says so.
+fn begin(rt: &HostRuntime, watch: &mut DirWatch<HostRuntime>, step: &Step<'_>) -> Result<bool, Fail>
+    ensures { OnOk result (watch.new.watched ≡ watch.old.watched) }
+{
+    let has_waited = waits_long(rt, watch)?;
+    match step {
+        Step::Waits(is_long) => Ok(has_waited == *is_long),
+        _ => Ok(true),
+    }
+}
+
+/// Changes a file, if the step is such a change.
+fn edit(rt: &HostRuntime, step: &Step<'_>) -> Result<(), Fail> {
+    match step {
+        Step::Make(name, bytes) => fs::write(rt, name, *bytes)?,
+        Step::Append(name, bytes) => append(rt, name, bytes)?,
+        Step::Rename(from, to) => fs::rename(rt, from, to)?,
+        Step::Remove(name) => fs::remove_file(rt, name)?,
+        _ => {}
+    }
+    Ok(())
+}
+
+/// Whether the files that were seen and the open one are as a step says, if it speaks of them.
+fn is_open(watch: &DirWatch<HostRuntime>, looks: &Looks, step: &Step<'_>) -> bool {
+    let open = watch.open_id(0);
+    match step {
+        Step::IsOpen(is_there) => open.is_some() == *is_there,
+        Step::SawSame(is_same) => (id_of(looks.earlier) == id_of(looks.latest)) == *is_same,
+        Step::EarlierIsOpen => open == id_of(looks.earlier),
+        Step::LatestIsOpen(is_it) => (open == id_of(looks.latest)) == *is_it,
+        _ => true,
+    }
+}
+
+/// A file is appended to.
+const APPENDED: &[Step<'static>] = &[
+    Step::Make("watch_core_append/f", b"abc"),
+    Step::Sees(Some(3)),
+    Step::Append("watch_core_append/f", b"de"),
+    Step::Sees(Some(5)),
+    Step::SawSame(true),
+    Step::OpensOf(5),
+];
+
+#[test]
+fn an_append_is_seen(rt: HostRuntime) -> Result<(), Fail> {
+    play(
+        &rt,
+        &rt,
+        "watch_core_append",
+        "watch_core_append/f",
+        APPENDED,
+    )
+}
+
+/// A file is replaced by another one.
+const REPLACED: &[Step<'static>] = &[
+    Step::Make("watch_core_replaced/f", b"abc"),
+    Step::Sees(Some(3)),
+    Step::Opens(true),
+    Step::Make("watch_core_replaced/g", b"xyz"),
+    Step::Rename("watch_core_replaced/g", "watch_core_replaced/f"),
+    Step::Sees(Some(3)),
+    Step::EarlierIsOpen,
+    Step::LatestIsOpen(false),
+    Step::Opens(true),
+    Step::LatestIsOpen(true),
+];
+
+#[test]
+fn a_replacement_is_another_file(rt: HostRuntime) -> Result<(), Fail> {
+    play(
+        &rt,
+        &rt,
+        "watch_core_replaced",
+        "watch_core_replaced/f",
+        REPLACED,
+    )
+}
+
+/// A file is removed while it is open.
+const REMOVED: &[Step<'static>] = &[
+    Step::Make("watch_core_removed/f", b"abc"),
+    Step::Turn,
+    Step::Opens(true),
+    Step::Remove("watch_core_removed/f"),
+    Step::Sees(None),
+    Step::IsOpen(true),
+    Step::Opens(false),
+    Step::IsOpen(false),
+];
+
+#[test]
+fn a_removed_file_stays_open(rt: HostRuntime) -> Result<(), Fail> {
+    play(
+        &rt,
+        &rt,
+        "watch_core_removed",
+        "watch_core_removed/f",
+        REMOVED,
+    )
+}
+
+/// A file is made after the first look.
+const APPEARING: &[Step<'static>] = &[
+    Step::Sees(None),
+    Step::Opens(false),
+    Step::Make("watch_core_appears/f", b"abc"),
+    Step::Sees(Some(3)),
+    Step::Opens(true),
+];
+
+#[test]
+fn a_file_appears(rt: HostRuntime) -> Result<(), Fail> {
+    play(
+        &rt,
+        &rt,
+        "watch_core_appears",
+        "watch_core_appears/f",
+        APPEARING,
+    )
+}
+
+/// A file is read three bytes at a time, from several places on.
+const PLACES: &[Step<'static>] = &[
+    Step::Make("watch_core_places/f", b"abcdefgh"),
+    Step::Turn,
+    Step::Reads(5, 3, b"fgh"),
+    Step::Reads(0, 3, b"abc"),
+    Step::Reads(6, 2, b"ghc"),
+    Step::Reads(8, 0, b"ghc"),
+];
+
+#[test]
+fn a_file_is_read_at_places(rt: HostRuntime) -> Result<(), Fail> {
+    play(&rt, &rt, "watch_core_places", "watch_core_places/f", PLACES)
+}
+
+/// A look that sees a change begins at once.
+const CHANGED: &[Step<'static>] = &[
+    Step::Make("watch_core_waits/f", b"abc"),
+    Step::Waits(false),
+    Step::Waits(true),
+    Step::Append("watch_core_waits/f", b"de"),
+    Step::Waits(false),
+    Step::Waits(true),
+];
+
+#[test]
+fn looks_wait_for_a_change(rt: HostRuntime) -> Result<(), Fail> {
+    play(&rt, &rt, "watch_core_waits", "watch_core_waits/f", CHANGED)
+}
+
+/// So does a look after a change of an open file to which no name that is watched leads any more.
+const RENAMED: &[Step<'static>] = &[
+    Step::Make("watch_core_waits_open/f", b"abc"),
+    Step::Turn,
+    Step::Opens(true),
+    // No name that is watched leads to it any more.
+    Step::Rename("watch_core_waits_open/f", "watch_core_waits_open/g"),
+    Step::Waits(false),
+    Step::Append("watch_core_waits_open/g", b"de"),
+    Step::Waits(false),
+    Step::Waits(true),
+];
+
+#[test]
+fn looks_wait_for_an_open_file(rt: HostRuntime) -> Result<(), Fail> {
+    play(
+        &rt,
+        &rt,
+        "watch_core_waits_open",
+        "watch_core_waits_open/f",
+        RENAMED,
+    )
+}
+
+#[test]
+fn a_name_in_no_folder(rt: HostRuntime) -> Result<(), Fail> {
+    let mut watch = watch_of(rt, "watch_core_no_folder/f")?;
+    let found = next_seen(&mut watch)?;
+    let is_there = opened(&mut watch)?;
+    assert!(rt; found.is_none() && !is_there);
+    Ok(())
+}
+
+/// Whether a first look at this name, and a first opening, return that it can't be opened. Then no file is open.
+fn fails_to_open(rt: HostRuntime, name: &str) -> Result<bool, Fault> {
+    let looked = watch_of(rt, name)?.look(0) == Err(Fault::Open(0));
+    let mut watch = watch_of(rt, name)?;
+    let opened = watch.reopen(0) == Err(Fault::Open(0));
+    Ok(looked && opened && watch.open_id(0).is_none())
+}
+
+#[test]
+fn a_file_as_a_folder(rt: HostRuntime) -> Result<(), Fail> {
+    let folder = "watch_core_as_folder";
+    make_file(&rt, folder, "watch_core_as_folder/f", b"abc")?;
+    assert!(rt; fails_to_open(rt, "watch_core_as_folder/f/g")?);
+    fs::remove_dir_all(&rt, folder)?;
+    Ok(())
+}
+
+/// The file that a name leads to and that is opened: its first read fails.
+fn breaks_at_its_first_read(
+    abort: &impl Abort,
+    watch: &mut DirWatch<HostRuntime>,
+) -> Result<Option<Seen>, Fault>
+    requires { IsTrue (is_watchable watch.old.watched 0) }
+{
+    let found = next_seen(watch)?;
+    let is_there = opened(watch)?;
+    assert!(abort; is_there && found.is_some());
+    same(
+        abort,
+        &read_at(watch, 0, &mut [0u8; 3]),
+        &Err(Fault::Read(0)),
+    );
+    Ok(found)
+}
+
+#[test]
+fn a_folder_breaks_at_its_first_read(rt: HostRuntime) -> Result<(), Fail> {
+    make_folder(&rt, "watch_core_folder")?;
+    let mut watch = watch_of(rt, "watch_core_folder")?;
+    let found = breaks_at_its_first_read(&rt, &mut watch)?;
+    // It is given back, and its identity stays known.
+    same(&rt, &watch.open_id(0), &id_of(found));
+    fs::remove_dir_all(&rt, "watch_core_folder")?;
+    Ok(())
+}

@@ -1,0 +1,23 @@
+//! Tests of `ports_core` and `watch_core`: inputs, outputs, names, texts and watches.
+#![tactic(auto)]
+
+#[cfg(test)]
+mod compare;
+#[cfg(test)]
+mod dir_tests;
+#[cfg(test)]
+mod dir_watch_tests;
+#[cfg(test)]
+mod folder;
+#[cfg(test)]
+mod memory_tests;
+#[cfg(test)]
+mod name_tests;
+#[cfg(test)]
+mod reading;
+#[cfg(test)]
+mod seek_tests;
+#[cfg(test)]
+mod watch_tests;
+#[cfg(test)]
+mod writing;

@@ -1,0 +1,21 @@
+//! Tests of whole runs: `tools_core` over memory.
+#![tactic(auto)]
+
+#[cfg(test)]
+mod args_tests;
+#[cfg(test)]
+mod csplit_run_tests;
+#[cfg(test)]
+mod ends_tests;
+#[cfg(test)]
+mod follow_tests;
+#[cfg(test)]
+mod left;
+#[cfg(test)]
+mod refused_tests;
+#[cfg(test)]
+mod split_run_tests;
+#[cfg(test)]
+mod tee_tests;
+#[cfg(test)]
+mod tests;

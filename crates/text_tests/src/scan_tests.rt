@@ -1,0 +1,288 @@
+//! Rows of steps, patterns at the limits, and the matcher beside the plain one.
+
+use scan_core::{Bre, BreFault, Scan, matches_plain};
+use std::alloc::Global;
+use std::process::Abort;
+
+fn read(rt: &impl Abort, alloc: Global, pattern: &[u8]) -> Bre {
+    Bre::read(alloc, pattern).expect(rt, "the pattern reads")
+}
+
+/// Whether the line matches, and the steps.
+fn search(rt: &impl Abort, alloc: Global, pattern: &[u8], line: &[u8]) -> (bool, u128) {
+    let bre = read(rt, alloc, pattern);
+    let mut scan = Scan::new(alloc, &bre).expect(rt, "there is memory");
+    let found = scan.matches(&bre, line);
+    (found, scan.steps())
+}
+
+/// A pattern, a line that doesn't match, and the steps.
+const STEPS: [(&[u8], &[u8], u128); 6] = [
+    (b"a", b"bbb", 4),
+    (b"a*b", b"aac", 12),
+    (b"^a", b"bbb", 5),
+    (b"a$", b"ab", 4),
+    (b"\\(ab\\)\\{2\\}", b"aba", 8),
+    (b"a\\{0,1\\}b", b"c", 6),
+];
+
+#[test]
+fn steps_are_counted(rt: HostRuntime) {
+    for (pattern, line, want) in &STEPS {
+        let (found, steps) = search(&rt, rt.alloc(), pattern, line);
+        assert!(rt; !found, "{pattern:?} in {line:?}");
+        assert_eq!(rt; steps, *want, "{pattern:?} in {line:?}");
+    }
+}
+
+#[test]
+fn no_search_no_steps(rt: HostRuntime) {
+    let bre = read(&rt, rt.alloc(), b"a");
+    let scan = Scan::new(rt.alloc(), &bre).expect(&rt, "there is memory");
+    assert_eq!(rt; scan.steps(), 0);
+}
+
+/// A pattern of a text that is repeated, between two others.
+fn repeated(
+    rt: &impl Abort,
+    alloc: Global,
+    front: &[u8],
+    text: &[u8],
+    count: usize,
+    back: &[u8],
+) -> Vec<u8> {
+    let mut all = Vec::new(alloc);
+    all.extend_from_slice(front).expect(rt, "there is memory");
+    for _done in 0..count {
+        all.extend_from_slice(text).expect(rt, "there is memory");
+    }
+    all.extend_from_slice(back).expect(rt, "there is memory");
+    all
+}
+
+#[test]
+fn many_stars_over_one_byte(rt: HostRuntime) {
+    let alloc = rt.alloc();
+    let pattern = repeated(&rt, alloc, b"a", b"*", 65_533, b"");
+    let bre = read(&rt, alloc, &pattern);
+    assert_eq!(rt; bre.positions(), 65_535);
+    let mut scan = Scan::new(alloc, &bre).expect(&rt, "there is memory");
+    assert!(rt; scan.matches(&bre, b"b"));
+    let more = repeated(&rt, alloc, b"a", b"*", 65_534, b"");
+    assert!(rt; matches!(Bre::read(alloc, &more), Err(BreFault::TooLarge)));
+}
+
+#[test]
+fn nested_groups(rt: HostRuntime) {
+    let alloc = rt.alloc();
+    let front = repeated(&rt, alloc, b"", b"\\(", 255, b"a");
+    let pattern = repeated(&rt, alloc, &front, b"\\)", 255, b"");
+    let bre = read(&rt, alloc, &pattern);
+    assert_eq!(rt; bre.positions(), 2);
+    let mut scan = Scan::new(alloc, &bre).expect(&rt, "there is memory");
+    assert!(rt; scan.matches(&bre, b"a"));
+    let front = repeated(&rt, alloc, b"", b"\\(", 256, b"a");
+    let pattern = repeated(&rt, alloc, &front, b"\\)", 256, b"");
+    assert!(rt; matches!(Bre::read(alloc, &pattern), Err(BreFault::TooLarge)));
+}
+
+#[test]
+fn stars_within_stars(rt: HostRuntime) {
+    let alloc = rt.alloc();
+    let line = repeated(&rt, alloc, b"", b"a", 1000, b"");
+    assert_eq!(rt;
+        search(&rt, alloc, b"\\(\\(a*\\)*\\)*b", &line),
+        (false, 5005)
+    );
+}
+
+#[test]
+fn as_many_positions_as_may_be(rt: HostRuntime) {
+    let alloc = rt.alloc();
+    let bre = read(&rt, alloc, b"a\\{255\\}\\{255\\}");
+    assert_eq!(rt; bre.positions(), 65_026);
+    let mut scan = Scan::new(alloc, &bre).expect(&rt, "there is memory");
+    let short = repeated(&rt, alloc, b"", b"a", 255, b"");
+    assert!(rt; !scan.matches(&bre, &short));
+    let bre = read(&rt, alloc, b"a\\{1,255\\}\\{0,127\\}");
+    assert!(rt; matches_short(&rt, alloc, &bre));
+}
+
+fn matches_short(rt: &impl Abort, alloc: Global, bre: &Bre) -> bool {
+    let mut scan = Scan::new(alloc, bre).expect(rt, "there is memory");
+    scan.matches(bre, b"")
+}
+
+#[test]
+fn a_group_that_stands_no_time(rt: HostRuntime) {
+    let alloc = rt.alloc();
+    let pattern = repeated(
+        &rt,
+        alloc,
+        b"x\\(\\(a*b\\)\\{3\\}",
+        b"\\{255\\}",
+        1000,
+        b"\\)\\{0\\}*y",
+    );
+    let bre = read(&rt, alloc, &pattern);
+    assert_eq!(rt; bre.positions(), 4);
+    let mut scan = Scan::new(alloc, &bre).expect(&rt, "there is memory");
+    assert!(rt; scan.matches(&bre, b"axyb"));
+    assert!(rt; !scan.matches(&bre, b"xay"));
+}
+
+/// Patterns that read, of each form.
+const PATTERNS: [&[u8]; 48] = [
+    b"a",
+    b"a*ab",
+    b"a*b",
+    b"^*a",
+    b"^a",
+    b"a$",
+    b"^$",
+    b"^a*$",
+    b"a$b",
+    b"a^b",
+    b"*a",
+    b"\\(*a\\)",
+    b"\\(^a\\)*b",
+    b"\\(a$\\)*",
+    b"\\(a$\\)\\{2\\}",
+    b"\\(\\)",
+    b"\\(\\)*",
+    b"\\(\\)\\{3,5\\}b",
+    b".",
+    b".*",
+    b"a.b",
+    b"[ab]",
+    b"[^ab]",
+    b"[]-]",
+    b"[[:alpha:]]*c",
+    b"a\\{2,3\\}$",
+    b"a\\{2\\}",
+    b"a\\{2,\\}b",
+    b"a\\{0,1\\}b",
+    b"^a\\{0\\}b",
+    b"a\\{0\\}",
+    b"a\\{0\\}*",
+    b"\\(a*b\\{2\\}\\)\\{0\\}c",
+    b"\\(ab\\)\\{2\\}",
+    b"\\(ab\\)*c",
+    b"\\(a*\\)*b",
+    b"\\(\\(a*\\)*\\)*b",
+    b"\\(a\\{1,2\\}b\\)\\{1,2\\}",
+    b"\\(a*\\)\\{2,\\}",
+    b"\\(a\\{0,2\\}\\)\\{2\\}c",
+    b"a**b",
+    b"a*\\{2\\}b",
+    b"a\\{2\\}*b",
+    b"\\*",
+    b"c*\\*$",
+    b"\\(a\\{0,40\\}b*\\)\\{2\\}c",
+    b"\\(a*b\\)\\{40\\}*c$",
+    b"\\(a*^*b\\{0,70\\}\\)*c",
+];
+
+/// The line of a number: up to four bytes of four.
+fn line_of(rt: &impl Abort, alloc: Global, number: usize) -> Vec<u8> {
+    let mut line = Vec::new(alloc);
+    let mut rest = number;
+    for _place in 0..4 {
+        if rest > 0 {
+            let byte = match rest % 5 {
+                1 => b'a',
+                2 => b'b',
+                3 => b'c',
+                _ => b'*',
+            };
+            line.push(byte).expect(rt, "there is memory");
+            rest /= 5;
+        }
+    }
+    line
+}
+
+/// Compares the table, the sets, the search that counts nothing and the plain matcher; where the line doesn't match, the steps of the first two as well.
+fn agree(rt: &impl Abort, alloc: Global, bre: &Bre, line: &[u8]) {
+    let plain = matches_plain(alloc, bre, line).expect(rt, "there is memory");
+    let size = 2 * bre.positions() as usize / 64 + 1;
+    let mut words = vec![in alloc; u64::MAX; size].expect(rt, "there is memory");
+    let by_sets = bre.search(line, &mut words);
+    assert_eq!(rt; by_sets.found, plain, "by sets: {line:?}");
+    if !line.is_empty() {
+        if let Some(outcome) = bre.walk(line) {
+            assert_eq!(rt; outcome.found, plain, "by the table: {line:?}");
+            assert!(rt;
+                outcome.found || outcome.steps == by_sets.steps,
+                "steps: {line:?}"
+            );
+        }
+    }
+    let mut scan = Scan::new(alloc, bre).expect(rt, "there is memory");
+    assert_eq!(rt; scan.matches(bre, line), plain, "{line:?}");
+    assert!(rt; plain || scan.steps() == by_sets.steps, "steps: {line:?}");
+    assert_eq!(rt; scan.contains(bre, line), plain, "uncounted: {line:?}");
+}
+
+#[test]
+fn as_the_plain_matcher(rt: HostRuntime) {
+    let alloc = rt.alloc();
+    for pattern in &PATTERNS {
+        let bre = read(&rt, alloc, pattern);
+        for number in 0..625 {
+            let line = line_of(&rt, alloc, number);
+            agree(&rt, alloc, &bre, &line);
+        }
+    }
+}
+
+/// Tokens that random patterns are made of; what they make may not read.
+const TOKENS: [&[u8]; 14] = [
+    b"a",
+    b"b",
+    b"c",
+    b"*",
+    b".",
+    b"^",
+    b"$",
+    b"\\(",
+    b"\\)",
+    b"[ab]",
+    b"[^a]",
+    b"\\{2\\}",
+    b"\\{0,1\\}",
+    b"\\{1,\\}",
+];
+
+/// The next of a row of numbers that look random.
+fn next_number(state: &mut u64) -> usize {
+    *state = state
+        .wrapping_mul(6_364_136_223_846_793_005)
+        .wrapping_add(1_442_695_040_888_963_407);
+    (*state >> 33) as usize
+}
+
+#[test]
+fn random_pairs(rt: HostRuntime) {
+    let alloc = rt.alloc();
+    let mut state = 7;
+    let mut pairs: u32 = 0;
+    for _try in 0..100_000 {
+        if pairs == 5000 {
+            break;
+        }
+        let mut pattern = Vec::new(alloc);
+        for _token in 0..1 + next_number(&mut state) % 6 {
+            let token = TOKENS[next_number(&mut state) % 14];
+            pattern
+                .extend_from_slice(token)
+                .expect(&rt, "there is memory");
+        }
+        if let Ok(bre) = Bre::read(alloc, &pattern) {
+            let line = line_of(&rt, alloc, next_number(&mut state) % 625);
+            agree(&rt, alloc, &bre, &line);
+            pairs = pairs.wrapping_add(1);
+        }
+    }
+    assert_eq!(rt; pairs, 5000);
+}

@@ -1,0 +1,106 @@
+-- What a whole run does, by its words.
+use Rattle.std.specs.Prelude.{◌≡◌, ℕ, Bool, true, List, [], ◌∷◌, Option, Some, None, Result, Ok, Err, ◌⊎◌, slice_index_or}
+use Rattle.ports_core.specs.Slot.{Slot}
+use Rattle.ports_core.specs.Source.{Content, Source, source_at}
+use Rattle.ports_core.specs.Text.{message_of}
+use Rattle.ports_core.specs.Message.{Says}
+use Rattle.ports_core.specs.declared.tool.Tool.{Tool}
+use Rattle.ports_core.specs.declared.tool.Tool.TheVariants as tool
+use Rattle.ports_core.specs.declared.fault.Fault.{Fault}
+use Rattle.ports_core.specs.declared.fault.Fault.TheVariants.{Memory, Write, Read, Open, Suffixes, NoMatch, Range, Usage, Failed, TooLong}
+use Rattle.csplit_core.specs.declared.operand.Operand.{Operand}
+use Rattle.csplit_core.specs.Reading.{Asks}
+use Rattle.run_core.specs.Feeding.{BreaksOnly}
+use Rattle.run_core.specs.Input.{Input, standard_input}
+use Rattle.run_core.specs.Reading.{AreUntouched}
+use Rattle.run_core.specs.RunEnds.{EndsAs, standard_error, streams_with}
+use Rattle.tee_core.specs.Run.{all_copied, EndsAs as TeeCopies}
+use Rattle.words_core.specs.declared.settings.Settings.{Settings}
+use Rattle.words_core.specs.declared.settings.Settings.TheVariants.{Head, Tail, Split, Csplit, Tee}
+use Rattle.words_core.specs.CsplitAsked.{CsplitAsked}
+use Rattle.words_core.specs.TeeAsked.{TeeAsked}
+use Rattle.words_core.specs.Words.{HasBadOperands, tool_named, settings_of}
+use Rattle.tools_core.specs.Tasks.{csplit_task, head_task, tail_task, split_task, names_of}
+
+-- who refuses words: their tool, or the program where they name none
+abbrev pub or_cutters : Option Tool → Tool
+or_cutters (Some tool) = tool
+or_cutters None = tool.Cutters
+
+abbrev pub speaker : List (List ℕ) → Tool
+speaker [] = tool.Cutters
+speaker (name ∷ words) = or_cutters (tool_named name)
+
+-- the word that a fault of words speaks of
+abbrev pub word_of : List (List ℕ) → Fault → List ℕ
+word_of words (Usage kind place) = slice_index_or words place []
+word_of words Memory = []
+word_of words (Write slot) = []
+word_of words (Read slot) = []
+word_of words (Open slot) = []
+word_of words Suffixes = []
+word_of words (NoMatch operand repetition) = []
+word_of words (Range operand repetition) = []
+word_of words Failed = []
+word_of words TooLong = []
+
+-- words that are refused: a message, status 1, and nothing else
+pub record Refuses (told : Bool) (tool : Tool) (text : List ℕ) (new : List Slot) (status : ℕ) : Type 0 where
+  pub error : Slot
+  pub says : Says told tool text standard_error error
+  pub slots : new ≡ streams_with error
+  pub failed : status ≡ 1
+
+-- `csplit` over its input: it was cut at the operands that its words ask for; or there was no memory for them, and nothing was read.
+pub data CsplitEndsAs (told_in told : Bool) (asked : CsplitAsked) (inputs : List Input) (sources : List Source) (new : List Slot) (status : ℕ) : Type 0 where
+  cut : (operands : List Operand) → Asks asked.operands operands → EndsAs told_in told (csplit_task asked operands) inputs sources new status
+      → CsplitEndsAs told_in told asked inputs sources new status
+  unread : AreUntouched inputs sources → Refuses told tool.Csplit (message_of tool.Csplit Memory []) new status
+      → CsplitEndsAs told_in told asked inputs sources new status
+
+-- `tee` over its inputs, which are standard input alone
+pub record TeeEndsAs (told_in told : Bool) (asked : TeeAsked) (inputs : List Input) (sources : List Source) (new : List Slot) (status : ℕ) : Type 0 where
+  pub content : Content
+  pub input : inputs ≡ standard_input content ∷ []
+  pub ends : TeeCopies told_in told asked.mode asked.names content (source_at sources 0) new status
+  pub breaks : BreaksOnly told_in content (source_at sources 0)
+  -- where nothing broke: standard output and every file have the input's bytes
+  pub whole : told_in ≡ true → status ≡ 0 → new ≡ all_copied told asked.mode asked.names content.bytes
+
+-- a run did what these settings ask for
+abbrev pub DoesAsked : Bool → Bool → Settings → List Input → List Source → List Slot → ℕ → Type 0
+DoesAsked told_in told (Head asked) inputs sources new status = EndsAs told_in told (head_task asked) inputs sources new status
+DoesAsked told_in told (Tail asked) inputs sources new status = EndsAs told_in told (tail_task asked.ends) inputs sources new status
+DoesAsked told_in told (Split asked) inputs sources new status = EndsAs told_in told (split_task asked) inputs sources new status
+DoesAsked told_in told (Csplit asked) inputs sources new status = CsplitEndsAs told_in told asked inputs sources new status
+DoesAsked told_in told (Tee asked) inputs sources new status = TeeEndsAs told_in told asked inputs sources new status
+
+-- the words are refused for this fault, with the word that it speaks of
+abbrev pub RefusesFor : Bool → List (List ℕ) → Fault → List Slot → ℕ → Type 0
+RefusesFor told words fault new status = Refuses told (speaker words) (message_of (speaker words) fault (word_of words fault)) new status
+
+-- what is asked for has operands that can't be read, and the words are refused for that
+abbrev pub RefusesOperands : Bool → List (List ℕ) → Settings → List Slot → ℕ → Type 0
+RefusesOperands told words settings new status = (fault : Fault) × HasBadOperands settings fault × RefusesFor told words fault new status
+
+-- a run did what was asked for, or refused its operands; or it refused the words
+abbrev pub RunEndsAt : Bool → Bool → List (List ℕ) → List Input → List Source → List Slot → ℕ → Result Settings Fault → Type 0
+RunEndsAt told_in told words inputs sources new status (Ok settings) = DoesAsked told_in told settings inputs sources new status ⊎ RefusesOperands told words settings new status
+RunEndsAt told_in told words inputs sources new status (Err fault) = RefusesFor told words fault new status
+
+-- a run of these words on these inputs left inputs and outputs so, and returned this status; words that are refused leave the inputs
+-- as they were, which stands on `run`
+abbrev pub RunEnds : Bool → Bool → List (List ℕ) → List Input → List Source → List Slot → ℕ → Type 0
+RunEnds told_in told words inputs sources new status = RunEndsAt told_in told words inputs sources new status (settings_of words)
+
+-- the names that these words read
+abbrev pub names_at : Result Settings Fault → List (List ℕ)
+names_at (Ok settings) = names_of settings
+names_at (Err fault) = []
+
+abbrev pub names_read : List (List ℕ) → List (List ℕ)
+names_read words = names_at (settings_of words)
+
+-- the words ask for nothing
+abbrev pub AreNone : List (List ℕ) → Type 0
+AreNone words = (fault : Fault) × (settings_of words ≡ Err fault)

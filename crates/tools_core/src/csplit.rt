@@ -1,0 +1,51 @@
+//! `csplit`: an input cut into files where its lines match (POSIX.1-2017, XCU csplit).
+ghost use Rattle.tools_core.specs.Tasks.{csplit_task};
+
+use csplit_core::{Csplitter, Operands};
+use ports_core::{Fault, Outs, Tool};
+use run_core::Adapter;
+use std::alloc::Global;
+use words_core::CsplitSettings;
+
+/// What a run knows of `csplit`.
+#[derive(Clone, Copy)]
+pub struct CsplitAdapter<'a, 'b> {
+    /// What the words ask of it.
+    pub settings: &'a CsplitSettings<'b>,
+    /// The operands that they spell.
+    pub operands: &'a Operands,
+}
+
+impl<'a, 'b> Adapter for CsplitAdapter<'a, 'b> {
+    type Driven = Csplitter<'a>;
+
+    ghost task = { λ adapter. csplit_task adapter.settings.now adapter.operands.now };
+
+    fn tool(&self) -> Tool {
+        Tool::Csplit
+    }
+
+    fn with_header(&self) -> bool {
+        false
+    }
+
+    /// The word of the operand that finds no line.
+    fn subject<'c>(&'c self, verdict: &Fault) -> &'c str {
+        match verdict {
+            Fault::NoMatch(operand, _) | Fault::Range(operand, _) => self.settings.word(*operand),
+            _ => "",
+        }
+    }
+
+    fn open<O: Outs>(
+        &self,
+        alloc: Global,
+        coming: u64,
+        outs: &mut O,
+    ) -> Result<Csplitter<'a>, Fault> {
+        let _ = coming;
+        let settings = self.settings;
+        let style = settings.style.try_clone(alloc)?;
+        Csplitter::open(alloc, self.operands, style, outs)
+    }
+}

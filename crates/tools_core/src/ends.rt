@@ -1,0 +1,124 @@
+//! `head` and `tail`: the same part of each input, one after another (POSIX.1-2017, XCU head and tail; several files
+//! for `tail`, and when headers go before them, are GNU's).
+ghost use Rattle.std.specs.Prelude.{◌≡◌, map};
+ghost use Rattle.tools_core.specs.Tasks.{has_headers, head_task, is_minus, is_plus, tail_task};
+
+use ends_core::{Head, Tail, skip_to_last};
+use ports_core::{Fault, Inputs, Outs, Tool};
+use run_core::Adapter;
+use seg_core::count::{Count, Sign};
+use std::alloc::Global;
+use words_core::{EndsSettings, Headers};
+
+/// What a run knows of `head`.
+#[derive(Clone, Copy)]
+pub struct HeadAdapter<'a, 'b> {
+    /// What the words ask of it.
+    pub settings: &'a EndsSettings<'b>,
+}
+
+/// What a run knows of `tail`.
+#[derive(Clone, Copy)]
+pub struct TailAdapter<'a, 'b> {
+    /// What the words ask of it.
+    pub settings: &'a EndsSettings<'b>,
+}
+
+impl<'a, 'b> Adapter for HeadAdapter<'a, 'b> {
+    type Driven = Head;
+
+    ghost task = { λ adapter. head_task adapter.settings.now };
+
+    fn tool(&self) -> Tool {
+        Tool::Head
+    }
+
+    fn with_header(&self) -> bool {
+        has_headers(self.settings)
+    }
+
+    fn subject<'c>(&'c self, verdict: &Fault) -> &'c str {
+        let _ = verdict;
+        ""
+    }
+
+    fn open<O: Outs>(&self, alloc: Global, coming: u64, outs: &mut O) -> Result<Head, Fault> {
+        let _ = coming;
+        let _ = outs;
+        let settings = self.settings;
+        let Count { sign, amount } = settings.count;
+        Head::open(alloc, settings.unit, is_minus(sign), amount, settings.delim)
+    }
+}
+
+impl<'a, 'b> Adapter for TailAdapter<'a, 'b> {
+    type Driven = Tail;
+
+    ghost task = { λ adapter. tail_task adapter.settings.now };
+
+    fn tool(&self) -> Tool {
+        Tool::Tail
+    }
+
+    fn with_header(&self) -> bool {
+        has_headers(self.settings)
+    }
+
+    fn subject<'c>(&'c self, verdict: &Fault) -> &'c str {
+        let _ = verdict;
+        ""
+    }
+
+    fn open<O: Outs>(&self, alloc: Global, coming: u64, outs: &mut O) -> Result<Tail, Fault> {
+        let _ = outs;
+        let settings = self.settings;
+        let Count { sign, amount } = settings.count;
+        let from_nth = is_plus(sign);
+        Tail::open_for(
+            alloc,
+            settings.unit,
+            from_nth,
+            amount,
+            settings.delim,
+            coming,
+        )
+    }
+
+    /// Of the last lines or bytes nothing before them is needed.
+    fn skip<I: Inputs>(&self, slot: usize, buffer: &mut [u8], inputs: &mut I) {
+        let settings = self.settings;
+        let Count { sign, amount } = settings.count;
+        if !is_plus(sign) {
+            skip_to_last(inputs, slot, settings.unit, amount, settings.delim, buffer);
+        }
+    }
+}
+
+/// Whether a header goes before each input: as an option says, and else where there are several.
+pub(crate) fn has_headers(settings: &EndsSettings<'_>) -> bool
+    ensures { result ≡ has_headers settings.now.headers settings.now.names }
+{
+    match settings.headers {
+        Headers::ForSeveral => settings.names.len() > 1,
+        Headers::Never => false,
+        Headers::Always => true,
+    }
+}
+
+fn is_minus(sign: Sign) -> bool
+    ensures { result ≡ is_minus sign }
+{
+    match sign {
+        Sign::Minus => true,
+        Sign::Plain | Sign::Plus => false,
+    }
+}
+
+pub(crate) fn is_plus(sign: Sign) -> bool
+    ensures { result ≡ is_plus sign }
+{
+    match sign {
+        Sign::Plus => true,
+        Sign::Plain | Sign::Minus => false,
+    }
+}

@@ -1,0 +1,88 @@
+//! One whole run of `tail` that follows files (POSIX.1-2017, XCU tail, `-f`; names that are followed are GNU's).
+ghost use Rattle.std.specs.Prelude.{◌≡◌, [], map};
+ghost use Rattle.ports_core.specs.Slot.{streams};
+ghost use Rattle.tools_core.specs.Following.{FollowingEnds, FollowsAs, is_name, start_of};
+
+use crate::ends::{has_headers, is_plus};
+use crate::run::refuse_words;
+use follow_core::{Start, follow_files};
+use ports_core::{Fault, Outs, UsageKind};
+use std::alloc::Global;
+use watch_core::Watch;
+use words_core::{EndsSettings, Followed, Settings, read_words};
+
+/// What is wrong with words that follow nothing.
+const NOT_FOLLOWED: Fault = Fault::Usage(UsageKind::BadFollow, 0);
+
+/// Runs `tail` over the files that the words name, and follows them: `looks` looks, one directly after another, or fewer where
+/// after one nothing more can come. It writes what each look finds, and says what changed or went wrong on standard error. It
+/// returns the status: 0, or 1 where there was any fault. Words that follow nothing are refused. It takes memory for what the
+/// words ask for, for the names and a buffer of 64 KiB, and for headers and messages.
+pub fn run_follow<W: Watch, O: Outs>(
+    alloc: Global,
+    words: &[&str],
+    watch: &mut W,
+    outs: &mut O,
+    looks: u64,
+) -> u8
+    requires unseen { W.seen watch.old ≡ [] }
+    requires unwatched { W.watched watch.old ≡ [] }
+    requires outputs { O.slots outs.old ≡ streams }
+    ensures { FollowingEnds W.told O.told (map (λ word. word.now) words.now) looks (W.shows watch.old) (W.seen watch.new) (W.watched watch.new) (O.slots outs.new) result }
+{
+    match read_words(alloc, words) {
+        Ok(Settings::Tail(settings)) => match settings.followed {
+            Some(followed) => follow_tail(alloc, &settings.ends, followed, watch, outs, looks),
+            None => refuse_words(alloc, words, &NOT_FOLLOWED, outs),
+        },
+        Ok(_) => refuse_words(alloc, words, &NOT_FOLLOWED, outs),
+        Err(fault) => refuse_words(alloc, words, &fault, outs),
+    }
+}
+
+/// Follows the files that are asked for, by name or by descriptor.
+fn follow_tail<W: Watch, O: Outs>(
+    alloc: Global,
+    settings: &EndsSettings<'_>,
+    followed: Followed,
+    watch: &mut W,
+    outs: &mut O,
+    looks: u64,
+) -> u8
+    requires unseen { W.seen watch.old ≡ [] }
+    requires unwatched { W.watched watch.old ≡ [] }
+    requires outputs { O.slots outs.old ≡ streams }
+    ensures { FollowsAs W.told O.told settings.now followed looks (W.shows watch.old) (W.seen watch.new) (W.watched watch.new) (O.slots outs.new) result }
+{
+    follow_files(
+        alloc,
+        &settings.names,
+        start_of(settings),
+        is_name(followed),
+        has_headers(settings),
+        looks,
+        watch,
+        outs,
+    )
+}
+
+/// The part of a file that the first look writes.
+fn start_of(settings: &EndsSettings<'_>) -> Start
+    ensures { result ≡ start_of settings.now }
+{
+    Start {
+        unit: settings.unit,
+        from_nth: is_plus(settings.count.sign),
+        count: settings.count.amount,
+        delim: settings.delim,
+    }
+}
+
+fn is_name(followed: Followed) -> bool
+    ensures { result ≡ is_name followed }
+{
+    match followed {
+        Followed::Descriptor => false,
+        Followed::Name => true,
+    }
+}

@@ -1,0 +1,128 @@
+//! One whole run: from words and inputs to outputs and a status.
+ghost use Rattle.std.specs.Prelude.{◌≡◌, ◌≤◌, false, length, map};
+ghost use Rattle.ports_core.specs.Slot.{streams};
+ghost use Rattle.ports_core.specs.Source.{source_at, IsFresh};
+ghost use Rattle.run_core.specs.Input.{has_dash};
+ghost use Rattle.run_core.specs.Reading.{AsksAtMost, count_after};
+ghost use Rattle.run_core.specs.RunEnds.{RunsOver, largest_piece};
+ghost use Rattle.run_core.specs.RunSteps.{world_of};
+ghost use Rattle.tools_core.specs.Outcome.{AreNone, DoesAsked, RefusesFor, RunEnds, names_read, speaker, word_of};
+ghost use Rattle.tools_core.specs.Tasks.{names_of};
+ghost use Rattle.words_core.specs.Words.{CanRun};
+
+use crate::csplit::CsplitAdapter;
+use crate::ends::{HeadAdapter, TailAdapter};
+use crate::split::SplitAdapter;
+use ports_core::{Fault, Inputs, Outs, Tool, say};
+use run_core::run_inputs;
+use std::alloc::Global;
+use tee_core::run_tee;
+use words_core::{Settings, find_tool, read_words};
+
+/// Runs the tool that the words name, the first being the tool's name. It reads the inputs that they name, writes
+/// what the tool makes of them, and says what went wrong on standard error. It returns the status: 0, or 1 where
+/// there was any fault. It takes memory for what the words ask for, for a buffer of 64 KiB, and for what the tool's
+/// engine, headers and messages need.
+pub fn run<I: Inputs, O: Outs>(alloc: Global, words: &[&str], inputs: &mut I, outs: &mut O) -> u8
+    requires inputs { IsFresh (I.sources inputs.old) }
+    requires outputs { O.slots outs.old ≡ streams }
+    ensures ends { RunsOver I.told (world_of (I.laid inputs.old) (I.sources inputs.old)) (names_read (map (λ word. word.now) words.now))
+        (λ found. RunEnds I.told O.told (map (λ word. word.now) words.now) found (I.sources inputs.new) (O.slots outs.new) result) }
+    ensures opened { length (I.sources inputs.new) ≤ count_after 1 (names_read (map (λ word. word.now) words.now)) }
+    ensures asked { AsksAtMost largest_piece (I.sources inputs.new) }
+    ensures unopened { AreNone (map (λ word. word.now) words.now) → I.sources inputs.new ≡ I.sources inputs.old }
+    ensures untouched { has_dash (names_read (map (λ word. word.now) words.now)) ≡ false → source_at (I.sources inputs.new) 0 ≡ source_at (I.sources inputs.old) 0 }
+{
+    match read_words(alloc, words) {
+        Ok(settings) => run_tool(alloc, &settings, inputs, outs),
+        Err(fault) => refuse_words(alloc, words, &fault, outs),
+    }
+}
+
+/// Says what is wrong with the words, and returns the status.
+pub(crate) fn refuse_words<O: Outs>(
+    alloc: Global,
+    words: &[&str],
+    fault: &Fault,
+    outs: &mut O,
+) -> u8
+    requires { O.slots outs.old ≡ streams }
+    ensures { RefusesFor O.told (map (λ word. word.now) words.now) fault.now (O.slots outs.new) result }
+{
+    say(alloc, speaker(words), fault, word_of(words, fault), outs);
+    1
+}
+
+fn run_tool<I: Inputs, O: Outs>(
+    alloc: Global,
+    settings: &Settings<'_>,
+    inputs: &mut I,
+    outs: &mut O,
+) -> u8
+    requires inputs { IsFresh (I.sources inputs.old) }
+    requires outputs { O.slots outs.old ≡ streams }
+    requires can { CanRun settings.now }
+    ensures ends { RunsOver I.told (world_of (I.laid inputs.old) (I.sources inputs.old)) (names_of settings.now)
+        (λ found. DoesAsked I.told O.told settings.now found (I.sources inputs.new) (O.slots outs.new) result) }
+    ensures opened { length (I.sources inputs.new) ≤ count_after 1 (names_of settings.now) }
+    ensures asked { AsksAtMost largest_piece (I.sources inputs.new) }
+    ensures untouched { has_dash (names_of settings.now) ≡ false → source_at (I.sources inputs.new) 0 ≡ source_at (I.sources inputs.old) 0 }
+{
+    match settings {
+        Settings::Head(settings) => run_inputs(
+            alloc,
+            &HeadAdapter { settings },
+            &settings.names,
+            inputs,
+            outs,
+        ),
+        Settings::Tail(settings) => {
+            let ends = &settings.ends;
+            run_inputs(
+                alloc,
+                &TailAdapter { settings: ends },
+                &ends.names,
+                inputs,
+                outs,
+            )
+        }
+        Settings::Split(settings) => run_inputs(
+            alloc,
+            &SplitAdapter { settings },
+            &[settings.input],
+            inputs,
+            outs,
+        ),
+        Settings::Csplit(asked) => run_inputs(
+            alloc,
+            &CsplitAdapter {
+                settings: asked,
+                operands: asked.operands(),
+            },
+            &[asked.input],
+            inputs,
+            outs,
+        ),
+        Settings::Tee(settings) => run_tee(alloc, &settings.names, settings.mode, inputs, outs),
+    }
+}
+
+/// Who refuses words: the tool that they name, or the program where they name none.
+pub(crate) fn speaker(words: &[&str]) -> Tool
+    ensures { result ≡ speaker (map (λ word. word.now) words.now) }
+{
+    match words {
+        [name, ..] => find_tool(name).unwrap_or(Tool::Cutters),
+        [] => Tool::Cutters,
+    }
+}
+
+/// The word that a fault of words speaks of.
+fn word_of<'a>(words: &[&'a str], fault: &Fault) -> &'a str
+    ensures { result.now ≡ word_of (map (λ word. word.now) words.now) fault.now }
+{
+    match fault {
+        Fault::Usage(_, place) => words.get(*place).copied().unwrap_or(""),
+        _ => "",
+    }
+}

@@ -1,0 +1,58 @@
+//! `split`: an input cut into files (POSIX.1-2017, XCU split).
+ghost use Rattle.tools_core.specs.Props.{CanSplit-prop};
+ghost use Rattle.tools_core.specs.Tasks.{split_task};
+ghost use Rattle.words_core.specs.SplitWords.{CanSplit};
+
+use ports_core::{Fault, Names, Outs, Tool};
+use run_core::Adapter;
+use split_core::Splitter;
+use std::alloc::Global;
+use words_core::SplitSettings;
+
+/// What a run knows of `split`.
+#[derive(Clone, Copy)]
+pub struct SplitAdapter<'a, 'b> {
+    /// What the words ask of it.
+    pub settings: &'a SplitSettings<'b>,
+    ghost can: { CanSplit settings.now } by { CanSplit-prop settings.now },
+}
+
+impl<'a, 'b> Adapter for SplitAdapter<'a, 'b> {
+    type Driven = Splitter;
+
+    ghost task = { λ adapter. split_task adapter.settings.now };
+
+    fn tool(&self) -> Tool {
+        Tool::Split
+    }
+
+    fn with_header(&self) -> bool {
+        false
+    }
+
+    fn subject<'c>(&'c self, verdict: &Fault) -> &'c str {
+        let _ = verdict;
+        ""
+    }
+
+    fn open<O: Outs>(&self, alloc: Global, coming: u64, outs: &mut O) -> Result<Splitter, Fault> {
+        let _ = coming;
+        let settings = self.settings;
+        let names = Names::new(
+            alloc,
+            settings.prefix,
+            settings.alphabet,
+            settings.width,
+            settings.auto,
+            settings.ending,
+        )?;
+        Splitter::open(
+            alloc,
+            settings.cut,
+            names,
+            settings.elide,
+            settings.delim,
+            outs,
+        )
+    }
+}

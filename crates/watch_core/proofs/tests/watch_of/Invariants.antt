@@ -1,6 +1,0 @@
-use Rattle.std.proofs.Common.{◌≡◌, ◌∷◌, []}
-use Rattle.watch_core.specs.Watched.{added}
-use Rattle.watch_core.proofs.tests.watch_of.Given as goal
-
-abbrev pub invariant-loop-edits : goal.invariant-loop-edits
-invariant-loop-edits l = l.watch.watched ≡ added (102 ∷ []) ∷ []

@@ -1,0 +1,15 @@
+//! Tests of `words_core`: words of the command line, and the settings that they ask for.
+#![tactic(auto)]
+
+#[cfg(test)]
+mod csplit_tests;
+#[cfg(test)]
+mod refused;
+#[cfg(test)]
+mod spelling_tests;
+#[cfg(test)]
+mod split_tests;
+#[cfg(test)]
+mod tail_tests;
+#[cfg(test)]
+mod tee_tests;

@@ -1,0 +1,427 @@
+//! What the words after `split` ask for: rows that no clause shows to be read, since there may be
+//! no memory for them.
+use crate::refused::{Refused, refuse};
+use ports_core::{Alphabet, UsageKind};
+use split_core::Cut;
+use std::alloc::Global;
+use std::process::Abort;
+use words_core::{Settings, SplitSettings, read_words};
+
+/// What words are to ask of `split`.
+#[derive(Clone, Copy, Debug)]
+enum Wanted<'a> {
+    /// The way to split.
+    Cut(Cut),
+    /// The characters of names, how many there are, and whether names widen.
+    Names(Alphabet, u32, bool),
+    /// Whether empty files are left out, the input and what names begin with.
+    Operands(bool, &'a str, &'a str),
+    /// The byte that lines end with, and what names end with.
+    Ends(u8, &'a str),
+}
+
+fn has(found: &SplitSettings<'_>, wanted: Wanted<'_>) -> bool {
+    match wanted {
+        Wanted::Cut(cut) => found.cut == cut,
+        Wanted::Names(alphabet, width, auto) => {
+            found.alphabet == alphabet && found.width == width && found.auto == auto
+        }
+        Wanted::Operands(elide, input, prefix) => {
+            found.elide == elide && found.input == input && found.prefix == prefix
+        }
+        Wanted::Ends(delim, ending) => found.delim == delim && found.ending == ending,
+    }
+}
+
+fn check(rt: &impl Abort, alloc: Global, words: &[&str], wanted: Wanted<'_>) {
+    match read_words(alloc, words) {
+        Ok(settings) => check_settings(rt, words, &settings, wanted),
+        Err(fault) => assert!(rt; false, "{fault:?} at {words:?}"),
+    }
+}
+
+fn check_settings(rt: &impl Abort, words: &[&str], settings: &Settings<'_>, wanted: Wanted<'_>) {
+    match settings {
+        Settings::Split(found) => assert!(rt; has(found, wanted), "{wanted:?} at {words:?}"),
+        _ => assert!(rt; false, "another tool at {words:?}"),
+    }
+}
+
+type CutRow<'a> = (&'a [&'a str], Cut);
+
+#[test]
+fn reads_the_way_to_split(rt: HostRuntime) {
+    for row in WAYS {
+        check(&rt, rt.alloc(), row.0, Wanted::Cut(row.1));
+    }
+}
+
+const WAYS: &[CutRow<'static>] = &[
+    (&["split"], Cut::Lines(1000)),
+    (&["split", "-3"], Cut::Lines(3)),
+    (&["split", "-l", "3"], Cut::Lines(3)),
+    (&["split", "-l", "+3"], Cut::Lines(3)),
+    (&["split", "-l3"], Cut::Lines(3)),
+    (&["split", "--lines", "3"], Cut::Lines(3)),
+    (&["split", "--lines=1k"], Cut::Lines(1024)),
+    (
+        &["split", "-l", "9223372036854775807"],
+        Cut::Lines(9_223_372_036_854_775_807),
+    ),
+    (&["split", "-b", "3"], Cut::Bytes(3)),
+    (&["split", "-b1k"], Cut::Bytes(1024)),
+    (&["split", "--bytes=2kB"], Cut::Bytes(2000)),
+    (&["split", "--bytes", "+1b"], Cut::Bytes(512)),
+    (&["split", "-C", "4"], Cut::LineBytes(4)),
+    (&["split", "-dC4"], Cut::LineBytes(4)),
+    (&["split", "--line-bytes=4"], Cut::LineBytes(4)),
+    (&["split", "--line-bytes", "4"], Cut::LineBytes(4)),
+    (&["split", "-n", "r/3"], Cut::Round(3)),
+    (&["split", "-nr/03"], Cut::Round(3)),
+    (&["split", "--number=r/3"], Cut::Round(3)),
+    (&["split", "-n", "r/65535"], Cut::Round(65_535)),
+    (&["split", "f", "-l", "2"], Cut::Lines(2)),
+    (&["split", "-e", "--", "-3"], Cut::Lines(1000)),
+];
+
+type NameRow<'a> = (&'a [&'a str], Cut, Alphabet, u32, bool);
+
+#[test]
+fn reads_what_names_are_made_of(rt: HostRuntime) {
+    for row in NAMES {
+        names_are(&rt, rt.alloc(), row);
+    }
+}
+
+fn names_are(rt: &impl Abort, alloc: Global, row: &NameRow<'_>) {
+    let (words, cut, alphabet, width, auto) = *row;
+    check(rt, alloc, words, Wanted::Cut(cut));
+    check(rt, alloc, words, Wanted::Names(alphabet, width, auto));
+}
+
+const THOUSAND: Cut = Cut::Lines(1000);
+
+const NAMES: &[NameRow<'static>] = &[
+    (&["split"], THOUSAND, Alphabet::Letters, 2, true),
+    (&["split", "-a", "0"], THOUSAND, Alphabet::Letters, 2, true),
+    (
+        &["split", "-a", "3", "-a", "0"],
+        THOUSAND,
+        Alphabet::Letters,
+        2,
+        true,
+    ),
+    (&["split", "-a", "1"], THOUSAND, Alphabet::Letters, 1, false),
+    (&["split", "-a", "2"], THOUSAND, Alphabet::Letters, 2, false),
+    (
+        &["split", "-a", "3", "-a", "4"],
+        THOUSAND,
+        Alphabet::Letters,
+        4,
+        false,
+    ),
+    (&["split", "-a255"], THOUSAND, Alphabet::Letters, 255, false),
+    (
+        &["split", "--suffix-length=007"],
+        THOUSAND,
+        Alphabet::Letters,
+        7,
+        false,
+    ),
+    (
+        &["split", "--suffix-length", "7"],
+        THOUSAND,
+        Alphabet::Letters,
+        7,
+        false,
+    ),
+    (&["split", "-d"], THOUSAND, Alphabet::Digits, 2, true),
+    (&["split", "-x"], THOUSAND, Alphabet::Hex, 2, true),
+    (&["split", "-dx"], THOUSAND, Alphabet::Hex, 2, true),
+    (&["split", "-xd"], THOUSAND, Alphabet::Digits, 2, true),
+    (
+        &["split", "--hex-suffixes", "--numeric-suffixes"],
+        THOUSAND,
+        Alphabet::Digits,
+        2,
+        true,
+    ),
+    (&["split", "-dxa3"], THOUSAND, Alphabet::Hex, 3, false),
+    (&["split", "-da", "1"], THOUSAND, Alphabet::Digits, 1, false),
+    (
+        &["split", "-n", "r/676"],
+        Cut::Round(676),
+        Alphabet::Letters,
+        2,
+        false,
+    ),
+    (
+        &["split", "-n", "r/677"],
+        Cut::Round(677),
+        Alphabet::Letters,
+        3,
+        false,
+    ),
+    (
+        &["split", "-n", "r/677", "-a", "0"],
+        Cut::Round(677),
+        Alphabet::Letters,
+        3,
+        false,
+    ),
+    (
+        &["split", "-n", "r/26", "-a", "1"],
+        Cut::Round(26),
+        Alphabet::Letters,
+        1,
+        false,
+    ),
+    (
+        &["split", "-n", "r/27", "-a", "1", "-a", "2"],
+        Cut::Round(27),
+        Alphabet::Letters,
+        2,
+        false,
+    ),
+    (
+        &["split", "-n", "r/3", "-a", "255"],
+        Cut::Round(3),
+        Alphabet::Letters,
+        255,
+        false,
+    ),
+    (
+        &["split", "-dn", "r/10001"],
+        Cut::Round(10_001),
+        Alphabet::Digits,
+        5,
+        false,
+    ),
+    (
+        &["split", "-n", "r/65535", "-x"],
+        Cut::Round(65_535),
+        Alphabet::Hex,
+        4,
+        false,
+    ),
+];
+
+type OperandRow<'a> = (&'a [&'a str], bool, &'a str, &'a str);
+
+#[test]
+fn reads_operands_and_empty_files(rt: HostRuntime) {
+    for row in OPERANDS {
+        check(
+            &rt,
+            rt.alloc(),
+            row.0,
+            Wanted::Operands(row.1, row.2, row.3),
+        );
+    }
+}
+
+const OPERANDS: &[OperandRow<'static>] = &[
+    (&["split"], false, "-", "x"),
+    (&["split", "-"], false, "-", "x"),
+    (&["split", "f"], false, "f", "x"),
+    (&["split", "f", "p-"], false, "f", "p-"),
+    (&["split", "-l", "1", "f", "p-"], false, "f", "p-"),
+    (&["split", "f", "-l1", "-", "-e"], true, "f", "-"),
+    (&["split", "-e"], true, "-", "x"),
+    (
+        &["split", "--elide-empty-files", "-dx", "f"],
+        true,
+        "f",
+        "x",
+    ),
+    (&["split", "--", "-e", "-3"], false, "-e", "-3"),
+];
+
+type EndRow<'a> = (&'a [&'a str], u8, &'a str);
+
+#[test]
+fn reads_separators_and_endings(rt: HostRuntime) {
+    for row in ENDS {
+        check(&rt, rt.alloc(), row.0, Wanted::Ends(row.1, row.2));
+    }
+}
+
+const ENDS: &[EndRow<'static>] = &[
+    (&["split"], b'\n', ""),
+    (&["split", "-t", ","], b',', ""),
+    (&["split", "-t\\0"], 0, ""),
+    (&["split", "--separator", "\\0", "-t", ":"], b':', ""),
+    (&["split", "-b", "1", "-t", "0"], b'0', ""),
+    (&["split", "--additional-suffix=.txt"], b'\n', ".txt"),
+    (
+        &["split", "--additional-suffix", "a", "--additional-suffix="],
+        b'\n',
+        "",
+    ),
+    (&["split", "--additional-suffix", "-", "-t-"], b'-', "-"),
+];
+
+#[test]
+fn refuses_values(rt: HostRuntime) {
+    refuse(&rt, rt.alloc(), BAD_VALUES);
+}
+
+const BAD_VALUES: &[Refused<'static>] = &[
+    (&["split", "-t", ""], UsageKind::BadSeparator, 2),
+    (&["split", "-t", "ab"], UsageKind::BadSeparator, 2),
+    (&["split", "--separator=ab"], UsageKind::BadSeparator, 1),
+    (&["split", "-t\\1"], UsageKind::BadSeparator, 1),
+    (&["split", "-t", "é"], UsageKind::BadSeparator, 2),
+    (
+        &["split", "--additional-suffix=a/b"],
+        UsageKind::BadSuffix,
+        1,
+    ),
+    (
+        &["split", "--additional-suffix", "/"],
+        UsageKind::BadSuffix,
+        2,
+    ),
+    (&["split", "-l", "-5"], UsageKind::BadNumber, 2),
+    (&["split", "-l", "-0"], UsageKind::BadNumber, 2),
+    (
+        &["split", "-l", "-99999999999999999999"],
+        UsageKind::BadNumber,
+        2,
+    ),
+    (&["split", "--lines=-5"], UsageKind::BadNumber, 1),
+    (&["split", "-l", "0"], UsageKind::Zero, 2),
+    (&["split", "-l", "+0"], UsageKind::Zero, 2),
+    (&["split", "-0"], UsageKind::Zero, 1),
+    (&["split", "-b0k"], UsageKind::Zero, 1),
+    (&["split", "-C", "0"], UsageKind::Zero, 2),
+    (&["split", "-l", "x"], UsageKind::BadNumber, 2),
+    (&["split", "-l", ""], UsageKind::BadNumber, 2),
+    (&["split", "-b", "0x"], UsageKind::BadNumber, 2),
+    (
+        &["split", "-b", "99999999999999999999x"],
+        UsageKind::BadNumber,
+        2,
+    ),
+    (
+        &["split", "-b", "9223372036854775808"],
+        UsageKind::NumberTooLarge,
+        2,
+    ),
+    (
+        &["split", "-9223372036854775808"],
+        UsageKind::NumberTooLarge,
+        1,
+    ),
+    (&["split", "-n", "3"], UsageKind::BadNumber, 2),
+    (&["split", "-n", "l/3"], UsageKind::BadNumber, 2),
+    (&["split", "-n", "r/"], UsageKind::BadNumber, 2),
+    (&["split", "-n", "r"], UsageKind::BadNumber, 2),
+    (&["split", "-n", "r/+3"], UsageKind::BadNumber, 2),
+    (&["split", "-n", "r/3k"], UsageKind::BadNumber, 2),
+    (&["split", "-n", "2/r/3"], UsageKind::BadNumber, 2),
+    (&["split", "-n", "r/0"], UsageKind::Zero, 2),
+    (&["split", "-nr/65536"], UsageKind::NumberTooLarge, 1),
+    (
+        &["split", "-n", "r/99999999999999999999"],
+        UsageKind::NumberTooLarge,
+        2,
+    ),
+    (&["split", "-a", "256"], UsageKind::NumberTooLarge, 2),
+    (
+        &["split", "-a", "99999999999999999999"],
+        UsageKind::NumberTooLarge,
+        2,
+    ),
+    (&["split", "-a", "+1"], UsageKind::BadNumber, 2),
+    (&["split", "-a", "1k"], UsageKind::BadNumber, 2),
+    (&["split", "-da"], UsageKind::MissingValue, 1),
+    (&["split", "f", "--number"], UsageKind::MissingValue, 2),
+    (
+        &["split", "--numeric-suffixes=1"],
+        UsageKind::UnexpectedValue,
+        1,
+    ),
+    (&["split", "-l", "1", "-3"], UsageKind::UnknownOption, 3),
+    (&["split", "-3x"], UsageKind::UnknownOption, 1),
+    (&["split", "-q"], UsageKind::UnknownOption, 1),
+    (&["split", "-u"], UsageKind::UnknownOption, 1),
+];
+
+#[test]
+fn refuses_lines_as_a_whole(rt: HostRuntime) {
+    refuse(&rt, rt.alloc(), BAD_LINES);
+}
+
+const BAD_LINES: &[Refused<'static>] = &[
+    (&["split", "-l", "2", "-b", "3"], UsageKind::TwoWays, 3),
+    (&["split", "-l", "2", "-l", "2"], UsageKind::TwoWays, 3),
+    (&["split", "-2", "-l2"], UsageKind::TwoWays, 2),
+    (&["split", "-C4", "-n", "r/2"], UsageKind::TwoWays, 2),
+    (
+        &["split", "-l2", "--bytes=3", "-C", "4"],
+        UsageKind::TwoWays,
+        2,
+    ),
+    (&["split", "-dl2", "f", "-xb", "3"], UsageKind::TwoWays, 3),
+    (
+        &["split", "-n", "r/27", "-a", "1"],
+        UsageKind::SuffixTooShort,
+        0,
+    ),
+    (
+        &["split", "-a1", "-n", "r/27"],
+        UsageKind::SuffixTooShort,
+        0,
+    ),
+    (
+        &["split", "-dn", "r/101", "-a", "2"],
+        UsageKind::SuffixTooShort,
+        0,
+    ),
+    (
+        &["split", "-a2", "-n", "r/257", "-a", "2", "-x"],
+        UsageKind::SuffixTooShort,
+        0,
+    ),
+    (&["split", "a", "b", "c"], UsageKind::ExtraOperand, 3),
+    (
+        &["split", "a", "b", "-l", "1", "--", "c", "d"],
+        UsageKind::ExtraOperand,
+        6,
+    ),
+    (&["split", "-", "-", "-"], UsageKind::ExtraOperand, 3),
+    // Several faults of the line as a whole are told in this order.
+    (
+        &["split", "-l2", "-b3", "-n", "r/27", "-a1"],
+        UsageKind::TwoWays,
+        2,
+    ),
+    (
+        &["split", "a", "b", "c", "-l2", "-b3"],
+        UsageKind::TwoWays,
+        5,
+    ),
+    (
+        &["split", "a", "b", "c", "-nr/27", "-a1"],
+        UsageKind::SuffixTooShort,
+        0,
+    ),
+    // They are told after the faults of single words.
+    (
+        &["split", "-l", "2", "-b", "3", "-z"],
+        UsageKind::UnknownOption,
+        5,
+    ),
+    (&["split", "-l", "2", "-b", "0"], UsageKind::Zero, 4),
+    (
+        &["split", "a", "b", "c", "-a", "256"],
+        UsageKind::NumberTooLarge,
+        5,
+    ),
+    (
+        &["split", "-n", "r/27", "-a", "1", "-b"],
+        UsageKind::MissingValue,
+        5,
+    ),
+];

@@ -1,0 +1,87 @@
+//! What the words after `tee` ask for.
+use crate::refused::{Refused, refuse};
+use ports_core::{Mode, UsageKind};
+use std::alloc::Global;
+use std::process::Abort;
+use words_core::{Settings, TeeSettings, read_words};
+
+/// How files are opened, and their names: two at the most.
+#[derive(Clone, Copy, Debug)]
+struct Wanted<'a> {
+    mode: Mode,
+    names: &'a [&'a str],
+}
+
+fn has(found: &TeeSettings<'_>, wanted: Wanted<'_>) -> bool {
+    found.mode == wanted.mode && has_names(found, wanted.names)
+}
+
+/// Whether the first files have these names, empty ones where there are no more.
+fn has_names(found: &TeeSettings<'_>, names: &[&str]) -> bool {
+    for (place, name) in names.iter().enumerate() {
+        if name_at(found, place) != *name {
+            return false;
+        }
+    }
+    true
+}
+
+/// The name at this place, empty where there is none.
+fn name_at<'a>(found: &TeeSettings<'a>, place: usize) -> &'a str {
+    found.names.get(place).copied().unwrap_or("")
+}
+
+fn check(rt: &impl Abort, alloc: Global, words: &[&str], wanted: Wanted<'_>) {
+    match read_words(alloc, words) {
+        Ok(settings) => check_settings(rt, words, &settings, wanted),
+        Err(fault) => assert!(rt; false, "{fault:?} at {words:?}"),
+    }
+}
+
+fn check_settings(rt: &impl Abort, words: &[&str], settings: &Settings<'_>, wanted: Wanted<'_>) {
+    match settings {
+        Settings::Tee(found) => assert!(rt; has(found, wanted), "{wanted:?} at {words:?}"),
+        _ => assert!(rt; false, "another tool at {words:?}"),
+    }
+}
+
+type Row<'a> = (&'a [&'a str], Mode, &'a [&'a str]);
+
+#[test]
+fn reads_what_tee_writes_to(rt: HostRuntime) {
+    for row in WRITES {
+        writes_to(&rt, rt.alloc(), row);
+    }
+}
+
+fn writes_to(rt: &impl Abort, alloc: Global, row: &Row<'_>) {
+    let (words, mode, names) = *row;
+    check(rt, alloc, words, Wanted { mode, names });
+}
+
+const WRITES: &[Row<'static>] = &[
+    (&["tee"], Mode::Fresh, &["", "", ""]),
+    (&["tee", "f"], Mode::Fresh, &["f", "", ""]),
+    (&["tee", "-a", "f", "-"], Mode::Append, &["f", "-", ""]),
+    (
+        &["tee", "f", "g", "--append"],
+        Mode::Append,
+        &["f", "g", ""],
+    ),
+    (&["tee", "-aa", "-"], Mode::Append, &["-", "", ""]),
+    (&["tee", "-a"], Mode::Append, &["", "", ""]),
+    (&["tee", "--", "-a"], Mode::Fresh, &["-a", "", ""]),
+    (&["tee", "f", "f"], Mode::Fresh, &["f", "f", ""]),
+];
+
+#[test]
+fn refuses_options_of_tee(rt: HostRuntime) {
+    refuse(&rt, rt.alloc(), REFUSED);
+}
+
+const REFUSED: &[Refused<'static>] = &[
+    (&["tee", "-i"], UsageKind::UnknownOption, 1),
+    (&["tee", "f", "-3"], UsageKind::UnknownOption, 2),
+    (&["tee", "-ap"], UsageKind::UnknownOption, 1),
+    (&["tee", "--append=f"], UsageKind::UnexpectedValue, 1),
+];
