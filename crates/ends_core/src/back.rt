@@ -26,7 +26,7 @@ pub trait Looks {
 
 /// How many bytes of a text of `len` bytes may be passed over where its last `count` lines or bytes are wanted: they
 /// are the last of what is left, too. What is left is longer than they are by at most the buffer's length and a line,
-/// or by a byte. 0 where the text isn't longer than the buffer, where a look fails, or where most of the text seems to
+/// or by a byte. 0 where the text isn't longer than the buffer, where a look fails, or where half of the text seems to
 /// be wanted, which is then read only once. A look is at most at the buffer's length, from the end on: for lines at all
 /// that is left, for bytes at the last one, to see that the text is as long as that. Lines end with `delim`. It takes
 /// no memory.
@@ -96,7 +96,7 @@ fn find_lines<L: Looks>(text: &mut L, len: u64, count: u64, delim: u8, buffer: &
     0
 }
 
-/// Whether more than half of a text of `len` bytes seems to be wanted, by what stands after a place, once that is a
+/// Whether half of a text of `len` bytes or more seems to be wanted, by what stands after a place, once that is a
 /// sixteenth of it: `found` of the `count` lines that are wanted.
 fn is_mostly_wanted(len: u64, place: u64, count: u64, found: u64) -> bool
     requires { place ≤ len }

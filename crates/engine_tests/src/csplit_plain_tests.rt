@@ -1,11 +1,12 @@
 //! The engine beside the plain program: lists of operands on short texts, cut into pieces in each way.
-ghost use Rattle.std.specs.Prelude.{◌≡◌, ◌≤◌, false, length, IsTrue};
+ghost use Rattle.std.specs.Prelude.{◌≤◌, length, IsTrue};
 ghost use Rattle.ports_core.specs.Slot.{is_writable};
-ghost use Rattle.csplit_core.specs.CsplitState.{IsReady};
 
 use crate::csplit_plain::{Made, plain};
-use crate::csplit_tests::{close, feed, open};
-use csplit_core::{Csplitter, Operands, Style, read_operands};
+use crate::csplit_tests::open;
+use crate::play::{close, feed_all};
+use crate::test_texts::{pieces_of, short_texts};
+use csplit_core::{Operands, Style, read_operands};
 use ports_core::{Fault, MemOut, Outs};
 use std::alloc::Global;
 use std::test::Fail;
@@ -18,24 +19,6 @@ const TARGETS: [&str; 19] = [
 
 /// How often they are performed again.
 const TIMES: [&str; 3] = ["{1}", "{2}", "{*}"];
-
-/// For each size of a text of bytes: how many texts there are of two letters and a newline, and how many ways to cut one
-/// into pieces.
-const SIZES: [(usize, u32, usize); 7] = [
-    (0, 1, 1),
-    (1, 3, 1),
-    (2, 9, 2),
-    (3, 27, 4),
-    (4, 81, 8),
-    (5, 243, 16),
-    (6, 729, 32),
-];
-
-/// The ways to cut a text of six bytes: a piece ends after each byte whose bit is set.
-const CUTS: [u32; 32] = [
-    0, 1, 2, 3, 4, 5, 6, 7, 8, 9, 10, 11, 12, 13, 14, 15, 16, 17, 18, 19, 20, 21, 22, 23, 24, 25,
-    26, 27, 28, 29, 30, 31,
-];
 
 /// Some ways to cut a longer text: whole, byte by byte, by lines, and in pieces of two bytes that end before a newline.
 const LONG_CUTS: [u32; 4] = [0, 0xffff, 0xaaaa, 0x5555];
@@ -137,14 +120,9 @@ fn agrees_on_bytes(alloc: Global, words: &[&str]) -> Result<bool, Fault> {
     let Ok(operands) = read_operands(alloc, words) else {
         return Ok(true);
     };
-    for (size, texts, ways) in SIZES {
-        for number in 0..texts {
-            let text = bytes_of(number);
-            if let Some(text) = text.get(..size)
-                && !agrees_on_text(alloc, &operands, text, CUTS.get(..ways).unwrap_or(&[]))?
-            {
-                return Ok(false);
-            }
+    for short in short_texts(alloc, b'\n')? {
+        if !agrees_on_text(alloc, &operands, short.text(), &short.cuttings(alloc)?)? {
+            return Ok(false);
         }
     }
     Ok(true)
@@ -158,9 +136,12 @@ fn agrees_on_lines(alloc: Global, words: &[&str]) -> Result<bool, Fault> {
     for size in 0..13u32 {
         for number in 0..lines_of_size(size) {
             let text = lines_of(number);
-            if let Some(text) = text.get(..size as usize)
-                && !agrees_on_text(alloc, &operands, text, &LONG_CUTS)?
-            {
+            let text = text.get(..size as usize).unwrap_or(&[]);
+            let mut cuttings = Vec::new(alloc);
+            for cuts in LONG_CUTS {
+                cuttings.push(pieces_of(alloc, text, cuts)?)?;
+            }
+            if !agrees_on_text(alloc, &operands, text, &cuttings)? {
                 return Ok(false);
             }
         }
@@ -172,21 +153,6 @@ fn agrees_on_lines(alloc: Global, words: &[&str]) -> Result<bool, Fault> {
 fn lines_of_size(size: u32) -> u32 {
     1u32.checked_shl((size / 2).saturating_add(size % 2))
         .unwrap_or(0)
-}
-
-/// The text of bytes with this number: its bytes stand for the number's digits.
-fn bytes_of(number: u32) -> [u8; 6] {
-    let mut text = [b'\n'; 6];
-    let mut left = number;
-    for byte in text.iter_mut() {
-        match left % 3 {
-            0 => *byte = b'a',
-            1 => *byte = b'b',
-            _ => {}
-        }
-        left /= 3;
-    }
-    text
 }
 
 /// The text of lines with this number: each line's letter stands for a bit.
@@ -209,7 +175,7 @@ fn agrees_on_text(
     alloc: Global,
     operands: &Operands,
     text: &[u8],
-    cuttings: &[u32],
+    cuttings: &[Vec<&[u8]>],
 ) -> Result<bool, Fault> {
     for options in 0..8 {
         let style = Style {
@@ -232,12 +198,12 @@ fn agrees_under(
     operands: &Operands,
     style: &Style,
     text: &[u8],
-    cuttings: &[u32],
+    cuttings: &[Vec<&[u8]>],
 ) -> Result<bool, Fault> {
     let made = plain(alloc, operands.as_slice(), style, text)?;
-    for cuts in cuttings {
+    for pieces in cuttings {
         let mut outs = MemOut::new(alloc)?;
-        let end = run(alloc, style, operands, text, *cuts, &mut outs);
+        let end = run(alloc, style, operands, pieces, &mut outs);
         if end.err() != made.verdict || !has_made(alloc, &outs, &made, style.keep)? {
             return Ok(false);
         }
@@ -245,45 +211,20 @@ fn agrees_under(
     Ok(true)
 }
 
-/// Cuts a text that comes in pieces: a piece ends after each byte whose bit in `cuts` is set.
+/// Cuts an input that comes in these pieces.
 fn run(
     alloc: Global,
     style: &Style,
     operands: &Operands,
-    text: &[u8],
-    cuts: u32,
+    pieces: &[&[u8]],
     outs: &mut MemOut,
 ) -> Result<(), Fault>
     requires streams { 2 ≤ length outs.old }
     requires output { IsTrue (is_writable outs.old 0) }
 {
     let mut engine = open(alloc, style.try_clone(alloc)?, operands, outs)?;
-    feed_cut(&mut engine, text, cuts, outs)?;
+    feed_all(&mut engine, outs, pieces)?;
     close(&mut engine, outs)
-}
-
-fn feed_cut(
-    engine: &mut Csplitter<'_>,
-    text: &[u8],
-    cuts: u32,
-    outs: &mut MemOut,
-) -> Result<(), Fault>
-    requires { engine.old.is_over ≡ false → IsReady engine.old.stage outs.old }
-    ensures { engine.new.is_over ≡ false → IsReady engine.new.stage outs.new }
-{
-    let mut cuts = cuts;
-    let mut start = 0;
-    let mut end = 0;
-    while end < text.len() {
-        end += 1;
-        let is_cut = cuts % 2 == 1;
-        cuts /= 2;
-        if is_cut || end == text.len() {
-            feed(engine, &text[start..end], outs)?;
-            start = end;
-        }
-    }
-    Ok(())
 }
 
 /// Whether just these files were made, their sizes were written, and all of them were removed where a fault ended the

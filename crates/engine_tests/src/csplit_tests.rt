@@ -1,10 +1,11 @@
 //! What files are made of an input, row by row, whatever the pieces that it comes in.
-ghost use Rattle.std.specs.Prelude.{◌≡◌, ◌≤◌, false, length, IfOk, IsTrue};
+ghost use Rattle.std.specs.Prelude.{◌≤◌, length, IfOk, IsTrue};
 ghost use Rattle.ports_core.specs.Slot.{is_writable};
 ghost use Rattle.csplit_core.specs.CsplitState.{IsReady};
 
+use crate::play::{close, feed, has_files};
 use csplit_core::{Csplitter, Operands, Style, read_operands};
-use ports_core::{Engine, Fault, MemOut, Outs};
+use ports_core::{Fault, MemOut, Outs};
 use std::alloc::{AllocError, Global};
 use std::process::Abort;
 use std::test::Fail;
@@ -330,7 +331,7 @@ fn holds_what_an_offset_may_take_back(rt: HostRuntime) -> Result<(), Fail> {
         let style = style_of(rt.alloc(), Options::Plain)?;
         let operands = read_operands(rt.alloc(), words).expect(&rt, "these are operands");
         let mut engine = open(rt.alloc(), style, &operands, &mut outs)?;
-        feed(&mut engine, input, &mut outs)?;
+        feed(&mut engine, &mut outs, input)?;
         assert_eq!(rt; engine.held(), held, "at {words:?}");
         assert_eq!(rt; outs.bytes(2), first, "at {words:?}");
     }
@@ -362,7 +363,7 @@ fn run(
 {
     let mut engine = open(alloc, style, operands, outs)?;
     for piece in input.chunks(size.max(1)) {
-        feed(&mut engine, piece, outs)?;
+        feed(&mut engine, outs, piece)?;
     }
     close(&mut engine, outs)
 }
@@ -378,31 +379,6 @@ pub fn open<'o>(
     ensures { IfOk result (λ engine. IsReady engine.stage outs.new) }
 {
     Csplitter::open(alloc, operands, style, outs)
-}
-
-pub fn feed(engine: &mut Csplitter<'_>, piece: &[u8], outs: &mut MemOut) -> Result<(), Fault>
-    requires { engine.old.is_over ≡ false → IsReady engine.old.stage outs.old }
-    ensures { engine.new.is_over ≡ false → IsReady engine.new.stage outs.new }
-{
-    engine.feed(piece, outs)
-}
-
-pub fn close(engine: &mut Csplitter<'_>, outs: &mut MemOut) -> Result<(), Fault>
-    requires { engine.old.is_over ≡ false → IsReady engine.old.stage outs.old }
-{
-    engine.close(outs)
-}
-
-/// Whether just these files were made, with these bytes.
-fn has_files(outs: &MemOut, files: &[&[u8]]) -> bool {
-    let mut slot = 2usize;
-    for file in files {
-        if outs.name(slot).is_empty() || outs.bytes(slot) != *file {
-            return false;
-        }
-        slot = slot.saturating_add(1);
-    }
-    outs.name(slot).is_empty()
 }
 
 /// Whether just these files are there, with these bytes: no other was made, or the first was removed.

@@ -6,10 +6,10 @@ ghost use Rattle.split_core.specs.Ways.{Ready};
 
 use crate::part_plain::plain_parts;
 use crate::play::{Step, close, feed, has_files, play};
-use crate::test_texts::{DELIMITERS, SIZES, text_of};
+use crate::test_texts::{DELIMITERS, Short, pieces_of, short_texts};
 use ports_core::{Alphabet, Fault, MemOut, Names, Outs};
 use split_core::{Cut, Limit, Splitter};
-use std::alloc::{AllocError, Global};
+use std::alloc::Global;
 use std::process::Abort;
 use std::test::Fail;
 
@@ -107,10 +107,9 @@ fn cuts_pieces_as_it_cuts_the_whole(rt: HostRuntime) -> Result<(), Fail> {
     let files: [&[u8]; 5] = [b"b\n", b"aaaa", b"aaaa", b"aa\n", b"c\n"];
     let mut outs = MemOut::new(rt.alloc())?;
     outs.short(1);
-    let mut splitter = open(rt.alloc(), Limit::LineBytes(4, b'\n'), &mut outs)?;
-    assert!(rt; feed_cut(&mut splitter, &mut outs, LONG_LINE, u32::MAX, &files)?);
-    assert_eq!(rt; close(&mut splitter, &mut outs), Ok(()));
-    assert!(rt; has_files(&outs, &files));
+    let limit = Limit::LineBytes(4, b'\n');
+    let bytes = pieces_of(rt.alloc(), LONG_LINE, u32::MAX)?;
+    assert!(rt; agrees_in_pieces(rt.alloc(), limit, &bytes, &files, &mut outs)?);
     Ok(())
 }
 
@@ -451,123 +450,68 @@ impl Kind {
 
 #[test]
 fn cuts_lines_as_the_plain_program(rt: HostRuntime) -> Result<(), Fail> {
-    for delim in DELIMITERS {
-        for (size, texts, ways) in SIZES {
-            assert!(rt;
-                agrees_on_size(rt.alloc(), Kind::Lines, delim, size, texts, ways)?,
-                "of size {size}, ended with {delim}"
-            );
-        }
-    }
-    Ok(())
+    agree(&rt, rt.alloc(), Kind::Lines)
 }
 
 #[test]
 fn cuts_bytes_as_the_plain_program(rt: HostRuntime) -> Result<(), Fail> {
-    for (size, texts, ways) in SIZES {
-        assert!(rt;
-            agrees_on_size(rt.alloc(), Kind::Bytes, b'\n', size, texts, ways)?,
-            "of size {size}"
-        );
-    }
-    Ok(())
+    agree(&rt, rt.alloc(), Kind::Bytes)
 }
 
 #[test]
 fn cuts_whole_lines_as_the_plain_program(rt: HostRuntime) -> Result<(), Fail> {
+    agree(&rt, rt.alloc(), Kind::LineBytes)
+}
+
+fn agree(rt: &impl Abort, alloc: Global, kind: Kind) -> Result<(), Fail> {
     for delim in DELIMITERS {
-        for (size, texts, ways) in SIZES {
+        for short in short_texts(alloc, delim)? {
             assert!(rt;
-                agrees_on_size(rt.alloc(), Kind::LineBytes, delim, size, texts, ways)?,
-                "of size {size}, ended with {delim}"
+                agrees_on_short(alloc, kind, delim, &short)?,
+                "on {:?}, ended with {delim}",
+                short.text()
             );
         }
     }
     Ok(())
 }
 
-/// Whether the engine agrees with the plain program on each text of this size.
-fn agrees_on_size(
-    alloc: Global,
-    kind: Kind,
-    delim: u8,
-    size: usize,
-    texts: u32,
-    ways: u32,
-) -> Result<bool, Fault> {
-    for number in 0..texts {
-        let text = text_of(number, delim);
-        if let Some(text) = text.get(..size)
-            && !agrees_on_text(alloc, kind, delim, text, ways)?
-        {
-            return Ok(false);
-        }
-    }
-    Ok(true)
-}
-
-fn agrees_on_text(
-    alloc: Global,
-    kind: Kind,
-    delim: u8,
-    text: &[u8],
-    ways: u32,
-) -> Result<bool, Fault> {
+/// Whether the engine agrees with the plain program on a text, under each limit and in each way to cut it.
+fn agrees_on_short(alloc: Global, kind: Kind, delim: u8, short: &Short) -> Result<bool, Fault> {
+    let cuttings = short.cuttings(alloc)?;
     for most in 1..5 {
-        if !agrees_under(alloc, kind.limit(most, delim), text, ways)? {
-            return Ok(false);
-        }
-    }
-    Ok(true)
-}
-
-fn agrees_under(alloc: Global, limit: Limit, text: &[u8], ways: u32) -> Result<bool, Fault> {
-    let files = match plain_parts(alloc, limit, text) {
-        Ok(files) => files,
-        Err(AllocError) => return Err(Fault::Memory),
-    };
-    for cuts in 0..ways {
-        let mut outs = MemOut::new(alloc)?;
-        let mut splitter = open(alloc, limit, &mut outs)?;
-        if !feed_cut(&mut splitter, &mut outs, text, cuts, &files)? {
-            return Ok(false);
-        }
-        close(&mut splitter, &mut outs)?;
-        if !has_files(&outs, &files) {
-            return Ok(false);
-        }
-    }
-    Ok(true)
-}
-
-/// Feeds a text in pieces: a piece ends after each byte whose bit in `cuts` is set. It returns whether, after each
-/// piece, what came in is in these files, but for what waits.
-fn feed_cut(
-    splitter: &mut Splitter,
-    outs: &mut MemOut,
-    text: &[u8],
-    cuts: u32,
-    files: &[&[u8]],
-) -> Result<bool, Fault>
-    requires { splitter.old.is_over ≡ false → Ready splitter.old.stage outs.old }
-    ensures { splitter.new.is_over ≡ false → Ready splitter.new.stage outs.new }
-{
-    let mut cuts = cuts;
-    let mut start = 0;
-    let mut end = 0;
-    while end < text.len() {
-        end += 1;
-        let is_cut = cuts % 2 == 1;
-        cuts /= 2;
-        if is_cut || end == text.len() {
-            feed(splitter, outs, &text[start..end])?;
-            start = end;
-            if !has_begun(outs, files, end.saturating_sub(splitter.held() as usize)) {
+        let limit = kind.limit(most, delim);
+        let files = plain_parts(alloc, limit, short.text())?;
+        for pieces in &cuttings {
+            if !agrees_in_pieces(alloc, limit, pieces, &files, &mut MemOut::new(alloc)?)? {
                 return Ok(false);
             }
         }
     }
     Ok(true)
+}
+
+/// Whether after each piece what came in is in these files, but for what waits, and at the end all of it.
+fn agrees_in_pieces(
+    alloc: Global,
+    limit: Limit,
+    pieces: &[&[u8]],
+    files: &[&[u8]],
+    outs: &mut MemOut,
+) -> Result<bool, Fault>
+    requires { 2 ≤ length outs.old }
+{
+    let mut splitter = open(alloc, limit, outs)?;
+    let mut size = 0usize;
+    for piece in pieces {
+        feed(&mut splitter, outs, piece)?;
+        size = size.saturating_add(piece.len());
+        if !has_begun(outs, files, size.saturating_sub(splitter.held() as usize)) {
+            return Ok(false);
+        }
+    }
+    close(&mut splitter, outs)?;
+    Ok(has_files(outs, files))
 }
 
 /// Whether the files have `out` bytes in all, and each has the beginning of what it is to get.

@@ -101,6 +101,21 @@ pub(crate) fn feed<E: Engine>(engine: &mut E, outs: &mut MemOut, piece: &[u8]) -
     engine.feed(piece, outs)
 }
 
+/// Feeds an engine these pieces, also one that is over.
+pub(crate) fn feed_all<E: Engine>(
+    engine: &mut E,
+    outs: &mut MemOut,
+    pieces: &[&[u8]],
+) -> Result<(), Fault>
+    requires { E.is_over engine.old ≡ false → E.Ready engine.old outs.old }
+    ensures { E.is_over engine.new ≡ false → E.Ready engine.new outs.new }
+{
+    for piece in pieces {
+        feed(engine, outs, piece)?;
+    }
+    Ok(())
+}
+
 /// Closes an engine, also one that is over.
 pub(crate) fn close<E: Engine>(engine: &mut E, outs: &mut MemOut) -> Result<(), Fault>
     requires { E.is_over engine.old ≡ false → E.Ready engine.old outs.old }

@@ -1,14 +1,14 @@
 //! Lines dealt in turn, row by row, and the engine beside the plain program on each short text, cut into pieces in
 //! each way.
-ghost use Rattle.std.specs.Prelude.{◌≡◌, ◌<◌, ◌≤◌, false, length, IfOk, OnOk};
+ghost use Rattle.std.specs.Prelude.{◌<◌, ◌≤◌, length, IfOk};
 ghost use Rattle.split_core.specs.Ways.{Ready};
 
-use crate::play::{Step, play};
+use crate::play::{Step, close, feed_all, play};
 use crate::round_plain::plain;
-use crate::test_texts::{DELIMITERS, SIZES, text_of};
-use ports_core::{Alphabet, Engine, Fault, MemOut, Names, Outs};
+use crate::test_texts::{DELIMITERS, Short, pieces_of, short_texts};
+use ports_core::{Alphabet, Fault, MemOut, Names, Outs};
 use split_core::{Cut, Splitter};
-use std::alloc::{AllocError, Global};
+use std::alloc::Global;
 use std::process::Abort;
 use std::test::Fail;
 
@@ -156,37 +156,20 @@ fn deals_many_lines_of_a_piece(rt: HostRuntime) -> Result<(), Fail> {
 #[test]
 fn does_as_the_plain_program(rt: HostRuntime) -> Result<(), Fail> {
     for delim in DELIMITERS {
-        for (size, texts, ways) in SIZES {
+        for short in short_texts(rt.alloc(), delim)? {
             assert!(rt;
-                agree_on_size(rt.alloc(), size, texts, ways, delim)?,
-                "of size {size}, ended with {delim}"
+                agree_on_short(rt.alloc(), &short, delim)?,
+                "on {:?}, ended with {delim}",
+                short.text()
             );
         }
     }
     Ok(())
 }
 
-/// Whether the engine agrees with the plain program on each text of this size.
-fn agree_on_size(
-    alloc: Global,
-    size: usize,
-    texts: u32,
-    ways: u32,
-    delim: u8,
-) -> Result<bool, Fault> {
-    for number in 0..texts {
-        let text = text_of(number, delim);
-        if let Some(text) = text.get(..size)
-            && !agree_on_text(alloc, text, ways, delim)?
-        {
-            return Ok(false);
-        }
-    }
-    Ok(true)
-}
-
-fn agree_on_text(alloc: Global, text: &[u8], ways: u32, delim: u8) -> Result<bool, Fault> {
-    for cuts in 0..ways {
+/// Whether the engine agrees with the plain program on a text, in each way to cut it.
+fn agree_on_short(alloc: Global, short: &Short, delim: u8) -> Result<bool, Fault> {
+    for pieces in short.cuttings(alloc)? {
         for count in 1..5 {
             let job = Job {
                 count,
@@ -194,7 +177,8 @@ fn agree_on_text(alloc: Global, text: &[u8], ways: u32, delim: u8) -> Result<boo
                 delim,
             };
             let eliding = Job { elide: true, ..job };
-            if !agrees(alloc, job, text, cuts)? || !agrees(alloc, eliding, text, cuts)? {
+            let agrees_on = agrees(alloc, job, short.text(), &pieces)?;
+            if !agrees_on || !agrees(alloc, eliding, short.text(), &pieces)? {
                 return Ok(false);
             }
         }
@@ -210,7 +194,7 @@ fn agree_on_pieces(alloc: Global, count: u64, text: &[u8], delim: u8) -> Result<
         delim,
     };
     for cuts in [0, 1, 1 << 7, 1 << 30] {
-        if count > 0 && !agrees(alloc, job, text, cuts)? {
+        if count > 0 && !agrees(alloc, job, text, &pieces_of(alloc, text, cuts)?)? {
             return Ok(false);
         }
     }
@@ -229,14 +213,14 @@ struct Job {
 }
 
 /// Whether all files have what they should, before the end and at the end.
-fn agrees(alloc: Global, job: Job, text: &[u8], cuts: u32) -> Result<bool, Fault>
+fn agrees(alloc: Global, job: Job, text: &[u8], pieces: &[&[u8]]) -> Result<bool, Fault>
     requires { 0 < job.count }
 {
     let mut outs = MemOut::new(alloc)?;
     let mut engine = start(alloc, job.count, job.elide, job.delim, &mut outs)?;
-    feed_in_pieces(&mut engine, &mut outs, text, cuts)?;
+    feed_all(&mut engine, &mut outs, pieces)?;
     let early = has_all(alloc, job, text, &outs)?;
-    engine.close(&mut outs)?;
+    close(&mut engine, &mut outs)?;
     Ok(early && has_all(alloc, job, text, &outs)?)
 }
 
@@ -244,10 +228,7 @@ fn agrees(alloc: Global, job: Job, text: &[u8], cuts: u32) -> Result<bool, Fault
 fn has_all(alloc: Global, job: Job, text: &[u8], outs: &MemOut) -> Result<bool, Fault> {
     let mut slot = 2usize;
     for file in 0..job.count {
-        let wanted = match plain(alloc, job.count, file, text, job.delim) {
-            Ok(wanted) => wanted,
-            Err(AllocError) => return Err(Fault::Memory),
-        };
+        let wanted = plain(alloc, job.count, file, text, job.delim)?;
         if job.elide && wanted.is_empty() {
             continue;
         }
@@ -280,29 +261,4 @@ fn start(
 {
     let names = Names::new(alloc, "x", Alphabet::Letters, 2, true, "")?;
     Splitter::open(alloc, Cut::Round(count), names, elide, delim, outs)
-}
-
-/// Feeds a text in pieces: a piece ends after each byte whose bit in `cuts` is set.
-fn feed_in_pieces(
-    engine: &mut Splitter,
-    outs: &mut MemOut,
-    text: &[u8],
-    cuts: u32,
-) -> Result<(), Fault>
-    requires { Ready engine.old.stage outs.old }
-    ensures { OnOk result (Ready engine.new.stage outs.new) }
-{
-    let mut cuts = cuts;
-    let mut start = 0;
-    let mut end = 0;
-    while end < text.len() {
-        end += 1;
-        let is_cut = cuts % 2 == 1;
-        cuts /= 2;
-        if is_cut || end == text.len() {
-            engine.feed(&text[start..end], outs)?;
-            start = end;
-        }
-    }
-    Ok(())
 }

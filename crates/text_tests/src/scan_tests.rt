@@ -236,6 +236,25 @@ fn as_the_plain_matcher(rt: HostRuntime) {
     }
 }
 
+/// Patterns of few sets.
+const TABLED: [&[u8]; 6] = [
+    b"^#SECTION",
+    b"timeout",
+    b"a*b",
+    b"[0-9]\\{3\\} ms$",
+    b"zebra",
+    b"o.\\{10\\}zq",
+];
+
+/// Without a table the result would be the same, and come later: no contract says that there is one.
+#[test]
+fn few_sets_have_a_table(rt: HostRuntime) {
+    for pattern in &TABLED {
+        let outcome = read(&rt, rt.alloc(), pattern).walk(b"#SELECTION of 12 ms");
+        assert!(rt; outcome.is_some(), "{pattern:?}");
+    }
+}
+
 /// Tokens that random patterns are made of; what they make may not read.
 const TOKENS: [&[u8]; 14] = [
     b"a",
