@@ -7,7 +7,7 @@ use std::alloc::{AllocError, Global};
 
 /// What is made of a text.
 #[derive(Drop)]
-pub struct Made<'a> {
+pub(crate) struct Made<'a> {
     /// What each file gets, in their order.
     pub files: Vec<&'a [u8]>,
     /// The fault with which the cutting ends, if it ends with one.
@@ -19,7 +19,7 @@ pub struct Made<'a> {
 /// # Errors
 ///
 /// `Memory` where there is no room for it.
-pub fn plain<'a>(
+pub(crate) fn plain<'a>(
     alloc: Global,
     operands: &[Operand],
     style: &Style,

@@ -368,7 +368,7 @@ fn run(
     close(&mut engine, outs)
 }
 
-pub fn open<'o>(
+pub(crate) fn open<'o>(
     alloc: Global,
     style: Style,
     operands: &'o Operands,

@@ -4,7 +4,7 @@ use std::alloc::{AllocError, Global};
 
 /// Which part of a text is written.
 #[derive(Clone, Copy, Debug, PartialEq, Eq)]
-pub enum Side {
+pub(crate) enum Side {
     /// The first lines or bytes.
     First,
     /// All but the last.
@@ -30,7 +30,7 @@ impl Side {
 
 /// What is asked for.
 #[derive(Clone, Copy, Debug, PartialEq, Eq)]
-pub struct Asked {
+pub(crate) struct Asked {
     /// Which part.
     pub side: Side,
     /// What is counted.
@@ -69,7 +69,7 @@ fn delimiters(text: &[u8], delim: u8) -> u64 {
 /// # Errors
 ///
 /// `AllocError` where there is no room for it.
-pub fn plain(alloc: Global, asked: Asked, text: &[u8]) -> Result<Vec<u8>, AllocError> {
+pub(crate) fn plain(alloc: Global, asked: Asked, text: &[u8]) -> Result<Vec<u8>, AllocError> {
     let all = asked.size(text);
     let mut out = Vec::new(alloc);
     let mut before = 0u64;

@@ -7,7 +7,7 @@ use std::alloc::{AllocError, Global};
 /// # Errors
 ///
 /// `AllocError` where there is no room for them.
-pub fn plain_parts<'a>(
+pub(crate) fn plain_parts<'a>(
     alloc: Global,
     limit: Limit,
     text: &'a [u8],

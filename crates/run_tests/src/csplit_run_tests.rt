@@ -1,37 +1,19 @@
 //! Whole runs of `csplit` over memory, which no clause can show to succeed: files with their names, the sizes on standard
 //! output, messages and status.
-use crate::left::{File, Left, NOTHING, Plan, Run, check_runs, check_twice};
+use crate::left::{File, LAID, Left, NOTHING, Plan, Run, check_runs, check_twice};
 use ports_core::Fault;
 use std::alloc::Global;
 use std::process::Abort;
 use std::test::Fail;
-
-/// The file that lies there: three lines, the last of them open.
-const LAID: &[File<'static>] = &[("f", b"1\n2\n3")];
 
 /// Words, an input, the sizes that are written, and the files that are made.
 type Row<'a> = (&'a [&'a str], &'a [u8], &'a [u8], &'a [File<'a>]);
 
 fn cut(rt: &impl Abort, alloc: Global, rows: &[Row<'_>]) -> Result<(), Fail> {
     for row in rows {
-        cuts(rt, alloc, row)?;
+        ends(rt, alloc, &(row.0, row.1, row.2, row.3, &[], b""))?;
     }
     Ok(())
-}
-
-fn cuts(rt: &impl Abort, alloc: Global, row: &Row<'_>) -> Result<(), Fault> {
-    let run = Run {
-        words: row.0,
-        files: LAID,
-        input: row.1,
-        plans: &[],
-        left: Left {
-            output: row.2,
-            files: row.3,
-            ..NOTHING
-        },
-    };
-    check_twice(rt, alloc, &run)
 }
 
 #[test]

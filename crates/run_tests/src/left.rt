@@ -11,11 +11,11 @@ use std::test::Fail;
 use tools_core::run::run;
 
 /// A name and what lies there, or is to lie there.
-pub type File<'a> = (&'a str, &'a [u8]);
+pub(crate) type File<'a> = (&'a str, &'a [u8]);
 
 /// What is planned for the inputs and outputs of a run.
 #[derive(Clone, Copy)]
-pub enum Plan {
+pub(crate) enum Plan {
     /// Each read gives this many bytes, and no more.
     Pieces(usize),
     /// An input breaks off after this many bytes.
@@ -30,7 +30,7 @@ pub enum Plan {
 
 /// A run: what it is given, and what it is to leave.
 #[derive(Clone, Copy)]
-pub struct Run<'a> {
+pub(crate) struct Run<'a> {
     /// The words, from the tool's name on.
     pub words: &'a [&'a str],
     /// The files that lie there before.
@@ -45,7 +45,7 @@ pub struct Run<'a> {
 
 /// What a run is to leave.
 #[derive(Clone, Copy)]
-pub struct Left<'a> {
+pub(crate) struct Left<'a> {
     /// What is to be on standard output.
     pub output: &'a [u8],
     /// The files that it is to open, in order, with what is written to each.
@@ -58,8 +58,11 @@ pub struct Left<'a> {
     pub status: u8,
 }
 
+/// A file that lies there: three lines, the last of them open.
+pub(crate) const LAID: &[File<'static>] = &[("f", b"1\n2\n3")];
+
 /// The run that writes nothing and meets no fault.
-pub const NOTHING: Left<'static> = Left {
+pub(crate) const NOTHING: Left<'static> = Left {
     output: b"",
     files: &[],
     removed: &[],
@@ -68,7 +71,7 @@ pub const NOTHING: Left<'static> = Left {
 };
 
 /// Standard input and files in memory.
-pub fn inputs_of(alloc: Global, files: &[File<'_>], bytes: &[u8]) -> Result<MemIn, Fault>
+pub(crate) fn inputs_of(alloc: Global, files: &[File<'_>], bytes: &[u8]) -> Result<MemIn, Fault>
     ensures { IfOk result (λ inputs. IsFresh inputs.sources) }
 {
     let mut inputs = MemIn::new(alloc)?;
@@ -139,7 +142,7 @@ fn plan_output(outs: &mut MemOut, plan: &Plan) -> Result<(), Fault>
 }
 
 /// Runs the words of each row.
-pub fn check_runs(rt: &impl Abort, alloc: Global, runs: &[Run<'_>]) -> Result<(), Fail> {
+pub(crate) fn check_runs(rt: &impl Abort, alloc: Global, runs: &[Run<'_>]) -> Result<(), Fail> {
     for run in runs {
         check_run(rt, alloc, run)?;
     }
@@ -147,13 +150,13 @@ pub fn check_runs(rt: &impl Abort, alloc: Global, runs: &[Run<'_>]) -> Result<()
 }
 
 /// Runs the words.
-pub fn check_run(rt: &impl Abort, alloc: Global, run: &Run<'_>) -> Result<(), Fault> {
+pub(crate) fn check_run(rt: &impl Abort, alloc: Global, run: &Run<'_>) -> Result<(), Fault> {
     let inputs = planned_inputs(alloc, run)?;
     check_over(rt, alloc, run, inputs)
 }
 
 /// Runs the words over inputs that come whole, and once more over inputs that come byte by byte.
-pub fn check_twice(rt: &impl Abort, alloc: Global, run: &Run<'_>) -> Result<(), Fault> {
+pub(crate) fn check_twice(rt: &impl Abort, alloc: Global, run: &Run<'_>) -> Result<(), Fault> {
     check_run(rt, alloc, run)?;
     let mut inputs = planned_inputs(alloc, run)?;
     inputs.pieces(1);

@@ -1,13 +1,10 @@
 //! Whole runs of `split` over memory, which no clause can show to succeed: files with their names, messages and
 //! status. What is wanted of runs without a fault is what GNU's split makes of the same words and bytes.
-use crate::left::{File, Left, NOTHING, Plan, Run, check_runs, check_twice};
+use crate::left::{File, LAID, Left, NOTHING, Plan, Run, check_runs, check_twice};
 use ports_core::Fault;
 use std::alloc::Global;
 use std::process::Abort;
 use std::test::Fail;
-
-/// The file that lies there: three lines, the last of them open.
-const LAID: &[File<'static>] = &[("f", b"1\n2\n3")];
 
 /// Words, an input, and the files that are made of it.
 type Row<'a> = (&'a [&'a str], &'a [u8], &'a [File<'a>]);
