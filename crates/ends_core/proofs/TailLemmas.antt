@@ -1,23 +1,27 @@
 -- Lemmas on tails.
-use Rattle.std.proofs.Common.{◌≡◌, ℕ, ◌+◌, ◌-◌, ◌≤◌, List, ◌++◌, length, Bool, true, false, Ok, Err, Result, OnOk, IfErr, IsTrue, refl, sym, ◌∙◌, ap, subst, arith}
+use Rattle.std.proofs.Common.{◌≡◌, ℕ, ◌+◌, ◌-◌, ◌≤◌, List, [], ◌++◌, length, length-append, inr, Bool, true, false, Ok, Err, Result, OnOk, IfErr, IsTrue, refl, sym, ◌∙◌, ap, subst, arith}
 use Rattle.std.proofs.lemmas.List.{append-nil}
 use Rattle.std.proofs.lemmas.Bool.{false≢true}
 use Rattle.ports_core.specs.declared.fault.Fault.TheVariants as fault
 use Rattle.ports_core.specs.Slot.{Slot, is_writable, with_written, told_of}
 use Rattle.ports_core.specs.Part.{only_out}
-use Rattle.ports_core.specs.Engine.{TakesIn, PutsOut, CutsOff, Finishes, EndsShort, EndsWith, EndsThere, IsMet, OwnsNone}
+use Rattle.ports_core.specs.Source.{Source}
+use Rattle.ports_core.specs.Engine.{Loads, TakesIn, PutsOut, CutsOff, Finishes, EndsShort, EndsWith, EndsThere, IsMet, OwnsNone}
 use Rattle.ports_core.specs.declared.fault.Fault.{Fault}
-use Rattle.ends_core.specs.declared.unit.Unit.TheVariants.{Bytes}
+use Rattle.ends_core.specs.declared.unit.Unit.{Unit as Counted}
+use Rattle.ends_core.specs.declared.unit.Unit.TheVariants.{Lines, Bytes}
 use Rattle.ends_core.specs.declared.tail.Way.{Way}
 use Rattle.ends_core.specs.declared.tail.Way.TheVariants.{FromNth, Last}
 use Rattle.ends_core.specs.TailState.{TailState}
-use Rattle.ends_core.specs.Ends.{measure, behind_of, last_of}
-use Rattle.ends_core.specs.EndsLaws.{measure-append, behind_of-append, last_of-append}
+use Rattle.ends_core.specs.Ends.{measure, behind_of, last_of, but_last_of}
+use Rattle.ends_core.specs.Load.{Passes}
+use Rattle.ends_core.specs.EndsLaws.{ends_together, measure-append, behind_of-append, last_of-append}
 use Rattle.ends_core.specs.Tail.{tail_work, tail_waiting, work, Holds}
 use Rattle.ends_core.specs.TailWay.{delim_of, unit_of, is_from_nth, count_of, left_of, waiting_of, due, left_waiting, may_lack, FullLacksNone, SameWay, state_of}
 use Rattle.ends_core.specs.Kept.{most_of, may_lack_of, delim_of as kept_delim, unit_of as kept_unit}
 use Rattle.ends_core.specs.declared.kept.Kept.{Kept}
 use Rattle.ends_core.specs.Stops.{Stops}
+use Rattle.ends_core.proofs.LoadLemmas.{last_none, none_of_none}
 use Rattle.ends_core.proofs.StopLemmas as stop
 use Rattle.ends_core.proofs.KeptLemmas.{full_once}
 
@@ -151,3 +155,53 @@ on_ok_each (Err fault) also is too three = tt
 pub if_err : {P Q : Fault → Type 0} (result : Result (Unit {0}) Fault) → ((fault : Fault) → P fault → Q fault) → IfErr result P → IfErr result Q
 if_err (Ok u) also is = tt
 if_err (Err fault) also is = also fault is
+
+-- nothing waits before anything came in
+pub waits_none : (delim : ℕ) (unit : Counted) (from_nth : Bool) (n : ℕ) → tail_waiting delim unit from_nth n [] ≡ []
+waits_none delim unit true n = refl
+waits_none delim unit false n = last_none delim unit n
+
+-- no more waits than came in
+pub waits_within : (delim : ℕ) (unit : Counted) (from_nth : Bool) (n : ℕ) (x : List ℕ) → length (tail_waiting delim unit from_nth n x) ≤ length x
+waits_within delim unit true n x = omega arith
+waits_within delim unit false n x = omega (arith, sym (length-append (but_last_of delim unit n x) (last_of delim unit n x)) ∙ ap length (ends_together delim unit n x))
+
+measure_none : (delim : ℕ) (unit : Counted) → measure delim unit [] ≡ 0
+measure_none delim Lines = refl
+measure_none delim Bytes = refl
+
+-- what a tail from the nth on takes in is nothing, and of the last nothing is written before the end
+settled_same : (delim : ℕ) (unit : Counted) (from_nth : Bool) (n : ℕ) (x : List ℕ) → (from_nth ≡ true → x ≡ []) → (tail_work delim unit from_nth n).settled x ≡ (tail_work delim unit from_nth n).settled []
+settled_same delim unit true n x none = ap (tail_work delim unit true n).settled (none refl)
+settled_same delim unit false n x none = refl
+
+loads_here : (told : Bool) (slot count : ℕ) (way next : Way) (old new : List Source) → Holds (state_of way) [] → SameWay way next → left_of next ≡ left_of way → (is_from_nth way ≡ true → count ≡ 0)
+    → Passes told slot count (λ x. waiting_of next ≡ tail_waiting (delim_of way) (unit_of way) (is_from_nth way) (count_of way) x) old new → FullLacksNone next → Loads Holds (λ (tail : TailState) slots. IsTrue (is_writable slots 0)) OwnsNone work told slot count (state_of way) (state_of next) old new
+loads_here told slot count way next old new fresh same left nth passes full =
+    let none : is_from_nth way ≡ true → passes.front ≡ [] = λ is. none_of_none passes.front (sym passes.long ∙ nth is) in
+    let waits = passes.keeps ∙ waiting_same way next passes.front same in
+    record {
+      front = passes.front;
+      long = passes.long;
+      there = passes.there;
+      passed = passes.passed;
+      holds = record {
+        left = λ is. left ∙ fresh.left (sym same.from_nth ∙ is)
+            ∙ ap (λ k. (count_of way - 1) - k) (measure_none (delim_of way) (unit_of way))
+            ∙ ap (λ n. (n - 1) - 0) (sym same.count)
+            ∙ sym (ap (λ k. (count_of next - 1) - k) (ap (measure (delim_of next) (unit_of next)) (none (sym same.from_nth ∙ is)) ∙ measure_none (delim_of next) (unit_of next)));
+        waits = waits;
+        none = λ is. none_lacks next is;
+        full = full_lacks next passes.front waits full;
+      };
+      ready = λ slots is. is;
+      owns = λ first slots is. is;
+      idle = settled_same (delim_of way) (unit_of way) (is_from_nth way) (count_of way) passes.front none;
+      going = inr refl;
+    }
+
+-- what a tail takes in of an input before any piece
+pub loads : (told : Bool) (slot count : ℕ) (way next : Way) (tail : TailState) (old new : List Source) → state_of way ≡ tail → Holds tail [] → SameWay way next → left_of next ≡ left_of way → (is_from_nth way ≡ true → count ≡ 0)
+    → Passes told slot count (λ x. waiting_of next ≡ tail_waiting (delim_of way) (unit_of way) (is_from_nth way) (count_of way) x) old new → FullLacksNone next → Loads Holds (λ (those : TailState) slots. IsTrue (is_writable slots 0)) OwnsNone work told slot count tail (state_of next) old new
+loads told slot count way next tail old new is fresh same left nth passes full =
+    subst (λ those. Holds those [] → Loads Holds (λ (those : TailState) slots. IsTrue (is_writable slots 0)) OwnsNone work told slot count those (state_of next) old new) is (λ holds. loads_here told slot count way next old new holds same left nth passes full) fresh

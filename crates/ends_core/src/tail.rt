@@ -1,19 +1,21 @@
 ghost use Rattle.std.specs.Prelude.{◌≡◌, ◌+◌, ◌-◌, ◌^◌, ◌<◌, ◌≤◌, ℕ, List, [], true, false, length, IsTrue, IfOk, IfErr, OnOk};
 ghost use Rattle.ports_core.specs.Slot.{is_writable, with_written, told_of};
+ghost use Rattle.ports_core.specs.Source.{is_readable};
 ghost use Rattle.ports_core.specs.Work.{IsLawful};
 ghost use Rattle.ports_core.specs.Engine.{OwnsNone};
 ghost use Rattle.ports_core.specs.Guard.{GuardState, HoldsIn};
 ghost use Rattle.ends_core.specs.Tail.{Holds, tail_waiting, tail_work, work};
 ghost use Rattle.ends_core.specs.TailState.{TailState};
-ghost use Rattle.ends_core.specs.TailWay.{FullLacksNone, SameWay, delim_of, due, left_of, left_waiting, may_lack, state_of, unit_of, waiting_of};
+ghost use Rattle.ends_core.specs.TailWay.{FullLacksNone, SameWay, count_of, delim_of, due, is_from_nth, left_of, left_waiting, may_lack, state_of, unit_of, waiting_of};
 ghost use Rattle.ends_core.specs.Ends.{measure};
+ghost use Rattle.ends_core.specs.Load.{Passes};
 ghost use Rattle.ends_core.specs.Stops.{Stops};
 ghost use Rattle.ends_core.specs.TailLaws.{lawful};
 
 use crate::Unit;
 use crate::front::{Front, pass_behind};
 use crate::kept::Kept;
-use ports_core::{Engine, Fault, Guarded, Outs, Stage};
+use ports_core::{Engine, Fault, Guarded, Inputs, Outs, Stage};
 use std::alloc::Global;
 use std::marker::Model;
 
@@ -154,6 +156,10 @@ impl Engine for Tail {
         self.engine.feed(piece, outs)
     }
 
+    fn load<I: Inputs>(&mut self, slot: usize, buffer: &mut [u8], inputs: &mut I) -> u64 {
+        self.engine.load(slot, buffer, inputs)
+    }
+
     fn close<O: Outs>(&mut self, outs: &mut O) -> Result<(), Fault> {
         self.engine.close(outs)
     }
@@ -188,6 +194,10 @@ impl Stage for TailStage {
 
     fn pass<O: Outs>(&mut self, piece: &[u8], outs: &mut O) -> Result<(), Fault> {
         self.way.pass(piece, outs)
+    }
+
+    fn load<I: Inputs>(&mut self, slot: usize, buffer: &mut [u8], inputs: &mut I) -> u64 {
+        self.way.load(slot, buffer, inputs)
     }
 
     fn finish<O: Outs>(&mut self, outs: &mut O) -> Result<(), Fault> {
@@ -228,6 +238,27 @@ impl Way {
             Way::FromNth(_, front) => pass_behind(front, piece, outs),
             Way::Last(kept) => kept.take_in(piece),
         }
+    }
+
+    /// Takes in all that an input has left before any piece, where the last are asked for, and returns how many bytes
+    /// these are.
+    fn load<I: Inputs>(&mut self, slot: usize, buffer: &mut [u8], inputs: &mut I) -> u64
+        requires room { 0 < length buffer.old }
+        requires input { IsTrue (is_readable (I.sources inputs.old) slot) }
+        requires none { waiting_of self.old ≡ [] }
+        requires full { FullLacksNone self.old }
+        ensures same { SameWay self.old self.new }
+        ensures left { left_of self.new ≡ left_of self.old }
+        ensures nth { is_from_nth self.old ≡ true → result ≡ 0 }
+        ensures passes { Passes I.told slot result (λ x. waiting_of self.new ≡ tail_waiting (delim_of self.old) (unit_of self.old) (is_from_nth self.old) (count_of self.old) x) (I.sources inputs.old) (I.sources inputs.new) }
+        ensures full { FullLacksNone self.new }
+        ensures laid { I.laid inputs.new ≡ I.laid inputs.old }
+        ensures bound { result < 2 ^ 63 }
+    {
+        let Way::Last(kept) = self else {
+            return 0;
+        };
+        kept.load(slot, buffer, inputs)
     }
 
     /// Writes what waits.

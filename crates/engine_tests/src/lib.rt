@@ -18,6 +18,8 @@ mod ends_tests;
 #[cfg(test)]
 mod follow_tests;
 #[cfg(test)]
+mod load_tests;
+#[cfg(test)]
 mod operand_tests;
 #[cfg(test)]
 mod part_plain;
@@ -29,8 +31,6 @@ mod play;
 mod round_plain;
 #[cfg(test)]
 mod round_tests;
-#[cfg(test)]
-mod skip_tests;
 #[cfg(test)]
 mod tee_tests;
 #[cfg(test)]

@@ -1,6 +1,7 @@
 pub mod HandedOn
 pub mod PartLemmas
 pub mod GuardLemmas
+pub mod LoadLemmas
 pub mod SweepLemmas
 pub mod FileLemmas
 pub mod SlotLemmas

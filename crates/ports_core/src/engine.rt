@@ -1,9 +1,10 @@
-ghost use Rattle.std.specs.Prelude.{◌≡◌, ◌+◌, ◌^◌, ◌<◌, ◌≤◌, ℕ, List, Bool, true, false, length, IfErr, OnOk, OnErr, IsErrOf, IsTrue};
+ghost use Rattle.std.specs.Prelude.{◌≡◌, ◌+◌, ◌^◌, ◌<◌, ◌≤◌, ℕ, List, [], Bool, true, false, length, IfErr, OnOk, OnErr, IsErrOf, IsTrue};
 ghost use Rattle.ports_core.specs.Slot.{Slot, is_writable};
+ghost use Rattle.ports_core.specs.Source.{is_readable};
 ghost use Rattle.ports_core.specs.Work.{Work, IsLawful};
-ghost use Rattle.ports_core.specs.Engine.{TakesIn, PutsOut, CutsOff, Finishes, EndsShort, EndsWith, EndsThere, IsCaused, IsMet, KeepsOwn, Clears, is_verdict};
+ghost use Rattle.ports_core.specs.Engine.{Loads, TakesIn, PutsOut, CutsOff, Finishes, EndsShort, EndsWith, EndsThere, IsCaused, IsMet, KeepsOwn, Clears, is_verdict};
 
-use crate::{Fault, Outs};
+use crate::{Fault, Inputs, Outs};
 
 /// A tool's work on one input: it takes the input's pieces as they come, and after each its outputs have exactly what
 /// no further input can change. Most of it is the same for all tools: write what is the tool's own as a `Stage`, and
@@ -55,6 +56,26 @@ pub trait Engine {
         ensures long { is_over self.old ≡ false → 2 ^ 63 ≤ fed self.old + length piece.now → IsErrOf result Fault.TooLong × (O.slots outs.new ≡ O.slots outs.old) }
         ensures failed { is_over self.old ≡ true → IsErrOf result Fault.Failed × (self.new ≡ self.old) × (O.slots outs.new ≡ O.slots outs.old) }
         ensures over { OnErr result (is_over self.new ≡ true) };
+
+    /// Takes in what an input has left, before any piece and without reading all of it: where the input can be looked at
+    /// from its end, and the work writes nothing before the end and needs the last part alone. It looks at no more at once
+    /// than the buffer's length. It returns how many bytes it took in; they are passed over, so that the reads that follow
+    /// give what comes after them. 0 where it took in none, and the input is to be read from its front. By itself it takes
+    /// in none.
+    fn load<I: Inputs>(&mut self, slot: usize, buffer: &mut [u8], inputs: &mut I) -> u64
+        requires room { 0 < length buffer.old }
+        requires fresh { Holds self.old [] }
+        requires input { IsTrue (is_readable (I.sources inputs.old) slot) }
+        ensures same { work self.new ≡ work self.old }
+        ensures loads { Loads Holds Ready Owns work I.told slot result self.old self.new (I.sources inputs.old) (I.sources inputs.new) }
+        ensures laid { I.laid inputs.new ≡ I.laid inputs.old }
+        ensures bound { result < 2 ^ 63 }
+    {
+        let _ = slot;
+        let _ = buffer;
+        let _ = inputs;
+        0
+    }
 
     /// Ends the input, and writes what waited. Where the work writes to standard output and nothing failed, that can
     /// still be written to afterwards.

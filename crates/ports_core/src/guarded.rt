@@ -4,7 +4,7 @@ ghost use Rattle.std.specs.Prelude.{◌≡◌, ◌+◌, ◌^◌, ◌<◌, ◌≤
 ghost use Rattle.ports_core.specs.Work.{Work};
 ghost use Rattle.ports_core.specs.Guard.{GuardState, HoldsIn};
 
-use crate::{Engine, Fault, Outs, Stage, fed_with};
+use crate::{Engine, Fault, Inputs, Outs, Stage, fed_with};
 use std::marker::Model;
 
 /// A stage made into an engine.
@@ -76,6 +76,11 @@ impl<S: Stage> Engine for Guarded<S> {
                 Err(fault)
             }
         }
+    }
+
+    fn load<I: Inputs>(&mut self, slot: usize, buffer: &mut [u8], inputs: &mut I) -> u64 {
+        self.fed = self.stage.load(slot, buffer, inputs);
+        self.fed
     }
 
     fn close<O: Outs>(&mut self, outs: &mut O) -> Result<(), Fault> {

@@ -1,9 +1,10 @@
-ghost use Rattle.std.specs.Prelude.{◌≡◌, ◌+◌, ◌^◌, ◌<◌, ◌≤◌, ℕ, List, Bool, true, false, length, IfErr, OnOk, IsTrue};
+ghost use Rattle.std.specs.Prelude.{◌≡◌, ◌+◌, ◌^◌, ◌<◌, ◌≤◌, ℕ, List, [], Bool, true, false, length, IfErr, OnOk, IsTrue};
 ghost use Rattle.ports_core.specs.Slot.{Slot, is_writable};
+ghost use Rattle.ports_core.specs.Source.{is_readable};
 ghost use Rattle.ports_core.specs.Work.{Work, IsLawful};
-ghost use Rattle.ports_core.specs.Engine.{TakesIn, PutsOut, CutsOff, Finishes, EndsShort, EndsWith, EndsThere, IsMet, KeepsOwn, Clears, is_verdict};
+ghost use Rattle.ports_core.specs.Engine.{Loads, TakesIn, PutsOut, CutsOff, Finishes, EndsShort, EndsWith, EndsThere, IsMet, KeepsOwn, Clears, is_verdict};
 
-use crate::{Fault, Outs};
+use crate::{Fault, Inputs, Outs};
 
 /// What is a tool's own in its engine, as long as no fault and no end came: `Guarded` adds what all engines share.
 pub trait Stage {
@@ -42,6 +43,24 @@ pub trait Stage {
         ensures owned { IfErr result (λ fault. is_verdict fault ≡ false → KeepsOwn Owns self.old self.new (O.slots outs.old) (O.slots outs.new)) }
         ensures cut { IfErr result (CutsOff Holds Owns work self.old piece.now O.told (O.slots outs.old) (O.slots outs.new)) }
         ensures met { IfErr result (IsMet (work self.old).means (work self.old).means.feeding (may_lack self.old piece.now ≡ true) (EndsWith Holds work self.old piece.now) (O.slots outs.old) (O.slots outs.new)) };
+
+    /// Takes in what an input has left, before any piece, as `Engine::load`. By itself it takes in none.
+    fn load<I: Inputs>(&mut self, slot: usize, buffer: &mut [u8], inputs: &mut I) -> u64
+        requires room { 0 < length buffer.old }
+        requires fresh { Holds self.old [] }
+        requires none { held self.old ≡ 0 }
+        requires input { IsTrue (is_readable (I.sources inputs.old) slot) }
+        ensures same { work self.new ≡ work self.old }
+        ensures held { held self.new ≤ result }
+        ensures loads { Loads Holds Ready Owns work I.told slot result self.old self.new (I.sources inputs.old) (I.sources inputs.new) }
+        ensures laid { I.laid inputs.new ≡ I.laid inputs.old }
+        ensures bound { result < 2 ^ 63 }
+    {
+        let _ = slot;
+        let _ = buffer;
+        let _ = inputs;
+        0
+    }
 
     /// Writes what waited.
     ///

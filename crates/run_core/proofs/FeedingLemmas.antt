@@ -12,6 +12,8 @@ use Rattle.ports_core.specs.Engine as engine
 use Rattle.ports_core.specs.declared.fault.Fault.{Fault}
 use Rattle.ports_core.specs.declared.fault.Fault.TheVariants.{Memory, Write, Read, Open, Suffixes, NoMatch, Range, Usage, Failed, TooLong}
 use Rattle.ports_core.proofs.SlotLemmas.{length-changed_at}
+use Rattle.ports_core.proofs.SourceLemmas.{readable_within}
+use Rattle.ports_core.proofs.LoadLemmas.{changed_there}
 use Rattle.run_core.specs.declared.feeding.Fed.{Fed}
 use Rattle.run_core.specs.declared.feeding.Fed.TheVariants.{Whole, Enough, Broken}
 use Rattle.run_core.specs.Input.{empty}
@@ -26,11 +28,6 @@ pub nothing_read : (slot : ℕ) (sources : List Source) → HasRead (source_at s
 nothing_read slot sources = record { bytes = refl; breaks_off = refl }
 
 -- a change of one input
-
-pub changed_there : {X : Type 0} (default : X) (place : ℕ) (change : X → X) (xs : List X) → place < length xs → slice_index_or (changed_at place change xs) place default ≡ change (slice_index_or xs place default)
-changed_there default place change [] within = absurd (omega arith)
-changed_there default zero change (x ∷ xs) within = refl
-changed_there default (suc place) change (x ∷ xs) within = changed_there default place change xs (omega arith)
 
 changed_elsewhere : {X : Type 0} (default : X) (place other : ℕ) (change : X → X) (xs : List X) → (other ≡ place → ⊥) → slice_index_or (changed_at place change xs) other default ≡ slice_index_or xs other default
 changed_elsewhere default place other change [] differs = refl
@@ -53,12 +50,6 @@ keeps_again slot old mid new first second = record {
   count = second.count ∙ first.count;
   others = λ place differs. second.others place differs ∙ first.others place differs;
 }
-
--- an input that can be read is there
-pub readable_within : (sources : List Source) (slot : ℕ) → IsTrue (is_readable sources slot) → slot < length sources
-readable_within [] slot can = absurd (false≢true can)
-readable_within (source ∷ sources) zero can = omega arith
-readable_within (source ∷ sources) (suc slot) can = let within : slot < length sources = readable_within sources slot can in omega arith
 
 left_after : (slot : ℕ) (sources new : List Source) (size n : ℕ) → IsTrue (is_readable sources slot) → new ≡ changed_at slot (gives size n) sources → source_at new slot ≡ gives size n (source_at sources slot)
 left_after slot sources new size n can is = ap (λ those. source_at those slot) is ∙ changed_there _ slot (gives size n) sources (readable_within sources slot can)

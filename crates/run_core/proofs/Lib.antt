@@ -5,4 +5,4 @@ pub mod ReadingLemmas
 pub mod InputLemmas
 pub mod NamesLemmas
 pub mod RunLemmas
-pub mod SkipLemmas
+pub mod LoadLemmas

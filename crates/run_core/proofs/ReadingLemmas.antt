@@ -10,7 +10,8 @@ use Rattle.run_core.specs.Feeding.{BreaksOnly, KeepsOthers, OfContent, ReadsFor}
 use Rattle.run_core.specs.Input.{Input, World, IsFor, is_dash, input_of, inputs_from, next_slot, empty}
 use Rattle.run_core.specs.Reading.{AreDone, AreUntouched, AsksAtMost, IsDone, IsLeft, IsUntouched, Leaves, TakesOne, count_after}
 use Rattle.run_core.specs.RunSteps.{KeepsOther, OfSource, standard_source}
-use Rattle.run_core.proofs.FeedingLemmas.{readable_within, reads_none, sound_at}
+use Rattle.ports_core.proofs.SourceLemmas.{readable_within}
+use Rattle.run_core.proofs.FeedingLemmas.{reads_none, sound_at}
 
 -- one input more
 

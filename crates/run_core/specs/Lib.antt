@@ -4,4 +4,3 @@ pub mod Reading
 pub mod Task
 pub mod RunEnds
 pub mod RunSteps
-pub mod Skipping

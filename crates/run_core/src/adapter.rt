@@ -1,11 +1,9 @@
-ghost use Rattle.std.specs.Prelude.{◌≡◌, ◌<◌, ◌≤◌, length, IfOk, IfErr, IsTrue};
+ghost use Rattle.std.specs.Prelude.{◌≡◌, ◌≤◌, length, IfOk, IfErr, IsTrue};
 ghost use Rattle.ports_core.specs.Slot.{is_writable};
-ghost use Rattle.ports_core.specs.Source.{is_readable};
-ghost use Rattle.run_core.specs.Skipping.{Skips, stays};
 ghost use Rattle.run_core.specs.Task.{Task};
 ghost use Rattle.run_core.specs.RunSteps.{Opens, OpensShort};
 
-use ports_core::{Engine, Fault, Inputs, Outs, Tool};
+use ports_core::{Engine, Fault, Outs, Tool};
 use std::alloc::Global;
 
 /// What a run knows of a tool that feeds each of its inputs to an engine of its own.
@@ -40,17 +38,4 @@ pub trait Adapter {
         requires output { IsTrue (is_writable (O.slots outs.old) 0) }
         ensures ok { IfOk result (Opens Self.Driven.Holds Self.Driven.Owns Self.Driven.work Self.Driven.Ready Self.Driven.fed (task self.now).work O.told (O.slots outs.old) (O.slots outs.new)) }
         ensures err { IfErr result (OpensShort (task self.now).work (task self.now).opening O.told (O.slots outs.old) (O.slots outs.new)) };
-
-    /// Passes over a front of an input that its work doesn't need, before the engine that was opened for it is fed. By
-    /// itself it passes over nothing.
-    fn skip<I: Inputs>(&self, slot: usize, buffer: &mut [u8], inputs: &mut I)
-        requires room { 0 < length buffer.old }
-        requires input { IsTrue (is_readable (I.sources inputs.old) slot) }
-        ensures skips { Skips I.told (task self.now).work slot (I.sources inputs.old) (I.sources inputs.new) }
-        ensures laid { I.laid inputs.new ≡ I.laid inputs.old }
-    {
-        let _ = slot;
-        let _ = buffer;
-        let _ = inputs;
-    }
 }

@@ -21,8 +21,8 @@ pub enum Fed {
     Broken,
 }
 
-/// Feeds an engine all of an input, in pieces of at most the buffer's length, until it is done with it. Then, or at the
-/// end of the input, the engine is closed. Where the input breaks off before that, and after a fault, the engine gives its
+/// Feeds an engine all of an input until it is done with it: first what it takes in without a read, and then pieces of at
+/// most the buffer's length. Then, or at the end of the input, the engine is closed. Where the input breaks off before that, and after a fault, the engine gives its
 /// files up. The engine was opened before; what that may have needed (`opening` in the clause) is the caller's to say.
 ///
 /// # Errors
@@ -51,6 +51,7 @@ pub fn feed_input<E: Engine, I: Inputs, O: Outs>(
     ensures laid { I.laid inputs.new ≡ I.laid inputs.old }
     ensures others { KeepsOthers slot (I.sources inputs.old) (I.sources inputs.new) }
 {
+    engine.load(slot, buffer, inputs);
     'pieces: while !engine.done() {
         let n = match inputs.read(slot, buffer) {
             Ok(n) => n,

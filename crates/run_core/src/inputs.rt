@@ -5,7 +5,7 @@ ghost use Rattle.ports_core.specs.Source.{source_at, is_readable, IsFresh};
 ghost use Rattle.ports_core.specs.Part.{Part, OutputsAt};
 ghost use Rattle.ports_core.specs.Engine.{is_verdict};
 ghost use Rattle.ports_core.specs.Work.{Needs};
-ghost use Rattle.run_core.specs.Feeding.{BreaksOnly, FedAs, KeepsOthers, LeavesOf, OfContent, ReadsFor};
+ghost use Rattle.run_core.specs.Feeding.{FedAs};
 ghost use Rattle.run_core.specs.Input.{has_dash, is_dash, next_slot};
 ghost use Rattle.run_core.specs.Reading.{AsksAtMost, IsDone, Leaves, TakesOne, count_after};
 ghost use Rattle.run_core.specs.RunEnds.{EndsAs, RunsOver, streams_with, largest_piece};
@@ -306,7 +306,7 @@ fn feed_source<A: Adapter, I: Inputs, O: Outs>(
     let coming = coming_from(source, inputs);
     let mut engine = job.adapter.open(job.alloc, coming, outs)?;
     match source {
-        Some(slot) => feed_slot(job, &mut engine, slot, buffer, inputs, outs),
+        Some(slot) => feed_input(&mut engine, slot, buffer, inputs, outs),
         None => feed_nothing(&mut engine, outs),
     }
 }
@@ -319,38 +319,4 @@ fn coming_from<I: Inputs>(source: Option<usize>, inputs: &I) -> u64
         Some(slot) => inputs.left(slot).unwrap_or(0),
         None => 0,
     }
-}
-
-/// Feeds an engine of the tool what it needs of an input.
-///
-/// # Errors
-///
-/// The engine's fault.
-fn feed_slot<A: Adapter, I: Inputs, O: Outs>(
-    job: &Job<'_, A>,
-    engine: &mut A::Driven,
-    slot: usize,
-    buffer: &mut [u8],
-    inputs: &mut I,
-    outs: &mut O,
-) -> Result<Fed, Fault>
-    requires room { 0 < length buffer.old }
-    requires does { A.Driven.work engine.old ≡ (A.task job.now.adapter.now).work }
-    requires fresh { A.Driven.Holds engine.old [] }
-    requires bound { A.Driven.fed engine.old < 2 ^ 63 }
-    requires input { IsTrue (is_readable (I.sources inputs.old) slot) }
-    requires output { A.Driven.Ready engine.old (O.slots outs.old) }
-    requires owns { (first : ℕ) × A.Driven.Owns engine.old first (O.slots outs.old) }
-    ensures ends { (before : List Slot) (opening : Needs) → A.Driven.Owns engine.old (length before) (O.slots outs.old) → OutputsAt O.told before ((A.Driven.work engine.old).settled []) (O.slots outs.old)
-        → OfContent I.told (source_at (I.sources inputs.old) slot).left
-        (λ content. FedAs O.told before (A.Driven.work engine.old) opening (length buffer.old) content (LeavesOf I.told content (source_at (I.sources inputs.new) slot)) (O.slots outs.new) result
-        × BreaksOnly I.told content (source_at (I.sources inputs.new) slot)) }
-    ensures reads { I.told ≡ true → ReadsFor (A.Driven.work engine.old).is_complete (length buffer.old) (source_at (I.sources inputs.old) slot).left (source_at (I.sources inputs.new) slot).left }
-    ensures asked { (source_at (I.sources inputs.old) slot).asked ≤ length buffer.old → (source_at (I.sources inputs.new) slot).asked ≤ length buffer.old }
-    ensures broke { IfOk result (λ fed. fed ≡ Fed.Broken → (source_at (I.sources inputs.new) slot).is_broken ≡ true) }
-    ensures laid { I.laid inputs.new ≡ I.laid inputs.old }
-    ensures others { KeepsOthers slot (I.sources inputs.old) (I.sources inputs.new) }
-{
-    job.adapter.skip(slot, buffer, inputs);
-    feed_input(engine, slot, buffer, inputs, outs)
 }

@@ -18,7 +18,8 @@ is_one : (is_delim : Bool) → 0 < bool_byte is_delim → is_delim ≡ true
 is_one true some = refl
 is_one false some = absurd (omega arith)
 
-at_most_one : (is_delim : Bool) → bool_byte is_delim ≤ 1
+-- a test counts as no more than one
+pub at_most_one : (is_delim : Bool) → bool_byte is_delim ≤ 1
 at_most_one true = omega arith
 at_most_one false = omega arith
 

@@ -1,14 +1,16 @@
 -- A text in blocks.
 use Rattle.std.proofs.Common.{◌≡◌, ℕ, zero, suc, ◌+◌, ◌-◌, ◌^◌, ◌<◌, ◌≤◌, List, [], ◌∷◌, ◌++◌, length, take, drop, get_or, set, refl, sym, ap, subst, ◌∙◌, arith, drop-cons, add-one}
-use Rattle.std.proofs.lemmas.List.{append-nil, append_assoc, length-append, length-drop, drop-append-le, take-append-le, drop-drop, take_at, drop_at}
+use Rattle.std.proofs.lemmas.List.{append-nil, append_assoc, length-append, length-drop, drop-append-le, take-append-le, drop-drop, take-append-drop, take_at, drop_at}
 use Rattle.std.proofs.lemmas.List.Elements.{All-get_or, All-set, All-append, All-take, All-drop}
 use Rattle.std.proofs.Math.Seq.{drop-append-add, take-append-add}
-use Rattle.seg_core.specs.Line.{delimiters, first_lines, line_count, but_last_lines}
+use Rattle.seg_core.specs.Line.{delimiters, ends_with, first_lines, line_count, after_lines, last_lines, but_last_lines}
 use Rattle.seg_core.specs.Blocks.{BlockState, text_of, count_of, HasCount, HaveCounts, Gone, IsCounted, first_of}
 use Rattle.seg_core.proofs.Delimiters.{delimiters-append, delimiters-take-drop}
-use Rattle.seg_core.proofs.LineCounts.{line_count-drop}
+use Rattle.seg_core.proofs.LineCounts.{line_count-drop, ends_with-append}
 use Rattle.seg_core.proofs.LastLines.{few_from_nothing}
 use Rattle.seg_core.proofs.FirstLines.{first_lines-append, first_lines-full, first_lines-short}
+use Rattle.seg_core.proofs.EndLines.{count_last}
+use Rattle.seg_core.proofs.FrontLines.{last_lines-front, length-after_lines-le}
 
 pub text_of-append : (front back : List BlockState) → text_of (front ++ back) ≡ text_of front ++ text_of back
 text_of-append [] back = refl
@@ -43,6 +45,14 @@ text_from blocks i block here is =
     ∙ ap (λ (b : BlockState). b.bytes ++ text_of (drop (suc i) blocks)) (sym is)
     ∙ ap (λ k. block.bytes ++ text_of (drop k blocks)) (sym (add-one i))
 
+-- where nothing stands after the i-th block, and this isn't empty, the text ends as it does
+pub ends_in : (delim : ℕ) (blocks : List BlockState) (i : ℕ) (block : BlockState) → i < length blocks → block ≡ get_or blocks i block → text_of (drop (i + 1) blocks) ≡ [] → 0 < length block.bytes → ends_with delim (text_of blocks) ≡ ends_with delim block.bytes
+ends_in delim blocks i block here is none some =
+    let last : text_of (drop i blocks) ≡ block.bytes = text_from blocks i block here is ∙ ap (λ x. block.bytes ++ x) none ∙ append-nil block.bytes in
+    let whole : text_of blocks ≡ text_of (take i blocks) ++ block.bytes =
+    ap text_of (sym (take-append-drop i blocks)) ∙ text_of-append (take i blocks) (drop i blocks) ∙ ap (λ x. text_of (take i blocks) ++ x) last in
+    ap (ends_with delim) whole ∙ ends_with-append delim (text_of (take i blocks)) block.bytes some
+
 -- the count of the i-th block
 pub counted_at : (delim : ℕ) (blocks : List BlockState) (i : ℕ) (block : BlockState) → i < length blocks → block ≡ get_or blocks i block → HaveCounts delim blocks → block.count ≡ delimiters delim block.bytes
 counted_at delim blocks i block here is each = subst (HasCount delim) (sym is) (All-get_or (HasCount delim) blocks i block here each)
@@ -73,7 +83,7 @@ taken_first delim [] first n some is fits = absurd (omega arith)
 taken_first delim (block ∷ blocks) first n some is fits =
     sym (ap (λ (b : BlockState). delimiters delim (take n (b.bytes ++ text_of blocks))) (sym is) ∙ ap (delimiters delim) (take-append-le n first.bytes (text_of blocks) fits))
 
--- the counts stay right, once bytes went at the front of the first block, once some came to the last, and once there is one block more
+-- the counts stay right, once bytes went at the front of the first block, once some came to the last, and once there is one block more at the end
 pub dropped_counts : (delim n gone : ℕ) (blocks : List BlockState) (first new : BlockState) → 0 < length blocks → first ≡ get_or blocks 0 first → new ≡ record { bytes = drop n first.bytes; count = first.count - gone } → gone ≡ delimiters delim (take n first.bytes) → HaveCounts delim blocks
     → HaveCounts delim (set blocks 0 new)
 dropped_counts delim n gone blocks first new some is now of each =
@@ -90,11 +100,17 @@ grown_counts delim n more blocks last new part at is now of each =
     let all : last.count + more ≡ delimiters delim (last.bytes ++ part) = omega arith in
     All-set (HasCount delim) blocks n new (subst (HasCount delim) (sym now) all) each
 
+-- one block has its count
+one_counted : (delim : ℕ) (block : BlockState) → block.count ≡ delimiters delim block.bytes → HaveCounts delim (block ∷ [])
+one_counted delim block here zero d low = here
+one_counted delim block here (suc k) d low = absurd (omega arith)
+
 pub pushed_counts : (delim : ℕ) (blocks : List BlockState) (block : BlockState) → block.count ≡ delimiters delim block.bytes → HaveCounts delim blocks → HaveCounts delim (blocks ++ block ∷ [])
-pushed_counts delim blocks block here each = All-append (HasCount delim) blocks (block ∷ []) each (one here) where
-  one : block.count ≡ delimiters delim block.bytes → HaveCounts delim (block ∷ [])
-  one here zero d low = here
-  one here (suc k) d low = absurd (omega arith)
+pushed_counts delim blocks block here each = All-append (HasCount delim) blocks (block ∷ []) each (one_counted delim block here)
+
+-- and once there is one block more at the front
+fronted_counts : (delim : ℕ) (block : BlockState) (blocks : List BlockState) → block.count ≡ delimiters delim block.bytes → HaveCounts delim blocks → HaveCounts delim (block ∷ blocks)
+fronted_counts delim block blocks here each = All-append (HasCount delim) (block ∷ []) blocks (one_counted delim block here) each
 
 -- a block stands before a text: the lines end after the block, or in it
 pub lines_pass : (delim n : ℕ) (block rest : List ℕ) → delimiters delim block < n → length (first_lines delim n (block ++ rest)) ≡ length block + length (first_lines delim (n - delimiters delim block) rest)
@@ -222,6 +238,23 @@ counted_put delim most blocks new piece len count more so_far fits within grown 
     let all = ap length grown ∙ length-append text piece in
     let both = ap (delimiters delim) grown ∙ delimiters-append delim text piece in
     record { few = omega arith; fits = omega arith; long = omega arith; counted = omega arith; each = each }
+
+-- and once what is left of a block of bytes is put at the front
+pub counted_front : (delim most : ℕ) (blocks : List BlockState) (front : BlockState) (bytes : List ℕ) (len count : ℕ) → IsCounted delim most blocks len count → len + length bytes < 2 ^ 63
+    → front.bytes ≡ after_lines delim (line_count delim (bytes ++ text_of blocks) - most) bytes → front.count ≡ delimiters delim front.bytes → IsCounted delim most (front ∷ blocks) (len + length front.bytes) (count + front.count)
+counted_front delim most blocks front bytes len count so_far fits left is =
+    let text = text_of blocks in
+    let over = line_count delim (bytes ++ text) - most in
+    let long = so_far.long in
+    let counted = so_far.counted in
+    let last : front.bytes ++ text ≡ last_lines delim most (bytes ++ text) = ap (λ x. x ++ text) left ∙ sym (last_lines-front delim most bytes text so_far.few) in
+    let lines = ap (line_count delim) last in
+    let few = count_last delim most (bytes ++ text) in
+    let short = length-after_lines-le delim over bytes in
+    let same = ap length left in
+    let all = length-append front.bytes text in
+    let both = delimiters-append delim front.bytes text in
+    record { few = omega arith; fits = omega arith; long = omega arith; counted = omega arith; each = fronted_counts delim front blocks is so_far.each }
 
 -- fresh blocks after those of which the last was filled
 pub extended : (old mid filled fresh new : List BlockState) (near far piece : List ℕ) → new ≡ filled ++ fresh → text_of filled ≡ text_of mid ++ near → text_of fresh ≡ far → mid ≡ old → piece ≡ near ++ far

@@ -11,5 +11,6 @@ pub mod BlockLemmas
 pub mod Taken
 pub mod Carried
 pub mod EndLines
+pub mod FrontLines
 pub mod EndOfLast
 pub mod Lanes

@@ -3,8 +3,8 @@
 ghost use Rattle.std.specs.Prelude.{◌≡◌, map};
 ghost use Rattle.tools_core.specs.Tasks.{has_headers, head_task, is_minus, is_plus, tail_task};
 
-use ends_core::{Head, Tail, skip_to_last};
-use ports_core::{Fault, Inputs, Outs, Tool};
+use ends_core::{Head, Tail};
+use ports_core::{Fault, Outs, Tool};
 use run_core::Adapter;
 use seg_core::count::{Count, Sign};
 use std::alloc::Global;
@@ -82,15 +82,6 @@ impl<'a, 'b> Adapter for TailAdapter<'a, 'b> {
             settings.delim,
             coming,
         )
-    }
-
-    /// Of the last lines or bytes nothing before them is needed.
-    fn skip<I: Inputs>(&self, slot: usize, buffer: &mut [u8], inputs: &mut I) {
-        let settings = self.settings;
-        let Count { sign, amount } = settings.count;
-        if !is_plus(sign) {
-            skip_to_last(inputs, slot, settings.unit, amount, settings.delim, buffer);
-        }
     }
 }
 

@@ -4,21 +4,25 @@ use Rattle.std.proofs.lemmas.Bool.{false≢true}
 use Rattle.ports_core.specs.Source.{source_at}
 use Rattle.ports_core.specs.Work.{Work}
 use Rattle.run_core.specs.Feeding.{IsNeeded}
-use Rattle.run_core.proofs.FeedingLemmas.{begins, sound_at, nothing_read, read_none_more, keeps_itself, keeps_again, keeps_others, read_broken, broken_off, of_content, still_readable, read_more, read_failed, goes_on, stopped_feeding, read_to_end, ended, needed_none, needed_more, piece_within, asked_again, asked_at_end, broken_now, ends_sound, given_so, Laws}
+use Rattle.run_core.proofs.FeedingLemmas.{sound_at, read_none_more, keeps_again, keeps_others, read_broken, broken_off, of_content, still_readable, read_more, read_failed, goes_on, stopped_feeding, read_to_end, ended, needed_more, piece_within, asked_again, asked_at_end, broken_now, ends_sound, given_so, Laws}
+use Rattle.run_core.proofs.LoadLemmas.{loaded_feeds, loaded_readable, loaded_others, loaded_read, loaded_needed, loaded_asked}
 use Rattle.run_core.proofs.feeding.feed_input.Goals as goal
 
+-- what was taken in before the first piece
+
 pub pieces-init : goal.pieces-init
-pieces-init g c = record {
-  fed = [];
-  feeds = begins _ _ _ _ _ _ _ _ c.requires.fresh c.requires.bound;
-  readable = c.requires.input;
-  others = keeps_itself _ _;
-  read = λ told. nothing_read _ _;
-  needed = needed_none _ _;
-  asked = λ within. within;
-  laid = refl;
-  ready = c.requires.output;
-}
+pieces-init g c =
+    let loads = c.load.ensures.loads in record {
+      fed = loads.front;
+      feeds = loaded_feeds _ _ _ _ _ _ _ _ _ _ _ _ _ loads _ _ g.met.E.Engine.counts c.load.ensures.same c.load.ensures.bound;
+      readable = loaded_readable _ _ _ _ g.E.Engine.is_over g.E.Engine.fed _ _ _ _ _ _ _ loads c.requires.input;
+      others = loaded_others _ _ _ _ g.E.Engine.is_over g.E.Engine.fed _ _ _ _ _ _ _ loads;
+      read = λ told. loaded_read _ _ _ _ g.E.Engine.is_over g.E.Engine.fed _ _ _ _ _ _ _ loads told c.requires.input;
+      needed = loaded_needed _ _ _ _ g.E.Engine.is_over g.E.Engine.fed _ _ _ _ _ _ _ loads _;
+      asked = λ within. loaded_asked _ _ _ _ g.E.Engine.is_over g.E.Engine.fed _ _ _ _ _ _ _ loads _ c.requires.input within;
+      laid = c.load.ensures.laid;
+      ready = loads.ready _ c.requires.output;
+    }
 
 pub read-requires : goal.read-requires
 read-requires g c = c.pieces.invariant.readable

@@ -1,0 +1,46 @@
+use Rattle.std.proofs.Common.{◌≡◌, ◌+◌, ◌<◌, ◌++◌, ◌∙◌, not, ap, sym, subst, length, arith}
+use Rattle.seg_core.specs.Line.{delimiters, ends_with, line_count}
+use Rattle.seg_core.specs.Window.{Window}
+use Rattle.seg_core.specs.Blocks.{text_of}
+use Rattle.seg_core.proofs.BackLines.{at_most_one}
+use Rattle.seg_core.proofs.Delimiters.{delimiters-le-length}
+use Rattle.seg_core.proofs.LineCounts.{ends_with-append}
+use Rattle.seg_core.proofs.FrontLines.{ends_with-alone, line_count-both}
+use Rattle.seg_core.proofs.line_window.LineWindow.lines_with.Goals as goal
+use Rattle.seg_core.proofs.line_window.LineWindow.lines_with.Goals.{then-self-eq0, else-self-eq0}
+
+pub overflow_add-result : goal.overflow_add-result
+overflow_add-result c =
+    let held = ap (λ (w : Window). length w.held) c.self.view_is in
+    let fits = c.requires.fits in
+    let counted = c.self.invariant.counted in
+    let few = delimiters-le-length c.self.inside.delim (text_of c.self.inside.blocks.items) in
+    let more = c.requires.counted in
+    let part = delimiters-le-length c.args.self.now.delim c.args.block.now in
+    omega arith
+
+pub overflow_add-result-2 : goal.overflow_add-result-2
+overflow_add-result-2 c =
+    let held = ap (λ (w : Window). length w.held) c.self.view_is in
+    let fits = c.requires.fits in
+    let counted = c.self.invariant.counted in
+    let few = delimiters-le-length c.self.inside.delim (text_of c.self.inside.blocks.items) in
+    let more = c.requires.counted in
+    let part = delimiters-le-length c.args.self.now.delim c.args.block.now in
+    let open_end = c.from.ensures in
+    omega (arith, at_most_one (not c.if-self-eq0.is_closed))
+
+pub returns : goal.returns
+returns c =
+    let inside = c.self.inside in
+    let block = c.args.block.now in
+    let held = text_of inside.blocks.items in
+    let long = c.self.invariant.long in
+    let is : c.if-self-eq0.is_closed ≡ ends_with inside.delim (block ++ held) =
+    elim c.if-self-eq0.branch [
+      | then-self-eq0 w ↦ let none : length held ≡ 0 = let empty = w.if-self-eq0.true in omega arith in w.is_closed-is ∙ ends_with-alone inside.delim block held none c.requires.some
+      | else-self-eq0 w ↦ let some : 0 < length held = let other = w.if-self-eq0.false in omega arith in w.is_closed-is ∙ w.ends_with_delimiter-is_closed.ensures ∙ sym (ends_with-append inside.delim block held some)
+    ] in
+    let more = subst (λ (w : Window). c.args.count ≡ delimiters w.delim block) (sym c.self.view_is) c.requires.counted in
+    subst (λ (w : Window). inside.delimiters + c.args.count + c.from.result ≡ line_count w.delim (block ++ w.held)) c.self.view_is
+    (line_count-both inside.delim block held c.if-self-eq0.is_closed inside.delimiters c.args.count c.from.result c.requires.some c.self.invariant.counted more is c.from.ensures)

@@ -1,0 +1,52 @@
+use Rattle.std.proofs.Common.{◌≡◌, ◌+◌, ◌-◌, ◌^◌, ◌<◌, ◌++◌, ◌∙◌, List, ◌∷◌, ap, sym, subst, length, arith}
+use Rattle.seg_core.specs.Line.{delimiters, after_lines, last_lines, line_count}
+use Rattle.seg_core.specs.Window.{Window}
+use Rattle.seg_core.specs.Blocks.{BlockState, IsCounted, text_of}
+use Rattle.seg_core.proofs.Delimiters.{delimiters-le-length}
+use Rattle.seg_core.proofs.BlockLemmas.{counted_front}
+use Rattle.seg_core.proofs.FrontLines.{last_lines-front, length-after_lines-le}
+use Rattle.seg_core.proofs.line_window.LineWindow.put_front.Goals as goal
+
+pub overflow_add-self-2 : goal.overflow_add-self-2
+overflow_add-self-2 c =
+    let window = c.args.self.now in
+    let bytes = c.args.block.items in
+    let over = line_count window.delim (bytes ++ window.held) - window.most in
+    let left = ap length c.needed_of-block.ensures.left in
+    let short = length-after_lines-le window.delim over bytes in
+    let few = delimiters-le-length window.delim c.needed_of-block.result.bytes in
+    let count = c.needed_of-block.ensures.counted in
+    let more = c.delimiters-delimiters.ensures in
+    let counted = c.self.invariant.counted in
+    let here = delimiters-le-length c.self.inside.delim (text_of c.self.inside.blocks.items) in
+    let fits = c.self.invariant.fits in
+    let long = c.len.ensures in
+    let room = c.if-len-self.false in
+    let of = c.self.invariant.long in
+    let ok = c.args.block.ok in
+    omega arith
+
+pub invariant_of-self-2 : goal.invariant_of-self-2
+invariant_of-self-2 c =
+    let inside = c.self.inside in
+    let blocks = inside.blocks.items in
+    let bytes = c.args.block.items in
+    let front = c.needed_of-block.result in
+    let fits : inside.len + length bytes < 2 ^ 63 = let room = c.if-len-self.false in let long = c.len.ensures in let ok = c.args.block.ok in let of = c.self.invariant.long in let held = c.self.invariant.fits in omega arith in
+    let left = subst (λ (w : Window). front.bytes ≡ after_lines w.delim (line_count w.delim (bytes ++ w.held) - w.most) bytes) (sym c.self.view_is) c.needed_of-block.ensures.left in
+    let counted = subst (λ (w : Window). front.count ≡ delimiters w.delim front.bytes) (sym c.self.view_is) c.needed_of-block.ensures.counted in
+    let next = counted_front inside.delim inside.most blocks front bytes inside.len inside.delimiters c.self.invariant fits left counted in
+    subst (λ (bs : List BlockState). IsCounted inside.delim inside.most bs (inside.len + c.len-len.result) (inside.delimiters + c.delimiters-delimiters.result)) (sym {A = List BlockState} c.in-Ok.ensures.items)
+    (subst (λ n. IsCounted inside.delim inside.most (front ∷ blocks) (inside.len + n) (inside.delimiters + c.delimiters-delimiters.result)) (sym c.len-len.ensures)
+    (subst (λ n. IsCounted inside.delim inside.most (front ∷ blocks) (inside.len + length front.bytes) (inside.delimiters + n)) (sym c.delimiters-delimiters.ensures) next))
+
+pub returns-clause-ok : goal.returns-clause-ok
+returns-clause-ok c =
+    let inside = c.self.inside in
+    let held = text_of inside.blocks.items in
+    let bytes = c.args.block.items in
+    let front = c.needed_of-block.result in
+    let left = subst (λ (w : Window). front.bytes ≡ after_lines w.delim (line_count w.delim (bytes ++ w.held) - w.most) bytes) (sym c.self.view_is) c.needed_of-block.ensures.left in
+    let whole = ap text_of c.in-Ok.ensures.items ∙ ap (λ x. x ++ held) left ∙ sym (last_lines-front inside.delim inside.most bytes held c.self.invariant.few) in
+    subst (λ (w : Window). record { most = inside.most; delim = inside.delim; held = text_of c.push_front.new.self.items } ≡ record { most = w.most; delim = w.delim; held = last_lines w.delim w.most (bytes ++ w.held) }) c.self.view_is
+    (ap (λ x. record { most = inside.most; delim = inside.delim; held = x }) whole)
