@@ -1,13 +1,13 @@
 -- Lemmas on taking in the last lines or bytes of a text from its end.
-use Rattle.std.proofs.Common.{◌≡◌, ℕ, zero, suc, ◌+◌, ◌-◌, ◌<◌, ◌≤◌, Bool, true, false, cond, eqb, IsTrue, List, [], ◌∷◌, ◌++◌, length, take, drop, replicate, Result, Ok, Err, OnOk, ◌||◌, refl, sym, ◌∙◌, ap, arith, length-append, length-drop, length-take}
+use Rattle.std.proofs.Common.{◌≡◌, ℕ, zero, suc, ◌+◌, ◌-◌, ◌<◌, ◌≤◌, Bool, true, false, eqb, IsTrue, List, [], ◌∷◌, ◌++◌, length, take, drop, replicate, Result, Ok, Err, OnOk, refl, sym, ◌∙◌, ap, arith, length-append, length-drop, length-take}
 use Rattle.std.specs.Prelude.{if◌then◌else◌, is_err}
-use Rattle.std.specs.List.{onto_first}
 use Rattle.std.proofs.Math.Seq.{take-add}
-use Rattle.std.proofs.lemmas.List.{append-nil, drop_all, drop_at, drop-drop, take-append-drop, take_all, length-replicate}
-use Rattle.std.proofs.lemmas.Bool.{eq-eqb, false≢true}
-use Rattle.seg_core.specs.Line.{lines_of, delimiters, line_count, last_lines, but_last_lines, first_lines}
+use Rattle.std.proofs.lemmas.List.{append-nil, drop_all, drop_at, drop-drop, nil_from_length, take-append-drop, take_all, length-replicate}
+use Rattle.std.proofs.lemmas.Bool.{eq-eqb, false≢true, or_left, or_right}
+use Rattle.seg_core.specs.Line.{line_count, last_lines, but_last_lines, first_lines}
 use Rattle.seg_core.specs.Window.{ByteWindowState, with_put}
 use Rattle.seg_core.proofs.EndLines.{after_lines-past}
+use Rattle.seg_core.proofs.FrontLines.{line_count-front}
 use Rattle.seg_core.proofs.LastLines.{but_last_then_last}
 use Rattle.ports_core.specs.Slot.{changed_at}
 use Rattle.ports_core.specs.Source.{Source, Shows, is_readable, skips, source_at}
@@ -18,19 +18,9 @@ use Rattle.ends_core.specs.Ends.{size, measure, behind_of, last_of}
 use Rattle.ends_core.specs.EndsLaws.{behind_of-append}
 use Rattle.ends_core.specs.Load.{HasSeen, Passes}
 
-count_step : (is_delim : Bool) (byte n m : ℕ) (lines : List (List ℕ)) → length lines ≡ n + m → 0 < m
-    → length (cond is_delim ((byte ∷ []) ∷ lines) (onto_first byte lines)) ≡ cond is_delim (n + 1) n + m
-count_step true byte n m lines is some = omega arith
-count_step false byte n m [] is some = omega arith
-count_step false byte n m (line ∷ lines) is some = is
-
--- how many lines a text has that goes on
-count-append : (delim : ℕ) (x y : List ℕ) → 0 < line_count delim y → line_count delim (x ++ y) ≡ delimiters delim x + line_count delim y
-count-append delim [] y some = omega arith
-count-append delim (byte ∷ x) y some = count_step (eqb byte delim) byte (delimiters delim x) (line_count delim y) (lines_of delim (x ++ y)) (count-append delim x y some) some
-
 size-append : (delim : ℕ) (unit : Counted) (n : ℕ) (x y : List ℕ) → n < size delim unit y → size delim unit (x ++ y) ≡ measure delim unit x + size delim unit y
-size-append delim Lines n x y many = count-append delim x y (omega (arith, many))
+size-append delim Lines n x [] many = absurd (omega (arith, many))
+size-append delim Lines n x (byte ∷ y) many = line_count-front delim x (byte ∷ y) (omega arith)
 size-append delim Bytes n x y many = length-append x y
 
 behind-past : (delim : ℕ) (unit : Counted) (n : ℕ) (x : List ℕ) → measure delim unit x < n → behind_of delim unit n x ≡ []
@@ -47,10 +37,6 @@ last_after delim unit n x y many =
     ∙ ap (λ none. none ++ behind_of delim unit (size delim unit (x ++ y) - n - measure delim unit x) y) (behind-past delim unit (size delim unit (x ++ y) - n) x past)
     ∙ ap (λ k. behind_of delim unit k y) rest
 
-pub none_of_none : {X : Type 0} (x : List X) → length x ≡ 0 → x ≡ []
-none_of_none [] is = refl
-none_of_none (first ∷ x) is = absurd (omega (arith, is))
-
 lengths : (delim n : ℕ) (y : List ℕ) → length (but_last_lines delim n y) + length (last_lines delim n y) ≡ length y
 lengths delim n y = sym (length-append (but_last_lines delim n y) (last_lines delim n y)) ∙ ap length (but_last_then_last delim n y)
 
@@ -64,7 +50,7 @@ more_lines delim n y shorter = by_count (line_count delim y - n) refl where
 -- and one that isn't longer is them
 same_lines : (delim n : ℕ) (y : List ℕ) → length y ≤ length (last_lines delim n y) → last_lines delim n y ≡ y
 same_lines delim n y long =
-    let none : but_last_lines delim n y ≡ [] = none_of_none (but_last_lines delim n y) (omega (arith, lengths delim n y, long)) in
+    let none : but_last_lines delim n y ≡ [] = nil_from_length (but_last_lines delim n y) (omega (arith, lengths delim n y, long)) in
     ap (λ those. those ++ last_lines delim n y) (sym none) ∙ but_last_then_last delim n y
 
 -- what stands before a place: the front of the text, where it is told, and else any bytes
@@ -104,7 +90,7 @@ holds_none told text left delim n held all none = record {
   within = omega arith;
   long = ap length none ∙ (let zero_left : 0 ≡ left - left = omega arith in zero_left);
   there = λ tells. none ∙ sym (drop_all left text (omega (arith, all tells)));
-  last = none ∙ sym (none_of_none (last_lines delim n held) (let nothing : length held ≡ 0 = ap length none in omega (arith, lengths delim n held, nothing)));
+  last = none ∙ sym (nil_from_length (last_lines delim n held) (let nothing : length held ≡ 0 = ap length none in omega (arith, lengths delim n held, nothing)));
 }
 
 -- a block before what was seen from a place on
@@ -194,14 +180,6 @@ between_last told text left place n held known holds is =
     (λ tells. holds.there tells ∙ take_all (place - (left - n)) (drop (left - n) text) (omega (arith, length-drop (left - n) text, known tells, is)))
     (sym (ap (λ k. drop k (front ++ held)) past ∙ drop_at front held (length front) refl))
 
-or_right : (a b : Bool) → b ≡ true → (a || b) ≡ true
-or_right true b is = refl
-or_right false b is = is
-
-or_left : (a b : Bool) → a ≡ true → (a || b) ≡ true
-or_left true b is = refl
-or_left false b is = absurd (false≢true is)
-
 -- a window that once was full stays so
 pub still_grown : (window : ByteWindowState) (piece : List ℕ) → window.grown ≡ true → (with_put window piece).grown ≡ true
 still_grown window piece is = or_left window.grown (eqb (length (window.held ++ piece)) window.most) is
@@ -227,7 +205,7 @@ passes_none told slot Keeps old new same keeps = record {
 
 -- the last part of nothing is nothing
 pub last_none : (delim : ℕ) (unit : Counted) (n : ℕ) → last_of delim unit n [] ≡ []
-last_none delim Lines n = none_of_none (last_lines delim n []) (omega (arith, lengths delim n []))
+last_none delim Lines n = nil_from_length (last_lines delim n []) (omega (arith, lengths delim n []))
 last_none delim Bytes n = drop_all (0 - n) [] (omega arith)
 
 -- what was seen is passed over

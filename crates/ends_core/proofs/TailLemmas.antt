@@ -1,6 +1,6 @@
 -- Lemmas on tails.
 use Rattle.std.proofs.Common.{◌≡◌, ℕ, ◌+◌, ◌-◌, ◌≤◌, List, [], ◌++◌, length, length-append, inr, Bool, true, false, Ok, Err, Result, OnOk, IfErr, IsTrue, refl, sym, ◌∙◌, ap, subst, arith}
-use Rattle.std.proofs.lemmas.List.{append-nil}
+use Rattle.std.proofs.lemmas.List.{append-nil, nil_from_length}
 use Rattle.std.proofs.lemmas.Bool.{false≢true}
 use Rattle.ports_core.specs.declared.fault.Fault.TheVariants as fault
 use Rattle.ports_core.specs.Slot.{Slot, is_writable, with_written, told_of}
@@ -21,7 +21,7 @@ use Rattle.ends_core.specs.TailWay.{delim_of, unit_of, is_from_nth, count_of, le
 use Rattle.ends_core.specs.Kept.{most_of, may_lack_of, delim_of as kept_delim, unit_of as kept_unit}
 use Rattle.ends_core.specs.declared.kept.Kept.{Kept}
 use Rattle.ends_core.specs.Stops.{Stops}
-use Rattle.ends_core.proofs.LoadLemmas.{last_none, none_of_none}
+use Rattle.ends_core.proofs.LoadLemmas.{last_none}
 use Rattle.ends_core.proofs.StopLemmas as stop
 use Rattle.ends_core.proofs.KeptLemmas.{full_once}
 
@@ -178,7 +178,7 @@ settled_same delim unit false n x none = refl
 loads_here : (told : Bool) (slot count : ℕ) (way next : Way) (old new : List Source) → Holds (state_of way) [] → SameWay way next → left_of next ≡ left_of way → (is_from_nth way ≡ true → count ≡ 0)
     → Passes told slot count (λ x. waiting_of next ≡ tail_waiting (delim_of way) (unit_of way) (is_from_nth way) (count_of way) x) old new → FullLacksNone next → Loads Holds (λ (tail : TailState) slots. IsTrue (is_writable slots 0)) OwnsNone work told slot count (state_of way) (state_of next) old new
 loads_here told slot count way next old new fresh same left nth passes full =
-    let none : is_from_nth way ≡ true → passes.front ≡ [] = λ is. none_of_none passes.front (sym passes.long ∙ nth is) in
+    let none : is_from_nth way ≡ true → passes.front ≡ [] = λ is. nil_from_length passes.front (sym passes.long ∙ nth is) in
     let waits = passes.keeps ∙ waiting_same way next passes.front same in
     record {
       front = passes.front;

@@ -22,8 +22,9 @@ pub enum Fed {
 }
 
 /// Feeds an engine all of an input until it is done with it: first what it takes in without a read, and then pieces of at
-/// most the buffer's length. Then, or at the end of the input, the engine is closed. Where the input breaks off before that, and after a fault, the engine gives its
-/// files up. The engine was opened before; what that may have needed (`opening` in the clause) is the caller's to say.
+/// most the buffer's length. Then, or at the end of the input, the engine is closed. Where the input breaks off before
+/// that, and after a fault, the engine gives its files up. The engine was opened before; what that may have needed
+/// (`opening` in the clause) is the caller's to say.
 ///
 /// # Errors
 ///

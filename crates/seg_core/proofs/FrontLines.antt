@@ -3,7 +3,7 @@ use Rattle.std.proofs.Common.{◌≡◌, ℕ, ◌+◌, ◌-◌, ◌<◌, ◌≤�
 use mir.Val.{bool_byte}
 use Rattle.std.proofs.lemmas.List.{append-nil, drop_at, length-append}
 use Rattle.seg_core.specs.Line.{delimiters, ends_with, line_count, first_lines, after_lines, last_lines}
-use Rattle.seg_core.proofs.Delimiters.{delimiters-append}
+use Rattle.seg_core.proofs.Delimiters.{delimiters-append, delimiters-le-length}
 use Rattle.seg_core.proofs.FirstLines.{first_lines_then_rest}
 use Rattle.seg_core.proofs.LineCounts.{line_count-closed, line_count-open, ends_with-append, ends_with-last}
 use Rattle.seg_core.proofs.EndLines.{after_lines-append}
@@ -17,6 +17,10 @@ after_lines-is_drop delim n x =
 -- and so it is no longer than the text
 pub length-after_lines-le : (delim n : ℕ) (x : List ℕ) → length (after_lines delim n x) ≤ length x
 length-after_lines-le delim n x = omega (arith, sym (length-append (first_lines delim n x) (after_lines delim n x)) ∙ ap length (first_lines_then_rest delim n x))
+
+-- two texts have no more delimiters than bytes
+pub delimiters_fit : (here there : ℕ) (block held : List ℕ) (more count bound : ℕ) → more ≡ delimiters here block → count ≡ delimiters there held → length block + length held < bound → count + more < bound
+delimiters_fit here there block held more count bound of_block of_held fits = omega (arith, delimiters-le-length here block, delimiters-le-length there held)
 
 -- a text has as many lines as delimiters, and one more where its end is open
 line_count-by_end : (delim : ℕ) (x : List ℕ) (closed : Bool) → 0 < length x → closed ≡ ends_with delim x → line_count delim x ≡ delimiters delim x + bool_byte (not closed)
@@ -40,7 +44,7 @@ ends_with-alone delim block [] none some =
 ends_with-alone delim block (byte ∷ held) none some = absurd (omega arith)
 
 -- a block before a text that isn't empty adds as many lines as it has delimiters
-line_count-front : (delim : ℕ) (block x : List ℕ) → 0 < length x → line_count delim (block ++ x) ≡ delimiters delim block + line_count delim x
+pub line_count-front : (delim : ℕ) (block x : List ℕ) → 0 < length x → line_count delim (block ++ x) ≡ delimiters delim block + line_count delim x
 line_count-front delim block x some =
     let closed = ends_with delim x in
     let long : 0 < length (block ++ x) = omega (arith, length-append block x) in

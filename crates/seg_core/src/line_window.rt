@@ -27,8 +27,8 @@ pub struct Over {
 
 /// A window over lines: it keeps the last `most` of what came in, at most 2^63-1 bytes. All lines end
 /// with the byte that it was given when it was made. It takes as much memory as it holds bytes, in
-/// blocks of 64 KiB, of which the first and the last may be used in part only. No byte moves from
-/// block to block.
+/// blocks of 64 KiB and those that were put in front, of which the first and the last may be used in
+/// part only. No byte moves from block to block.
 #[derive(Drop)]
 pub struct LineWindow {
     alloc: Global,

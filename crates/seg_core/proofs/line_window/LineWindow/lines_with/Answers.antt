@@ -1,34 +1,23 @@
-use Rattle.std.proofs.Common.{◌≡◌, ◌+◌, ◌<◌, ◌++◌, ◌∙◌, not, ap, sym, subst, length, arith}
+use Rattle.std.proofs.Common.{◌≡◌, ◌+◌, ◌^◌, ◌<◌, ◌++◌, ◌∙◌, not, ap, sym, subst, length, arith}
 use Rattle.seg_core.specs.Line.{delimiters, ends_with, line_count}
 use Rattle.seg_core.specs.Window.{Window}
 use Rattle.seg_core.specs.Blocks.{text_of}
 use Rattle.seg_core.proofs.BackLines.{at_most_one}
-use Rattle.seg_core.proofs.Delimiters.{delimiters-le-length}
 use Rattle.seg_core.proofs.LineCounts.{ends_with-append}
-use Rattle.seg_core.proofs.FrontLines.{ends_with-alone, line_count-both}
+use Rattle.seg_core.proofs.FrontLines.{delimiters_fit, ends_with-alone, line_count-both}
 use Rattle.seg_core.proofs.line_window.LineWindow.lines_with.Goals as goal
 use Rattle.seg_core.proofs.line_window.LineWindow.lines_with.Goals.{then-self-eq0, else-self-eq0}
 
 pub overflow_add-result : goal.overflow_add-result
-overflow_add-result c =
-    let held = ap (λ (w : Window). length w.held) c.self.view_is in
-    let fits = c.requires.fits in
-    let counted = c.self.invariant.counted in
-    let few = delimiters-le-length c.self.inside.delim (text_of c.self.inside.blocks.items) in
-    let more = c.requires.counted in
-    let part = delimiters-le-length c.args.self.now.delim c.args.block.now in
-    omega arith
+overflow_add-result c = omega (arith, delimiters_fit _ _ c.args.block.now (text_of c.self.inside.blocks.items) _ _ (2 ^ 63) c.requires.counted c.self.invariant.counted (omega (arith, c.requires.fits, ap (λ (w : Window). length w.held) c.self.view_is)))
 
 pub overflow_add-result-2 : goal.overflow_add-result-2
-overflow_add-result-2 c =
-    let held = ap (λ (w : Window). length w.held) c.self.view_is in
-    let fits = c.requires.fits in
-    let counted = c.self.invariant.counted in
-    let few = delimiters-le-length c.self.inside.delim (text_of c.self.inside.blocks.items) in
-    let more = c.requires.counted in
-    let part = delimiters-le-length c.args.self.now.delim c.args.block.now in
-    let open_end = c.from.ensures in
-    omega (arith, at_most_one (not c.if-self-eq0.is_closed))
+overflow_add-result-2 c = omega (
+  arith,
+  c.from.ensures,
+  at_most_one (not c.if-self-eq0.is_closed),
+  delimiters_fit _ _ c.args.block.now (text_of c.self.inside.blocks.items) _ _ (2 ^ 63) c.requires.counted c.self.invariant.counted (omega (arith, c.requires.fits, ap (λ (w : Window). length w.held) c.self.view_is)),
+)
 
 pub returns : goal.returns
 returns c =
