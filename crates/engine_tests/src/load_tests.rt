@@ -1,0 +1,173 @@
+//! What a tail takes in of an input from its end, by blocks that are shorter than the texts.
+use crate::play::{Step, play};
+use ends_core::{Tail, Unit};
+use ports_core::{Engine, Inputs, MemIn, MemOut};
+use std::alloc::Global;
+use std::process::Abort;
+use std::test::Fail;
+
+/// Blocks of as many bytes are looked at.
+const BLOCK: usize = 4;
+
+/// The last of which unit are wanted, how many, the byte with which lines end, the input's text, how many bytes of it are
+/// taken in, and what is done with the tail after that.
+type Row<'a> = (Unit, u64, u8, &'a [u8], u64, &'a [Step<'a>]);
+
+/// Ten lines.
+const TEXT: &[u8] = b"ab\ncd\nef\ngh\nij\nkl\nmn\nop\nqr\nst\n";
+
+#[test]
+fn last_lines_are_taken_in(rt: HostRuntime) -> Result<(), Fail> {
+    load_rows(&rt, rt.alloc(), LINES)
+}
+
+const LINES: &[Row<'static>] = &[
+    (
+        Unit::Lines,
+        0,
+        b'\n',
+        TEXT,
+        30,
+        &[Step::Waits(0), Step::Close, Step::Wrote(b"")],
+    ),
+    (
+        Unit::Lines,
+        3,
+        b'\n',
+        TEXT,
+        30,
+        &[Step::Waits(9), Step::Close, Step::Wrote(b"op\nqr\nst\n")],
+    ),
+    (
+        Unit::Lines,
+        u64::MAX,
+        b'\n',
+        TEXT,
+        30,
+        &[Step::Waits(30), Step::Close, Step::Wrote(TEXT)],
+    ),
+    // An open last line is one more line.
+    (
+        Unit::Lines,
+        2,
+        b'\n',
+        b"ab\ncd\nef\ngh",
+        11,
+        &[Step::Waits(5), Step::Close, Step::Wrote(b"ef\ngh")],
+    ),
+    // A newline is the first byte of a block, and no block but one has any.
+    (
+        Unit::Lines,
+        1,
+        b'\n',
+        b"abc\n\nefg",
+        8,
+        &[Step::Waits(3), Step::Close, Step::Wrote(b"efg")],
+    ),
+    // Lines end with any byte.
+    (
+        Unit::Lines,
+        1,
+        0,
+        b"a\0\nb\0\nc\0\nd\0",
+        11,
+        &[Step::Waits(3), Step::Close, Step::Wrote(b"\nd\0")],
+    ),
+    // What comes after the end is fed.
+    (
+        Unit::Lines,
+        2,
+        b'\n',
+        TEXT,
+        30,
+        &[
+            Step::Feed(b"u"),
+            Step::Feed(b"v\n"),
+            Step::Waits(6),
+            Step::Close,
+            Step::Wrote(b"st\nuv\n"),
+        ],
+    ),
+    // A text that one block holds is fed.
+    (
+        Unit::Lines,
+        1,
+        b'\n',
+        b"a\nb\n",
+        0,
+        &[
+            Step::Waits(0),
+            Step::Feed(b"a\nb\n"),
+            Step::Close,
+            Step::Wrote(b"b\n"),
+        ],
+    ),
+];
+
+#[test]
+fn last_bytes_are_taken_in(rt: HostRuntime) -> Result<(), Fail> {
+    load_rows(&rt, rt.alloc(), BYTES)
+}
+
+const BYTES: &[Row<'static>] = &[
+    (
+        Unit::Bytes,
+        0,
+        b'\n',
+        TEXT,
+        30,
+        &[Step::Waits(0), Step::Close, Step::Wrote(b"")],
+    ),
+    (
+        Unit::Bytes,
+        7,
+        b'\n',
+        TEXT,
+        30,
+        &[Step::Waits(7), Step::Close, Step::Wrote(b"\nqr\nst\n")],
+    ),
+    (
+        Unit::Bytes,
+        u64::MAX,
+        b'\n',
+        TEXT,
+        30,
+        &[Step::Waits(30), Step::Close, Step::Wrote(TEXT)],
+    ),
+    (
+        Unit::Bytes,
+        4,
+        b'\n',
+        TEXT,
+        30,
+        &[
+            Step::Feed(b"uv\n"),
+            Step::Waits(4),
+            Step::Close,
+            Step::Wrote(b"\nuv\n"),
+        ],
+    ),
+];
+
+/// Lets a tail take in what it can of an input, and takes the steps that follow.
+fn load_rows(rt: &impl Abort, alloc: Global, rows: &[Row<'_>]) -> Result<(), Fail> {
+    for row in rows {
+        load_row(rt, alloc, row)?;
+    }
+    Ok(())
+}
+
+fn load_row(rt: &impl Abort, alloc: Global, row: &Row<'_>) -> Result<(), Fail> {
+    let (unit, count, delim, text, taken, steps) = *row;
+    let mut inputs = MemIn::new(alloc)?;
+    inputs.file("f", text)?;
+    let slot = inputs.open("f")?;
+    let mut tail = Tail::open(alloc, unit, false, count, delim)?;
+    let mut buffer = [0u8; BLOCK];
+    assert_eq!(rt; tail.load(slot, &mut buffer, &mut inputs), taken);
+    let left = inputs.left(slot).unwrap_or(u64::MAX);
+    assert_eq!(rt; left.saturating_add(taken), text.len() as u64);
+    let mut outs = MemOut::new(alloc)?;
+    play(rt, &mut tail, &mut outs, steps);
+    Ok(())
+}
