@@ -6,13 +6,9 @@ pub mod StayLemmas
 pub mod LastSectionLemmas
 pub mod Examples
 pub mod ByteExamples
-pub mod WordLemmas
-pub mod AimLemmas
-pub mod ReadingLemmas
 pub mod TurnLemmas
 pub mod MoveLemmas
 pub mod AdvanceLemmas
-pub mod OneReading
 pub mod WholeLemmas
 pub mod MatchLemmas
 pub mod CutterLemmas

@@ -13,12 +13,6 @@ pub mod InputLaws
 pub mod Progress
 pub mod Agreed
 pub mod Place
-pub mod Fault
-pub mod Word
-pub mod Seen
-pub mod Reading
-pub mod Repeating
-pub mod Aiming
 pub mod Draft
 pub mod Writer
 pub mod Cutter

@@ -5,22 +5,9 @@ use Rattle.ports_core.specs.Name.{numbered_name}
 use Rattle.ports_core.specs.Part.{File, Part}
 use Rattle.ports_core.specs.declared.slot.Mode.TheVariants.{Fresh}
 use Rattle.ports_core.specs.declared.slot.State.TheVariants as state
+pub use Rattle.operand_core.specs.Style.{Style}
 use Rattle.csplit_core.specs.Input.{newline}
 use Rattle.csplit_core.specs.Section.{Section, bytes_of}
-
--- how files are made
-pub record Style : Type 0 where
-  -- what a file's name begins with, and how many digits follow at least
-  pub prefix : List ℕ
-  pub digits : ℕ
-  -- files are kept after a fault
-  pub keep : Bool
-  -- no sizes are written
-  pub quiet : Bool
-  -- an empty section makes no file
-  pub elide : Bool
-  -- the line at a cut is left out
-  pub suppress : Bool
 
 -- what a section holds, as bytes
 pub record Contents : Type 0 where

@@ -7,10 +7,8 @@ ghost use Rattle.csplit_core.specs.Output.{Style};
 ghost use Rattle.csplit_core.specs.Place.{IsUndecided, WaitsAt};
 ghost use Rattle.csplit_core.specs.Plan.{Ending, Runs, State, Step, start};
 ghost use Rattle.csplit_core.specs.Planned.{plan};
-ghost use Rattle.csplit_core.specs.Reading.{Asks, IsFault, IsOfWords};
 ghost use Rattle.csplit_core.specs.Section.{is_final, lines_in, most_waiting, settled_sections, waiting_lines, whole_sections};
-ghost use Rattle.csplit_core.specs.declared.operand_fault.OperandFault.{OperandFault};
-ghost use Rattle.csplit_core.specs.declared.operand.Operand.{Operand};
+ghost use Rattle.operand_core.specs.declared.operand.Operand.{Operand};
 ghost use Rattle.ports_core.specs.Part.{Begins};
 
 /// For any operands and lines there is one plan: the one that is computed is a plan, and no other is (POSIX.1-2017, XCU
@@ -49,11 +47,4 @@ pub fn few_lines_wait()
 pub fn agreed_is_settled()
     ensures outputs { (suppress : Bool) (operands : List Operand) (x : List Line) → IsAgreed (whole_outputs suppress operands) x (settled_outputs suppress operands x) }
     ensures waits { (suppress : Bool) (operands : List Operand) (x : List Line) → IsUndecided suppress operands x (WaitsAt (length x) (plan suppress operands x)) }
-{}
-
-/// Words ask for one list of operands at most, and for none where a word is no operand. (That they ask for none where a
-/// pattern is too large is not said here.)
-pub fn one_reading()
-    ensures only { (words : List (List ℕ)) (one other : List Operand) → Asks words one → Asks words other → one ≡ other }
-    ensures either { (words : List (List ℕ)) (operands : List Operand) (fault : OperandFault) → Asks words operands → IsFault words fault → IsOfWords fault.kind → ⊥ }
 {}

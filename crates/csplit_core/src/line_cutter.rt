@@ -143,8 +143,8 @@ impl<'o> LineCutter<'o> {
         let operand = self.operands.get(self.progress.done)?;
         let repetition = self.progress.repetition;
         match self.aim {
-            Turn::Missed => operand.fault_of_miss(repetition),
-            Turn::Above(_, _) => operand.fault_of_range(repetition),
+            Turn::Missed => fault_of_miss(operand, repetition),
+            Turn::Above(_, _) => fault_of_range(operand, repetition),
             Turn::Below => Some(Fault::Range(operand.index, repetition)),
             Turn::UsedUp => None,
             Turn::Cuts(_, _) => None,
@@ -498,28 +498,26 @@ impl<'o> LineCutter<'o> {
     }
 }
 
-impl Operand {
-    /// The fault where its pattern matches no line, if that is one.
-    fn fault_of_miss(&self, repetition: u64) -> Option<Fault>
-        ensures judges { result ≡ verdict_of (missed self.now repetition) }
-        ensures kind { IfSome result (λ fault. is_verdict fault ≡ true) }
-    {
-        match self.times {
-            Times::Endless => None,
-            Times::Count(_) => Some(Fault::NoMatch(self.index, repetition)),
-        }
+/// The fault where an operand's pattern matches no line, if that is one.
+fn fault_of_miss(operand: &Operand, repetition: u64) -> Option<Fault>
+    ensures judges { result ≡ verdict_of (missed operand.now repetition) }
+    ensures kind { IfSome result (λ fault. is_verdict fault ≡ true) }
+{
+    match operand.times {
+        Times::Endless => None,
+        Times::Count(_) => Some(Fault::NoMatch(operand.index, repetition)),
     }
+}
 
-    /// The fault where its cut is above the last line, if that is one.
-    fn fault_of_range(&self, repetition: u64) -> Option<Fault>
-        ensures judges { (matched cut : ℕ) → result ≡ verdict_of (above self.now repetition matched cut) }
-        ensures kind { IfSome result (λ fault. is_verdict fault ≡ true) }
-    {
-        match (&self.times, &self.target) {
-            (Times::Endless, Target::Number(_)) => None,
-            (Times::Endless, Target::Search { .. }) => Some(Fault::Range(self.index, repetition)),
-            (Times::Count(_), _) => Some(Fault::Range(self.index, repetition)),
-        }
+/// The fault where an operand's cut is above the last line, if that is one.
+fn fault_of_range(operand: &Operand, repetition: u64) -> Option<Fault>
+    ensures judges { (matched cut : ℕ) → result ≡ verdict_of (above operand.now repetition matched cut) }
+    ensures kind { IfSome result (λ fault. is_verdict fault ≡ true) }
+{
+    match (&operand.times, &operand.target) {
+        (Times::Endless, Target::Number(_)) => None,
+        (Times::Endless, Target::Search { .. }) => Some(Fault::Range(operand.index, repetition)),
+        (Times::Count(_), _) => Some(Fault::Range(operand.index, repetition)),
     }
 }
 

@@ -4,7 +4,7 @@ ghost use Rattle.csplit_core.specs.Measure.{Fits};
 ghost use Rattle.csplit_core.specs.Operand.{Line, has_more, moved};
 ghost use Rattle.csplit_core.specs.Plan.{line_after, search_line, state_after};
 ghost use Rattle.csplit_core.specs.Progress.{AreSeen, FallsAt, MovesOn, Turns, state_of};
-ghost use Rattle.csplit_core.specs.declared.operand.Operand.{Operand};
+ghost use Rattle.operand_core.specs.declared.operand.Operand.{Operand};
 
 use crate::{Offset, Operand, Target, Times};
 
@@ -90,7 +90,7 @@ impl Progress {
                 if !found {
                     return Turn::Missed;
                 }
-                fall(total, self.current, total, offset.from(total))
+                fall(total, self.current, total, line_at(*offset, total))
             }
         }
     }
@@ -104,7 +104,7 @@ impl Progress {
     {
         self.current = line_after(suppress, cut);
         self.matched = matched;
-        if operand.times.has_more(self.repetition) {
+        if has_more(operand.times, self.repetition) {
             self.repetition += 1;
             return;
         }
@@ -113,28 +113,24 @@ impl Progress {
     }
 }
 
-impl Offset {
-    /// The line at this offset from a line: the last number that there is where it is further, and 0 where there are too
-    /// few lines before it.
-    fn from(self, line: u64) -> u64
-        ensures { result ≡ min (moved self line) (2 ^ 64 - 1) }
-    {
-        match self {
-            Offset::Plus(lines) => line.saturating_add(lines),
-            Offset::Minus(lines) => line.saturating_sub(lines),
-        }
+/// The line at an offset from a line: the last number that there is where it is further, and 0 where there are too few lines
+/// before it.
+fn line_at(offset: Offset, line: u64) -> u64
+    ensures { result ≡ min (moved offset line) (2 ^ 64 - 1) }
+{
+    match offset {
+        Offset::Plus(lines) => line.saturating_add(lines),
+        Offset::Minus(lines) => line.saturating_sub(lines),
     }
 }
 
-impl Times {
-    /// Whether an operand is performed again after this repetition.
-    fn has_more(self, repetition: u64) -> bool
-        ensures { result ≡ has_more self repetition }
-    {
-        match self {
-            Times::Count(times) => repetition < times,
-            Times::Endless => true,
-        }
+/// Whether an operand is performed again after this repetition.
+fn has_more(times: Times, repetition: u64) -> bool
+    ensures { result ≡ has_more times repetition }
+{
+    match times {
+        Times::Count(times) => repetition < times,
+        Times::Endless => true,
     }
 }
 

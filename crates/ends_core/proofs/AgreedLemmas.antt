@@ -10,8 +10,8 @@ use Rattle.seg_core.proofs.EndLines.{last_lines-zero}
 use Rattle.ports_core.specs.Part.{IsBeginning, nothing}
 use Rattle.ports_core.specs.Agreed.{CanCome, IsAgreed, IsUndecided, spot, spots_from, output_at}
 use Rattle.ports_core.proofs.AgreedLemmas.{none_comes, one_comes, copies_come, other, other_differs, other_comes, agreed_now, beginning_short, common, spot_in, spot_past, some_spot}
-use Rattle.ends_core.specs.declared.unit.Unit.{Unit as Counted}
-use Rattle.ends_core.specs.declared.unit.Unit.TheVariants.{Lines, Bytes}
+use Rattle.seg_core.specs.declared.unit.Unit.{Unit as Counted}
+use Rattle.seg_core.specs.declared.unit.Unit.TheVariants.{Lines, Bytes}
 use Rattle.ends_core.specs.Ends.{size, measure, first_of, last_of, but_last_of, tail_of}
 use Rattle.ends_core.specs.EndsLaws.{measure-append, measure-delimiters, first_of-append, first_of-short, first_of-full, first_then_behind, ends_together, but_last_of-append, last_is_drop, last_is_small}
 use Rattle.ends_core.specs.Head.{head_work, head_waiting}

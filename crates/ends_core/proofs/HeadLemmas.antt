@@ -7,8 +7,8 @@ use Rattle.ports_core.specs.Slot.{Slot, is_writable, with_written, told_of}
 use Rattle.ports_core.specs.Part.{only_out}
 use Rattle.ports_core.specs.Engine.{TakesIn, PutsOut, CutsOff, EndsWith, IsMet, OwnsNone}
 use Rattle.ports_core.specs.declared.fault.Fault.{Fault}
-use Rattle.ends_core.specs.declared.unit.Unit.{Unit as Counted}
-use Rattle.ends_core.specs.declared.unit.Unit.TheVariants.{Bytes}
+use Rattle.seg_core.specs.declared.unit.Unit.{Unit as Counted}
+use Rattle.seg_core.specs.declared.unit.Unit.TheVariants.{Bytes}
 use Rattle.ends_core.specs.declared.head.Way.{Way}
 use Rattle.ends_core.specs.declared.head.Way.TheVariants.{First, ButLast}
 use Rattle.ends_core.specs.HeadState.{HeadState}

@@ -12,8 +12,8 @@ use Rattle.seg_core.proofs.LastLines.{but_last_then_last}
 use Rattle.ports_core.specs.Slot.{changed_at}
 use Rattle.ports_core.specs.Source.{Source, Shows, is_readable, skips, source_at}
 use Rattle.ports_core.proofs.LoadLemmas.{none_passed, passed_at}
-use Rattle.ends_core.specs.declared.unit.Unit.{Unit as Counted}
-use Rattle.ends_core.specs.declared.unit.Unit.TheVariants.{Lines, Bytes}
+use Rattle.seg_core.specs.declared.unit.Unit.{Unit as Counted}
+use Rattle.seg_core.specs.declared.unit.Unit.TheVariants.{Lines, Bytes}
 use Rattle.ends_core.specs.Ends.{size, measure, behind_of, last_of}
 use Rattle.ends_core.specs.EndsLaws.{behind_of-append}
 use Rattle.ends_core.specs.Load.{HasSeen, Passes}

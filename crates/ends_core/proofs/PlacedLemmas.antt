@@ -6,7 +6,7 @@ use Rattle.std.proofs.Math.Seq.{get_or-append_right}
 use Rattle.ports_core.specs.Part.{only_out}
 use Rattle.ports_core.specs.Agreed.{Spot, spot, spots_from, output_at, GoesTo, ArePlaced}
 use Rattle.ports_core.proofs.AgreedLemmas.{spot_in, spot_past}
-use Rattle.ends_core.specs.declared.unit.Unit.{Unit as Counted}
+use Rattle.seg_core.specs.declared.unit.Unit.{Unit as Counted}
 use Rattle.ends_core.specs.Ends.{behind_of, last_of, head_of, tail_of}
 use Rattle.ends_core.specs.EndsLaws.{first_then_behind, ends_together}
 use Rattle.ends_core.specs.Head.{head_work}

@@ -2,8 +2,8 @@
 use Rattle.std.specs.Prelude.{◌≡◌, ℕ, ◌-◌, ◌++◌, ◌&&◌, ◌<◌, ◌≤◌, not, nat_le, Bool, true, false, List, [], length, if◌then◌else◌}
 use Rattle.seg_core.specs.Line.{AreBytes}
 use Rattle.ports_core.specs.Part.{only_out}
-use Rattle.ends_core.specs.declared.unit.Unit.{Unit as Counted}
-use Rattle.ends_core.specs.declared.unit.Unit.TheVariants.{Bytes}
+use Rattle.seg_core.specs.declared.unit.Unit.{Unit as Counted}
+use Rattle.seg_core.specs.declared.unit.Unit.TheVariants.{Bytes}
 use Rattle.ports_core.specs.Work.{Work, on_output, always_well}
 use Rattle.ports_core.specs.Slot.{Slot}
 use Rattle.ports_core.specs.Engine.{IsCaused, IsMet, EndsWith}

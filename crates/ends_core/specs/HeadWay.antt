@@ -1,7 +1,7 @@
 -- The two ways of a head: the first lines or bytes, or all but the last.
 use Rattle.std.specs.Prelude.{◌≡◌, ℕ, ◌==◌, Bool, true, false, ◌≤◌, List, [], ◌++◌, length}
-use Rattle.ends_core.specs.declared.unit.Unit.{Unit as Counted}
-use Rattle.ends_core.specs.declared.unit.Unit.TheVariants.{Bytes}
+use Rattle.seg_core.specs.declared.unit.Unit.{Unit as Counted}
+use Rattle.seg_core.specs.declared.unit.Unit.TheVariants.{Bytes}
 use Rattle.ends_core.specs.declared.head.Way.{Way}
 use Rattle.ends_core.specs.declared.head.Way.TheVariants.{First, ButLast}
 use Rattle.ends_core.specs.Ends.{first_of, last_of, but_last_of}

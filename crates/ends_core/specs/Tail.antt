@@ -6,8 +6,8 @@ use Rattle.ports_core.specs.Slot.{Slot}
 use Rattle.ports_core.specs.Engine.{IsCaused, IsMet, EndsWith}
 use Rattle.ports_core.specs.Guard.{GuardState, HoldsIn}
 use Rattle.ports_core.specs.declared.fault.Fault.{Fault}
-use Rattle.ends_core.specs.declared.unit.Unit.{Unit as Counted}
-use Rattle.ends_core.specs.declared.unit.Unit.TheVariants.{Bytes}
+use Rattle.seg_core.specs.declared.unit.Unit.{Unit as Counted}
+use Rattle.seg_core.specs.declared.unit.Unit.TheVariants.{Bytes}
 use Rattle.ends_core.specs.Ends.{measure, last_of, tail_of}
 use Rattle.ends_core.specs.TailState.{TailState}
 

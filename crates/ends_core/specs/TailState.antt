@@ -1,6 +1,6 @@
 -- What contracts see of a tail.
 use Rattle.std.specs.Prelude.{ℕ, Bool, List}
-use Rattle.ends_core.specs.declared.unit.Unit.{Unit as Counted}
+use Rattle.seg_core.specs.declared.unit.Unit.{Unit as Counted}
 
 pub record TailState : Type 0 where
   pub unit : Counted

@@ -1,7 +1,7 @@
 -- The two ways of a tail: all from the nth line or byte on, or the last ones.
 use Rattle.std.specs.Prelude.{◌≡◌, ℕ, Bool, true, false, ◌≤◌, List, [], ◌++◌, length}
-use Rattle.ends_core.specs.declared.unit.Unit.{Unit as Counted}
-use Rattle.ends_core.specs.declared.unit.Unit.TheVariants.{Bytes}
+use Rattle.seg_core.specs.declared.unit.Unit.{Unit as Counted}
+use Rattle.seg_core.specs.declared.unit.Unit.TheVariants.{Bytes}
 use Rattle.ends_core.specs.declared.tail.Way.{Way}
 use Rattle.ends_core.specs.declared.tail.Way.TheVariants.{FromNth, Last}
 use Rattle.ends_core.specs.Ends.{behind_of, last_of}

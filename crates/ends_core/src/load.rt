@@ -3,7 +3,7 @@ ghost use Rattle.std.specs.Prelude.{◌≡◌, ◌<◌, ◌≤◌, ◌++◌, ℕ
 ghost use Rattle.seg_core.specs.Line.{last_lines};
 ghost use Rattle.ports_core.specs.Source.{Shows, source_at, is_readable};
 ghost use Rattle.ends_core.specs.Load.{HasSeen};
-ghost use Rattle.ends_core.specs.declared.unit.Unit.TheVariants.{Bytes};
+ghost use Rattle.seg_core.specs.declared.unit.Unit.TheVariants.{Bytes};
 ghost use Rattle.ends_core.specs.Ends.{last_of};
 
 use ports_core::Inputs;

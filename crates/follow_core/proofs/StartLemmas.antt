@@ -11,7 +11,7 @@ use Rattle.seg_core.proofs.LinesOf.{joined-lines_of, lines_of-append}
 use Rattle.seg_core.proofs.FirstLines.{EndsAt-enough, EndsAt-rest}
 use Rattle.seg_core.proofs.EndLines.{after_lines-append, after_lines-past}
 use Rattle.ends_core.specs.EndsLaws.{behind_of-append}
-use Rattle.ends_core.specs.declared.unit.Unit.TheVariants.{Lines}
+use Rattle.seg_core.specs.declared.unit.Unit.TheVariants.{Lines}
 
 count_step : (is : Bool) (byte n : ℕ) (lines : List (List ℕ)) → length lines ≡ n + 1 → length (if is then (byte ∷ []) ∷ lines else onto_first byte lines) ≡ (if is then n + 1 else n) + 1
 count_step true byte n lines is = omega arith

@@ -1,8 +1,9 @@
-//! Lines and counts of texts, and windows over the last bytes or lines of what came in.
+//! Lines and counts of texts, how texts are counted and cut, and windows over the last bytes or lines of what came in.
 #![tactic(auto)]
 
 pub mod byte_window;
 pub mod count;
+pub mod cut;
 pub mod digits;
 pub mod fault;
 pub mod line;
@@ -12,3 +13,4 @@ mod line_blocks;
 pub mod line_iter;
 pub mod line_reach;
 pub mod line_window;
+pub mod unit;

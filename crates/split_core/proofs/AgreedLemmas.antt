@@ -10,10 +10,10 @@ use Rattle.ports_core.specs.Part.{File}
 use Rattle.ports_core.specs.Agreed.{CanCome, IsAgreed, file_bytes, outputs_of}
 use Rattle.ports_core.specs.declared.slot.State.TheVariants.{Open, Closed}
 use Rattle.ports_core.proofs.AgreedLemmas.{none_comes, copies_come, other, other_differs, other_comes, agreed_by, agreed_now, common}
-use Rattle.split_core.specs.declared.cut.Cut.{Cut}
-use Rattle.split_core.specs.declared.cut.Cut.TheVariants as cut
-use Rattle.split_core.specs.declared.cut.Limit.{Limit}
-use Rattle.split_core.specs.declared.cut.Limit.TheVariants.{Lines, Bytes, LineBytes}
+use Rattle.seg_core.specs.declared.cut.Cut.{Cut}
+use Rattle.seg_core.specs.declared.cut.Cut.TheVariants as cut
+use Rattle.split_core.specs.declared.limit.Limit.{Limit}
+use Rattle.split_core.specs.declared.limit.Limit.TheVariants.{Lines, Bytes, LineBytes}
 use Rattle.split_core.specs.Parts.{whole_lines, most, behind_first, cut_up, unless_empty, parts, settled_rest}
 use Rattle.split_core.specs.Split.{Plan, Share, share, is_named, are_named, named, file_at, settled_parts, settled_by, whole_by, split_work, dealt_files}
 use Rattle.split_core.specs.Splitter.{IsPositive}

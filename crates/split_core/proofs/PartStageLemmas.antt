@@ -11,7 +11,7 @@ use Rattle.ports_core.specs.declared.fault.Fault.{Fault}
 use Rattle.ports_core.specs.declared.fault.Fault.TheVariants.{Memory, Write, Read, Open, Suffixes, NoMatch, Range, Usage, Failed, TooLong}
 use Rattle.ports_core.specs.declared.slot.State.TheVariants.{Closed}
 use Rattle.ports_core.proofs.PartLemmas.{stopped_in_turn}
-use Rattle.split_core.specs.declared.cut.Limit.{Limit}
+use Rattle.split_core.specs.declared.limit.Limit.{Limit}
 use Rattle.split_core.specs.Parts.{parts}
 use Rattle.split_core.specs.Split.{Share, share, are_named, from_start}
 use Rattle.split_core.specs.ShareLaws.{settled_count}

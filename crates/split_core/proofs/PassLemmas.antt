@@ -10,7 +10,7 @@ use Rattle.ports_core.specs.declared.fault.Fault.TheVariants as fault
 use Rattle.ports_core.proofs.PartLemmas.{begins_itself}
 use Rattle.ports_core.proofs.SlotLemmas.{length-changed_at}
 use Rattle.ports_core.specs.Write.{WritesShort}
-use Rattle.split_core.specs.declared.cut.Limit.{Limit}
+use Rattle.split_core.specs.declared.limit.Limit.{Limit}
 use Rattle.split_core.specs.Parts.{cut_up, parts, unless_empty, settled_rest, waiting_rest}
 use Rattle.split_core.specs.CutLaws.{settled_then_waiting, settled_some}
 use Rattle.split_core.specs.Split.{Share, share, is_some, is_named, are_named, settled_parts}

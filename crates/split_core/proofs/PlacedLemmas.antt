@@ -8,7 +8,7 @@ use Rattle.seg_core.proofs.FirstLines.{joined-append}
 use Rattle.ports_core.specs.Name.{Naming}
 use Rattle.ports_core.specs.Agreed.{Spot, spot, spots_from, GoesTo, file_bytes, ArePlaced}
 use Rattle.ports_core.proofs.AgreedLemmas.{spot_in, spot_past}
-use Rattle.split_core.specs.declared.cut.Limit.{Limit}
+use Rattle.split_core.specs.declared.limit.Limit.{Limit}
 use Rattle.split_core.specs.Parts.{parts}
 use Rattle.split_core.specs.Split.{is_named}
 use Rattle.split_core.specs.PartState.{parts_work}

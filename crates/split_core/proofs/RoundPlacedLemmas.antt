@@ -9,9 +9,9 @@ use Rattle.std.proofs.lemmas.List.FromFn.{get_or-map-range_with_len, length-map-
 use Rattle.seg_core.specs.Line.{delimiters, lines_of}
 use Rattle.ports_core.specs.Name.{Naming}
 use Rattle.ports_core.specs.Agreed.{Spot, spot, GoesTo, file_bytes, ArePlaced}
-use Rattle.split_core.specs.declared.cut.Cut.{Cut}
-use Rattle.split_core.specs.declared.cut.Cut.TheVariants as cut
-use Rattle.split_core.specs.declared.cut.Limit.TheVariants.{Lines, Bytes, LineBytes}
+use Rattle.seg_core.specs.declared.cut.Cut.{Cut}
+use Rattle.seg_core.specs.declared.cut.Cut.TheVariants as cut
+use Rattle.split_core.specs.declared.limit.Limit.TheVariants.{Lines, Bytes, LineBytes}
 use Rattle.split_core.specs.Parts.{dealt}
 use Rattle.split_core.specs.Split.{Plan, is_named, whole_by, split_work, dealt_files}
 use Rattle.split_core.specs.Place.{dealt_to, dealt_spots, split_spots}

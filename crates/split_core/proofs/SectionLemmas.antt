@@ -14,8 +14,8 @@ use Rattle.seg_core.proofs.LineCounts.{line_count-some}
 use Rattle.seg_core.proofs.LinesOf.{joined-lines_of}
 use Rattle.ports_core.specs.declared.slot.State.{State}
 use Rattle.ports_core.specs.declared.slot.State.TheVariants.{Open, Closed}
-use Rattle.split_core.specs.declared.cut.Limit.{Limit}
-use Rattle.split_core.specs.declared.cut.Limit.TheVariants.{Lines, Bytes, LineBytes}
+use Rattle.split_core.specs.declared.limit.Limit.{Limit}
+use Rattle.split_core.specs.declared.limit.Limit.TheVariants.{Lines, Bytes, LineBytes}
 use Rattle.split_core.specs.Parts.{whole_lines, open_line, most, is_full, behind_first, cut_up, unless_empty, parts, settled_rest, waiting_rest}
 use Rattle.split_core.specs.Sections.{runs_within, runs_of, line_parts, byte_parts, AreLineByteParts, none, one, more}
 use Rattle.split_core.specs.Split.{Share, share, settled_parts}

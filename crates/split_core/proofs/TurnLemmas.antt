@@ -13,7 +13,7 @@ use Rattle.split_core.specs.Parts.{most}
 use Rattle.split_core.specs.Split.{Share, share, is_some, is_named, are_named}
 use Rattle.split_core.specs.ShareLaws.{shut_more, last_grows}
 use Rattle.seg_core.specs.Window.{ByteWindowState}
-use Rattle.split_core.specs.declared.cut.Limit.{Limit}
+use Rattle.split_core.specs.declared.limit.Limit.{Limit}
 use Rattle.split_core.specs.PartsState.{PartsState, Fits, IsReady, IsAtEnd, is_given}
 use Rattle.split_core.specs.Moves.{Moves, Halts, KeepsFile, Begun, begun_share, IsLast, Extended, Interrupted, EndsFile, none_there, closed, failed, Turned, TurnsNot}
 use Rattle.ports_core.proofs.SlotSteps as slot_steps

@@ -12,10 +12,10 @@ use Rattle.ports_core.specs.Slot.{is_open}
 use Rattle.ports_core.specs.Agreed.{CanCome, IsUndecided, Spot, spot, spots_from, file_bytes}
 use Rattle.ports_core.specs.declared.slot.State.TheVariants.{Open, Closed}
 use Rattle.ports_core.proofs.AgreedLemmas.{none_comes, beginning_short, common, spot_in, spot_past, none_before}
-use Rattle.split_core.specs.declared.cut.Cut.{Cut}
-use Rattle.split_core.specs.declared.cut.Cut.TheVariants as cut
-use Rattle.split_core.specs.declared.cut.Limit.{Limit}
-use Rattle.split_core.specs.declared.cut.Limit.TheVariants.{Lines, Bytes, LineBytes}
+use Rattle.seg_core.specs.declared.cut.Cut.{Cut}
+use Rattle.seg_core.specs.declared.cut.Cut.TheVariants as cut
+use Rattle.split_core.specs.declared.limit.Limit.{Limit}
+use Rattle.split_core.specs.declared.limit.Limit.TheVariants.{Lines, Bytes, LineBytes}
 use Rattle.split_core.specs.Parts.{whole_lines, most, cut_up, unless_empty, parts, settled_rest, waiting_rest, round_robin, dealt}
 use Rattle.split_core.specs.Split.{Plan, share, is_some, is_named, are_named, named, file_at, settled_by, is_short, split_work, dealt_files, bytes_in, waiting}
 use Rattle.split_core.specs.Splitter.{IsPositive}

@@ -5,7 +5,7 @@ use Rattle.ports_core.specs.Name.{Naming}
 use Rattle.ports_core.specs.Work.{Work}
 use Rattle.ports_core.specs.declared.fault.Fault.TheVariants.{Suffixes}
 use Rattle.ports_core.specs.declared.slot.State.TheVariants.{Closed}
-use Rattle.split_core.specs.declared.cut.Limit.{Limit}
+use Rattle.split_core.specs.declared.limit.Limit.{Limit}
 use Rattle.split_core.specs.Parts.{parts}
 use Rattle.split_core.specs.Split.{share, named, are_named, from_start, only_files, settled_parts, split_means}
 use Rattle.split_core.specs.PartsState.{PartsState, IsReady, OwnsFile}

@@ -6,7 +6,7 @@ use Rattle.ports_core.specs.Name.{Naming}
 use Rattle.ports_core.specs.Work.{IsComplete, IsLawful}
 use Rattle.ports_core.specs.declared.fault.Fault.TheVariants.{Suffixes}
 use Rattle.ports_core.specs.declared.slot.State.TheVariants.{Closed}
-use Rattle.split_core.specs.declared.cut.Limit.{Limit}
+use Rattle.split_core.specs.declared.limit.Limit.{Limit}
 use Rattle.split_core.specs.Parts.{cut_up, parts}
 use Rattle.split_core.specs.Split.{share, are_named, named, only_files, settled_parts}
 use Rattle.split_core.specs.ShareLaws.{part_begins, settled_grow, settled_end, files_settled, files_whole, parts_grow, are_named_more}

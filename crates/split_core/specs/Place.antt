@@ -3,8 +3,8 @@ use Rattle.std.specs.Prelude.{ℕ, ◌+◌, ◌%◌, nat_lt, ◌&&◌, List, [],
 use Rattle.seg_core.specs.Line.{lines_of, delimiters}
 use Rattle.ports_core.specs.Name.{Naming}
 use Rattle.ports_core.specs.Agreed.{Spot, spot, spots_from, file_bytes}
-use Rattle.split_core.specs.declared.cut.Cut.{Cut}
-use Rattle.split_core.specs.declared.cut.Cut.TheVariants.{Lines, Bytes, LineBytes, Round}
+use Rattle.seg_core.specs.declared.cut.Cut.{Cut}
+use Rattle.seg_core.specs.declared.cut.Cut.TheVariants.{Lines, Bytes, LineBytes, Round}
 use Rattle.split_core.specs.Parts.{dealt}
 use Rattle.split_core.specs.Split.{Plan, is_named, whole_by}
 

@@ -7,7 +7,7 @@ use Rattle.ports_core.specs.Work.{Work, always_well}
 use Rattle.split_core.specs.Split.{Plan, are_named, from_start, settled_by, whole_by, split_means}
 use Rattle.split_core.specs.FilesState.{FilesState}
 use Rattle.split_core.specs.RoundState.{RoundState}
-use Rattle.split_core.specs.declared.cut.Cut.TheVariants.{Round}
+use Rattle.seg_core.specs.declared.cut.Cut.TheVariants.{Round}
 
 abbrev pub round_plan : (delim count : ℕ) → Bool → Naming → Plan
 round_plan delim count elide names = record { delim = delim; cut = Round count; elide = elide; names = names }

@@ -10,8 +10,8 @@ use Rattle.ports_core.specs.Name.{Naming}
 use Rattle.ports_core.specs.Part.{File, IsBeginning, FilesBegin, Begins}
 use Rattle.ports_core.specs.declared.slot.State.TheVariants.{Open, Closed}
 use Rattle.ports_core.proofs.PartLemmas.{begins_itself, begins_more, begins_trans, kept_trans}
-use Rattle.split_core.specs.declared.cut.Limit.{Limit}
-use Rattle.split_core.specs.declared.cut.Limit.TheVariants.{Lines, Bytes, LineBytes}
+use Rattle.split_core.specs.declared.limit.Limit.{Limit}
+use Rattle.split_core.specs.declared.limit.Limit.TheVariants.{Lines, Bytes, LineBytes}
 use Rattle.split_core.specs.Parts.{whole_lines, most, measure, is_full, first_part, behind_first, cut_up, unless_empty, parts, settled_rest}
 use Rattle.split_core.specs.Split.{Share, share, is_named, file_at, named, are_named, only_files, settled_parts}
 use Rattle.split_core.specs.CutLaws.{short_some, full_some, whole_of_lines, whole_of_none, settled_then_waiting, settled_some, cut_all, cut_on, cut_none, cut_once, cuts_up, goes, rest_short, cut_so}

@@ -1,8 +1,8 @@
 -- What the engine of `split` can be asked.
 use Rattle.std.specs.Prelude.{◌≡◌, ◌<◌, true}
 use Rattle.ports_core.specs.Name.{Naming}
-use Rattle.split_core.specs.declared.cut.Cut.{Cut}
-use Rattle.split_core.specs.declared.cut.Cut.TheVariants.{Lines, Bytes, LineBytes, Round}
+use Rattle.seg_core.specs.declared.cut.Cut.{Cut}
+use Rattle.seg_core.specs.declared.cut.Cut.TheVariants.{Lines, Bytes, LineBytes, Round}
 use Rattle.split_core.specs.Split.{are_named}
 
 -- the number of a cut is at least 1

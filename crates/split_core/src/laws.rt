@@ -4,7 +4,7 @@ ghost use Rattle.ports_core.specs.Agreed.{ArePlaced, IsAgreed, IsUndecided};
 ghost use Rattle.ports_core.specs.Guard.{GuardState, HoldsIn};
 ghost use Rattle.ports_core.specs.declared.slot.State.TheVariants.{Closed};
 ghost use Rattle.seg_core.specs.Line.{delimiters, joined, line_count, lines_of};
-ghost use Rattle.split_core.specs.declared.cut.Limit.TheVariants.{Bytes, LineBytes, Lines};
+ghost use Rattle.split_core.specs.declared.limit.Limit.TheVariants.{Bytes, LineBytes, Lines};
 ghost use Rattle.split_core.specs.Parts.{cut_up, dealt, most, parts, round_robin, settled_rest, waiting_rest};
 ghost use Rattle.split_core.specs.Place.{split_spots};
 ghost use Rattle.split_core.specs.Sections.{AreLineByteParts, byte_parts, line_parts};

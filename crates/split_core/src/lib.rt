@@ -2,11 +2,11 @@
 #![tactic(auto)]
 
 mod complete_lines;
-mod cut;
 mod deal;
 mod files;
 mod gathered;
 mod laws;
+mod limit;
 mod part_stage;
 mod parts;
 mod round_files;
@@ -15,9 +15,10 @@ mod splitter;
 mod step;
 mod ways;
 
-pub use cut::{Cut, Limit};
 pub use laws::{
     agreed_is_settled, all_files_have_names, line_byte_parts, lines_are_dealt, parts_are_runs,
     parts_go_on,
 };
+pub use limit::Limit;
+pub use seg_core::cut::Cut;
 pub use splitter::Splitter;

@@ -11,9 +11,9 @@ use Rattle.ports_core.specs.declared.fault.Fault.TheVariants.{Memory, Write, Rea
 use Rattle.ports_core.proofs.PartLemmas.{nothing_out, nothing_begins_part, stopped_here}
 use Rattle.ports_core.proofs.SlotSteps.{none_past, swept_none}
 use Rattle.csplit_core.specs.Csplit.{csplit_work, settled_by}
-use Rattle.csplit_core.specs.Output.{Style}
+use Rattle.operand_core.specs.Style.{Style}
 use Rattle.csplit_core.specs.Writer.{Breaks}
-use Rattle.csplit_core.specs.declared.operand.Operand.{Operand}
+use Rattle.operand_core.specs.declared.operand.Operand.{Operand}
 use Rattle.run_core.specs.Feeding.{Stops, call_of}
 use Rattle.run_core.specs.RunSteps.{Opens, OpensShort}
 

@@ -18,15 +18,15 @@ use Rattle.run_core.specs.RunSteps.{world_of}
 use Rattle.run_core.specs.Task.{Task}
 use Rattle.run_core.proofs.NamesLemmas.{none_touched}
 use Rattle.seg_core.specs.declared.count.Count.{Count}
-use Rattle.ends_core.specs.declared.unit.Unit.{Unit as Counted}
+use Rattle.seg_core.specs.declared.unit.Unit.{Unit as Counted}
 use Rattle.tee_core.specs.Run.{LeavesOf, all_copied, EndsAs as TeeCopies}
 use Rattle.tee_core.specs.Run as copies
 use Rattle.words_core.specs.EndsAsked.{EndsAsked}
 use Rattle.words_core.specs.Spelling.{IsRefused}
 use Rattle.words_core.specs.CsplitAsked.{CsplitAsked}
 use Rattle.words_core.specs.TeeAsked.{TeeAsked}
-use Rattle.csplit_core.specs.Reading.{Asks}
-use Rattle.csplit_core.specs.declared.operand.Operand.{Operand}
+use Rattle.operand_core.specs.Reading.{Asks}
+use Rattle.operand_core.specs.declared.operand.Operand.{Operand}
 use Rattle.words_core.specs.declared.settings.Headers.{Headers}
 use Rattle.words_core.specs.declared.settings.Settings.{Settings}
 use Rattle.words_core.specs.declared.settings.Settings.TheVariants.{Head, Tail, Split, Csplit, Tee}

@@ -8,8 +8,8 @@ use Rattle.ports_core.specs.declared.tool.Tool.{Tool}
 use Rattle.ports_core.specs.declared.tool.Tool.TheVariants as tool
 use Rattle.ports_core.specs.declared.fault.Fault.{Fault}
 use Rattle.ports_core.specs.declared.fault.Fault.TheVariants.{Memory, Write, Read, Open, Suffixes, NoMatch, Range, Usage, Failed, TooLong}
-use Rattle.csplit_core.specs.declared.operand.Operand.{Operand}
-use Rattle.csplit_core.specs.Reading.{Asks}
+use Rattle.operand_core.specs.declared.operand.Operand.{Operand}
+use Rattle.operand_core.specs.Reading.{Asks}
 use Rattle.run_core.specs.Feeding.{BreaksOnly}
 use Rattle.run_core.specs.Input.{Input, standard_input}
 use Rattle.run_core.specs.Reading.{AreUntouched}

@@ -11,7 +11,7 @@ use Rattle.ends_core.specs.Head.{head_work}
 use Rattle.ends_core.specs.Tail.{tail_work}
 use Rattle.split_core.specs.Split.{Plan, split_work}
 use Rattle.csplit_core.specs.Csplit.{csplit_work}
-use Rattle.csplit_core.specs.declared.operand.Operand.{Operand}
+use Rattle.operand_core.specs.declared.operand.Operand.{Operand}
 use Rattle.run_core.specs.Task.{Task}
 use Rattle.words_core.specs.declared.settings.Headers.{Headers}
 use Rattle.words_core.specs.declared.settings.Headers.TheVariants.{ForSeveral, Never, Always}

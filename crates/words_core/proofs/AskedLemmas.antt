@@ -2,11 +2,11 @@
 use Rattle.std.proofs.Common.{◌≡◌, ℕ, List, [], ◌∷◌, ◌++◌, Ok, true, codes, false, lit<, refl, sym, ap, ◌∙◌, if◌then◌else◌}
 use Rattle.seg_core.specs.Count.{count_of, digits_of, is_number}
 use Rattle.seg_core.specs.declared.count.Count.{Count}
-use Rattle.ends_core.specs.declared.unit.Unit.TheVariants as unit
+use Rattle.seg_core.specs.declared.unit.Unit.TheVariants as unit
 use Rattle.ports_core.specs.declared.tool.Tool.TheVariants as tool
 use Rattle.ports_core.specs.declared.alphabet.Alphabet.TheVariants as alphabet
 use Rattle.ports_core.specs.declared.slot.Mode.TheVariants as mode
-use Rattle.split_core.specs.declared.cut.Cut.TheVariants as cut
+use Rattle.seg_core.specs.declared.cut.Cut.TheVariants as cut
 use Rattle.words_core.specs.declared.table.Choice.{Choice}
 use Rattle.words_core.specs.declared.table.Choice.TheVariants.{Lines, Bytes, LineBytes, Files, Digits}
 use Rattle.words_core.specs.declared.table.Kind.{Kind}

@@ -13,9 +13,9 @@ use Rattle.ports_core.specs.declared.alphabet.Alphabet.TheVariants.{Letters, Dig
 use Rattle.ports_core.specs.declared.tool.Tool.{Tool}
 use Rattle.ports_core.specs.declared.tool.Tool.TheVariants as tool
 use Rattle.ports_core.specs.Name.{name_count}
-use Rattle.csplit_core.specs.Output.{Style}
-use Rattle.split_core.specs.declared.cut.Cut.{Cut}
-use Rattle.split_core.specs.declared.cut.Cut.TheVariants as cut
+use Rattle.operand_core.specs.Style.{Style}
+use Rattle.seg_core.specs.declared.cut.Cut.{Cut}
+use Rattle.seg_core.specs.declared.cut.Cut.TheVariants as cut
 use Rattle.words_core.specs.declared.table.Choice.{Choice}
 use Rattle.words_core.specs.declared.table.Choice.TheVariants as choice
 use Rattle.words_core.specs.declared.table.Kind.{Kind}

@@ -1,6 +1,6 @@
 -- What words ask of `csplit`.
 use Rattle.std.specs.Prelude.{ℕ, List}
-use Rattle.csplit_core.specs.Output.{Style}
+use Rattle.operand_core.specs.Style.{Style}
 
 pub record CsplitAsked : Type 0 where
   -- how files are made

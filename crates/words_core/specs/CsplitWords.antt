@@ -1,12 +1,12 @@
 -- What options and operands ask of `csplit`, or what is wrong with them.
 use Rattle.std.specs.Prelude.{◌≡◌, ℕ, false, true, List, [], ◌∷◌, fold, codes, slice_index_or, Option, Some, None, Result, Ok, Err}
 use Rattle.bre_core.specs.Fault.{number_of, offset_of}
-use Rattle.csplit_core.specs.Fault.{number_of_kind}
-use Rattle.csplit_core.specs.Output.{Style}
-use Rattle.csplit_core.specs.Reading.{IsFault}
-use Rattle.csplit_core.specs.declared.operand_fault.OperandFault.{OperandFault}
-use Rattle.csplit_core.specs.declared.operand_fault.OperandFaultKind.{OperandFaultKind}
-use Rattle.csplit_core.specs.declared.operand_fault.OperandFaultKind.TheVariants as kind
+use Rattle.operand_core.specs.Fault.{number_of_kind}
+use Rattle.operand_core.specs.Style.{Style}
+use Rattle.operand_core.specs.Reading.{IsFault}
+use Rattle.operand_core.specs.declared.operand_fault.OperandFault.{OperandFault}
+use Rattle.operand_core.specs.declared.operand_fault.OperandFaultKind.{OperandFaultKind}
+use Rattle.operand_core.specs.declared.operand_fault.OperandFaultKind.TheVariants as kind
 use Rattle.ports_core.specs.declared.fault.Fault.{Fault}
 use Rattle.ports_core.specs.declared.fault.Fault.TheVariants.{Memory, Usage}
 use Rattle.ports_core.specs.declared.fault.UsageKind.{UsageKind}

@@ -1,7 +1,7 @@
 -- What words ask of `head` or `tail`.
 use Rattle.std.specs.Prelude.{ℕ, List}
 use Rattle.seg_core.specs.declared.count.Count.{Count}
-use Rattle.ends_core.specs.declared.unit.Unit.{Unit as Counted}
+use Rattle.seg_core.specs.declared.unit.Unit.{Unit as Counted}
 use Rattle.words_core.specs.declared.settings.Headers.{Headers}
 
 pub record EndsAsked : Type 0 where

@@ -1,8 +1,8 @@
 -- What options and operands ask of `head` or `tail`.
 use Rattle.std.specs.Prelude.{ℕ, List, [], ◌∷◌, fold, codes}
 use Rattle.seg_core.specs.declared.count.Sign.TheVariants.{Plain}
-use Rattle.ends_core.specs.declared.unit.Unit.{Unit as Measured}
-use Rattle.ends_core.specs.declared.unit.Unit.TheVariants as unit
+use Rattle.seg_core.specs.declared.unit.Unit.{Unit as Measured}
+use Rattle.seg_core.specs.declared.unit.Unit.TheVariants as unit
 use Rattle.words_core.specs.declared.table.Choice.{Choice}
 use Rattle.words_core.specs.declared.table.Choice.TheVariants.{Lines, Bytes, Quiet, Verbose, ZeroTerminated}
 use Rattle.words_core.specs.declared.settings.Headers.TheVariants.{ForSeveral, Never, Always}

@@ -2,12 +2,12 @@
 use Rattle.std.specs.Prelude.{◌≡◌, ◌≢◌, ℕ, ◌+◌, ◌-◌, ◌^◌, ◌<◌, Bool, true, false, List, [], ◌∷◌, ◌++◌, fold, codes, Option, Some, None, Result}
 use Rattle.std.specs.List.{list_any}
 use Rattle.seg_core.specs.declared.count.Count.{Count}
-use Rattle.ends_core.specs.declared.unit.Unit.{Unit as Measured}
-use Rattle.ends_core.specs.declared.unit.Unit.TheVariants as unit
+use Rattle.seg_core.specs.declared.unit.Unit.{Unit as Measured}
+use Rattle.seg_core.specs.declared.unit.Unit.TheVariants as unit
 use Rattle.ports_core.specs.declared.alphabet.Alphabet.{Alphabet}
 use Rattle.ports_core.specs.declared.fault.Fault.{Fault}
-use Rattle.split_core.specs.declared.cut.Cut.{Cut}
-use Rattle.csplit_core.specs.Output.{Style}
+use Rattle.seg_core.specs.declared.cut.Cut.{Cut}
+use Rattle.operand_core.specs.Style.{Style}
 use Rattle.words_core.specs.declared.table.Choice.{Choice}
 use Rattle.words_core.specs.declared.table.Choice.TheVariants.{Lines, Bytes, LineBytes, Files, Quiet, Verbose, SuffixLength, NumericSuffixes, HexSuffixes, ElideEmptyFiles, Prefix, Digits, KeepFiles, SuppressMatched, Append, Follow, FollowNames, Retry, Looks as HowOften}
 use Rattle.words_core.specs.declared.table.Kind.{Kind}

@@ -1,6 +1,6 @@
 -- What words ask of `split`.
 use Rattle.std.specs.Prelude.{ℕ, Bool, List}
-use Rattle.split_core.specs.declared.cut.Cut.{Cut}
+use Rattle.seg_core.specs.declared.cut.Cut.{Cut}
 use Rattle.ports_core.specs.declared.alphabet.Alphabet.{Alphabet}
 
 pub record SplitAsked : Type 0 where

@@ -1,11 +1,11 @@
 //! What `csplit` is to do, with the operands that its words spell.
 ghost use Rattle.std.specs.Prelude.{◌≡◌, ◌⊎◌, [], map, slice_index_or, IfOk, IfErr};
-ghost use Rattle.csplit_core.specs.Reading.{Asks};
+ghost use Rattle.operand_core.specs.Reading.{Asks};
 ghost use Rattle.words_core.specs.CsplitWords.{HasBadOperand, asked_with, operand_fault, pattern_kind};
 ghost use Rattle.words_core.specs.Given.{operand_seen};
 
 use crate::spelled::{Operand, places_of, texts_of};
-use csplit_core::{OperandFault, OperandFaultKind, Operands, Style, read_operands};
+use operand_core::{OperandFault, OperandFaultKind, Operands, Style, read_operands};
 use ports_core::{Fault, UsageKind};
 use std::alloc::Global;
 use std::marker::Model;
@@ -24,7 +24,7 @@ pub struct CsplitSettings<'a> {
 
 impl<'a> Model for CsplitSettings<'a> {
     ghost use Rattle.std.specs.Prelude.{map};
-    ghost use Rattle.csplit_core.specs.Reading.{Asks};
+    ghost use Rattle.operand_core.specs.Reading.{Asks};
     ghost use Rattle.words_core.specs.CsplitAsked.{CsplitAsked};
 
     ghost Value = { CsplitAsked };

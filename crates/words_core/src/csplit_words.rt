@@ -9,7 +9,7 @@ use crate::csplit_settings::{CsplitSettings, read_settings};
 use crate::spelled::{Chosen, Spelled};
 use crate::table::Choice;
 use crate::value::Value;
-use csplit_core::Style;
+use operand_core::Style;
 use ports_core::{Fault, UsageKind};
 use std::alloc::Global;
 

@@ -10,10 +10,10 @@ use crate::settings::{EndsSettings, Headers};
 use crate::spelled::{Chosen, Operand, Spelled, texts_of};
 use crate::table::Choice;
 use crate::value::Value;
-use ends_core::Unit;
 use ports_core::{Fault, STANDARD_INPUT};
 use seg_core::count::{Count, Sign};
 use seg_core::line::NEWLINE;
+use seg_core::unit::Unit;
 use std::alloc::Global;
 
 /// What the options of `head` or `tail` ask for.

@@ -20,10 +20,10 @@ use crate::settings::{Headers, Settings};
 use crate::spelling::State;
 use crate::table::{Choice, Kind};
 use crate::value::Followed;
-use ends_core::Unit;
 use ports_core::{Alphabet, Fault, Mode};
 use seg_core::count::Count;
-use split_core::Cut;
+use seg_core::cut::Cut;
+use seg_core::unit::Unit;
 
 /// Of several counts for `head` or `tail` the last decides, as if it stood alone, whatever options stand before it;
 /// and so does the last option for headers. Other options change neither (POSIX.1-2017, XBD 12.2, guideline 11,

@@ -6,10 +6,10 @@ ghost use Rattle.words_core.specs.TeeAsked.{TeeAsked};
 
 use crate::csplit_settings::CsplitSettings;
 use crate::value::Followed;
-use ends_core::Unit;
 use ports_core::{Alphabet, Mode};
 use seg_core::count::Count;
-use split_core::Cut;
+use seg_core::cut::Cut;
+use seg_core::unit::Unit;
 use std::marker::Model;
 
 /// What a list of words asks for. Names are the words themselves.

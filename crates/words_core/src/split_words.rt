@@ -11,8 +11,8 @@ use crate::spelled::{Chosen, Operand, Spelled};
 use crate::table::Choice;
 use crate::value::Value;
 use ports_core::{Alphabet, Fault, STANDARD_INPUT, UsageKind};
+use seg_core::cut::Cut;
 use seg_core::line::NEWLINE;
-use split_core::Cut;
 
 /// How files are cut where no way is given.
 const THOUSAND_LINES: Cut = Cut::Lines(1000);

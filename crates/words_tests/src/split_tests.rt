@@ -2,7 +2,7 @@
 //! no memory for them.
 use crate::refused::{Refused, refuse};
 use ports_core::{Alphabet, UsageKind};
-use split_core::Cut;
+use seg_core::cut::Cut;
 use std::alloc::Global;
 use std::process::Abort;
 use words_core::{Settings, SplitSettings, read_words};

@@ -18,4 +18,4 @@ returns-else-not-found-clause-says c lines seen =
     falls_search c.args.suppress lines c.args.total (state_of c.args.operands.now c.args.self.now) c.args.found c.in-Some.operand.now (drop (c.args.self.now.done + 1) c.args.operands.now) c.in-Search.pattern c.in-Search.is_kept c.in-Search.offset _
     (left_is c.args.operands.now c.args.self.now.done c.in-Some.operand.now c.in-Some.ensures.lookup.3.0 c.in-Some.ensures.lookup.1) c.in-Search.is seen
     (let s = c.search_line.ensures c.args.operands.now in omega (arith, s, c.if-total-search_line.false)) c.if-not-found.false
-    c.from.ensures c.requires.few c.fall-in-Search.result c.fall-in-Search.ensures
+    c.line_at.ensures c.requires.few c.fall-in-Search.result c.fall-in-Search.ensures

@@ -3,8 +3,8 @@ use Rattle.ports_core.specs.Guard.{GuardState}
 use Rattle.ports_core.specs.Part.{OutputsAt, nothing}
 use Rattle.ports_core.specs.Slot.{Slot}
 use Rattle.ports_core.specs.Name.{Naming}
-use Rattle.split_core.specs.declared.cut.Cut.{Cut}
-use Rattle.split_core.specs.declared.cut.Limit.{Limit}
+use Rattle.seg_core.specs.declared.cut.Cut.{Cut}
+use Rattle.split_core.specs.declared.limit.Limit.{Limit}
 use Rattle.split_core.specs.PartState.{parts_work}
 use Rattle.split_core.specs.Split.{settled_by, split_work}
 use Rattle.split_core.specs.Ways.{work}

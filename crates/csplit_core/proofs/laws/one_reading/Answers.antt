@@ -1,5 +1,0 @@
-use Rattle.csplit_core.proofs.OneReading.{asks_once, reads_or_fails}
-use Rattle.csplit_core.proofs.laws.one_reading.Goals as goal
-
-pub returns : goal.returns
-returns c = record { only = asks_once; either = reads_or_fails }

@@ -1,9 +1,0 @@
-use Rattle.std.proofs.Common.{length}
-use Rattle.csplit_core.proofs.ReadingLemmas.{Reads}
-use Rattle.csplit_core.proofs.operands.read_operands.Given as goal
-
-abbrev pub invariant-loop-left : goal.invariant-loop-left
-invariant-loop-left l = Reads l.words l.list.items l.least l.left
-
-abbrev pub decreases-loop-left : goal.decreases-loop-left
-decreases-loop-left l = length l.left

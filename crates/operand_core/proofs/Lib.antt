@@ -1,0 +1,4 @@
+pub mod WordLemmas
+pub mod AimLemmas
+pub mod ReadingLemmas
+pub mod OneReading

@@ -1,0 +1,193 @@
+-- Reading a list of words.
+use Rattle.std.proofs.Common.{◌≡◌, ℕ, suc, ◌+◌, ◌-◌, ◌<◌, ◌≤◌, Bor, get_or, List, [], ◌∷◌, ◌++◌, map, length, take, drop, length-drop, Option, Some, None, Result, Ok, Err, refl, sym, ◌∙◌, ap, subst, arith, append_assoc}
+use Rattle.std.proofs.lemmas.List.{append-nil, take_all, drop-map}
+use Rattle.std.proofs.lemmas.Bool.Decides.{nat_tests}
+use Rattle.std.specs.Prelude.{◌≢◌, ◌==◌, true}
+use Rattle.operand_core.specs.Operand.{Target, Number, Search, Times, Count, Operand}
+use Rattle.operand_core.specs.Word.{spelling}
+use Rattle.operand_core.specs.Reading.{Aim, line, match, Spelled, Aimed, aims, fails, aim_of, least_after, times_by, Words, no_more, failed, with_operand, words_from, words_of, IsTarget, IsRead, AreRead, Asks, HasRefused, IsFault}
+use Rattle.operand_core.specs.Reading as reading
+use Rattle.operand_core.specs.Aiming.{IsAimed, is_target, is_wrong, is_refused, no_memory}
+use Rattle.operand_core.specs.Repeating.{least_by, SayTimes, no_word, again, other}
+use Rattle.operand_core.specs.declared.operand_fault.OperandFaultKind.{OperandFaultKind}
+use Rattle.operand_core.specs.declared.operand_fault.OperandFaultKind.TheVariants as kind
+
+-- the operands before these words, and what these ask for
+abbrev pub after_front : List Spelled → Words → Words
+after_front front words = record { operands = front ++ words.operands; fault = words.fault }
+
+-- an operand with another word after it, of which it is known whether it says how often the operand is performed again
+step_to : (index least : ℕ) (word next : List ℕ) (rest : List (List ℕ)) (aim : Aim) (found : Option Times) → aim_of least (spelling word) ≡ aims aim → times_by (spelling next) ≡ found
+    → words_from index least (word ∷ next ∷ rest) ≡ elim found [
+      | Some times ↦ with_operand index aim times (words_from (index + 2) (least_after least aim) rest)
+      | None ↦ with_operand index aim (Count 0) (words_from (index + 1) (least_after least aim) (next ∷ rest))
+    ]
+step_to index least word next rest aim found is says =
+    ap (λ a. elim a [
+      | fails what ↦ failed what index
+      | aims aim ↦ elim (times_by (spelling next)) [
+        | Some times ↦ with_operand index aim times (words_from (index + 2) (least_after least aim) rest)
+        | None ↦ with_operand index aim (Count 0) (words_from (index + 1) (least_after least aim) (next ∷ rest))
+      ]
+    ]) is
+    ∙ ap (λ t. elim t [
+      | Some times ↦ with_operand index aim times (words_from (index + 2) (least_after least aim) rest)
+      | None ↦ with_operand index aim (Count 0) (words_from (index + 1) (least_after least aim) (next ∷ rest))
+    ]) says
+
+-- a step over an operand and the words that say how often it is performed again
+pub step_over : (index least : ℕ) (word : List ℕ) (words : List (List ℕ)) (aim : Aim) (times : Times) (said : ℕ) → aim_of least (spelling word) ≡ aims aim → SayTimes words times said
+    → words_from index least (word ∷ words) ≡ with_operand index aim times (words_from (index + (1 + said)) (least_after least aim) (drop said words))
+step_over index least word words aim times said is no_word =
+    ap (λ a. elim a [ fails what ↦ failed what index | aims aim ↦ with_operand index aim (Count 0) no_more ]) is
+step_over index least word words aim times said is (again next rest times' says) = step_to index least word next rest aim (Some times') is says
+step_over index least word words aim times said is (other next rest says) = step_to index least word next rest aim None is says
+
+-- a word that is wrong ends the list
+pub stop_at : (index least : ℕ) (word : List ℕ) (words : List (List ℕ)) (what : OperandFaultKind) → aim_of least (spelling word) ≡ fails what → words_from index least (word ∷ words) ≡ failed what index
+stop_at index least word [] what is = ap (λ a. elim a [ fails what ↦ failed what index | aims aim ↦ with_operand index aim (Count 0) no_more ]) is
+stop_at index least word (next ∷ words) what is =
+    ap (λ a. elim a [
+      | fails what ↦ failed what index
+      | aims aim ↦ elim (times_by (spelling next)) [
+        | Some times ↦ with_operand index aim times (words_from (index + 2) (least_after least aim) words)
+        | None ↦ with_operand index aim (Count 0) (words_from (index + 1) (least_after least aim) (next ∷ words))
+      ]
+    ]) is
+
+-- the words as texts
+abbrev pub texts : List (Bor (List ℕ)) → List (List ℕ)
+texts words = map (λ word. word.now) words
+
+pub no_first : (words : List (Bor (List ℕ))) → length words < 1 → SayTimes (texts words) (Count 0) 0
+no_first [] none = no_word
+no_first (word ∷ words) none = absurd (omega (arith, none))
+
+pub first_says : (words : List (Bor (List ℕ))) (text : List ℕ) (default : Bor (List ℕ)) (says : Option Times) (times : Times) → 1 ≤ length words → text ≡ (get_or words 0 default).now
+    → says ≡ times_by (spelling text) → says ≡ Some times → SayTimes (texts words) times 1
+first_says [] text default says times some is reads at = absurd (omega (arith, some))
+first_says (word ∷ words) text default says times some is reads at = again word.now (texts words) times (sym (ap (λ those. times_by (spelling those)) is) ∙ sym reads ∙ at)
+
+pub first_is_other : (words : List (Bor (List ℕ))) (text : List ℕ) (default : Bor (List ℕ)) (says : Option Times) → 1 ≤ length words → text ≡ (get_or words 0 default).now
+    → says ≡ times_by (spelling text) → says ≡ None → SayTimes (texts words) (Count 0) 0
+first_is_other [] text default says some is reads at = absurd (omega (arith, some))
+first_is_other (word ∷ words) text default says some is reads at = other word.now (texts words) (sym (ap (λ those. times_by (spelling those)) is) ∙ sym reads ∙ at)
+
+-- Some words were read, and these are left.
+pub record Reads (words : List (Bor (List ℕ))) (read : List Operand) (least : ℕ) (left : List (Bor (List ℕ))) : Type 0 where
+  pub front : List Spelled
+  pub are : AreRead front read
+  pub within : length left ≤ length words
+  pub asks : words_of (texts words) ≡ after_front front (words_from (length words - length left) least (texts left))
+
+pub reads_first : (words : List (Bor (List ℕ))) → length words ≢ 0 → Reads words [] 0 words
+reads_first [] some = absurd (some refl)
+reads_first (word ∷ words) some = record {
+  front = [];
+  are = tt;
+  within = omega arith;
+  asks = ap (λ n. words_from n 0 (texts (word ∷ words))) (let e : 0 ≡ suc (length words) - suc (length words) = omega arith in e);
+}
+
+-- what a word that is no operand makes of the list
+
+abbrev pub spelled_as : ℕ → Aim → Times → Spelled
+spelled_as index aim times = record { index = index; aim = aim; times = times }
+
+all_read : (front : List Spelled) (read : List Operand) → AreRead front read → (words : List Spelled) → words ≡ front ++ [] → AreRead words read
+all_read front read are words is = subst (λ those. AreRead those read) (sym (is ∙ append-nil front)) are
+
+pub ends_well : (words : List (Bor (List ℕ))) (read : List Operand) (least : ℕ) (left : List (Bor (List ℕ))) → Reads words read least left → length left < 1 → Asks (texts words) read
+ends_well words read least [] reads none = record {
+  well = ap (λ (w : Words). w.fault) reads.asks;
+  read = all_read reads.front read reads.are (words_of (texts words)).operands (ap (λ (w : Words). w.operands) reads.asks);
+}
+ends_well words read least (word ∷ left) reads none = absurd (omega (arith, none))
+
+-- there is a time for each operand
+says_by : (next : List ℕ) (words : List (List ℕ)) (says : Option Times) → times_by (spelling next) ≡ says → (times : Times) × (said : ℕ) × SayTimes (next ∷ words) times said
+says_by next words None is = (Count 0, 0, other next words is)
+says_by next words (Some times) is = (times, 1, again next words times is)
+
+says : (words : List (List ℕ)) → (times : Times) × (said : ℕ) × SayTimes words times said
+says [] = (Count 0, 0, no_word)
+says (next ∷ words) = says_by next words (times_by (spelling next)) refl
+
+ends_by : (words : List (List ℕ)) (read : List Operand) (front : List Spelled) (index least : ℕ) (word : List ℕ) (left : List (List ℕ)) (what : OperandFaultKind)
+    → AreRead front read → words_of words ≡ after_front front (words_from index least (word ∷ left)) → IsAimed (aim_of least (spelling word)) (Err what) → IsFault words (record { kind = what; index = index })
+ends_by words read front index least word left what are asks (is_wrong what' is) =
+    let at : words_of words ≡ after_front front (failed what index) = asks ∙ ap (after_front front) (stop_at index least word left what is) in
+    reading.is_wrong (record { kind = what; index = index }) read (ap (λ (w : Words). w.fault) at) (all_read front read are (words_of words).operands (ap (λ (w : Words). w.operands) at))
+ends_by words read front index least word left what are asks (is_refused aim fault is refused) =
+    let said = says left in
+    reading.is_refused fault front (spelled_as index aim said.0) _ read
+    (ap (λ (w : Words). w.operands) (asks ∙ ap (after_front front) (step_over index least word left aim said.0 said.1 is said.2))) are refused
+ends_by words read front index least word left what are asks no_memory = reading.no_memory index
+
+pub ends_at : (words : List (Bor (List ℕ))) (read : List Operand) (least : ℕ) (left : List (Bor (List ℕ))) (text : List ℕ) (default : Bor (List ℕ)) (result : Result Target OperandFaultKind) (what : OperandFaultKind)
+    → Reads words read least left → 1 ≤ length left → text ≡ (get_or left 0 default).now → IsAimed (aim_of least (spelling text)) result → result ≡ Err what
+    → IsFault (texts words) (record { kind = what; index = length words - length left })
+ends_at words read least [] text default result what reads some is aimed at = absurd (omega (arith, some))
+ends_at words read least (word ∷ left) text default result what reads some is aimed at =
+    ends_by (texts words) read reads.front (length words - length (word ∷ left)) least word.now (texts left) what reads.are reads.asks
+    (subst (IsAimed (aim_of least (spelling word.now))) at (subst (λ those. IsAimed (aim_of least (spelling those)) result) is aimed))
+
+pub lacks_room : (words : List (List ℕ)) (index : ℕ) (what : OperandFaultKind) → what ≡ kind.Memory → IsFault words (record { kind = what; index = index })
+lacks_room words index what is = subst (λ k. IsFault words (record { kind = k; index = index })) (sym is) (reading.no_memory index)
+
+pub no_operand : (words : List (Bor (List ℕ))) → (length words == 0) ≡ true → IsFault (texts words) (record { kind = kind.Missing; index = 0 })
+no_operand [] none = reading.is_wrong (record { kind = kind.Missing; index = 0 }) [] refl tt
+no_operand (word ∷ words) none = absurd (some (length words) none) where
+  some : (n : ℕ) → (suc n == 0) ≡ true → ⊥
+  some n is = grind (arith, nat_tests, is)
+
+are_more : (front : List Spelled) (read : List Operand) (spelled : Spelled) (operand : Operand) → AreRead front read → IsRead spelled operand → AreRead (front ++ spelled ∷ []) (read ++ operand ∷ [])
+are_more [] [] spelled operand are is = (is, tt)
+are_more [] (one ∷ read) spelled operand are is = absurd are
+are_more (first ∷ front) [] spelled operand are is = absurd are
+are_more (first ∷ front) (one ∷ read) spelled operand are is = (are.0, are_more front read spelled operand are.1 is)
+
+least_same : (least : ℕ) (aim : Aim) (target : Target) → IsTarget aim target → least_after least aim ≡ least_by least target
+least_same least (line n) (Number m) is = sym is
+least_same least (line n) (Search pattern kept offset) is = absurd is
+least_same least (match kept text offset) (Number m) is = absurd is
+least_same least (match kept text offset) (Search pattern kept' offset') is = refl
+
+-- the rest of a slice
+pub slice_rest : {X : Type 0} (n : ℕ) (xs : List X) → take (length xs - n) (drop n xs) ≡ drop n xs
+slice_rest n xs = take_all (length xs - n) (drop n xs) (let e : length (drop n xs) ≡ length xs - n = length-drop n xs in omega (arith, e))
+
+next_by : (words : List (List ℕ)) (read : List Operand) (front : List Spelled) (index least : ℕ) (word : List ℕ) (left : List (List ℕ)) (target : Target) (times : Times) (said : ℕ)
+    → AreRead front read → words_of words ≡ after_front front (words_from index least (word ∷ left)) → IsAimed (aim_of least (spelling word)) (Ok target) → SayTimes left times said
+    → (front' : List Spelled) × AreRead front' (read ++ record { index = index; target = target; times = times } ∷ [])
+    × (words_of words ≡ after_front front' (words_from (index + (1 + said)) (least_by least target) (drop said left)))
+next_by words read front index least word left target times said are asks (is_target aim target' is hits) says = (
+  front ++ spelled_as index aim times ∷ [],
+  are_more front read (spelled_as index aim times) (record { index = index; target = target; times = times }) are (record { index = refl; target = hits; times = refl }),
+  asks ∙ ap (after_front front) (step_over index least word left aim times said is says)
+      ∙ ap (λ those. record { operands = those; fault = (words_from (index + (1 + said)) (least_after least aim) (drop said left)).fault })
+      (sym (append_assoc front (spelled_as index aim times ∷ []) (words_from (index + (1 + said)) (least_after least aim) (drop said left)).operands))
+      ∙ ap (λ n. after_front (front ++ spelled_as index aim times ∷ []) (words_from (index + (1 + said)) n (drop said left))) (least_same least aim target hits),
+)
+
+pub reads_next : (words : List (Bor (List ℕ))) (read : List Operand) (least : ℕ) (left : List (Bor (List ℕ))) (text : List ℕ) (default : Bor (List ℕ)) (result : Result Target OperandFaultKind) (target : Target)
+    (rest : List (Bor (List ℕ))) (times : Times) (said : ℕ) (now : List Operand) (after : List (Bor (List ℕ))) (least' : ℕ)
+    → Reads words read least left → 1 ≤ length left → text ≡ (get_or left 0 default).now → IsAimed (aim_of least (spelling text)) result → result ≡ Ok target
+    → rest ≡ drop 1 left → SayTimes (texts rest) times said → said ≤ length rest → now ≡ read ++ record { index = length words - length left; target = target; times = times } ∷ []
+    → after ≡ drop said rest → least' ≡ least_by least target → Reads words now least' after
+reads_next words read least [] text default result target rest times said now after least' reads some is aimed at rest_is says within now_is after_is least_is = absurd (omega (arith, some))
+reads_next words read least (word ∷ left) text default result target rest times said now after least' reads some is aimed at rest_is says within now_is after_is least_is =
+    let next = next_by (texts words) read reads.front (length words - suc (length left)) least word.now (texts left) target times said reads.are reads.asks
+    (subst (IsAimed (aim_of least (spelling word.now))) at (subst (λ those. IsAimed (aim_of least (spelling those)) result) is aimed))
+    (subst (λ those. SayTimes (texts those) times said) rest_is says) in
+    let length_is : length after ≡ length left - said = ap length (after_is ∙ ap (drop said) rest_is) ∙ length-drop said left in
+    let enough : suc (length left) ≤ length words = reads.within in
+    let few : said ≤ length left = subst (λ those. said ≤ length those) rest_is within in record {
+      front = next.0;
+      are = subst (AreRead next.0) (sym now_is) next.1;
+      within = omega (arith, length_is, enough);
+      asks = next.2
+          ∙ ap (λ n. after_front next.0 (words_from n (least_by least target) (drop said (texts left)))) (let e : length words - suc (length left) + (1 + said) ≡ length words - length after = omega (arith, length_is, enough, few) in e)
+          ∙ ap (λ n. after_front next.0 (words_from (length words - length after) n (drop said (texts left)))) (sym least_is)
+          ∙ ap (λ those. after_front next.0 (words_from (length words - length after) least' those)) (drop-map (λ word. word.now) said left ∙ ap texts (sym (after_is ∙ ap (drop said) rest_is)));
+    }

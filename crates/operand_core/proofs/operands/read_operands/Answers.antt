@@ -1,0 +1,19 @@
+use Rattle.std.proofs.Common.{sym}
+use Rattle.operand_core.proofs.ReadingLemmas.{texts, no_operand, ends_at, lacks_room, reads_next, slice_rest}
+use Rattle.operand_core.proofs.operands.read_operands.Goals as goal
+
+pub returns-then-is_empty-clause-err : goal.returns-then-is_empty-clause-err
+returns-then-is_empty-clause-err c = no_operand c.args.words.now (sym c.if-is_empty.ensures)
+
+pub returns-in-Err-clause-err : goal.returns-in-Err-clause-err
+returns-in-Err-clause-err c =
+    ends_at c.args.words.now c.loop-left.list.items c.loop-left.least c.loop-left.left.now c.as_bytes.result.now _ c.read_target.result c.in-Err.kind c.loop-left.invariant c.in-len1-up.len_at_least c.as_bytes.ensures.value c.read_target.ensures c.in-Err.is
+
+pub returns-in-Err-keep-clause-err : goal.returns-in-Err-keep-clause-err
+returns-in-Err-keep-clause-err c = lacks_room (texts c.args.words.now) _ c.in-Err-keep.kind c.in-Err-keep.ensures.err
+
+pub loop-left-preserved : goal.loop-left-preserved
+loop-left-preserved c =
+    reads_next c.args.words.now c.loop-left.list.items c.loop-left.least c.loop-left.left.now c.as_bytes.result.now _ c.read_target.result c.in-Ok.target _ c.times_before-times.result.0 c.times_before-times.result.1 c.keep.new.list.items _ c.least_after-least.result
+    c.loop-left.invariant c.in-len1-up.len_at_least c.as_bytes.ensures.value c.read_target.ensures c.in-Ok.is (slice_rest 1 c.loop-left.left.now) c.times_before-times.ensures.says c.times_before-times.ensures.within
+    c.in_default-keep.ensures.ok (slice_rest c.times_before-times.result.1 _) c.least_after-least.ensures

@@ -1,0 +1,8 @@
+pub mod Operand
+pub mod Style
+pub mod Fault
+pub mod Word
+pub mod Seen
+pub mod Reading
+pub mod Repeating
+pub mod Aiming

@@ -1,0 +1,133 @@
+-- What a list of words asks of `csplit`: its operands, or the first fault.
+use Rattle.std.specs.Prelude.{◌≡◌, ℕ, ◌+◌, ◌==◌, ◌≤◌, nat_lt, Bool, List, [], ◌∷◌, ◌++◌, Option, Some, None, if◌then◌else◌}
+use Rattle.bre_core.specs.Pattern.{Pattern, Reads, depth_of, positions_of}
+use Rattle.bre_core.specs.Refusal.{IsOfText, IsTooLarge}
+use Rattle.bre_core.specs.declared.fault.BreFault.{BreFault}
+use Rattle.bre_core.specs.declared.fault.BreFault.TheVariants.{TooLarge, Memory}
+use Rattle.operand_core.specs.Operand.{Offset, Target, Number, Search, Times, Count, Operand}
+use Rattle.operand_core.specs.declared.operand_fault.OperandFault.{OperandFault}
+use Rattle.operand_core.specs.declared.operand_fault.OperandFaultKind.{OperandFaultKind}
+use Rattle.operand_core.specs.declared.operand_fault.OperandFaultKind.TheVariants as kind
+use Rattle.operand_core.specs.Word.{Spelling, number, search, again, wrong, unescaped, spelling}
+
+-- what an operand aims at, its pattern being a text
+pub data Aim : Type 0 where
+  line : ℕ → Aim
+  match : (is_kept : Bool) (text : List ℕ) → Offset → Aim
+
+-- an operand whose pattern is a text
+pub record Spelled : Type 0 where
+  pub index : ℕ
+  pub aim : Aim
+  pub times : Times
+
+pub data Aimed : Type 0 where
+  aims : Aim → Aimed
+  fails : OperandFaultKind → Aimed
+
+-- What a word aims at that no repetition before it takes in. `least` is the nearest line number before it, 0 where there is none. Only a
+-- pattern between `/` and `/` is kept.
+abbrev pub aim_of : (least : ℕ) → Spelling → Aimed
+aim_of least (number n) = if nat_lt n least then fails kind.LineOrder else aims (line n)
+aim_of least (search delimiter text offset) = aims (match (delimiter == 47) (unescaped delimiter text) offset)
+aim_of least (again times) = fails kind.RepeatFirst
+aim_of least (wrong fault) = fails fault
+
+-- the nearest line number before what follows
+abbrev pub least_after : (least : ℕ) → Aim → ℕ
+least_after least (line n) = n
+least_after least (match kept text offset) = least
+
+-- how often the operand before this word is performed again, if the word says it
+abbrev pub times_by : Spelling → Option Times
+times_by (number n) = None
+times_by (search delimiter text offset) = None
+times_by (again times) = Some times
+times_by (wrong fault) = None
+
+-- the operands before the first word that is wrong, and what is wrong with that one
+pub record Words : Type 0 where
+  pub operands : List Spelled
+  pub fault : Option OperandFault
+
+abbrev pub no_more : Words
+no_more = record { operands = []; fault = None }
+
+abbrev pub failed : OperandFaultKind → ℕ → Words
+failed what index = record { operands = []; fault = Some (record { kind = what; index = index }) }
+
+abbrev pub with_operand : ℕ → Aim → Times → Words → Words
+with_operand index aim times words = record { operands = record { index = index; aim = aim; times = times } ∷ words.operands; fault = words.fault }
+
+-- What words ask for, of which the first has this index. A repetition belongs to the operand directly before it.
+abbrev pub words_from : (index least : ℕ) → List (List ℕ) → Words
+words_from index least [] = no_more
+words_from index least (word ∷ []) = elim (aim_of least (spelling word)) [
+  | fails what ↦ failed what index
+  | aims aim ↦ with_operand index aim (Count 0) no_more
+]
+words_from index least (word ∷ next ∷ words) = elim (aim_of least (spelling word)) [
+  | fails what ↦ failed what index
+  | aims aim ↦ elim (times_by (spelling next)) [
+    | Some times ↦ with_operand index aim times (words_from (index + 2) (least_after least aim) words)
+    | None ↦ with_operand index aim (Count 0) (words_from (index + 1) (least_after least aim) (next ∷ words))
+  ]
+]
+
+abbrev pub words_of : List (List ℕ) → Words
+words_of [] = failed kind.Missing 0
+words_of (word ∷ words) = words_from 0 0 (word ∷ words)
+
+-- The text is read as this pattern: it has this tree, with at most 255 groups open at once and at most 65,535 positions.
+pub record IsPattern (text : List ℕ) (pattern : Pattern) : Type 0 where
+  pub reads : Reads text pattern
+  pub groups : depth_of pattern ≤ 255
+  pub size : positions_of pattern ≤ 65535
+
+-- The pattern is refused, with this fault: it is too large, or it is no pattern.
+abbrev pub IsRefused : List ℕ → BreFault → Type 0
+IsRefused text Memory = ⊥
+IsRefused text TooLarge = IsTooLarge text
+IsRefused text _ = (pattern : Pattern) → Reads text pattern → ⊥
+
+abbrev pub IsTarget : Aim → Target → Type 0
+IsTarget (line n) (Number m) = m ≡ n
+IsTarget (line n) (Search pattern kept offset) = ⊥
+IsTarget (match is_kept text offset) (Number m) = ⊥
+IsTarget (match is_kept text offset) (Search pattern kept moved) = IsPattern text pattern × (kept ≡ is_kept) × (moved ≡ offset)
+
+-- the pattern of an operand is read, and all else is as it was spelled
+pub record IsRead (spelled : Spelled) (operand : Operand) : Type 0 where
+  pub index : operand.index ≡ spelled.index
+  pub target : IsTarget spelled.aim operand.target
+  pub times : operand.times ≡ spelled.times
+
+abbrev pub AreRead : List Spelled → List Operand → Type 0
+AreRead [] [] = Unit {0}
+AreRead [] (operand ∷ operands) = ⊥
+AreRead (spelled ∷ more) [] = ⊥
+AreRead (spelled ∷ more) (operand ∷ operands) = IsRead spelled operand × AreRead more operands
+
+-- the words ask for these operands
+pub record Asks (words : List (List ℕ)) (operands : List Operand) : Type 0 where
+  pub well : (words_of words).fault ≡ None
+  pub read : AreRead (words_of words).operands operands
+
+abbrev pub HasRefused : Aim → BreFault → Type 0
+HasRefused (line n) fault = ⊥
+HasRefused (match is_kept text offset) fault = IsRefused text fault
+
+-- The first fault of the words, in their order: a word is wrong and all patterns before it are read, or a pattern is refused and those before it
+-- are read. Want of memory may come at any word.
+pub data IsFault (words : List (List ℕ)) : OperandFault → Type 0 where
+  is_wrong : (fault : OperandFault) (read : List Operand) → (words_of words).fault ≡ Some fault → AreRead (words_of words).operands read → IsFault words fault
+  is_refused : (fault : BreFault) (front : List Spelled) (refused : Spelled) (rest : List Spelled) (read : List Operand)
+      → (words_of words).operands ≡ front ++ refused ∷ rest → AreRead front read → HasRefused refused.aim fault
+      → IsFault words (record { kind = kind.Bre fault; index = refused.index })
+  no_memory : (index : ℕ) → IsFault words (record { kind = kind.Memory; index = index })
+
+-- the fault says that a word is no operand; it is neither want of memory nor a pattern's size
+abbrev pub IsOfWords : OperandFaultKind → Type 0
+IsOfWords kind.Memory = ⊥
+IsOfWords (kind.Bre fault) = IsOfText fault
+IsOfWords _ = Unit {0}

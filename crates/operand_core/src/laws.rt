@@ -1,0 +1,12 @@
+//! A law of the definitions, with no code: it stands on the contract of a function whose body is empty.
+ghost use Rattle.std.specs.Prelude.{◌≡◌, List, ℕ};
+ghost use Rattle.operand_core.specs.Reading.{Asks, IsFault, IsOfWords};
+ghost use Rattle.operand_core.specs.declared.operand_fault.OperandFault.{OperandFault};
+ghost use Rattle.operand_core.specs.declared.operand.Operand.{Operand};
+
+/// Words ask for one list of operands at most, and for none where a word is no operand. (That they ask for none where a
+/// pattern is too large is not said here.)
+pub fn one_reading()
+    ensures only { (words : List (List ℕ)) (one other : List Operand) → Asks words one → Asks words other → one ≡ other }
+    ensures either { (words : List (List ℕ)) (operands : List Operand) (fault : OperandFault) → Asks words operands → IsFault words fault → IsOfWords fault.kind → ⊥ }
+{}

@@ -1,0 +1,51 @@
+//! How files are made of sections.
+ghost use Rattle.std.specs.Prelude.{◌≡◌, IfOk};
+
+use std::alloc::{AllocError, Global};
+use std::marker::Model;
+
+/// How `csplit` makes files (POSIX.1-2017, XCU csplit, OPTIONS; `elide` and `suppress` are GNU's).
+#[derive(Drop)]
+pub struct Style {
+    /// What a file's name begins with (`-f`).
+    pub prefix: String,
+    /// The least number of digits that follow it in a name, filled with zeros, 0 to 255 (`-n`).
+    pub digits: u32,
+    /// Files are kept after a fault (`-k`).
+    pub keep: bool,
+    /// No sizes are written (`-s`).
+    pub quiet: bool,
+    /// An empty section makes no file (`-z`).
+    pub elide: bool,
+    /// The line at a cut is left out (`--suppress-matched`).
+    pub suppress: bool,
+}
+
+impl Model for Style {
+    ghost use Rattle.std.specs.Prelude.{string_bytes};
+    ghost use Rattle.operand_core.specs.Style.{Style as Asked};
+
+    ghost Value = { Asked };
+
+    ghost view = { λ s. record { prefix = string_bytes s.prefix; digits = s.digits; keep = s.keep; quiet = s.quiet; elide = s.elide; suppress = s.suppress } };
+}
+
+impl Style {
+    /// The same style, with a prefix of its own, for which it takes memory.
+    ///
+    /// # Errors
+    ///
+    /// `AllocError` where there is none.
+    pub fn try_clone(&self, alloc: Global) -> Result<Style, AllocError>
+        ensures { IfOk result (λ style. style ≡ self.now) }
+    {
+        Ok(Style {
+            prefix: String::from_str(alloc, &self.prefix)?,
+            digits: self.digits,
+            keep: self.keep,
+            quiet: self.quiet,
+            elide: self.elide,
+            suppress: self.suppress,
+        })
+    }
+}
