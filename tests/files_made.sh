@@ -1,11 +1,12 @@
 # What tests/split and tests/csplit share. Each sets `tool` and `here`, and reads this file. Then it stands in a folder of its
-# own that is removed again, `program` is built, and a C compiler's `faults.so` is there if `has_faults`.
+# own that is removed again, `program` is built, and `faults.so` is there, as a C compiler makes it.
 set -u
 work=$(mktemp -d)
 trap 'rm -rf "$work"' EXIT
 cd "$work" || exit 1
 passed=0
 failed=0
+. "$here/faults.sh"
 "$here/../build" cutters || { echo "0 passed, 1 failed"; exit 1; }
 program=$here/../crates/cutters/out/cutters
 : >printed
@@ -103,8 +104,3 @@ end() {
     [ "$failed" = 0 ]
 }
 
-has_faults() {
-    command -v cc >/dev/null && cc -shared -fPIC -O1 -o faults.so "$here/faults.c" -ldl 2>cc.log && return
-    echo 'no C compiler: interrupted and refused calls are not tried'
-    return 1
-}
