@@ -4,7 +4,8 @@
    ("close": input error) or a removal ("remove": not permitted); a read or write is interrupted ("once"), or a write moves at
    most 7 bytes ("cut"). Then the file FAULT_MET is made.
    Reads from a place, seeks and questions about a file: the first are interrupted and cut short as reads are; one of them all
-   fails ("look"), and before one of these or of the reads the file FAULT_FILE gets the length FAULT_LENGTH ("resize"). */
+   fails ("look"), and before one of these or of the reads the file FAULT_FILE gets the length FAULT_LENGTH ("resize"). Of the
+   questions that find no file one is told so, and by then the file FAULT_FILE is there, with the line "made" ("make"). */
 #define _GNU_SOURCE
 #include <dlfcn.h>
 #include <errno.h>
@@ -94,9 +95,26 @@ off_t lseek(int fd, off_t place, int whence)
     return looks_in_vain() ? -1 : syscall(SYS_lseek, fd, place, whence);
 }
 
+static void makes(void)
+{
+    static int calls;
+    const char *file = getenv("FAULT_FILE");
+    if (errno == ENOENT && file && fails("make", &calls, ENOENT)) {
+        int made = syscall(SYS_openat, AT_FDCWD, file, O_CREAT | O_WRONLY, 0600);
+        syscall(SYS_write, made, "made\n", 5);
+        syscall(SYS_close, made);
+        errno = ENOENT;
+    }
+}
+
 int statx(int fd, const char *name, int flags, unsigned mask, struct statx *about)
 {
-    return looks_in_vain() ? -1 : syscall(SYS_statx, fd, name, flags, mask, about);
+    if (looks_in_vain())
+        return -1;
+    if (syscall(SYS_statx, fd, name, flags, mask, about) == 0)
+        return 0;
+    makes();
+    return -1;
 }
 
 ssize_t read(int fd, void *buffer, size_t size)

@@ -156,13 +156,13 @@ impl ByteWindow {
     }
 }
 
-// A ring without bytes, and with this much room or none.
+// A ring without bytes, and with this much room, or none where there is no memory for so much.
 fn empty_ring(alloc: Global, room: usize) -> Result<HeapCircularBuffer<u8>, AllocError>
     ensures { IfOk result (λ ring. (ring.items ≡ []) × (ring.capacity ≤ room)) }
 {
     match HeapCircularBuffer::with_capacity(alloc, room) {
-        Ok(ring) => Ok(ring),
-        Err(AllocError) => HeapCircularBuffer::with_capacity(alloc, 0),
+        Err(AllocError) if 0 < room => HeapCircularBuffer::with_capacity(alloc, 0),
+        tried => tried,
     }
 }
 

@@ -20,6 +20,8 @@ pub(crate) struct DirName {
     /// The open file. None where none is open, and once the name is broken, so that the system has it back.
     file: Option<File>,
     is_broken: bool,
+    /// A look found nothing, and changes weren't looked for since.
+    is_gone: bool,
     /// What the name led to when a change was last looked for.
     led_to: Option<Seen>,
     /// How many bytes the open file held then.
@@ -41,6 +43,7 @@ impl DirName {
             opened: None,
             file: None,
             is_broken: false,
+            is_gone: false,
             led_to: None,
             held: None,
         })
@@ -60,7 +63,10 @@ impl DirName {
         ensures broke { OnErr result (self.new ≡ breaks self.old) }
     {
         match find(files, self.name.as_str()) {
-            Ok(found) => Ok(found),
+            Ok(found) => {
+                self.is_gone = found.is_none();
+                Ok(found)
+            }
             Err(error) => {
                 self.break_off();
                 Err(error)
@@ -69,7 +75,8 @@ impl DirName {
     }
 
     /// Opens the file that the name leads to, in place of the one that was open, and returns whether there is one. Where there
-    /// is one that can't be opened, the name is broken.
+    /// is one that can't be opened, the name is broken. Where this turn's look found none, there is none: a file that was made
+    /// since is for the next look to find, which tells that it came.
     pub(crate) fn open(&mut self, files: &impl Files<File = File>) -> io::Result<bool>
         ensures opened { OnOk result (self.new ≡ opens self.new.opened self.old) }
         ensures found { IfOk result (λ is_there. is_some self.new.opened ≡ is_there) }
@@ -77,7 +84,7 @@ impl DirName {
     {
         // It goes back to the system first, so that no two files of a name are open.
         self.file = None;
-        match open_file(files, self.name.as_str()) {
+        match self.find_file(files) {
             Ok(Some(opened)) => {
                 self.opened = Some(opened.id);
                 self.file = Some(opened.file);
@@ -94,6 +101,14 @@ impl DirName {
                 Err(error)
             }
         }
+    }
+
+    /// Opens the file that the name leads to. None where it leads nowhere, or where this turn's look found none.
+    fn find_file(&self, files: &impl Files<File = File>) -> io::Result<Option<Opened>> {
+        if self.is_gone {
+            return Ok(None);
+        }
+        open_file(files, self.name.as_str())
     }
 
     /// How many bytes the open file holds. Where that can't be told, the name is broken.
@@ -132,13 +147,14 @@ impl DirName {
     }
 
     /// Whether the name leads elsewhere than at the call before, or its file or the open one has another length. A broken name
-    /// never has changed.
+    /// never has changed. What a look found before doesn't count from here on.
     pub(crate) fn has_changed(&mut self, files: &impl Files) -> bool
         ensures { self.new ≡ self.old }
     {
         if self.is_broken {
             return false;
         }
+        self.is_gone = false;
         let led_to = find(files, self.name.as_str()).unwrap_or(None);
         let held = held_by(&self.file);
         let changed = led_to != self.led_to || held != self.held;
