@@ -7,8 +7,8 @@ use tools_core::{ArgsFault, read_args};
 
 /// Arguments in memory.
 #[derive(Clone, Copy)]
-struct Args<'a> {
-    words: &'a [&'a [u8]],
+pub(crate) struct Args<'a> {
+    pub words: &'a [&'a [u8]],
 }
 
 impl<'a> Env for Args<'a> {

@@ -166,7 +166,7 @@ const ROWS: [Row<'static>; 16] = [
 ];
 
 /// Files in memory with a look after each of these lists of edits.
-fn watch_of(alloc: Global, looks: &[&[Edit<'_>]]) -> Result<MemWatch, Fault>
+pub(crate) fn watch_of(alloc: Global, looks: &[&[Edit<'_>]]) -> Result<MemWatch, Fault>
     ensures unseen { IfOk result (λ watch. seen watch ≡ []) }
     ensures unwatched { IfOk result (λ watch. watch.watched ≡ []) }
 {
@@ -293,28 +293,6 @@ fn each_write_fails(rt: HostRuntime) -> Result<(), Fail> {
         assert!(rt; was_whole, "{:?} makes more writes", row.words);
     }
     Ok(())
-}
-
-/// It passes too where one allocation is refused, as `rt try --test --fail-alloc N` does.
-#[test]
-fn want_of_memory_ends_following(rt: HostRuntime) -> Result<(), Fail> {
-    for row in &ROWS {
-        lacks_memory(&rt, rt.alloc(), row);
-    }
-    Ok(())
-}
-
-fn lacks_memory(rt: &impl Abort, alloc: Global, row: &Row<'_>) {
-    let Ok(mut watch) = watch_of(alloc, row.looks) else {
-        return;
-    };
-    let Ok(mut outs) = MemOut::new(alloc) else {
-        return;
-    };
-    let looks = row.looks.len() as u64;
-    let status = run_follow(alloc, row.words, &mut watch, &mut outs, looks);
-    let is_sound = is_left(&outs, status, row) || has_begun(&outs, status, row);
-    assert!(rt; is_sound, "of {:?}", row.words);
 }
 
 /// Whether a run left just what the row says, and no output broke.

@@ -89,7 +89,7 @@ fn lay(inputs: &mut MemIn, file: &File<'_>) -> Result<(), Fault>
 }
 
 /// Inputs as they are planned.
-fn planned_inputs(alloc: Global, run: &Run<'_>) -> Result<MemIn, Fault>
+pub(crate) fn planned_inputs(alloc: Global, run: &Run<'_>) -> Result<MemIn, Fault>
     ensures { IfOk result (λ inputs. IsFresh inputs.sources) }
 {
     let mut inputs = inputs_of(alloc, run.files, run.input)?;
@@ -114,7 +114,7 @@ fn plan_input(inputs: &mut MemIn, plan: &Plan) -> Result<(), Fault>
 }
 
 /// Outputs as they are planned.
-fn planned_outs(alloc: Global, plans: &[Plan]) -> Result<MemOut, Fault>
+pub(crate) fn planned_outs(alloc: Global, plans: &[Plan]) -> Result<MemOut, Fault>
     ensures { IfOk result (λ outs. outs ≡ streams) }
 {
     let mut outs = MemOut::new(alloc)?;
@@ -201,7 +201,7 @@ fn check_file(
     assert_eq!(rt; outs.removed(slot), is_removed, "of {name} of {words:?}");
 }
 
-fn has_name(names: &[&str], name: &str) -> bool {
+pub(crate) fn has_name(names: &[&str], name: &str) -> bool {
     for other in names {
         if *other == name {
             return true;

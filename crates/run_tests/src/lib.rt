@@ -8,7 +8,13 @@ mod csplit_run_tests;
 #[cfg(test)]
 mod ends_tests;
 #[cfg(test)]
+mod example_tests;
+#[cfg(test)]
+mod failing_watch_tests;
+#[cfg(test)]
 mod follow_tests;
+#[cfg(test)]
+mod growth_tests;
 #[cfg(test)]
 mod left;
 #[cfg(test)]

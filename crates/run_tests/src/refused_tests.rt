@@ -1,5 +1,5 @@
-//! Whole runs over memory where a call is refused: each open, write, close and removal in turn, and memory. Outputs then
-//! have beginnings of what they are to have.
+//! Whole runs over memory where a call is refused: each open, write, close and removal in turn. Outputs then have beginnings of
+//! what they are to have. `growth_tests` has the same for memory.
 ghost use Rattle.std.specs.Prelude.{◌≡◌, IfOk};
 ghost use Rattle.ports_core.specs.Slot.{streams};
 ghost use Rattle.ports_core.specs.Source.{IsFresh};
@@ -11,9 +11,9 @@ use std::process::Abort;
 use std::test::Fail;
 use tools_core::run::run;
 
-/// What a run does where an output breaks, or where there is no memory.
+/// What a run does where an output breaks, or where a growth is refused.
 #[derive(Clone, Copy, PartialEq, Eq)]
-enum Then {
+pub(crate) enum Then {
     /// It ends.
     Stops,
     /// It removes its files, and ends.
@@ -31,7 +31,7 @@ struct Run<'a> {
     left: Left<'a>,
 }
 
-const RUNS: [Run<'static>; 11] = [
+const RUNS: [Run<'static>; 12] = [
     Run {
         words: &["split", "-l", "2"],
         files: &[],
@@ -133,6 +133,17 @@ const RUNS: [Run<'static>; 11] = [
         },
     },
     Run {
+        words: &["csplit", "-", "2", "{*}"],
+        files: &[],
+        input: b"1\n2\n3\n4\n5\n",
+        then: Then::Removes,
+        left: Left {
+            output: b"2\n4\n4\n",
+            files: &[("xx00", b"1\n"), ("xx01", b"2\n3\n"), ("xx02", b"4\n5\n")],
+            ..NOTHING
+        },
+    },
+    Run {
         words: &["csplit", "-", "2", "{3}"],
         files: &[],
         input: b"1\n2\n3\n4\n5\n",
@@ -194,26 +205,6 @@ fn refuse_in_turn(
     }
     assert!(rt; was_whole, "{:?} makes more calls than {calls}", row.words);
     Ok(())
-}
-
-/// It passes too where one allocation is refused, as `rt try --test --fail-alloc N` does.
-#[test]
-fn want_of_memory_leaves_beginnings(rt: HostRuntime) -> Result<(), Fail> {
-    for row in &RUNS {
-        lacks_memory(&rt, rt.alloc(), row);
-    }
-    Ok(())
-}
-
-fn lacks_memory(rt: &impl Abort, alloc: Global, row: &Run<'_>) {
-    let Ok(inputs) = inputs_of(alloc, row.files, row.input) else {
-        return;
-    };
-    let Ok(outs) = MemOut::new(alloc) else {
-        return;
-    };
-    let ended = end_over(alloc, row, inputs, outs);
-    assert!(rt; ended != Ended::Wrong, "of {:?}", row.words);
 }
 
 /// How a run ends where one of its outputs' calls is refused and each write moves at most `most` bytes.

@@ -1,0 +1,518 @@
+//! Whole runs of which `tests/refusals` refuses each growth of memory in turn. Without a refusal both tests of a pair pass; where
+//! one growth is refused, the test `NAME` fails, since the run doesn't leave what its row says, and `NAME_or_begin` passes: the
+//! status is 1, the message is one of the row's, and each output has a beginning. What `before_NAME` and `after_NAME` do takes as
+//! many growths.
+ghost use Rattle.std.specs.Prelude.{◌≡◌, [], IfOk};
+ghost use Rattle.ports_core.specs.Slot.{streams};
+ghost use Rattle.watch_core.specs.MemWatchState.{seen};
+
+use crate::args_tests::Args;
+use crate::follow_tests::watch_of;
+use crate::left::{File, Left, NOTHING, Plan, Run, has_name, planned_inputs, planned_outs};
+use crate::refused_tests::Then;
+use ports_core::{Fault, MemOut, Outs};
+use std::alloc::Global;
+use std::process::Abort;
+use std::test::Fail;
+use tools_core::run::run;
+use tools_core::{ArgsFault, read_args, run_follow};
+use watch_core::{Edit, MemWatch};
+
+/// A run, what it does at a fault, and all that it may say where a growth is refused.
+#[derive(Clone, Copy)]
+struct Row<'a> {
+    words: &'a [&'a str],
+    files: &'a [File<'a>],
+    input: &'a [u8],
+    plans: &'a [Plan],
+    left: Left<'a>,
+    then: Then,
+    said: &'a [&'a [u8]],
+}
+
+/// How a run ended.
+#[derive(Clone, Copy, PartialEq, Eq)]
+enum Ended {
+    /// It left just what it is to leave.
+    Whole,
+    /// Something was refused, and it left each output as it is to then.
+    Begun,
+    /// It left something else.
+    Wrong,
+}
+
+/// No growth is the test's own.
+#[test]
+fn nothing() {}
+
+#[test]
+fn runs_leave_their_rows(rt: HostRuntime) -> Result<(), Fail> {
+    for row in ROWS {
+        let ended = end_of(rt.alloc(), row)?;
+        assert!(rt; ended == Ended::Whole, "of {:?}", row.words);
+    }
+    Ok(())
+}
+
+#[test]
+fn runs_leave_their_rows_or_begin(rt: HostRuntime) {
+    for row in ROWS {
+        // Without memory for its inputs and outputs nothing is run.
+        if let Ok(ended) = end_of(rt.alloc(), row) {
+            assert!(rt; ended != Ended::Wrong, "of {:?}", row.words);
+        }
+    }
+}
+
+/// How the run of a row ends.
+fn end_of(alloc: Global, row: &Row<'_>) -> Result<Ended, Fault> {
+    let planned = Run {
+        words: row.words,
+        files: row.files,
+        input: row.input,
+        plans: row.plans,
+        left: row.left,
+    };
+    let mut inputs = planned_inputs(alloc, &planned)?;
+    let mut outs = planned_outs(alloc, row.plans)?;
+    let status = run(alloc, row.words, &mut inputs, &mut outs);
+    Ok(judged(&outs, status, row))
+}
+
+fn judged(outs: &MemOut, status: u8, row: &Row<'_>) -> Ended {
+    if is_left(outs, status, &row.left) {
+        return Ended::Whole;
+    }
+    if has_begun(outs, status, row) {
+        return Ended::Begun;
+    }
+    Ended::Wrong
+}
+
+/// Whether a run left just this.
+fn is_left(outs: &MemOut, status: u8, left: &Left<'_>) -> bool {
+    let mut slot: usize = 2;
+    for file in left.files {
+        if !is_file(outs, slot, file, left) {
+            return false;
+        }
+        slot = slot.saturating_add(1);
+    }
+    let is_written = outs.bytes(0) == left.output && outs.bytes(1) == left.messages;
+    is_written && outs.name(slot).is_empty() && status == left.status
+}
+
+fn is_file(outs: &MemOut, slot: usize, file: &File<'_>, left: &Left<'_>) -> bool {
+    let is_removed = has_name(left.removed, file.0);
+    outs.name(slot) == file.0 && outs.bytes(slot) == file.1 && outs.removed(slot) == is_removed
+}
+
+/// Whether a run of which something was refused left each output as it is to.
+fn has_begun(outs: &MemOut, status: u8, row: &Row<'_>) -> bool {
+    if status != 1 || !is_told(outs, row.said) || !output_has_begun(outs, row) {
+        return false;
+    }
+    let mut slot: usize = 2;
+    for file in row.left.files {
+        if !file_has_begun(outs, slot, file, row) {
+            return false;
+        }
+        slot = slot.saturating_add(1);
+    }
+    outs.name(slot).is_empty()
+}
+
+/// Whether one of these texts was said. Where standard error found no memory for it, it is passed over.
+fn is_told(outs: &MemOut, said: &[&[u8]]) -> bool {
+    for text in said {
+        if outs.bytes(1) == *text {
+            return true;
+        }
+    }
+    outs.broken(1) && outs.bytes(1).is_empty()
+}
+
+fn output_has_begun(outs: &MemOut, row: &Row<'_>) -> bool {
+    if is_unopened(outs) || row.then != Then::GoesOn || outs.broken(0) {
+        return row.left.output.starts_with(outs.bytes(0));
+    }
+    outs.bytes(0) == row.left.output
+}
+
+fn file_has_begun(outs: &MemOut, slot: usize, file: &File<'_>, row: &Row<'_>) -> bool {
+    let (name, bytes) = *file;
+    if outs.name(slot).is_empty() {
+        return outs.bytes(slot).is_empty();
+    }
+    if outs.name(slot) != name || !bytes.starts_with(outs.bytes(slot)) {
+        return false;
+    }
+    match row.then {
+        Then::Stops => !outs.removed(slot),
+        Then::Removes => outs.removed(slot) || outs.broken(slot) && outs.bytes(slot).is_empty(),
+        Then::GoesOn => outs.broken(slot) || outs.bytes(slot) == bytes,
+    }
+}
+
+/// Whether no file was opened, since there was no memory for the run.
+fn is_unopened(outs: &MemOut) -> bool {
+    outs.name(2).is_empty() && !outs.broken(2)
+}
+
+const SAID_BY_SPLIT: &[&[u8]] = &[
+    b"split: memory exhausted\n",
+    b"split: cannot open ''\n",
+    b"split: cannot open 'xaa'\n",
+    b"split: cannot open 'xab'\n",
+    b"split: cannot open 'xac'\n",
+    b"split: cannot write 'xaa'\n",
+    b"split: cannot write 'xab'\n",
+    b"split: cannot write 'xac'\n",
+];
+
+const SAID_BY_CSPLIT: &[&[u8]] = &[
+    b"csplit: memory exhausted\n",
+    b"csplit: cannot open ''\n",
+    b"csplit: cannot open 'xx00'\n",
+    b"csplit: cannot open 'xx01'\n",
+    b"csplit: cannot open 'xx02'\n",
+    b"csplit: cannot write 'standard output'\n",
+    b"csplit: cannot write 'xx00'\n",
+    b"csplit: cannot write 'xx01'\n",
+    b"csplit: cannot write 'xx02'\n",
+];
+
+const SAID_BY_HEAD: &[&[u8]] = &[
+    b"head: memory exhausted\n",
+    b"head: cannot write 'standard output'\n",
+];
+
+/// One of two files is missing, which is told also where something was refused before.
+const SAID_OF_G: &[&[u8]] = &[
+    b"head: memory exhausted\n",
+    b"head: cannot write 'standard output'\n",
+    b"head: cannot open 'f'\nhead: cannot open 'g'\n",
+    b"head: cannot open 'g'\nhead: memory exhausted\n",
+];
+
+/// `s` takes three bytes of six, which is told also where something was refused before.
+const SAID_BY_TEE: &[&[u8]] = &[
+    b"tee: memory exhausted\n",
+    b"tee: cannot open ''\n",
+    b"tee: cannot open 's'\n",
+    b"tee: cannot write 's'\n",
+    b"tee: cannot open ''\ntee: cannot write 's'\n",
+    b"tee: cannot open 't'\ntee: cannot write 's'\n",
+    b"tee: cannot write 'standard output'\ntee: cannot write 's'\n",
+    b"tee: cannot write 's'\ntee: cannot write 't'\n",
+];
+
+/// A run of `split`, which keeps what it wrote.
+const SPLIT: Row<'static> = Row {
+    words: &[],
+    files: &[],
+    input: b"a\nb\nc",
+    plans: &[],
+    left: NOTHING,
+    then: Then::Stops,
+    said: SAID_BY_SPLIT,
+};
+
+/// A run of `csplit`, which removes its files at a fault.
+const CSPLIT: Row<'static> = Row {
+    input: b"b1\nx\nb2\ny\n",
+    then: Then::Removes,
+    said: SAID_BY_CSPLIT,
+    ..SPLIT
+};
+
+/// A run of `head` over standard input in pieces of one byte.
+const HEAD: Row<'static> = Row {
+    plans: &[Plan::Pieces(1)],
+    said: SAID_BY_HEAD,
+    ..SPLIT
+};
+
+/// What `csplit` makes of its input with a section for each line that begins with `b`.
+const SECTIONS: Left<'static> = Left {
+    output: b"0\n5\n5\n",
+    files: &[("xx00", b""), ("xx01", b"b1\nx\n"), ("xx02", b"b2\ny\n")],
+    ..NOTHING
+};
+
+const ONE_LINE: Left<'static> = Left {
+    output: b"a\n",
+    ..NOTHING
+};
+
+const ROWS: &[Row<'static>] = &[
+    Row {
+        words: &["split", "-l", "2"],
+        left: Left {
+            files: &[("xaa", b"a\nb\n"), ("xab", b"c")],
+            ..NOTHING
+        },
+        ..SPLIT
+    },
+    Row {
+        words: &["split", "-C", "4"],
+        input: b"a\nbc",
+        left: Left {
+            files: &[("xaa", b"a\n"), ("xab", b"bc")],
+            ..NOTHING
+        },
+        ..SPLIT
+    },
+    Row {
+        words: &["split", "-C", "5"],
+        input: b"a\nbc",
+        left: Left {
+            files: &[("xaa", b"a\nbc")],
+            ..NOTHING
+        },
+        ..SPLIT
+    },
+    Row {
+        words: &["split", "-n", "r/3"],
+        input: b"a\nb\nc\nd",
+        left: Left {
+            files: &[("xaa", b"a\nd"), ("xab", b"b\n"), ("xac", b"c\n")],
+            ..NOTHING
+        },
+        ..SPLIT
+    },
+    Row {
+        words: &["csplit", "-", "/^b/", "{*}"],
+        left: SECTIONS,
+        ..CSPLIT
+    },
+    Row {
+        words: &["csplit", "-z", "-", "/^b/", "{*}"],
+        left: Left {
+            output: b"5\n5\n",
+            files: &[("xx00", b"b1\nx\n"), ("xx01", b"b2\ny\n")],
+            ..NOTHING
+        },
+        ..CSPLIT
+    },
+    Row {
+        words: &["csplit", "-k", "-", "/^b/", "{*}"],
+        left: SECTIONS,
+        then: Then::Stops,
+        ..CSPLIT
+    },
+    Row {
+        words: &["csplit", "-", "/c/-1"],
+        input: b"a\nb\nc\nd\n",
+        left: Left {
+            output: b"2\n6\n",
+            files: &[("xx00", b"a\n"), ("xx01", b"b\nc\nd\n")],
+            ..NOTHING
+        },
+        ..CSPLIT
+    },
+    Row {
+        words: &["csplit", "-", "/b/-1", "{*}"],
+        input: b"a\nb\nb\nc\n",
+        left: Left {
+            output: b"0\n2\n6\n",
+            files: &[("xx00", b""), ("xx01", b"a\n"), ("xx02", b"b\nb\nc\n")],
+            ..NOTHING
+        },
+        ..CSPLIT
+    },
+    Row {
+        words: &["head", "-n", "-2"],
+        left: ONE_LINE,
+        ..HEAD
+    },
+    Row {
+        words: &["head", "-c", "9", "-n", "-2"],
+        left: ONE_LINE,
+        ..HEAD
+    },
+    Row {
+        words: &["head", "-c", "-3"],
+        input: b"abcde",
+        left: Left {
+            output: b"ab",
+            ..NOTHING
+        },
+        ..HEAD
+    },
+    Row {
+        words: &["head", "-n", "1", "f", "g"],
+        files: &[("f", b"a\nb\n")],
+        plans: &[],
+        left: Left {
+            output: b"==> f <==\na\n",
+            messages: b"head: cannot open 'g'\n",
+            status: 1,
+            ..NOTHING
+        },
+        said: SAID_OF_G,
+        ..HEAD
+    },
+    Row {
+        words: &["tee", "s", "t"],
+        input: b"abcdef",
+        plans: &[Plan::Limit(2, 3)],
+        left: Left {
+            output: b"abcdef",
+            files: &[("s", b"abc"), ("t", b"abcdef")],
+            messages: b"tee: cannot write 's'\n",
+            status: 1,
+            ..NOTHING
+        },
+        then: Then::GoesOn,
+        said: SAID_BY_TEE,
+        ..SPLIT
+    },
+];
+
+/// A run that follows: its words, the edits before each look, what it writes and says, its status, and all that it may say where a
+/// growth is refused.
+#[derive(Clone, Copy)]
+struct Followed<'a> {
+    words: &'a [&'a str],
+    looks: &'a [&'a [Edit<'a>]],
+    output: &'a [u8],
+    messages: &'a [u8],
+    status: u8,
+    said: &'a [&'a [u8]],
+}
+
+#[test]
+fn following_leaves_its_rows(rt: HostRuntime) -> Result<(), Fail> {
+    for row in FOLLOWED {
+        let ended = end_of_following(rt.alloc(), row)?;
+        assert!(rt; ended == Ended::Whole, "of {:?}", row.words);
+    }
+    Ok(())
+}
+
+#[test]
+fn following_leaves_its_rows_or_begin(rt: HostRuntime) {
+    for row in FOLLOWED {
+        if let Ok(ended) = end_of_following(rt.alloc(), row) {
+            assert!(rt; ended != Ended::Wrong, "of {:?}", row.words);
+        }
+    }
+}
+
+fn end_of_following(alloc: Global, row: &Followed<'_>) -> Result<Ended, Fault> {
+    let watch = watch_of(alloc, row.looks)?;
+    let mut outs = MemOut::new(alloc)?;
+    let status = follows(alloc, row, watch, &mut outs);
+    if outs.bytes(0) == row.output && outs.bytes(1) == row.messages && status == row.status {
+        return Ok(Ended::Whole);
+    }
+    if following_has_begun(&outs, status, row) {
+        return Ok(Ended::Begun);
+    }
+    Ok(Ended::Wrong)
+}
+
+fn follows(alloc: Global, row: &Followed<'_>, mut watch: MemWatch, outs: &mut MemOut) -> u8
+    requires unseen { seen watch ≡ [] }
+    requires unwatched { watch.watched ≡ [] }
+    requires outputs { outs.old ≡ streams }
+{
+    run_follow(alloc, row.words, &mut watch, outs, row.looks.len() as u64)
+}
+
+/// Whether following left beginnings, with status 1. A line that standard error finds no memory for is passed over: then nothing
+/// else is lost, and the status is the row's.
+fn following_has_begun(outs: &MemOut, status: u8, row: &Followed<'_>) -> bool {
+    if outs.broken(1) && row.messages.starts_with(outs.bytes(1)) {
+        return outs.bytes(0) == row.output && status == row.status;
+    }
+    status == 1 && row.output.starts_with(outs.bytes(0)) && is_told(outs, row.said)
+}
+
+const FOLLOWED: &[Followed<'static>] = &[
+    Followed {
+        words: &["tail", "-F", "-n", "1", "f"],
+        looks: &[
+            &[Edit::Replace("f", b"a\nb\n")],
+            &[Edit::Append("f", b"c")],
+            &[Edit::Truncate("f", 0)],
+            &[Edit::Append("f", b"z\n")],
+            &[Edit::Append("f", b"w"), Edit::Replace("f", b"q\n")],
+        ],
+        output: b"b\ncz\nwq\n",
+        messages: b"tail: 'f': file truncated\ntail: 'f': file replaced\n",
+        status: 0,
+        said: &[
+            b"tail: memory exhausted\n",
+            b"tail: cannot write 'standard output'\n",
+            b"tail: 'f': file truncated\ntail: memory exhausted\n",
+            b"tail: 'f': file truncated\ntail: cannot write 'standard output'\n",
+            b"tail: 'f': file truncated\ntail: 'f': file replaced\ntail: cannot write 'standard output'\n",
+        ],
+    },
+    Followed {
+        words: &["tail", "-f", "-n", "1", "f", "g"],
+        looks: &[
+            &[Edit::Replace("f", b"a\n"), Edit::Replace("g", b"b\n")],
+            &[Edit::Append("f", b"c\n")],
+            &[Edit::Append("f", b"d\n")],
+            &[Edit::Append("g", b"e\n")],
+        ],
+        output: b"==> f <==\na\n\n==> g <==\nb\n\n==> f <==\nc\nd\n\n==> g <==\ne\n",
+        messages: b"",
+        status: 0,
+        said: &[
+            b"tail: memory exhausted\n",
+            b"tail: cannot write 'standard output'\n",
+        ],
+    },
+];
+
+/// The program's own words, and one that needs more room than words are first given.
+const ARGS: Args<'static> = Args {
+    words: &[b"cutters", b"head", &[b'a'; 300]],
+};
+
+#[test]
+fn args_are_read(rt: HostRuntime) {
+    assert!(rt; has_args(&read_args(&ARGS, rt.alloc())));
+}
+
+#[test]
+fn args_are_read_or_are_refused(rt: HostRuntime) {
+    if let Err(fault) = read_args(&ARGS, rt.alloc()) {
+        assert_eq!(rt; fault, ArgsFault::Memory);
+        assert!(rt; has_args(&read_args(&ARGS, rt.alloc())));
+    }
+}
+
+/// Whether these are the two words after the program's name.
+fn has_args(read: &Result<Vec<String>, ArgsFault>) -> bool {
+    match read {
+        Ok(words) => words.len() == 2,
+        Err(_) => false,
+    }
+}
+
+/// `tail -n +2` of these bytes, none of which ends a line, writes nothing.
+fn passes_over(rt: &impl Abort, alloc: Global, input: &[u8]) -> Result<(), Fault> {
+    let row = Row {
+        words: &["tail", "-n", "+2"],
+        input,
+        ..SPLIT
+    };
+    let ended = end_of(alloc, &row)?;
+    assert!(rt; ended == Ended::Whole);
+    Ok(())
+}
+
+#[test]
+fn before_many_bytes_are_passed_over(rt: HostRuntime) -> Result<(), Fail> {
+    Ok(passes_over(&rt, rt.alloc(), b"a")?)
+}
+
+#[test]
+fn after_many_bytes_are_passed_over(rt: HostRuntime) -> Result<(), Fail> {
+    Ok(passes_over(&rt, rt.alloc(), &[b'a'; 200_000])?)
+}
