@@ -52,6 +52,8 @@ impl Stage for Copier {
 
     ghost held = { λ copier. 0 };
 
+    ghost waiting = { λ copier x. [] };
+
     ghost may_lack = { λ copier piece. false };
 
     ghost Ready = { Ready };
@@ -82,6 +84,11 @@ impl Stage for Copier {
     /// Always false: whatever came in, more of it is copied.
     fn is_done(&self) -> bool {
         false
+    }
+
+    /// Always 0: each piece is written at once.
+    fn waits(&self) -> u64 {
+        0
     }
 
     ghost lawful = { λ copier. lawful copier.keep };

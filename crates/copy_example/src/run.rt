@@ -19,7 +19,7 @@ pub struct CopyAdapter {
 }
 
 impl Adapter for CopyAdapter {
-    type Driven = Guarded<Copier>;
+    type Driven = Copier;
 
     ghost task = { λ adapter. copy_task adapter.keep };
 

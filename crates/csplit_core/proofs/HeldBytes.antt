@@ -1,14 +1,12 @@
 -- How many bytes wait.
-use Rattle.std.proofs.Common.{◌≡◌, inl, inr, ℕ, ◌+◌, ◌-◌, ◌<◌, ◌≤◌, ◌^◌, min, false, cond, List, [], ◌++◌, length, sym, ◌∙◌, ap, subst, arith, length-append}
+use Rattle.std.proofs.Common.{◌≡◌, inl, inr, ℕ, ◌+◌, ◌-◌, ◌<◌, ◌≤◌, ◌^◌, min, false, cond, List, [], ◌++◌, length, sym, ◌∙◌, ap, arith, length-append}
 use Rattle.std.proofs.Math.Nat.{min-eq_left}
 use Rattle.seg_core.specs.Line.{after_lines, first_lines}
 use Rattle.seg_core.proofs.FirstLines.{first_lines_then_rest}
-use Rattle.ports_core.specs.Guard.{GuardState, HoldsIn}
 use Rattle.csplit_core.specs.Csplit.{waiting, waiting_of}
 use Rattle.csplit_core.specs.CsplitState.{CsplitState, Holds, whole_lines}
 use Rattle.csplit_core.specs.Cutter.{CutterState, suppress_in, state_in, text_from, IsLive, IsPast, Stands}
 use Rattle.csplit_core.specs.Input.{newline, all_lines, open_line}
-use Rattle.csplit_core.specs.Plan.{start}
 use Rattle.csplit_core.specs.Planned.{Plan, plan}
 use Rattle.csplit_core.specs.PlanLaws.{plan_once}
 use Rattle.csplit_core.specs.Section.{bytes_of, is_final, waiting_lines}
@@ -42,23 +40,16 @@ past_waiting stage x past =
 few_held : (total most : ℕ) → total ≤ most → min total most ≡ total
 few_held total most few = min-eq_left few
 
-pub held_is : (stage : CsplitState) (x : List ℕ) (fed result : ℕ) → Holds stage x → fed ≡ length x → fed < 2 ^ 63 → result ≡ min (length stage.cutter.window.held + length stage.rest) (2 ^ 64 - 1) → result ≡ length (waiting stage.cutter.writer.style stage.cutter.operands x)
-held_is stage x fed result holds count few is = by holds.stands where
+pub held_is : (stage : CsplitState) (x : List ℕ) (result : ℕ) → Holds stage x → length x < 2 ^ 63 → result ≡ min (length stage.cutter.window.held + length stage.rest) (2 ^ 64 - 1) → result ≡ length (waiting stage.cutter.writer.style stage.cutter.operands x)
+held_is stage x result holds few is = by holds.stands where
   by : Stands stage.cutter (whole_lines x) → result ≡ length (waiting stage.cutter.writer.style stage.cutter.operands x)
   by (inl live) =
       let rest_is = holds.live (λ below. past_not_live stage.cutter (whole_lines x) below live) in
       let within = held_within stage.cutter (whole_lines x) live in
       let all : length (whole_lines x) + length (open_line x) ≡ length x = sym (length-append (whole_lines x) (open_line x)) ∙ ap length (lines_then_open x) in
       let rest_long : length stage.rest ≡ length (open_line x) = ap length rest_is in
-      is ∙ few_held (length stage.cutter.window.held + length stage.rest) (2 ^ 64 - 1) (omega (arith, within, all, rest_long, count, few)) ∙ sym (length-append stage.cutter.window.held stage.rest) ∙ sym (ap length (live_waiting stage x live rest_is))
+      is ∙ few_held (length stage.cutter.window.held + length stage.rest) (2 ^ 64 - 1) (omega (arith, within, all, rest_long, few)) ∙ sym (length-append stage.cutter.window.held stage.rest) ∙ sym (ap length (live_waiting stage x live rest_is))
   by (inr past) =
       let none : length stage.cutter.window.held ≡ 0 = ap length past.none in
       let rest_none : length stage.rest ≡ 0 = ap length (holds.past past.aim) in
       is ∙ few_held (length stage.cutter.window.held + length stage.rest) (2 ^ 64 - 1) (omega (arith, none, rest_none)) ∙ (let e : length stage.cutter.window.held + length stage.rest ≡ 0 = omega (arith, none, rest_none) in e) ∙ sym (ap length (past_waiting stage x past))
-
-pub held_in : (guard start : GuardState CsplitState) (stage : CsplitState) (x : List ℕ) (result : ℕ) → start ≡ guard → stage ≡ start.stage → start.fed < 2 ^ 63 → HoldsIn Holds guard x → result ≡ min (length stage.cutter.window.held + length stage.rest) (2 ^ 64 - 1)
-    → result ≡ length (waiting guard.stage.cutter.writer.style guard.stage.cutter.operands x)
-held_in guard start stage x result same stage_is few holds is =
-    let there : stage ≡ guard.stage = stage_is ∙ ap (λ (g : GuardState CsplitState). g.stage) same in
-    held_is guard.stage x guard.fed result holds.within holds.count (subst (λ (g : GuardState CsplitState). g.fed < 2 ^ 63) same few)
-    (is ∙ ap (λ (s : CsplitState). min (length s.cutter.window.held + length s.rest) (2 ^ 64 - 1)) there)

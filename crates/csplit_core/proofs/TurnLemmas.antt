@@ -1,11 +1,11 @@
 -- What a turn says of the plan.
-use Rattle.std.proofs.Common.{◌≡◌, inl, inr, ℕ, zero, suc, ◌+◌, ◌-◌, ◌*◌, ◌^◌, ◌<◌, ◌≤◌, Bool, true, false, List, [], ◌∷◌, length, drop, get_or, Option, None, refl, sym, ◌∙◌, ap, subst, arith}
+use Rattle.std.proofs.Common.{◌≡◌, inl, inr, ℕ, zero, suc, ◌+◌, ◌-◌, ◌*◌, ◌^◌, ◌<◌, ◌≤◌, Bool, true, false, List, [], ◌∷◌, length, drop, get_or, refl, sym, ◌∙◌, ap, subst, arith}
 use Rattle.std.specs.Prelude.{min}
 use Rattle.std.proofs.lemmas.Bool.{cases_lt}
 use Rattle.std.proofs.Math.Nat.{min-eq_left, min-eq_right}
 use Rattle.std.proofs.lemmas.List.{drop_more, drop_all}
 use Rattle.bre_core.specs.Pattern.{Pattern}
-use Rattle.csplit_core.specs.Operand.{Offset, Target, Number, Search, Operand, Line, is_match, moved, has_more}
+use Rattle.csplit_core.specs.Operand.{Offset, Number, Search, Operand, Line, is_match, moved, has_more}
 use Rattle.csplit_core.specs.Plan.{State, search_line, CutsAt, Misses, line_after, operands_after, repetition_after, state_after}
 use Rattle.csplit_core.specs.Progress.{state_of, AreSeen, MissesNow, Turns, FallsAt}
 use Rattle.csplit_core.specs.declared.progress.Turn.{Turn}

@@ -1,6 +1,6 @@
 -- What contracts see of where a run stands, and of what the next operand does.
 use Rattle.std.specs.Prelude.{◌≡◌, ℕ, ◌-◌, ◌<◌, ◌≤◌, ◌^◌, min, Bool, false, List, [], ◌∷◌, length, drop}
-use Rattle.csplit_core.specs.Operand.{Target, Number, Search, Operand, Line, is_match}
+use Rattle.csplit_core.specs.Operand.{Operand, Line, is_match}
 use Rattle.csplit_core.specs.Plan.{State, Step, Ending, used_up, missed, above, below, CutsAt, Misses, search_line, state_after, step_of, Runs}
 use Rattle.csplit_core.specs.Measure.{Moves}
 use Rattle.csplit_core.specs.declared.progress.Progress.{Progress}

@@ -1,19 +1,24 @@
-//! The engine of `csplit`.
-ghost use Rattle.std.specs.Prelude.{◌≡◌, ◌^◌, ◌<◌, ◌≤◌, [], List, ℕ, false, true, length, IfErr, IfOk, IsTrue, OnOk};
-ghost use Rattle.std.specs.Coded.{codes};
-ghost use Rattle.bre_core.specs.Code.{pattern_code};
-ghost use Rattle.ports_core.specs.Guard.{GuardState, HoldsIn};
+//! The stage of `csplit`: from bytes, in pieces of any length, to the lines that are cut.
+ghost use Rattle.std.specs.Prelude.{◌≡◌, ◌≢◌, ◌+◌, ◌-◌, ◌^◌, ◌<◌, ◌≤◌, ◌++◌, ℕ, List, [], length, min, true, IsTrue, IfErr, IfOk, IfSome, OnOk};
+ghost use Rattle.seg_core.specs.Line.{delimiters, ends_with};
+ghost use Rattle.ports_core.specs.Engine.{is_verdict};
+ghost use Rattle.ports_core.specs.Guard.{HoldsIn};
 ghost use Rattle.ports_core.specs.Part.{OutputsAt, StoppedBetween, nothing};
 ghost use Rattle.ports_core.specs.Slot.{Slot, is_writable};
 ghost use Rattle.ports_core.specs.Swept.{AreMade};
 ghost use Rattle.csplit_core.specs.Csplit.{csplit_work, settled_by, waiting};
-ghost use Rattle.csplit_core.specs.CsplitState.{CsplitState, Holds, IsReady, Owns, work};
+ghost use Rattle.csplit_core.specs.CsplitState.{Begins, Closes, Holds, IsReady, Judges, Owns, Passes, work};
+ghost use Rattle.csplit_core.specs.Cutter.{IsLine, IsSound, Takes, load};
+ghost use Rattle.csplit_core.specs.Input.{newline};
 ghost use Rattle.csplit_core.specs.InputLaws.{lawful};
-ghost use Rattle.csplit_core.specs.Writer.{Breaks};
+ghost use Rattle.csplit_core.specs.Writer.{Breaks, IsReady as CanWrite};
+ghost use Rattle.csplit_core.specs.declared.progress.Turn.TheVariants as turn_is;
 
-use crate::csplit_stage::CsplitStage;
-use crate::{Operands, Style};
-use ports_core::{Engine, Fault, Guarded, Outs};
+use crate::line_cutter::LineCutter;
+use crate::{Operand, Operands, Style};
+use ports_core::{Fault, Guarded, Outs, Stage};
+use seg_core::line::{NEWLINE, next_line};
+use seg_core::line_back::last_delimiter_end;
 use std::alloc::Global;
 use std::marker::Model;
 
@@ -22,15 +27,23 @@ use std::marker::Model;
 /// line that lacks its newline, and for names.
 #[derive(Drop)]
 pub struct Csplitter<'o> {
-    engine: Guarded<CsplitStage<'o>>,
+    cutter: LineCutter<'o>,
+    /// What follows the last newline; empty once later input goes nowhere.
+    rest: Vec<u8>,
+    /// How many bytes came in.
+    taken: u64,
 }
 
 impl<'o> Model for Csplitter<'o> {
-    ghost Value = { GuardState CsplitState };
+    ghost use Rattle.bre_core.specs.Code.{pattern_code};
+    ghost use Rattle.csplit_core.specs.CsplitState.{CsplitState};
+    ghost use Rattle.std.specs.Coded.{codes};
+
+    ghost Value = { CsplitState };
 
     ghost coded = { Prim.hlevel (codes, pattern_code) };
 
-    ghost view = { λ c. c.engine };
+    ghost view = { λ s. record { cutter = s.cutter; rest = s.rest.items; taken = s.taken } };
 }
 
 impl<'o> Csplitter<'o> {
@@ -45,7 +58,7 @@ impl<'o> Csplitter<'o> {
         operands: &'o Operands,
         style: Style,
         outs: &mut O,
-    ) -> Result<Csplitter<'o>, Fault>
+    ) -> Result<Guarded<Csplitter<'o>>, Fault>
         requires streams { 2 ≤ length (O.slots outs.old) }
         requires output { IsTrue (is_writable (O.slots outs.old) 0) }
         ensures holds { IfOk result (λ engine. HoldsIn Holds engine []) }
@@ -58,56 +71,196 @@ impl<'o> Csplitter<'o> {
         ensures refused { IfErr result (Breaks style (O.slots outs.old) (O.slots outs.new)) }
         ensures none { IfErr result (λ fault. (place : ℕ) → length (O.slots outs.old) ≤ place → AreMade place 0 (O.slots outs.new)) }
     {
-        let stage = CsplitStage::open(alloc, operands.as_slice(), style, outs)?;
+        let stage = Csplitter::begin(alloc, operands.as_slice(), style, outs)?;
+        Ok(Guarded::new(stage))
+    }
+
+    /// A stage to which nothing came, and which has begun the first section.
+    ///
+    /// # Errors
+    ///
+    /// `Memory` where there is no room for what the first operand needs, or for a name; `Open` where the first section's
+    /// file can't be opened.
+    fn begin<O: Outs>(
+        alloc: Global,
+        operands: &'o [Operand],
+        style: Style,
+        outs: &mut O,
+    ) -> Result<Csplitter<'o>, Fault>
+        requires streams { 2 ≤ length (O.slots outs.old) }
+        requires output { IsTrue (is_writable (O.slots outs.old) 0) }
+        ensures { Begins O.told style operands.now (O.slots outs.old) (O.slots outs.new) result }
+    {
         Ok(Csplitter {
-            engine: Guarded::new(stage),
+            cutter: LineCutter::open(alloc, operands, style, outs)?,
+            rest: Vec::new(alloc),
+            taken: 0,
         })
     }
 
-    /// How many bytes wait: those of the lines that came in and that no file has yet, and of the line that lacks its
-    /// newline.
-    pub fn held(&self) -> u64
-        ensures { (x : List ℕ) → HoldsIn Holds self.now x → result ≡ length (waiting self.now.stage.cutter.writer.style self.now.stage.cutter.operands x) }
+    /// How many bytes wait: those of the lines that do, and the open line.
+    fn held(&self) -> u64
+        ensures { result ≡ min (length self.now.cutter.window.held + length self.now.rest) (2 ^ 64 - 1) }
     {
-        self.engine.stage().held()
+        self.cutter.held().saturating_add(self.rest.len() as u64)
+    }
+
+    /// Takes in a piece: its lines, of which the first may complete the open line, and what follows them.
+    fn take_piece<O: Outs>(&mut self, piece: &[u8], outs: &mut O) -> Result<(), Fault>
+        requires fits { load self.old.cutter + length self.old.rest + length piece.now < 2 ^ 63 }
+        requires sound { IsSound self.old.cutter }
+        requires open { delimiters newline self.old.rest ≡ 0 }
+        requires ready { CanWrite self.old.cutter.writer (O.slots outs.old) }
+        ensures taken { self.new.taken ≡ self.old.taken }
+        ensures passes { Passes O.told self.old piece.now (O.slots outs.old) (O.slots outs.new) self.new result }
+    {
+        if self.cutter.is_past() {
+            return Ok(());
+        }
+        match last_delimiter_end(piece, NEWLINE) {
+            None => self.wait(piece),
+            Some(end) => {
+                self.take_lines(&piece[..end], outs)?;
+                self.wait(&piece[end..])
+            }
+        }
+    }
+
+    /// Takes in complete lines, of which there is one at least. The open line is the beginning of the first.
+    fn take_lines<O: Outs>(&mut self, lines: &[u8], outs: &mut O) -> Result<(), Fault>
+        requires fits { load self.old.cutter + length self.old.rest + length lines.now < 2 ^ 63 }
+        requires whole { ends_with newline lines.now ≡ true }
+        requires sound { IsSound self.old.cutter }
+        requires open { delimiters newline self.old.rest ≡ 0 }
+        requires ready { CanWrite self.old.cutter.writer (O.slots outs.old) }
+        ensures taken { self.new.taken ≡ self.old.taken }
+        ensures rest { OnOk result (self.new.rest ≡ []) }
+        ensures takes { Takes O.told self.old.cutter (self.old.rest ++ lines.now) (O.slots outs.old) (O.slots outs.new) self.new.cutter result }
+    {
+        if self.rest.is_empty() {
+            return self.cutter.take(lines, outs);
+        }
+        let (end, others) = next_line(lines, NEWLINE);
+        self.take_open(end, outs)?;
+        self.cutter.take(others, outs)
+    }
+
+    /// Takes in the open line, of which this is the end.
+    fn take_open<O: Outs>(&mut self, end: &[u8], outs: &mut O) -> Result<(), Fault>
+        requires fits { load self.old.cutter + length self.old.rest + length end.now < 2 ^ 63 }
+        requires open { delimiters newline self.old.rest ≡ 0 }
+        requires line { IsLine end.now }
+        requires sound { IsSound self.old.cutter }
+        requires ready { CanWrite self.old.cutter.writer (O.slots outs.old) }
+        ensures taken { self.new.taken ≡ self.old.taken }
+        ensures rest { OnOk result (self.new.rest ≡ []) }
+        ensures takes { Takes O.told self.old.cutter (self.old.rest ++ end.now) (O.slots outs.old) (O.slots outs.new) self.new.cutter result }
+    {
+        self.rest.extend_from_slice(end)?;
+        self.cutter.take_line(&self.rest, outs)?;
+        self.rest.clear();
+        Ok(())
+    }
+
+    /// Keeps more bytes of the open line, unless later input goes nowhere.
+    fn wait(&mut self, bytes: &[u8]) -> Result<(), Fault>
+        ensures cutter { self.new.cutter ≡ self.old.cutter }
+        ensures taken { self.new.taken ≡ self.old.taken }
+        ensures past { OnOk result (self.old.cutter.aim ≡ turn_is.Below → self.new.rest ≡ self.old.rest) }
+        ensures live { OnOk result (self.old.cutter.aim ≢ turn_is.Below → self.new.rest ≡ self.old.rest ++ bytes.now) }
+        ensures err { IfErr result (λ fault. fault ≡ Fault.Memory) }
+    {
+        if self.cutter.is_past() {
+            return Ok(());
+        }
+        Ok(self.rest.extend_from_slice(bytes)?)
+    }
+
+    /// Takes in the open line, if there is one, and ends the last section.
+    fn end<O: Outs>(&mut self, outs: &mut O) -> Result<(), Fault>
+        requires fits { load self.old.cutter + length self.old.rest < 2 ^ 63 }
+        requires sound { IsSound self.old.cutter }
+        requires open { delimiters newline self.old.rest ≡ 0 }
+        requires ready { CanWrite self.old.cutter.writer (O.slots outs.old) }
+        ensures taken { self.new.taken ≡ self.old.taken }
+        ensures closes { Closes O.told self.old (O.slots outs.old) (O.slots outs.new) self.new result }
+    {
+        self.take_last(outs)?;
+        self.cutter.end(outs)
+    }
+
+    /// The fault with which the work itself ends, if it ends with one.
+    fn verdict(&self) -> Option<Fault>
+        ensures judges { Judges self.now.cutter result }
+        ensures kind { IfSome result (λ fault. is_verdict fault ≡ true) }
+    {
+        self.cutter.verdict()
+    }
+
+    /// Takes in the open line as it is, if there is one: it is the last.
+    fn take_last<O: Outs>(&mut self, outs: &mut O) -> Result<(), Fault>
+        requires fits { load self.old.cutter + length self.old.rest < 2 ^ 63 }
+        requires sound { IsSound self.old.cutter }
+        requires open { delimiters newline self.old.rest ≡ 0 }
+        requires ready { CanWrite self.old.cutter.writer (O.slots outs.old) }
+        ensures taken { self.new.taken ≡ self.old.taken }
+        ensures takes { Takes O.told self.old.cutter self.old.rest (O.slots outs.old) (O.slots outs.new) self.new.cutter result }
+    {
+        if self.rest.is_empty() {
+            return Ok(());
+        }
+        self.cutter.take_line(&self.rest, outs)
     }
 }
 
-impl<'o> Engine for Csplitter<'o> {
-    ghost Holds = { HoldsIn Holds };
+impl<'o> Stage for Csplitter<'o> {
+    ghost Holds = { Holds };
 
-    ghost work = { λ engine. work engine.stage };
+    ghost work = { work };
 
-    ghost fed = { λ engine. engine.fed };
+    ghost held = { λ stage. min (length stage.cutter.window.held + length stage.rest) (2 ^ 64 - 1) };
 
-    ghost is_over = { λ engine. engine.is_over };
+    ghost waiting = { λ stage. waiting stage.cutter.writer.style stage.cutter.operands };
 
-    ghost may_lack = { λ engine piece. true };
+    ghost size = { λ stage. stage.taken };
 
-    ghost Ready = { λ engine. IsReady engine.stage };
+    ghost may_lack = { λ stage piece. true };
 
-    ghost Owns = { λ engine. Owns engine.stage };
+    ghost Ready = { IsReady };
 
-    fn feed<O: Outs>(&mut self, piece: &[u8], outs: &mut O) -> Result<(), Fault> {
-        self.engine.feed(piece, outs)
+    ghost Owns = { Owns };
+
+    fn pass<O: Outs>(&mut self, piece: &[u8], outs: &mut O) -> Result<(), Fault> {
+        self.taken += piece.len() as u64;
+        self.take_piece(piece, outs)
     }
 
-    fn close<O: Outs>(&mut self, outs: &mut O) -> Result<(), Fault> {
-        self.engine.close(outs)
+    fn finish<O: Outs>(&mut self, outs: &mut O) -> Result<(), Fault> {
+        self.end(outs)?;
+        match self.verdict() {
+            None => Ok(()),
+            Some(fault) => {
+                self.clear(outs);
+                Err(fault)
+            }
+        }
     }
 
-    fn abandon<O: Outs>(&mut self, outs: &mut O) {
-        self.engine.abandon(outs);
+    fn clear<O: Outs>(&mut self, outs: &mut O) {
+        if !self.cutter.style().keep {
+            self.cutter.clear(outs);
+        }
     }
 
     /// Always false: the last size is written at the end.
-    fn done(&self) -> bool {
-        self.engine.done()
+    fn is_done(&self) -> bool {
+        false
     }
 
-    ghost live = { λ engine x holds. holds.live };
+    /// Those of the lines that came in and that no file has yet, and of the line that lacks its newline.
+    fn waits(&self) -> u64 {
+        self.held()
+    }
 
-    ghost counts = { λ engine x holds. holds.count };
-
-    ghost lawful = { λ engine. lawful engine.stage.cutter.writer.style engine.stage.cutter.operands };
+    ghost lawful = { λ stage. lawful stage.cutter.writer.style stage.cutter.operands };
 }

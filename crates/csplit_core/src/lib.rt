@@ -1,7 +1,6 @@
 //! The tool that cuts an input where its lines match: `csplit`.
 #![tactic(auto)]
 
-mod csplit_stage;
 mod csplitter;
 mod holding;
 pub mod laws;

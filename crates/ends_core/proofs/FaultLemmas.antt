@@ -36,9 +36,9 @@ only_these memory lacks is_over Ends fed size old new _ live enough well (met fa
 pub head_fails : (head : GuardState HeadState) (x piece : List ℕ) (old new : List Slot) (fault : Fault) → HoldsIn of_head.Holds head x → head.stage.may_lack ≡ false
     → of_head.IsRefused head piece old new fault → (fault ≡ Write 0) ⊎ (fault ≡ TooLong)
 head_fails head x piece old new fault holds enough refused =
-    only_these head.stage.but_last head.stage.may_lack head.is_over (EndsWith (HoldsIn of_head.Holds) (λ (guard : GuardState HeadState). of_head.work guard.stage) head piece) head.fed (length piece) old new fault holds.live enough (λ other ends. none-some other (ends x holds).1) refused
+    only_these head.stage.but_last head.stage.may_lack head.is_over (EndsWith of_head.Holds of_head.work head.stage piece) head.fed (length piece) old new fault holds.live enough (λ other ends. none-some other (ends x holds.within).1) refused
 
 pub tail_fails : (tail : GuardState TailState) (x piece : List ℕ) (old new : List Slot) (fault : Fault) → HoldsIn of_tail.Holds tail x → tail.stage.may_lack ≡ false
     → of_tail.IsRefused tail piece old new fault → (fault ≡ Write 0) ⊎ (fault ≡ TooLong)
 tail_fails tail x piece old new fault holds enough refused =
-    only_these (not tail.stage.from_nth) tail.stage.may_lack tail.is_over (EndsWith (HoldsIn of_tail.Holds) (λ (guard : GuardState TailState). of_tail.work guard.stage) tail piece) tail.fed (length piece) old new fault holds.live enough (λ other ends. none-some other (ends x holds).1) refused
+    only_these (not tail.stage.from_nth) tail.stage.may_lack tail.is_over (EndsWith of_tail.Holds of_tail.work tail.stage piece) tail.fed (length piece) old new fault holds.live enough (λ other ends. none-some other (ends x holds.within).1) refused

@@ -7,7 +7,7 @@ use Rattle.seg_core.specs.declared.unit.Unit.TheVariants.{Bytes}
 use Rattle.ports_core.specs.Work.{Work, on_output, always_well}
 use Rattle.ports_core.specs.Slot.{Slot}
 use Rattle.ports_core.specs.Engine.{IsCaused, IsMet, EndsWith}
-use Rattle.ports_core.specs.Guard.{GuardState, HoldsIn}
+use Rattle.ports_core.specs.Guard.{GuardState}
 use Rattle.ports_core.specs.declared.fault.Fault.{Fault}
 use Rattle.ends_core.specs.Ends.{measure, last_of, head_of}
 use Rattle.ends_core.specs.HeadState.{HeadState}
@@ -45,7 +45,7 @@ pub record Holds (head : HeadState) (x : List ℕ) : Type 0 where
 -- what is known of a fault of `feed`, by its clause `refused`
 abbrev pub IsRefused : GuardState HeadState → List ℕ → List Slot → List Slot → Fault → Type 0
 IsRefused head piece old new fault =
-    IsCaused (IsMet (work head.stage).means (work head.stage).means.feeding (head.stage.may_lack ≡ true) (EndsWith (HoldsIn Holds) (λ (guard : GuardState HeadState). work guard.stage) head piece) old new) head.is_over head.fed (length piece) old new fault
+    IsCaused (IsMet (work head.stage).means (work head.stage).means.feeding (head.stage.may_lack ≡ true) (EndsWith Holds work head.stage piece) old new) head.is_over head.fed (length piece) old new fault
 
 -- whatever comes after x, the head of it is that of x
 abbrev pub IsDone : ℕ → Counted → Bool → ℕ → List ℕ → Type 0

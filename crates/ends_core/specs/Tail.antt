@@ -4,7 +4,7 @@ use Rattle.ports_core.specs.Part.{nothing, only_out}
 use Rattle.ports_core.specs.Work.{Work, on_output, always_well}
 use Rattle.ports_core.specs.Slot.{Slot}
 use Rattle.ports_core.specs.Engine.{IsCaused, IsMet, EndsWith}
-use Rattle.ports_core.specs.Guard.{GuardState, HoldsIn}
+use Rattle.ports_core.specs.Guard.{GuardState}
 use Rattle.ports_core.specs.declared.fault.Fault.{Fault}
 use Rattle.seg_core.specs.declared.unit.Unit.{Unit as Counted}
 use Rattle.seg_core.specs.declared.unit.Unit.TheVariants.{Bytes}
@@ -42,4 +42,4 @@ pub record Holds (tail : TailState) (x : List ℕ) : Type 0 where
 -- what is known of a fault of `feed`, by its clause `refused`
 abbrev pub IsRefused : GuardState TailState → List ℕ → List Slot → List Slot → Fault → Type 0
 IsRefused tail piece old new fault =
-    IsCaused (IsMet (work tail.stage).means (work tail.stage).means.feeding (tail.stage.may_lack ≡ true) (EndsWith (HoldsIn Holds) (λ (guard : GuardState TailState). work guard.stage) tail piece) old new) tail.is_over tail.fed (length piece) old new fault
+    IsCaused (IsMet (work tail.stage).means (work tail.stage).means.feeding (tail.stage.may_lack ≡ true) (EndsWith Holds work tail.stage piece) old new) tail.is_over tail.fed (length piece) old new fault

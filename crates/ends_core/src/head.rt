@@ -2,7 +2,7 @@ ghost use Rattle.std.specs.Prelude.{◌≡◌, ◌+◌, ◌-◌, ◌^◌, ◌<�
 ghost use Rattle.ports_core.specs.Slot.{is_writable, with_written, told_of};
 ghost use Rattle.ports_core.specs.Work.{IsLawful};
 ghost use Rattle.ports_core.specs.Engine.{OwnsNone};
-ghost use Rattle.ports_core.specs.Guard.{GuardState, HoldsIn};
+ghost use Rattle.ports_core.specs.Guard.{HoldsIn};
 ghost use Rattle.ends_core.specs.Head.{IsDone, Holds, head_waiting, head_work, work};
 ghost use Rattle.ends_core.specs.HeadState.{HeadState};
 ghost use Rattle.ends_core.specs.HeadWay.{FullLacksNone, SameWay, delim_of, due, is_full, left_of, left_waiting, may_lack, state_of, unit_of, waiting_of};
@@ -13,7 +13,7 @@ ghost use Rattle.ends_core.specs.HeadLaws.{lawful};
 use crate::Unit;
 use crate::front::{Front, pass_front};
 use crate::kept::Kept;
-use ports_core::{Engine, Fault, Guarded, Outs, Stage};
+use ports_core::{Fault, Guarded, Outs, Stage};
 use std::alloc::Global;
 use std::marker::Model;
 
@@ -23,12 +23,6 @@ use std::marker::Model;
 /// many came in as are kept back.
 #[derive(Drop)]
 pub struct Head {
-    engine: Guarded<HeadStage>,
-}
-
-/// The stage of a head: what it does as long as no fault and no end came.
-#[derive(Drop)]
-struct HeadStage {
     way: Way,
 }
 
@@ -42,15 +36,9 @@ enum Way {
 }
 
 impl Model for Head {
-    ghost Value = { GuardState HeadState };
-
-    ghost view = { λ h. h.engine };
-}
-
-impl Model for HeadStage {
     ghost Value = { HeadState };
 
-    ghost view = { λ s. state_of s.way };
+    ghost view = { λ h. state_of h.way };
 }
 
 impl Head {
@@ -66,7 +54,7 @@ impl Head {
         but_last: bool,
         count: u64,
         delim: u8,
-    ) -> Result<Head, Fault>
+    ) -> Result<Guarded<Head>, Fault>
         ensures holds { IfOk result (λ head. HoldsIn Holds head []) }
         ensures unit { IfOk result (λ head. head.stage.unit ≡ unit) }
         ensures delim { IfOk result (λ head. unit ≡ Unit.Lines → head.stage.delim ≡ delim) }
@@ -78,84 +66,37 @@ impl Head {
     {
         if but_last {
             return match Kept::open(alloc, unit, count, delim, 0) {
-                Ok(kept) => Ok(Head {
-                    engine: Guarded::new(HeadStage {
-                        way: Way::ButLast(kept),
-                    }),
-                }),
+                Ok(kept) => Ok(Guarded::new(Head {
+                    way: Way::ButLast(kept),
+                })),
                 Err(fault) => Err(fault),
             };
         }
-        Ok(Head {
-            engine: Guarded::new(HeadStage {
-                way: Way::First(
-                    count,
-                    Front {
-                        unit,
-                        delim,
-                        left: count,
-                    },
-                ),
-            }),
-        })
-    }
-
-    /// How many bytes wait, and so aren't written: those that came in and of which it isn't decided yet where they go.
-    pub fn held(&self) -> u64
-        ensures bytes { result ≡ length self.now.stage.waiting }
-        ensures waits { (x : List ℕ) → HoldsIn Holds self.now x → result ≡ length (head_waiting self.now.stage.delim self.now.stage.unit self.now.stage.but_last self.now.stage.count x) }
-    {
-        self.engine.stage().way.held()
+        Ok(Guarded::new(Head {
+            way: Way::First(
+                count,
+                Front {
+                    unit,
+                    delim,
+                    left: count,
+                },
+            ),
+        }))
     }
 }
 
-impl Engine for Head {
-    ghost Holds = { HoldsIn Holds };
-
-    ghost work = { λ head. work head.stage };
-
-    ghost fed = { λ head. head.fed };
-
-    ghost is_over = { λ head. head.is_over };
-
-    ghost may_lack = { λ head piece. head.stage.may_lack };
-
-    ghost Ready = { λ head slots. IsTrue (is_writable slots 0) };
-
-    ghost Owns = { λ head. OwnsNone head.stage };
-
-    fn feed<O: Outs>(&mut self, piece: &[u8], outs: &mut O) -> Result<(), Fault> {
-        self.engine.feed(piece, outs)
-    }
-
-    fn close<O: Outs>(&mut self, outs: &mut O) -> Result<(), Fault> {
-        self.engine.close(outs)
-    }
-
-    fn abandon<O: Outs>(&mut self, outs: &mut O) {
-        self.engine.abandon(outs)
-    }
-
-    fn done(&self) -> bool
-        ensures complete { (x : List ℕ) → HoldsIn Holds self.now x → result ≡ (work self.now.stage).is_complete x }
-        ensures exact { (x : List ℕ) → HoldsIn Holds self.now x → (IsTrue result ↔ IsDone self.now.stage.delim self.now.stage.unit self.now.stage.but_last self.now.stage.count x) }
-    {
-        self.engine.done()
-    }
-
-    ghost live = { λ head x holds. holds.live };
-
-    ghost counts = { λ head x holds. holds.count };
-
-    ghost lawful = { λ head. lawful head.stage.delim head.stage.unit head.stage.but_last head.stage.count };
-}
-
-impl Stage for HeadStage {
+impl Stage for Head {
     ghost Holds = { Holds };
 
     ghost work = { work };
 
     ghost held = { λ head. length head.waiting };
+
+    ghost waiting = { λ head. head_waiting head.delim head.unit head.but_last head.count };
+
+    ghost size = { λ head. length head.waiting };
+
+    ghost IsDone = { λ head. IsDone head.delim head.unit head.but_last head.count };
 
     ghost may_lack = { λ head piece. head.may_lack };
 
@@ -177,11 +118,12 @@ impl Stage for HeadStage {
         let _ = outs;
     }
 
-    fn is_done(&self) -> bool
-        ensures complete { (x : List ℕ) → Holds self.now x → result ≡ (work self.now).is_complete x }
-        ensures exact { (x : List ℕ) → Holds self.now x → (IsTrue result ↔ IsDone self.now.delim self.now.unit self.now.but_last self.now.count x) }
-    {
+    fn is_done(&self) -> bool {
         self.way.is_full()
+    }
+
+    fn waits(&self) -> u64 {
+        self.way.held()
     }
 
     ghost lawful = { λ head. lawful head.delim head.unit head.but_last head.count };

@@ -3,7 +3,7 @@ ghost use Rattle.ports_core.specs.Slot.{is_writable, with_written, told_of};
 ghost use Rattle.ports_core.specs.Source.{is_readable};
 ghost use Rattle.ports_core.specs.Work.{IsLawful};
 ghost use Rattle.ports_core.specs.Engine.{OwnsNone};
-ghost use Rattle.ports_core.specs.Guard.{GuardState, HoldsIn};
+ghost use Rattle.ports_core.specs.Guard.{HoldsIn};
 ghost use Rattle.ends_core.specs.Tail.{Holds, tail_waiting, tail_work, work};
 ghost use Rattle.ends_core.specs.TailState.{TailState};
 ghost use Rattle.ends_core.specs.TailWay.{FullLacksNone, SameWay, count_of, delim_of, due, is_from_nth, left_of, left_waiting, may_lack, state_of, unit_of, waiting_of};
@@ -15,7 +15,7 @@ ghost use Rattle.ends_core.specs.TailLaws.{lawful};
 use crate::Unit;
 use crate::front::{Front, pass_behind};
 use crate::kept::Kept;
-use ports_core::{Engine, Fault, Guarded, Inputs, Outs, Stage};
+use ports_core::{Fault, Guarded, Inputs, Outs, Stage};
 use std::alloc::Global;
 use std::marker::Model;
 
@@ -25,12 +25,6 @@ use std::marker::Model;
 /// came in as are kept.
 #[derive(Drop)]
 pub struct Tail {
-    engine: Guarded<TailStage>,
-}
-
-/// The stage of a tail: what it does as long as no fault and no end came.
-#[derive(Drop)]
-struct TailStage {
     way: Way,
 }
 
@@ -44,15 +38,9 @@ enum Way {
 }
 
 impl Model for Tail {
-    ghost Value = { GuardState TailState };
-
-    ghost view = { λ t. t.engine };
-}
-
-impl Model for TailStage {
     ghost Value = { TailState };
 
-    ghost view = { λ s. state_of s.way };
+    ghost view = { λ t. state_of t.way };
 }
 
 impl Tail {
@@ -68,7 +56,7 @@ impl Tail {
         from_nth: bool,
         count: u64,
         delim: u8,
-    ) -> Result<Tail, Fault>
+    ) -> Result<Guarded<Tail>, Fault>
         ensures holds { IfOk result (λ tail. HoldsIn Holds tail []) }
         ensures unit { IfOk result (λ tail. tail.stage.unit ≡ unit) }
         ensures delim { IfOk result (λ tail. unit ≡ Unit.Lines → tail.stage.delim ≡ delim) }
@@ -94,7 +82,7 @@ impl Tail {
         count: u64,
         delim: u8,
         coming: u64,
-    ) -> Result<Tail, Fault>
+    ) -> Result<Guarded<Tail>, Fault>
         ensures holds { IfOk result (λ tail. HoldsIn Holds tail []) }
         ensures unit { IfOk result (λ tail. tail.stage.unit ≡ unit) }
         ensures delim { IfOk result (λ tail. unit ≡ Unit.Lines → tail.stage.delim ≡ delim) }
@@ -105,86 +93,36 @@ impl Tail {
         ensures err { IfErr result (λ fault. (fault ≡ Fault.Memory) × (from_nth ≡ false)) }
     {
         if from_nth {
-            return Ok(Tail {
-                engine: Guarded::new(TailStage {
-                    way: Way::FromNth(
-                        count,
-                        Front {
-                            unit,
-                            delim,
-                            left: count.saturating_sub(1),
-                        },
-                    ),
-                }),
-            });
+            return Ok(Guarded::new(Tail {
+                way: Way::FromNth(
+                    count,
+                    Front {
+                        unit,
+                        delim,
+                        left: count.saturating_sub(1),
+                    },
+                ),
+            }));
         }
         match Kept::open(alloc, unit, count, delim, coming) {
-            Ok(kept) => Ok(Tail {
-                engine: Guarded::new(TailStage {
-                    way: Way::Last(kept),
-                }),
-            }),
+            Ok(kept) => Ok(Guarded::new(Tail {
+                way: Way::Last(kept),
+            })),
             Err(fault) => Err(fault),
         }
     }
-
-    /// How many bytes wait, and so aren't written: those that came in and of which it isn't decided yet where they go.
-    pub fn held(&self) -> u64
-        ensures bytes { result ≡ length self.now.stage.waiting }
-        ensures waits { (x : List ℕ) → HoldsIn Holds self.now x → result ≡ length (tail_waiting self.now.stage.delim self.now.stage.unit self.now.stage.from_nth self.now.stage.count x) }
-    {
-        self.engine.stage().way.held()
-    }
 }
 
-impl Engine for Tail {
-    ghost Holds = { HoldsIn Holds };
-
-    ghost work = { λ tail. work tail.stage };
-
-    ghost fed = { λ tail. tail.fed };
-
-    ghost is_over = { λ tail. tail.is_over };
-
-    ghost may_lack = { λ tail piece. tail.stage.may_lack };
-
-    ghost Ready = { λ tail slots. IsTrue (is_writable slots 0) };
-
-    ghost Owns = { λ tail. OwnsNone tail.stage };
-
-    fn feed<O: Outs>(&mut self, piece: &[u8], outs: &mut O) -> Result<(), Fault> {
-        self.engine.feed(piece, outs)
-    }
-
-    fn load<I: Inputs>(&mut self, slot: usize, buffer: &mut [u8], inputs: &mut I) -> u64 {
-        self.engine.load(slot, buffer, inputs)
-    }
-
-    fn close<O: Outs>(&mut self, outs: &mut O) -> Result<(), Fault> {
-        self.engine.close(outs)
-    }
-
-    fn abandon<O: Outs>(&mut self, outs: &mut O) {
-        self.engine.abandon(outs)
-    }
-
-    fn done(&self) -> bool {
-        self.engine.done()
-    }
-
-    ghost live = { λ tail x holds. holds.live };
-
-    ghost counts = { λ tail x holds. holds.count };
-
-    ghost lawful = { λ tail. lawful tail.stage.delim tail.stage.unit tail.stage.from_nth tail.stage.count };
-}
-
-impl Stage for TailStage {
+impl Stage for Tail {
     ghost Holds = { Holds };
 
     ghost work = { work };
 
     ghost held = { λ tail. length tail.waiting };
+
+    ghost waiting = { λ tail. tail_waiting tail.delim tail.unit tail.from_nth tail.count };
+
+    ghost size = { λ tail. length tail.waiting };
 
     ghost may_lack = { λ tail piece. tail.may_lack };
 
@@ -211,6 +149,10 @@ impl Stage for TailStage {
 
     fn is_done(&self) -> bool {
         false
+    }
+
+    fn waits(&self) -> u64 {
+        self.way.held()
     }
 
     ghost lawful = { λ tail. lawful tail.delim tail.unit tail.from_nth tail.count };

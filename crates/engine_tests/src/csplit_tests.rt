@@ -5,7 +5,7 @@ ghost use Rattle.csplit_core.specs.CsplitState.{IsReady};
 
 use crate::play::{close, feed, has_files};
 use csplit_core::{Csplitter, Operands, Style, read_operands};
-use ports_core::{Fault, MemOut, Outs};
+use ports_core::{Fault, Guarded, MemOut, Outs};
 use std::alloc::{AllocError, Global};
 use std::process::Abort;
 use std::test::Fail;
@@ -373,7 +373,7 @@ pub(crate) fn open<'o>(
     style: Style,
     operands: &'o Operands,
     outs: &mut MemOut,
-) -> Result<Csplitter<'o>, Fault>
+) -> Result<Guarded<Csplitter<'o>>, Fault>
     requires streams { 2 ≤ length outs.old }
     requires output { IsTrue (is_writable outs.old 0) }
     ensures { IfOk result (λ engine. IsReady engine.stage outs.new) }

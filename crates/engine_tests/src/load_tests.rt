@@ -1,7 +1,7 @@
 //! What a tail takes in of an input from its end, by blocks that are shorter than the texts.
 use crate::play::{Step, play};
 use ends_core::{Tail, Unit};
-use ports_core::{Engine, Inputs, MemIn, MemOut};
+use ports_core::{Inputs, MemIn, MemOut};
 use std::alloc::Global;
 use std::process::Abort;
 use std::test::Fail;

@@ -7,7 +7,7 @@ ghost use Rattle.split_core.specs.Ways.{Ready};
 use crate::part_plain::plain_parts;
 use crate::play::{Step, close, feed, has_files, play};
 use crate::test_texts::{DELIMITERS, Short, pieces_of, short_texts};
-use ports_core::{Alphabet, Fault, MemOut, Names, Outs};
+use ports_core::{Alphabet, Fault, Guarded, MemOut, Names, Outs};
 use split_core::{Cut, Limit, Splitter};
 use std::alloc::Global;
 use std::process::Abort;
@@ -385,7 +385,12 @@ fn play_names(
 }
 
 /// A splitter of parts that follow one another, with these names.
-fn open_with(alloc: Global, cut: Cut, names: Names, outs: &mut MemOut) -> Result<Splitter, Fault>
+fn open_with(
+    alloc: Global,
+    cut: Cut,
+    names: Names,
+    outs: &mut MemOut,
+) -> Result<Guarded<Splitter>, Fault>
     requires fresh { names.drawn ≡ 0 }
     requires streams { 2 ≤ length outs.old }
     ensures { IfOk result (λ splitter. Ready splitter.stage outs.new) }
@@ -411,7 +416,7 @@ fn most_of(limit: Limit) -> u64
 }
 
 /// A splitter whose files have the names xaa, xab and so on.
-fn open(alloc: Global, limit: Limit, outs: &mut MemOut) -> Result<Splitter, Fault>
+fn open(alloc: Global, limit: Limit, outs: &mut MemOut) -> Result<Guarded<Splitter>, Fault>
     requires { 2 ≤ length outs.old }
     ensures { IfOk result (λ splitter. Ready splitter.stage outs.new) }
 {

@@ -1,9 +1,7 @@
 //! Tests as tables: what is done with an engine step by step, and what must be so between.
 ghost use Rattle.std.specs.Prelude.{◌≡◌, false};
 
-use ends_core::{Head, Tail};
-use ports_core::{Engine, Fault, MemOut, Outs};
-use split_core::Splitter;
+use ports_core::{Fault, Guarded, MemOut, Outs, Stage};
 use std::process::Abort;
 
 /// Something that is done, or that must be so.
@@ -35,38 +33,14 @@ pub(crate) enum Step<'a> {
     Broken(usize),
 }
 
-/// An engine that tells how many bytes wait in it.
-pub(crate) trait Waiting {
-    /// How many bytes came in and aren't written.
-    fn waiting(&self) -> u64;
-}
-
-impl Waiting for Head {
-    fn waiting(&self) -> u64 {
-        self.held()
-    }
-}
-
-impl Waiting for Tail {
-    fn waiting(&self) -> u64 {
-        self.held()
-    }
-}
-
-impl Waiting for Splitter {
-    fn waiting(&self) -> u64 {
-        self.held()
-    }
-}
-
 /// Takes all steps with an engine, one after another.
-pub(crate) fn play<E: Engine + Waiting>(
+pub(crate) fn play<S: Stage>(
     rt: &impl Abort,
-    engine: &mut E,
+    engine: &mut Guarded<S>,
     outs: &mut MemOut,
     steps: &[Step<'_>],
 )
-    requires { E.is_over engine.old ≡ false → E.Ready engine.old outs.old }
+    requires { engine.old.is_over ≡ false → S.Ready engine.old.stage outs.old }
 {
     for step in steps {
         take(rt, engine, outs, step);
@@ -74,9 +48,9 @@ pub(crate) fn play<E: Engine + Waiting>(
 }
 
 /// Takes a step with an engine.
-fn take<E: Engine + Waiting>(rt: &impl Abort, engine: &mut E, outs: &mut MemOut, step: &Step<'_>)
-    requires { E.is_over engine.old ≡ false → E.Ready engine.old outs.old }
-    ensures { E.is_over engine.new ≡ false → E.Ready engine.new outs.new }
+fn take<S: Stage>(rt: &impl Abort, engine: &mut Guarded<S>, outs: &mut MemOut, step: &Step<'_>)
+    requires { engine.old.is_over ≡ false → S.Ready engine.old.stage outs.old }
+    ensures { engine.new.is_over ≡ false → S.Ready engine.new.stage outs.new }
 {
     match step {
         Step::Feed(piece) => assert_eq!(rt; feed(engine, outs, piece), Ok(()), "at {step:?}"),
@@ -94,21 +68,25 @@ fn take<E: Engine + Waiting>(rt: &impl Abort, engine: &mut E, outs: &mut MemOut,
 }
 
 /// Feeds an engine a piece, also one that is over.
-pub(crate) fn feed<E: Engine>(engine: &mut E, outs: &mut MemOut, piece: &[u8]) -> Result<(), Fault>
-    requires { E.is_over engine.old ≡ false → E.Ready engine.old outs.old }
-    ensures { E.is_over engine.new ≡ false → E.Ready engine.new outs.new }
+pub(crate) fn feed<S: Stage>(
+    engine: &mut Guarded<S>,
+    outs: &mut MemOut,
+    piece: &[u8],
+) -> Result<(), Fault>
+    requires { engine.old.is_over ≡ false → S.Ready engine.old.stage outs.old }
+    ensures { engine.new.is_over ≡ false → S.Ready engine.new.stage outs.new }
 {
     engine.feed(piece, outs)
 }
 
 /// Feeds an engine these pieces, also one that is over.
-pub(crate) fn feed_all<E: Engine>(
-    engine: &mut E,
+pub(crate) fn feed_all<S: Stage>(
+    engine: &mut Guarded<S>,
     outs: &mut MemOut,
     pieces: &[&[u8]],
 ) -> Result<(), Fault>
-    requires { E.is_over engine.old ≡ false → E.Ready engine.old outs.old }
-    ensures { E.is_over engine.new ≡ false → E.Ready engine.new outs.new }
+    requires { engine.old.is_over ≡ false → S.Ready engine.old.stage outs.old }
+    ensures { engine.new.is_over ≡ false → S.Ready engine.new.stage outs.new }
 {
     for piece in pieces {
         feed(engine, outs, piece)?;
@@ -117,17 +95,17 @@ pub(crate) fn feed_all<E: Engine>(
 }
 
 /// Closes an engine, also one that is over.
-pub(crate) fn close<E: Engine>(engine: &mut E, outs: &mut MemOut) -> Result<(), Fault>
-    requires { E.is_over engine.old ≡ false → E.Ready engine.old outs.old }
-    ensures { E.is_over engine.new ≡ false → E.Ready engine.new outs.new }
+pub(crate) fn close<S: Stage>(engine: &mut Guarded<S>, outs: &mut MemOut) -> Result<(), Fault>
+    requires { engine.old.is_over ≡ false → S.Ready engine.old.stage outs.old }
+    ensures { engine.new.is_over ≡ false → S.Ready engine.new.stage outs.new }
 {
     engine.close(outs)
 }
 
 /// Whether what a step says is so. Nothing is said by one that does something.
-fn is_so<E: Engine + Waiting>(engine: &E, outs: &MemOut, step: &Step<'_>) -> bool {
+fn is_so<S: Stage>(engine: &Guarded<S>, outs: &MemOut, step: &Step<'_>) -> bool {
     match step {
-        Step::Waits(count) => engine.waiting() == *count,
+        Step::Waits(count) => engine.held() == *count,
         Step::Done(done) => engine.done() == *done,
         Step::Wrote(bytes) => outs.bytes(0) == *bytes,
         Step::Files(files) => has_files(outs, files),

@@ -6,7 +6,7 @@ ghost use Rattle.split_core.specs.Ways.{Ready};
 use crate::play::{Step, close, feed_all, play};
 use crate::round_plain::plain;
 use crate::test_texts::{DELIMITERS, Short, pieces_of, short_texts};
-use ports_core::{Alphabet, Fault, MemOut, Names, Outs};
+use ports_core::{Alphabet, Fault, Guarded, MemOut, Names, Outs};
 use split_core::{Cut, Splitter};
 use std::alloc::Global;
 use std::process::Abort;
@@ -254,7 +254,7 @@ fn start(
     elide: bool,
     delim: u8,
     outs: &mut MemOut,
-) -> Result<Splitter, Fault>
+) -> Result<Guarded<Splitter>, Fault>
     requires some { 0 < count }
     requires streams { 2 ≤ length outs.old }
     ensures ready { IfOk result (λ engine. Ready engine.stage outs.new) }

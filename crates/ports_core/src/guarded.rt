@@ -1,13 +1,17 @@
-//! What all engines share: they count what comes in, take no more than 2^63-1 bytes, and return `Failed` once a fault
-//! or the end came.
-ghost use Rattle.std.specs.Prelude.{◌≡◌, ◌+◌, ◌^◌, ◌<◌, ◌≤◌, true, false};
-ghost use Rattle.ports_core.specs.Work.{Work};
+//! Engines: what all of them share around a tool's stage. They count what comes in, take no more than 2^63-1 bytes, and
+//! return `Failed` once a fault or the end came.
+ghost use Rattle.std.specs.Prelude.{◌≡◌, ◌+◌, ◌^◌, ◌<◌, ◌≤◌, ◌↔◌, ℕ, List, [], true, false, length, IfErr, OnOk, OnErr, IsErrOf, IsTrue};
+ghost use Rattle.ports_core.specs.Slot.{is_writable};
+ghost use Rattle.ports_core.specs.Source.{is_readable};
+ghost use Rattle.ports_core.specs.Engine.{Loads, TakesIn, PutsOut, CutsOff, Finishes, EndsShort, EndsWith, EndsThere, IsCaused, IsMet, KeepsOwn, Clears, is_verdict};
 ghost use Rattle.ports_core.specs.Guard.{GuardState, HoldsIn};
 
-use crate::{Engine, Fault, Inputs, Outs, Stage, fed_with};
+use crate::{Fault, Inputs, Outs, Stage, fed_with};
 use std::marker::Model;
+use std::mem::replace;
 
-/// A stage made into an engine.
+/// An engine of a tool's stage: it takes one input's pieces as they come, and after each its outputs have exactly what no
+/// further input can change.
 #[derive(Drop)]
 pub struct Guarded<S: Stage> {
     stage: S,
@@ -20,13 +24,13 @@ impl<S: Stage> Model for Guarded<S> {
 
     ghost view = { λ g. record { stage = g.stage; fed = g.fed; is_over = g.is_over } };
 
-    ghost invariant = { λ g. (g.fed < 2 ^ 63) × (S.held g.stage ≤ g.fed) };
+    ghost invariant = { λ g. (g.fed < 2 ^ 63) × (S.size g.stage ≤ g.fed) };
 }
 
 impl<S: Stage> Guarded<S> {
     /// An engine of this stage, which has been fed nothing.
     pub fn new(stage: S) -> Guarded<S>
-        requires { S.held stage ≡ 0 }
+        requires { S.size stage ≡ 0 }
         ensures { result ≡ record { stage = stage; fed = 0; is_over = false } }
     {
         Guarded {
@@ -36,31 +40,32 @@ impl<S: Stage> Guarded<S> {
         }
     }
 
-    /// The stage: what is the tool's own. At most 2^63-1 bytes came in.
-    pub fn stage(&self) -> &S
-        ensures same { result.now ≡ self.now.stage }
-        ensures few { self.now.fed < 2 ^ 63 }
+    /// Takes the next piece of the input, and writes what is settled with it. What that is, each tool's law
+    /// `agreed_is_settled` says: exactly what all continuations of the input agree on.
+    ///
+    /// # Errors
+    ///
+    /// `Write` where an output broke, `Open` where a file can't be opened, `Memory` where there is no room for bytes
+    /// that wait or for a name, `TooLong` where the input has more than 2^63-1 bytes: nothing of this piece is
+    /// written then. After these the outputs have a beginning of what is settled. `Suffixes`, `NoMatch` and `Range`
+    /// where the work ends so whatever comes: then the outputs have all that is settled, and the files are removed if
+    /// the work clears them. After a fault, and after `close`, `Failed`: nothing is changed.
+    pub fn feed<O: Outs>(&mut self, piece: &[u8], outs: &mut O) -> Result<(), Fault>
+        requires { self.old.is_over ≡ false → S.Ready self.old.stage (O.slots outs.old) }
+        ensures same { S.work self.new.stage ≡ S.work self.old.stage }
+        ensures holds { OnOk result (TakesIn (HoldsIn S.Holds) piece.now self.old self.new) }
+        ensures outputs { OnOk result (PutsOut S.Holds S.Owns S.work self.old.stage piece.now O.told (O.slots outs.old) (O.slots outs.new)) }
+        ensures ready { OnOk result (S.Ready self.new.stage (O.slots outs.new)) }
+        ensures fed { OnOk result (self.new.fed ≡ self.old.fed + length piece.now) }
+        ensures bound { OnOk result (self.new.fed < 2 ^ 63) }
+        ensures owns { OnOk result (KeepsOwn S.Owns self.old.stage self.new.stage (O.slots outs.old) (O.slots outs.new)) }
+        ensures owned { IfErr result (λ fault. is_verdict fault ≡ false → KeepsOwn S.Owns self.old.stage self.new.stage (O.slots outs.old) (O.slots outs.new)) }
+        ensures cut { IfErr result (CutsOff S.Holds S.Owns S.work self.old.stage piece.now O.told (O.slots outs.old) (O.slots outs.new)) }
+        ensures refused { IfErr result (IsCaused (IsMet (S.work self.old.stage).means (S.work self.old.stage).means.feeding (S.may_lack self.old.stage piece.now ≡ true) (EndsWith S.Holds S.work self.old.stage piece.now) (O.slots outs.old) (O.slots outs.new)) self.old.is_over self.old.fed (length piece.now) (O.slots outs.old) (O.slots outs.new)) }
+        ensures long { self.old.is_over ≡ false → 2 ^ 63 ≤ self.old.fed + length piece.now → IsErrOf result Fault.TooLong × (O.slots outs.new ≡ O.slots outs.old) }
+        ensures failed { self.old.is_over ≡ true → IsErrOf result Fault.Failed × (self.new ≡ self.old) × (O.slots outs.new ≡ O.slots outs.old) }
+        ensures over { OnErr result (self.new.is_over ≡ true) }
     {
-        &self.stage
-    }
-}
-
-impl<S: Stage> Engine for Guarded<S> {
-    ghost Holds = { HoldsIn S.Holds };
-
-    ghost work = { λ guard. S.work guard.stage };
-
-    ghost fed = { λ guard. guard.fed };
-
-    ghost is_over = { λ guard. guard.is_over };
-
-    ghost may_lack = { λ guard. S.may_lack guard.stage };
-
-    ghost Ready = { λ guard. S.Ready guard.stage };
-
-    ghost Owns = { λ guard. S.Owns guard.stage };
-
-    fn feed<O: Outs>(&mut self, piece: &[u8], outs: &mut O) -> Result<(), Fault> {
         if self.is_over {
             return Err(Fault::Failed);
         }
@@ -78,31 +83,78 @@ impl<S: Stage> Engine for Guarded<S> {
         }
     }
 
-    fn load<I: Inputs>(&mut self, slot: usize, buffer: &mut [u8], inputs: &mut I) -> u64 {
+    /// Takes in what an input has left, before any piece and without reading all of it: where the input can be looked at
+    /// from its end, and the work writes nothing before the end and needs the last part alone. It looks at no more at once
+    /// than the buffer's length. It returns how many bytes it took in; they are passed over, so that the reads that follow
+    /// give what comes after them. 0 where it took in none, and the input is to be read from its front.
+    pub fn load<I: Inputs>(&mut self, slot: usize, buffer: &mut [u8], inputs: &mut I) -> u64
+        requires room { 0 < length buffer.old }
+        requires fresh { HoldsIn S.Holds self.old [] }
+        requires input { IsTrue (is_readable (I.sources inputs.old) slot) }
+        ensures same { S.work self.new.stage ≡ S.work self.old.stage }
+        ensures loads { Loads S.Holds S.Ready S.Owns S.work I.told slot result self.old.stage self.new.stage (I.sources inputs.old) (I.sources inputs.new) }
+        ensures fed { self.new.fed ≡ result }
+        ensures live { self.new.is_over ≡ false }
+        ensures laid { I.laid inputs.new ≡ I.laid inputs.old }
+        ensures bound { result < 2 ^ 63 }
+    {
         self.fed = self.stage.load(slot, buffer, inputs);
         self.fed
     }
 
-    fn close<O: Outs>(&mut self, outs: &mut O) -> Result<(), Fault> {
-        if self.is_over {
+    /// Ends the input, and writes what waited. Where the work writes to standard output and nothing failed, that can
+    /// still be written to afterwards.
+    ///
+    /// # Errors
+    ///
+    /// `Write` where an output broke. `Open` where a file can't be opened and `Memory` where there is none, each only
+    /// where the work's means say that `close` may need it. `Suffixes`, `NoMatch` and `Range` where the work ends so:
+    /// then the outputs have all of it, and the files are removed if the work clears them. `Failed` after a fault or
+    /// after `close`: nothing is changed.
+    pub fn close<O: Outs>(&mut self, outs: &mut O) -> Result<(), Fault>
+        requires { self.old.is_over ≡ false → S.Ready self.old.stage (O.slots outs.old) }
+        ensures same { S.work self.new.stage ≡ S.work self.old.stage }
+        ensures outputs { OnOk result (Finishes S.Holds S.Owns S.work self.old.stage O.told (O.slots outs.old) (O.slots outs.new)) }
+        ensures writable { OnOk result ((S.work self.old.stage).means.output ≡ true → IsTrue (is_writable (O.slots outs.new) 0)) }
+        ensures owns { OnOk result (KeepsOwn S.Owns self.old.stage self.new.stage (O.slots outs.old) (O.slots outs.new)) }
+        ensures owned { IfErr result (λ fault. is_verdict fault ≡ false → KeepsOwn S.Owns self.old.stage self.new.stage (O.slots outs.old) (O.slots outs.new)) }
+        ensures cut { IfErr result (EndsShort S.Holds S.Owns S.work self.old.stage O.told (O.slots outs.old) (O.slots outs.new)) }
+        ensures refused { IfErr result (IsCaused (IsMet (S.work self.old.stage).means (S.work self.old.stage).means.closing (Unit {0}) (EndsThere S.Holds S.work self.old.stage) (O.slots outs.old) (O.slots outs.new)) self.old.is_over self.old.fed 0 (O.slots outs.old) (O.slots outs.new)) }
+        ensures failed { self.old.is_over ≡ true → IsErrOf result Fault.Failed × (self.new ≡ self.old) × (O.slots outs.new ≡ O.slots outs.old) }
+        ensures over { self.new.is_over ≡ true }
+    {
+        if replace(&mut self.is_over, true) {
             return Err(Fault::Failed);
         }
-        self.is_over = true;
         self.stage.finish(outs)
     }
 
-    fn abandon<O: Outs>(&mut self, outs: &mut O) {
+    /// Gives the input up, after a fault or where it broke off: removes the files that it made, in order, if its work
+    /// clears them. One that can't be removed is broken and closed, and the next is tried. Not to be called after
+    /// `Suffixes`, `NoMatch` or `Range`, which have removed them.
+    pub fn abandon<O: Outs>(&mut self, outs: &mut O)
+        requires { (first : ℕ) × S.Owns self.old.stage first (O.slots outs.old) }
+        ensures same { S.work self.new.stage ≡ S.work self.old.stage }
+        ensures swept { Clears S.Owns S.work self.old.stage (O.slots outs.old) (O.slots outs.new) }
+        ensures over { self.new.is_over ≡ true }
+    {
         self.is_over = true;
         self.stage.clear(outs);
     }
 
-    fn done(&self) -> bool {
+    /// Whether the output is complete: whatever comes, it stays.
+    pub fn done(&self) -> bool
+        ensures complete { (x : List ℕ) → HoldsIn S.Holds self.now x → result ≡ (S.work self.now.stage).is_complete x }
+        ensures exact { (x : List ℕ) → HoldsIn S.Holds self.now x → (IsTrue result ↔ S.IsDone self.now.stage x) }
+    {
         self.stage.is_done()
     }
 
-    ghost live = { λ guard x holds. holds.live };
-
-    ghost counts = { λ guard x holds. holds.count };
-
-    ghost lawful = { λ guard. S.lawful guard.stage };
+    /// How many bytes wait, and so aren't written: those that came in and of which it isn't decided yet where they go.
+    pub fn held(&self) -> u64
+        ensures bytes { result ≡ S.held self.now.stage }
+        ensures waits { (x : List ℕ) → HoldsIn S.Holds self.now x → result ≡ length (S.waiting self.now.stage x) }
+    {
+        self.stage.waits()
+    }
 }

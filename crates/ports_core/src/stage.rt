@@ -1,4 +1,4 @@
-ghost use Rattle.std.specs.Prelude.{◌≡◌, ◌+◌, ◌^◌, ◌<◌, ◌≤◌, ℕ, List, [], Bool, true, false, length, IfErr, OnOk, IsTrue};
+ghost use Rattle.std.specs.Prelude.{◌≡◌, ◌+◌, ◌^◌, ◌<◌, ◌≤◌, ◌↔◌, ℕ, List, [], Bool, true, false, length, IfErr, OnOk, IsTrue};
 ghost use Rattle.ports_core.specs.Slot.{Slot, is_writable};
 ghost use Rattle.ports_core.specs.Source.{is_readable};
 ghost use Rattle.ports_core.specs.Work.{Work, IsLawful};
@@ -6,7 +6,8 @@ ghost use Rattle.ports_core.specs.Engine.{Loads, TakesIn, PutsOut, CutsOff, Fini
 
 use crate::{Fault, Inputs, Outs};
 
-/// What is a tool's own in its engine, as long as no fault and no end came: `Guarded` adds what all engines share.
+/// A tool's work on one input, as long as no fault and no end came: `Guarded` makes an engine of it, and says there what
+/// each call does.
 pub trait Stage {
     /// Whether the stage can have been fed these bytes.
     ghost Holds: { Self → List ℕ → Type 0 };
@@ -14,8 +15,17 @@ pub trait Stage {
     /// What it makes of its input.
     ghost work: { Self → Work };
 
-    /// How many bytes wait in it; 0 where its own limit bounds them, so that nothing need count them.
+    /// How many bytes wait in it.
     ghost held: { Self → ℕ };
+
+    /// Which of the bytes that came in wait.
+    ghost waiting: { Self → List ℕ → List ℕ };
+
+    /// How many bytes it has to count; 0 where its own limit bounds them.
+    ghost size: { Self → ℕ } = { λ stage. 0 };
+
+    /// Whether nothing that follows these bytes changes the output, in the tool's own words; never, unless it says so.
+    ghost IsDone: { Self → List ℕ → Type 0 } = { λ stage x. ⊥ };
 
     /// Whether there may be no memory for a piece.
     ghost may_lack: { Self → List ℕ → Bool };
@@ -30,12 +40,12 @@ pub trait Stage {
     ///
     /// # Errors
     ///
-    /// As `Engine::feed`, but for `TooLong` and `Failed`.
+    /// As `Guarded::feed`, but for `TooLong` and `Failed`.
     fn pass<O: Outs>(&mut self, piece: &[u8], outs: &mut O) -> Result<(), Fault>
-        requires fits { held self.old + length piece.now < 2 ^ 63 }
+        requires fits { size self.old + length piece.now < 2 ^ 63 }
         requires ready { Ready self.old (O.slots outs.old) }
         ensures same { work self.new ≡ work self.old }
-        ensures held { held self.new ≤ held self.old + length piece.now }
+        ensures size { size self.new ≤ size self.old + length piece.now }
         ensures holds { OnOk result (TakesIn Holds piece.now self.old self.new) }
         ensures outputs { OnOk result (PutsOut Holds Owns work self.old piece.now O.told (O.slots outs.old) (O.slots outs.new)) }
         ensures ready { OnOk result (Ready self.new (O.slots outs.new)) }
@@ -44,14 +54,14 @@ pub trait Stage {
         ensures cut { IfErr result (CutsOff Holds Owns work self.old piece.now O.told (O.slots outs.old) (O.slots outs.new)) }
         ensures met { IfErr result (IsMet (work self.old).means (work self.old).means.feeding (may_lack self.old piece.now ≡ true) (EndsWith Holds work self.old piece.now) (O.slots outs.old) (O.slots outs.new)) };
 
-    /// Takes in what an input has left, before any piece, as `Engine::load`. By itself it takes in none.
+    /// Takes in what an input has left, before any piece, as `Guarded::load`. By itself it takes in none.
     fn load<I: Inputs>(&mut self, slot: usize, buffer: &mut [u8], inputs: &mut I) -> u64
         requires room { 0 < length buffer.old }
         requires fresh { Holds self.old [] }
-        requires none { held self.old ≡ 0 }
+        requires none { size self.old ≡ 0 }
         requires input { IsTrue (is_readable (I.sources inputs.old) slot) }
         ensures same { work self.new ≡ work self.old }
-        ensures held { held self.new ≤ result }
+        ensures size { size self.new ≤ result }
         ensures loads { Loads Holds Ready Owns work I.told slot result self.old self.new (I.sources inputs.old) (I.sources inputs.new) }
         ensures laid { I.laid inputs.new ≡ I.laid inputs.old }
         ensures bound { result < 2 ^ 63 }
@@ -66,11 +76,11 @@ pub trait Stage {
     ///
     /// # Errors
     ///
-    /// As `Engine::close`, but for `Failed`.
+    /// As `Guarded::close`, but for `Failed`.
     fn finish<O: Outs>(&mut self, outs: &mut O) -> Result<(), Fault>
         requires ready { Ready self.old (O.slots outs.old) }
         ensures same { work self.new ≡ work self.old }
-        ensures held { held self.new ≤ held self.old }
+        ensures size { size self.new ≤ size self.old }
         ensures outputs { OnOk result (Finishes Holds Owns work self.old O.told (O.slots outs.old) (O.slots outs.new)) }
         ensures writable { OnOk result ((work self.old).means.output ≡ true → IsTrue (is_writable (O.slots outs.new) 0)) }
         ensures owns { OnOk result (KeepsOwn Owns self.old self.new (O.slots outs.old) (O.slots outs.new)) }
@@ -83,12 +93,18 @@ pub trait Stage {
     fn clear<O: Outs>(&mut self, outs: &mut O)
         requires { (first : ℕ) × Owns self.old first (O.slots outs.old) }
         ensures same { work self.new ≡ work self.old }
-        ensures held { held self.new ≤ held self.old }
+        ensures size { size self.new ≤ size self.old }
         ensures swept { Clears Owns work self.old (O.slots outs.old) (O.slots outs.new) };
 
     /// Whether the output is complete: whatever comes, it stays.
     fn is_done(&self) -> bool
-        ensures { (x : List ℕ) → Holds self.now x → result ≡ (work self.now).is_complete x };
+        ensures complete { (x : List ℕ) → Holds self.now x → result ≡ (work self.now).is_complete x }
+        ensures exact { (x : List ℕ) → Holds self.now x → (IsTrue result ↔ IsDone self.now x) };
+
+    /// How many bytes wait.
+    fn waits(&self) -> u64
+        ensures bytes { result ≡ held self.now }
+        ensures waits { (x : List ℕ) → length x < 2 ^ 63 → Holds self.now x → result ≡ length (waiting self.now x) };
 
     ghost lawful: { (stage : Self) → IsLawful (work stage) };
 }

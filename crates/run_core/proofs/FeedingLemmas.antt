@@ -9,6 +9,7 @@ use Rattle.ports_core.specs.Swept.{Swept}
 use Rattle.ports_core.specs.Work.{Work, Means, Needs, IsLawful, IsComplete, Judges, IsSettled}
 use Rattle.ports_core.specs.Engine.{StandsAt, TakesIn, PutsOut, CutsOff, Finishes, EndsShort, EndsWith, EndsThere, IsCaused, IsMet, Ended, is_verdict, KeepsOwn, Clears}
 use Rattle.ports_core.specs.Engine as engine
+use Rattle.ports_core.specs.Guard.{GuardState, HoldsIn}
 use Rattle.ports_core.specs.declared.fault.Fault.{Fault}
 use Rattle.ports_core.specs.declared.fault.Fault.TheVariants.{Memory, Write, Read, Open, Suffixes, NoMatch, Range, Usage, Failed, TooLong}
 use Rattle.ports_core.proofs.SlotLemmas.{length-changed_at}
@@ -181,23 +182,23 @@ short_of_end told opening most work content WasRead x reached new before fed fau
 short_of_end told opening most work content WasRead x reached new before fed fault lawful got needed read (engine.judged judging first at cleared) why verdict kept swept =
     judged_all told opening most work content WasRead x first new before fed fault judging lawful got (verdict judging) at (subst (λ those. Swept work.clears (length before) first those) (sym (kept judging)) cleared)
 
-module _ {E : Type 0} (Holds : E → List ℕ → Type 0) (Owns : E → ℕ → List Slot → Type 0) (work : E → Work) (is_over : E → Bool) (fed_of : E → ℕ) where
+module _ {S : Type 0} (Holds : S → List ℕ → Type 0) (Owns : S → ℕ → List Slot → Type 0) (work : S → Work) where
   -- the loop has fed the engine x
-  pub record Feeds (told : Bool) (start now : E) (x : List ℕ) (old slots : List Slot) : Type 0 where
-    pub same : work now ≡ work start
-    pub holds : Holds now x
-    pub owns : KeepsOwn Owns start now old slots
-    pub outputs : (before : List Slot) → Owns start (length before) old → OutputsAt told before ((work start).settled []) old → OutputsAt told before ((work now).settled x) slots
-    pub bound : fed_of now < 2 ^ 63
+  pub record Feeds (told : Bool) (start now : GuardState S) (x : List ℕ) (old slots : List Slot) : Type 0 where
+    pub same : work now.stage ≡ work start.stage
+    pub holds : HoldsIn Holds now x
+    pub owns : KeepsOwn Owns start.stage now.stage old slots
+    pub outputs : (before : List Slot) → Owns start.stage (length before) old → OutputsAt told before ((work start.stage).settled []) old → OutputsAt told before ((work now.stage).settled x) slots
+    pub bound : now.fed < 2 ^ 63
 
-  pub begins : (told : Bool) (start : E) (old : List Slot) → Holds start [] → fed_of start < 2 ^ 63 → Feeds told start start [] old old
+  pub begins : (told : Bool) (start : GuardState S) (old : List Slot) → HoldsIn Holds start [] → start.fed < 2 ^ 63 → Feeds told start start [] old old
   begins told start old holds bound = record { same = refl; holds = holds; owns = λ first own. own; outputs = λ before own at. at; bound = bound }
 
   -- the engine and its outputs stand at what it was fed
-  pub stands : (told : Bool) (start now : E) (x : List ℕ) (old mid before : List Slot) → Feeds told start now x old mid → Owns start (length before) old → OutputsAt told before ((work start).settled []) old → StandsAt Holds Owns now told before x ((work now).settled x) mid
-  stands told start now x old mid before so_far own at = record { holds = so_far.holds; owns = so_far.owns (length before) own; outputs = so_far.outputs before own at }
+  pub stands : (told : Bool) (start now : GuardState S) (x : List ℕ) (old mid before : List Slot) → Feeds told start now x old mid → Owns start.stage (length before) old → OutputsAt told before ((work start.stage).settled []) old → StandsAt Holds Owns now.stage told before x ((work now.stage).settled x) mid
+  stands told start now x old mid before so_far own at = record { holds = so_far.holds.within; owns = so_far.owns (length before) own; outputs = so_far.outputs before own at }
 
-  pub goes_on : (told : Bool) (start now next : E) (x piece : List ℕ) (old mid new : List Slot) → Feeds told start now x old mid → work next ≡ work now → TakesIn Holds piece now next → PutsOut Holds Owns work now piece told mid new → KeepsOwn Owns now next mid new → fed_of next < 2 ^ 63 → Feeds told start next (x ++ piece) old new
+  pub goes_on : (told : Bool) (start now next : GuardState S) (x piece : List ℕ) (old mid new : List Slot) → Feeds told start now x old mid → work next.stage ≡ work now.stage → TakesIn (HoldsIn Holds) piece now next → PutsOut Holds Owns work now.stage piece told mid new → KeepsOwn Owns now.stage next.stage mid new → next.fed < 2 ^ 63 → Feeds told start next (x ++ piece) old new
   goes_on told start now next x piece old mid new so_far same takes puts keeps bound = record {
     same = same ∙ so_far.same;
     holds = takes x so_far.holds;
@@ -206,68 +207,62 @@ module _ {E : Type 0} (Holds : E → List ℕ → Type 0) (Owns : E → ℕ → 
     bound = bound;
   }
 
-  -- the laws that engines keep
-  pub record Laws : Type 0 where
-    pub live : (e : E) (x : List ℕ) → Holds e x → is_over e ≡ false
-    pub counts : (e : E) (x : List ℕ) → Holds e x → fed_of e ≡ length x
-    pub lawful : (e : E) → IsLawful (work e)
-
   -- the loop ended at a fault of the engine, within the input
-  pub stopped_feeding : (laws : Laws) (told : Bool) (opening : Needs) (most : ℕ) (lack : Type 0) (start now next : E) (content : Content) (WasRead : List ℕ → Type 0) (x piece rest : List ℕ) (old mid reached new before : List Slot) (fault : Fault) → Feeds told start now x old mid → Owns start (length before) old → OutputsAt told before ((work start).settled []) old
-      → content.bytes ≡ (x ++ piece) ++ rest → length piece ≤ most → (work now).is_complete x ≡ false → WasRead (x ++ piece) → CutsOff Holds Owns work now piece told mid reached fault
-      → IsCaused (IsMet (work now).means (work now).means.feeding lack (EndsWith Holds work now piece) mid reached) (is_over now) (fed_of now) (length piece) mid reached fault
-      → work next ≡ work now → (is_verdict fault ≡ false → KeepsOwn Owns now next mid reached) → (is_verdict fault ≡ true → new ≡ reached) → (is_verdict fault ≡ false → Clears Owns work next reached new)
-      → FedAs told before (work start) opening most content WasRead new (Err fault)
+  pub stopped_feeding : (laws : (s : S) → IsLawful (work s)) (told : Bool) (opening : Needs) (most : ℕ) (lack : Type 0) (start now next : GuardState S) (content : Content) (WasRead : List ℕ → Type 0) (x piece rest : List ℕ) (old mid reached new before : List Slot) (fault : Fault) → Feeds told start now x old mid → Owns start.stage (length before) old → OutputsAt told before ((work start.stage).settled []) old
+      → content.bytes ≡ (x ++ piece) ++ rest → length piece ≤ most → (work now.stage).is_complete x ≡ false → WasRead (x ++ piece) → CutsOff Holds Owns work now.stage piece told mid reached fault
+      → IsCaused (IsMet (work now.stage).means (work now.stage).means.feeding lack (EndsWith Holds work now.stage piece) mid reached) now.is_over now.fed (length piece) mid reached fault
+      → work next.stage ≡ work now.stage → (is_verdict fault ≡ false → KeepsOwn Owns now.stage next.stage mid reached) → (is_verdict fault ≡ true → new ≡ reached) → (is_verdict fault ≡ false → Clears Owns work next.stage reached new)
+      → FedAs told before (work start.stage) opening most content WasRead new (Err fault)
   stopped_feeding laws told opening most lack start now next content WasRead x piece rest old mid reached new before fault so_far own at is within going read cuts caused same owned kept cleared =
-      let why = subst (λ n. IsCaused (IsMet (work now).means (work now).means.feeding lack (EndsWith Holds work now piece) mid reached) false n (length piece) mid reached fault) (laws.counts now x so_far.holds)
-      (subst (λ over. IsCaused (IsMet (work now).means (work now).means.feeding lack (EndsWith Holds work now piece) mid reached) over (fed_of now) (length piece) mid reached fault) (laws.live now x so_far.holds) caused) in
+      let why = subst (λ n. IsCaused (IsMet (work now.stage).means (work now.stage).means.feeding lack (EndsWith Holds work now.stage piece) mid reached) false n (length piece) mid reached fault) so_far.holds.count
+      (subst (λ over. IsCaused (IsMet (work now.stage).means (work now.stage).means.feeding lack (EndsWith Holds work now.stage piece) mid reached) over now.fed (length piece) mid reached fault) so_far.holds.live caused) in
       subst (λ (those : Work). FedAs told before those opening most content WasRead new (Err fault)) so_far.same
-      (short_of_piece told opening most (work now) content WasRead x piece rest reached new before fault (laws.lawful now) is within going read (cuts before x (stands told start now x old mid before so_far own at))
-      (λ unjudged. stops (work now) (x ++ piece) ((work now).settled x) ((work now).settled (x ++ piece)) (work now).means.feeding lack (EndsWith Holds work now piece) fault (length x) (length piece) mid reached unjudged (λ long. let size : length (x ++ piece) ≡ length x + length piece = length-append x piece in omega (arith, long)) why)
-      (λ judging. judges (work now).means (work now).means.feeding lack (EndsWith Holds work now piece) fault _ _ _ mid reached judging caused x so_far.holds)
+      (short_of_piece told opening most (work now.stage) content WasRead x piece rest reached new before fault (laws now.stage) is within going read (cuts before x (stands told start now x old mid before so_far own at))
+      (λ unjudged. stops (work now.stage) (x ++ piece) ((work now.stage).settled x) ((work now.stage).settled (x ++ piece)) (work now.stage).means.feeding lack (EndsWith Holds work now.stage piece) fault (length x) (length piece) mid reached unjudged (λ long. let size : length (x ++ piece) ≡ length x + length piece = length-append x piece in omega (arith, long)) why)
+      (λ judging. judges (work now.stage).means (work now.stage).means.feeding lack (EndsWith Holds work now.stage piece) fault _ _ _ mid reached judging caused x so_far.holds.within)
       kept
       (λ unjudged. subst (λ (those : Work). Swept those.clears (length before) reached new) same (cleared unjudged (length before) (owned unjudged (length before) (so_far.owns (length before) own)))))
 
   -- the loop ended with the input, or where nothing more can follow
-  pub ended : (laws : Laws) (told : Bool) (opening : Needs) (most : ℕ) (start now : E) (content : Content) (WasRead : List ℕ → Type 0) (x : List ℕ) (old mid new before : List Slot) (fed : Fed) (result : Result Fed Fault) → Feeds told start now x old mid → Owns start (length before) old → OutputsAt told before ((work start).settled []) old → HasGot (work now) content x fed → IsNeeded (work now).is_complete most x → WasRead x
-      → EndsSo Holds Owns work is_over fed_of told now fed mid new result → FedAs told before (work start) opening most content WasRead new result
+  pub ended : (laws : (s : S) → IsLawful (work s)) (told : Bool) (opening : Needs) (most : ℕ) (start now : GuardState S) (content : Content) (WasRead : List ℕ → Type 0) (x : List ℕ) (old mid new before : List Slot) (fed : Fed) (result : Result Fed Fault) → Feeds told start now x old mid → Owns start.stage (length before) old → OutputsAt told before ((work start.stage).settled []) old → HasGot (work now.stage) content x fed → IsNeeded (work now.stage).is_complete most x → WasRead x
+      → EndsSo Holds Owns work told now fed mid new result → FedAs told before (work start.stage) opening most content WasRead new result
   ended laws told opening most start now content WasRead x old mid new before fed result so_far own at got needed read (finished finishes) =
       let done = finishes before x (stands told start now x old mid before so_far own at) in
-      subst (λ (those : Work). FedAs told before those opening most content WasRead new (Ok fed)) so_far.same (fed_all told opening most (work now) content WasRead x new before fed (laws.lawful now) got done.0 done.1)
+      subst (λ (those : Work). FedAs told before those opening most content WasRead new (Ok fed)) so_far.same (fed_all told opening most (work now.stage) content WasRead x new before fed (laws now.stage) got done.0 done.1)
   ended laws told opening most start now content WasRead x old mid new before fed result so_far own at got needed read (fell_short fault reached short caused kept cleared) =
-      let why = subst (λ over. IsCaused (IsMet (work now).means (work now).means.closing (Unit {0}) (EndsThere Holds work now) mid reached) over (fed_of now) 0 mid reached fault) (laws.live now x so_far.holds) caused in
+      let why = subst (λ over. IsCaused (IsMet (work now.stage).means (work now.stage).means.closing (Unit {0}) (EndsThere Holds work now.stage) mid reached) over now.fed 0 mid reached fault) so_far.holds.live caused in
       subst (λ (those : Work). FedAs told before those opening most content WasRead new (Err fault)) so_far.same
-      (short_of_end told opening most (work now) content WasRead x reached new before fed fault (laws.lawful now) got needed read (short before x (stands told start now x old mid before so_far own at))
-      (λ unjudged. stops (work now) x ((work now).settled x) ((work now).whole x) (work now).means.closing (Unit {0}) (EndsThere Holds work now) fault (fed_of now) 0 mid reached unjudged (λ long. absurd (let bound : fed_of now < 2 ^ 63 = so_far.bound in omega (arith, bound, long))) why)
-      (λ judging. judges (work now).means (work now).means.closing (Unit {0}) (EndsThere Holds work now) fault _ _ _ mid reached judging caused x so_far.holds)
+      (short_of_end told opening most (work now.stage) content WasRead x reached new before fed fault (laws now.stage) got needed read (short before x (stands told start now x old mid before so_far own at))
+      (λ unjudged. stops (work now.stage) x ((work now.stage).settled x) ((work now.stage).whole x) (work now.stage).means.closing (Unit {0}) (EndsThere Holds work now.stage) fault now.fed 0 mid reached unjudged (λ long. absurd (let bound : now.fed < 2 ^ 63 = so_far.bound in omega (arith, bound, long))) why)
+      (λ judging. judges (work now.stage).means (work now.stage).means.closing (Unit {0}) (EndsThere Holds work now.stage) fault _ _ _ mid reached judging caused x so_far.holds.within)
       kept
       (λ unjudged. cleared unjudged (length before) (so_far.owns (length before) own)))
 
   -- the loop ended where the input broke off
-  pub broken_off : (told : Bool) (opening : Needs) (most : ℕ) (start now : E) (content : Content) (WasRead : List ℕ → Type 0) (x : List ℕ) (old slots new before : List Slot) → Feeds told start now x old slots → Owns start (length before) old → OutputsAt told before ((work start).settled []) old → content.bytes ≡ x → content.breaks_off ≡ true → (work now).is_complete x ≡ false
-      → Clears Owns work now slots new → FedAs told before (work start) opening most content WasRead new (Ok Broken)
+  pub broken_off : (told : Bool) (opening : Needs) (most : ℕ) (start now : GuardState S) (content : Content) (WasRead : List ℕ → Type 0) (x : List ℕ) (old slots new before : List Slot) → Feeds told start now x old slots → Owns start.stage (length before) old → OutputsAt told before ((work start.stage).settled []) old → content.bytes ≡ x → content.breaks_off ≡ true → (work now.stage).is_complete x ≡ false
+      → Clears Owns work now.stage slots new → FedAs told before (work start.stage) opening most content WasRead new (Ok Broken)
   broken_off told opening most start now content WasRead x old slots new before so_far own at all breaks going cleared =
       subst (λ (those : Work). FedAs told before those opening most content WasRead new (Ok Broken)) so_far.same
-      (broke_off breaks (ap (work now).is_complete all ∙ going) slots
-      (subst (λ bytes. OutputsAt told before ((work now).settled bytes) slots) (sym all) (so_far.outputs before own at))
+      (broke_off breaks (ap (work now.stage).is_complete all ∙ going) slots
+      (subst (λ bytes. OutputsAt told before ((work now.stage).settled bytes) slots) (sym all) (so_far.outputs before own at))
       (cleared (length before) (so_far.owns (length before) own)))
 
   -- an input without bytes: the engine is closed at once
-  pub closed_at_start : (laws : Laws) (told : Bool) (opening : Needs) (most : ℕ) (start : E) (old new before : List Slot) (fed : Fed) (result : Result Fed Fault) → Holds start [] → fed_of start < 2 ^ 63 → Owns start (length before) old → OutputsAt told before ((work start).settled []) old → HasGot (work start) empty [] fed
-      → EndsSo Holds Owns work is_over fed_of told start fed old new result → FedAs told before (work start) opening most empty (λ read. Unit {0}) new result
+  pub closed_at_start : (laws : (s : S) → IsLawful (work s)) (told : Bool) (opening : Needs) (most : ℕ) (start : GuardState S) (old new before : List Slot) (fed : Fed) (result : Result Fed Fault) → HoldsIn Holds start [] → start.fed < 2 ^ 63 → Owns start.stage (length before) old → OutputsAt told before ((work start.stage).settled []) old → HasGot (work start.stage) empty [] fed
+      → EndsSo Holds Owns work told start fed old new result → FedAs told before (work start.stage) opening most empty (λ read. Unit {0}) new result
   closed_at_start laws told opening most start old new before fed result holds bound own at got ends =
       ended laws told opening most start start empty (λ read. Unit {0}) [] old old new before fed result (begins told start old holds bound) own at got (inl refl) tt ends
 
   -- an input that ended, or was enough, didn't break off
-  pub ends_sound : (told : Bool) (engine : E) (fed : Fed) (old new : List Slot) (result : Result Fed Fault) (P : Type 0) → (fed ≡ Broken → ⊥) → EndsSo Holds Owns work is_over fed_of told engine fed old new result → IfOk result (λ found. found ≡ Broken → P)
+  pub ends_sound : (told : Bool) (engine : GuardState S) (fed : Fed) (old new : List Slot) (result : Result Fed Fault) (P : Type 0) → (fed ≡ Broken → ⊥) → EndsSo Holds Owns work told engine fed old new result → IfOk result (λ found. found ≡ Broken → P)
   ends_sound told engine fed old new result P differs (finished finishes) = λ is. absurd (differs is)
   ends_sound told engine fed old new result P differs (fell_short fault reached short caused kept cleared) = tt
 
   -- how a close ended, where what it gave up is known
-  pub close_short : (told : Bool) (engine mid : E) (fed : Fed) (old reached new : List Slot) (fault : Fault) → EndsShort Holds Owns work engine told old reached fault
-      → IsCaused (IsMet (work engine).means (work engine).means.closing (Unit {0}) (EndsThere Holds work engine) old reached) (is_over engine) (fed_of engine) 0 old reached fault
-      → work mid ≡ work engine → (is_verdict fault ≡ false → KeepsOwn Owns engine mid old reached) → (is_verdict fault ≡ true → new ≡ reached) → (is_verdict fault ≡ false → Clears Owns work mid reached new)
-      → EndsSo Holds Owns work is_over fed_of told engine fed old new (Err fault)
+  pub close_short : (told : Bool) (engine mid : GuardState S) (fed : Fed) (old reached new : List Slot) (fault : Fault) → EndsShort Holds Owns work engine.stage told old reached fault
+      → IsCaused (IsMet (work engine.stage).means (work engine.stage).means.closing (Unit {0}) (EndsThere Holds work engine.stage) old reached) engine.is_over engine.fed 0 old reached fault
+      → work mid.stage ≡ work engine.stage → (is_verdict fault ≡ false → KeepsOwn Owns engine.stage mid.stage old reached) → (is_verdict fault ≡ true → new ≡ reached) → (is_verdict fault ≡ false → Clears Owns work mid.stage reached new)
+      → EndsSo Holds Owns work told engine fed old new (Err fault)
   close_short told engine mid fed old reached new fault short caused same owned kept cleared =
       fell_short fault reached short caused kept (λ unjudged first own. subst (λ (those : Work). Swept those.clears first reached new) same (cleared unjudged first (owned unjudged first own)))
 

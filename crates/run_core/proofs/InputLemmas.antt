@@ -7,6 +7,7 @@ use Rattle.ports_core.specs.Source.{Content, Source, source_at}
 use Rattle.ports_core.specs.Part.{Part, only_out, OutputsAt, StoppedBetween}
 use Rattle.ports_core.specs.Swept.{Swept}
 use Rattle.ports_core.specs.Work.{Work, Needs}
+use Rattle.ports_core.specs.Guard.{GuardState}
 use Rattle.ports_core.specs.Engine.{is_verdict}
 use Rattle.ports_core.specs.Text.{message_of}
 use Rattle.ports_core.specs.Message.{SaysOn}
@@ -250,22 +251,22 @@ pub not_opened : (told : Bool) (work : Work) (opening : Needs) (most : ℕ) (con
 not_opened told work opening most content WasRead old new fault short read = stopped fault short.unjudged _ opens read short.reached short.why short.stop short.swept
 
 -- what was fed to the engine that was opened
-pub fed_as : {E : Type 0} (Holds : E → List ℕ → Type 0) (Owns : E → ℕ → List Slot → Type 0) (work : E → Work) (Ready : E → List Slot → Type 0) (fed : E → ℕ) (asked : Work) (opening : Needs) (told told_in : Bool) (old mid new : List Slot) (engine : E) (source : Option ℕ) (slot : ℕ) (sources left : List Source) (most : ℕ) (result : Result Fed Fault)
-    → source ≡ Some slot → Opens Holds Owns work Ready fed asked told old mid engine → slot < length left
-    → ((before : List Slot) (opening : Needs) → Owns engine (length before) mid → OutputsAt told before ((work engine).settled []) mid → OfContent told_in (source_at sources slot).left (λ content. FedAs told before (work engine) opening most content (LeavesOf told_in content (source_at left slot)) new result × BreaksOnly told_in content (source_at left slot)))
-    → (told_in ≡ true → ReadsFor (work engine).is_complete most (source_at sources slot).left (source_at left slot).left)
+pub fed_as : {S : Type 0} (Holds : S → List ℕ → Type 0) (Owns : S → ℕ → List Slot → Type 0) (work : S → Work) (Ready : S → List Slot → Type 0) (asked : Work) (opening : Needs) (told told_in : Bool) (old mid new : List Slot) (engine : GuardState S) (source : Option ℕ) (slot : ℕ) (sources left : List Source) (most : ℕ) (result : Result Fed Fault)
+    → source ≡ Some slot → Opens Holds Owns work Ready asked told old mid engine → slot < length left
+    → ((before : List Slot) (opening : Needs) → Owns engine.stage (length before) mid → OutputsAt told before ((work engine.stage).settled []) mid → OfContent told_in (source_at sources slot).left (λ content. FedAs told before (work engine.stage) opening most content (LeavesOf told_in content (source_at left slot)) new result × BreaksOnly told_in content (source_at left slot)))
+    → (told_in ≡ true → ReadsFor (work engine.stage).is_complete most (source_at sources slot).left (source_at left slot).left)
     → OfSource told_in source sources (λ content. FedAs told old asked opening most content (Leaves told_in content source left) new result × IsDone told_in asked.is_complete most source (Some content) left)
-fed_as Holds Owns work Ready fed asked opening told told_in old mid new engine source slot sources left most result is had within feeds reads =
+fed_as Holds Owns work Ready asked opening told told_in old mid new engine source slot sources left most result is had within feeds reads =
     subst (λ from. OfSource told_in from sources (λ content. FedAs told old asked opening most content (Leaves told_in content from left) new result × IsDone told_in asked.is_complete most from (Some content) left)) (sym is)
     (subst (λ (those : Work). OfContent told_in (source_at sources slot).left (λ content. FedAs told old those opening most content (LeavesOf told_in content (source_at left slot)) new result × IsDone told_in those.is_complete most (Some slot) (Some content) left)) had.does
-    (left_of told_in (work engine).is_complete most slot (source_at sources slot).left left (λ content. FedAs told old (work engine) opening most content (LeavesOf told_in content (source_at left slot)) new result) within reads
+    (left_of told_in (work engine.stage).is_complete most slot (source_at sources slot).left left (λ content. FedAs told old (work engine.stage) opening most content (LeavesOf told_in content (source_at left slot)) new result) within reads
     (feeds old opening had.owns (subst (λ (those : Work). OutputsAt told old (those.settled []) mid) (sym had.does) had.outputs))))
 
-pub fed_none : {E : Type 0} (Holds : E → List ℕ → Type 0) (Owns : E → ℕ → List Slot → Type 0) (work : E → Work) (Ready : E → List Slot → Type 0) (fed : E → ℕ) (asked : Work) (opening : Needs) (told told_in : Bool) (old mid new : List Slot) (engine : E) (source : Option ℕ) (sources left : List Source) (most : ℕ) (result : Result Fed Fault)
-    → source ≡ None → Opens Holds Owns work Ready fed asked told old mid engine
-    → ((before : List Slot) (opening : Needs) (room : ℕ) → Owns engine (length before) mid → OutputsAt told before ((work engine).settled []) mid → FedAs told before (work engine) opening room empty (λ read. Unit {0}) new result)
+pub fed_none : {S : Type 0} (Holds : S → List ℕ → Type 0) (Owns : S → ℕ → List Slot → Type 0) (work : S → Work) (Ready : S → List Slot → Type 0) (asked : Work) (opening : Needs) (told told_in : Bool) (old mid new : List Slot) (engine : GuardState S) (source : Option ℕ) (sources left : List Source) (most : ℕ) (result : Result Fed Fault)
+    → source ≡ None → Opens Holds Owns work Ready asked told old mid engine
+    → ((before : List Slot) (opening : Needs) (room : ℕ) → Owns engine.stage (length before) mid → OutputsAt told before ((work engine.stage).settled []) mid → FedAs told before (work engine.stage) opening room empty (λ read. Unit {0}) new result)
     → OfSource told_in source sources (λ content. FedAs told old asked opening most content (Leaves told_in content source left) new result × IsDone told_in asked.is_complete most source (Some content) left)
-fed_none Holds Owns work Ready fed asked opening told told_in old mid new engine source sources left most result is had feeds =
+fed_none Holds Owns work Ready asked opening told told_in old mid new engine source sources left most result is had feeds =
     subst (λ from. OfSource told_in from sources (λ content. FedAs told old asked opening most content (Leaves told_in content from left) new result × IsDone told_in asked.is_complete most from (Some content) left)) (sym is) (
       subst (λ (those : Work). FedAs told old those opening most empty (λ read. Unit {0}) new result) had.does
           (feeds old opening most had.owns (subst (λ (those : Work). OutputsAt told old (those.settled []) mid) (sym had.does) had.outputs)),

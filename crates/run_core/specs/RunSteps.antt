@@ -5,6 +5,7 @@ use Rattle.ports_core.specs.Source.{Content, Source, source_at}
 use Rattle.ports_core.specs.Part.{Part, OutputsAt, StoppedBetween, nothing}
 use Rattle.ports_core.specs.Swept.{Swept}
 use Rattle.ports_core.specs.Work.{Work, Needs}
+use Rattle.ports_core.specs.Guard.{GuardState, HoldsIn}
 use Rattle.ports_core.specs.Engine.{is_verdict}
 use Rattle.ports_core.specs.Write.{BrokeAfter}
 use Rattle.ports_core.specs.Message.{SaysAll}
@@ -18,12 +19,12 @@ use Rattle.run_core.specs.RunEnds.{streams_with, standard_error, largest_piece, 
 use Rattle.run_core.specs.Task.{Task, Outcome, made_by, after_part, header_text, is_missing, are_missing}
 
 -- a tool's engine was opened from these outputs
-pub record Opens {E : Type 0} (Holds : E → List ℕ → Type 0) (Owns : E → ℕ → List Slot → Type 0) (work : E → Work) (Ready : E → List Slot → Type 0) (fed : E → ℕ) (asked : Work) (told : Bool) (old new : List Slot) (engine : E) : Type 0 where
-  pub fresh : Holds engine []
-  pub does : work engine ≡ asked
-  pub bound : fed engine < 2 ^ 63
-  pub ready : Ready engine new
-  pub owns : Owns engine (length old) new
+pub record Opens {S : Type 0} (Holds : S → List ℕ → Type 0) (Owns : S → ℕ → List Slot → Type 0) (work : S → Work) (Ready : S → List Slot → Type 0) (asked : Work) (told : Bool) (old new : List Slot) (engine : GuardState S) : Type 0 where
+  pub fresh : HoldsIn Holds engine []
+  pub does : work engine.stage ≡ asked
+  pub bound : engine.fed < 2 ^ 63
+  pub ready : Ready engine.stage new
+  pub owns : Owns engine.stage (length old) new
   pub outputs : OutputsAt told old (asked.settled []) new
 
 -- it could not be opened: the outputs lie before what is written at first, and no file is left if the work clears them

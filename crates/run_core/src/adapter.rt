@@ -3,13 +3,13 @@ ghost use Rattle.ports_core.specs.Slot.{is_writable};
 ghost use Rattle.run_core.specs.Task.{Task};
 ghost use Rattle.run_core.specs.RunSteps.{Opens, OpensShort};
 
-use ports_core::{Engine, Fault, Outs, Tool};
+use ports_core::{Fault, Guarded, Outs, Stage, Tool};
 use std::alloc::Global;
 
 /// What a run knows of a tool that feeds each of its inputs to an engine of its own.
 pub trait Adapter {
-    /// The tool's engine.
-    type Driven: Engine + Drop;
+    /// The tool's stage, of which an engine is made for each input.
+    type Driven: Stage + Drop;
 
     /// What it does with its inputs.
     ghost task: { Self → Task };
@@ -33,9 +33,14 @@ pub trait Adapter {
     ///
     /// `Memory` where there is no room for it, `Open` where one of its first files can't be opened, `Write` where an output
     /// broke; each only where the task says that opening may need it. No file is left then, if the work clears them.
-    fn open<O: Outs>(&self, alloc: Global, coming: u64, outs: &mut O) -> Result<Self::Driven, Fault>
+    fn open<O: Outs>(
+        &self,
+        alloc: Global,
+        coming: u64,
+        outs: &mut O,
+    ) -> Result<Guarded<Self::Driven>, Fault>
         requires streams { 2 ≤ length (O.slots outs.old) }
         requires output { IsTrue (is_writable (O.slots outs.old) 0) }
-        ensures ok { IfOk result (Opens Self.Driven.Holds Self.Driven.Owns Self.Driven.work Self.Driven.Ready Self.Driven.fed (task self.now).work O.told (O.slots outs.old) (O.slots outs.new)) }
+        ensures ok { IfOk result (Opens Self.Driven.Holds Self.Driven.Owns Self.Driven.work Self.Driven.Ready (task self.now).work O.told (O.slots outs.old) (O.slots outs.new)) }
         ensures err { IfErr result (OpensShort (task self.now).work (task self.now).opening O.told (O.slots outs.old) (O.slots outs.new)) };
 }

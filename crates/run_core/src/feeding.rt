@@ -4,11 +4,12 @@ ghost use Rattle.ports_core.specs.Slot.{Slot};
 ghost use Rattle.ports_core.specs.Source.{source_at, is_readable};
 ghost use Rattle.ports_core.specs.Part.{OutputsAt};
 ghost use Rattle.ports_core.specs.Work.{Needs};
+ghost use Rattle.ports_core.specs.Guard.{HoldsIn};
 ghost use Rattle.ports_core.specs.Engine.{Clears, KeepsOwn, is_verdict};
 ghost use Rattle.run_core.specs.Input.{empty};
 ghost use Rattle.run_core.specs.Feeding.{BreaksOnly, EndsSo, FedAs, KeepsOthers, LeavesOf, OfContent, ReadsFor};
 
-use ports_core::{Engine, Fault, Inputs, Outs};
+use ports_core::{Fault, Guarded, Inputs, Outs, Stage};
 
 /// What became of an input.
 #[derive(Clone, Copy, Debug, PartialEq, Eq)]
@@ -29,24 +30,24 @@ pub enum Fed {
 /// # Errors
 ///
 /// The engine's fault.
-pub fn feed_input<E: Engine, I: Inputs, O: Outs>(
-    engine: &mut E,
+pub fn feed_input<S: Stage, I: Inputs, O: Outs>(
+    engine: &mut Guarded<S>,
     slot: usize,
     buffer: &mut [u8],
     inputs: &mut I,
     outs: &mut O,
 ) -> Result<Fed, Fault>
     requires room { 0 < length buffer.old }
-    requires fresh { E.Holds engine.old [] }
-    requires bound { E.fed engine.old < 2 ^ 63 }
+    requires fresh { HoldsIn S.Holds engine.old [] }
+    requires bound { engine.old.fed < 2 ^ 63 }
     requires input { IsTrue (is_readable (I.sources inputs.old) slot) }
-    requires output { E.Ready engine.old (O.slots outs.old) }
-    requires owns { (first : ℕ) × E.Owns engine.old first (O.slots outs.old) }
-    ensures ends { (before : List Slot) (opening : Needs) → E.Owns engine.old (length before) (O.slots outs.old) → OutputsAt O.told before ((E.work engine.old).settled []) (O.slots outs.old)
+    requires output { S.Ready engine.old.stage (O.slots outs.old) }
+    requires owns { (first : ℕ) × S.Owns engine.old.stage first (O.slots outs.old) }
+    ensures ends { (before : List Slot) (opening : Needs) → S.Owns engine.old.stage (length before) (O.slots outs.old) → OutputsAt O.told before ((S.work engine.old.stage).settled []) (O.slots outs.old)
         → OfContent I.told (source_at (I.sources inputs.old) slot).left
-        (λ content. FedAs O.told before (E.work engine.old) opening (length buffer.old) content (LeavesOf I.told content (source_at (I.sources inputs.new) slot)) (O.slots outs.new) result
+        (λ content. FedAs O.told before (S.work engine.old.stage) opening (length buffer.old) content (LeavesOf I.told content (source_at (I.sources inputs.new) slot)) (O.slots outs.new) result
         × BreaksOnly I.told content (source_at (I.sources inputs.new) slot)) }
-    ensures reads { I.told ≡ true → ReadsFor (E.work engine.old).is_complete (length buffer.old) (source_at (I.sources inputs.old) slot).left (source_at (I.sources inputs.new) slot).left }
+    ensures reads { I.told ≡ true → ReadsFor (S.work engine.old.stage).is_complete (length buffer.old) (source_at (I.sources inputs.old) slot).left (source_at (I.sources inputs.new) slot).left }
     ensures asked { (source_at (I.sources inputs.old) slot).asked ≤ length buffer.old → (source_at (I.sources inputs.new) slot).asked ≤ length buffer.old }
     ensures broke { IfOk result (λ fed. fed ≡ Fed.Broken → (source_at (I.sources inputs.new) slot).is_broken ≡ true) }
     ensures laid { I.laid inputs.new ≡ I.laid inputs.old }
@@ -77,13 +78,13 @@ pub fn feed_input<E: Engine, I: Inputs, O: Outs>(
 /// # Errors
 ///
 /// The engine's fault.
-pub fn feed_nothing<E: Engine, O: Outs>(engine: &mut E, outs: &mut O) -> Result<Fed, Fault>
-    requires fresh { E.Holds engine.old [] }
-    requires bound { E.fed engine.old < 2 ^ 63 }
-    requires output { E.Ready engine.old (O.slots outs.old) }
-    requires owns { (first : ℕ) × E.Owns engine.old first (O.slots outs.old) }
-    ensures ends { (before : List Slot) (opening : Needs) (most : ℕ) → E.Owns engine.old (length before) (O.slots outs.old) → OutputsAt O.told before ((E.work engine.old).settled []) (O.slots outs.old)
-        → FedAs O.told before (E.work engine.old) opening most empty (λ read. Unit {0}) (O.slots outs.new) result }
+pub fn feed_nothing<S: Stage, O: Outs>(engine: &mut Guarded<S>, outs: &mut O) -> Result<Fed, Fault>
+    requires fresh { HoldsIn S.Holds engine.old [] }
+    requires bound { engine.old.fed < 2 ^ 63 }
+    requires output { S.Ready engine.old.stage (O.slots outs.old) }
+    requires owns { (first : ℕ) × S.Owns engine.old.stage first (O.slots outs.old) }
+    ensures ends { (before : List Slot) (opening : Needs) (most : ℕ) → S.Owns engine.old.stage (length before) (O.slots outs.old) → OutputsAt O.told before ((S.work engine.old.stage).settled []) (O.slots outs.old)
+        → FedAs O.told before (S.work engine.old.stage) opening most empty (λ read. Unit {0}) (O.slots outs.new) result }
 {
     if engine.done() {
         return end(engine, Fed::Enough, outs);
@@ -96,10 +97,10 @@ pub fn feed_nothing<E: Engine, O: Outs>(engine: &mut E, outs: &mut O) -> Result<
 /// # Errors
 ///
 /// The engine's fault.
-fn end<E: Engine, O: Outs>(engine: &mut E, fed: Fed, outs: &mut O) -> Result<Fed, Fault>
-    requires ready { E.is_over engine.old ≡ false → E.Ready engine.old (O.slots outs.old) }
-    requires owns { (first : ℕ) × E.Owns engine.old first (O.slots outs.old) }
-    ensures { EndsSo E.Holds E.Owns E.work E.is_over E.fed O.told engine.old fed (O.slots outs.old) (O.slots outs.new) result }
+fn end<S: Stage, O: Outs>(engine: &mut Guarded<S>, fed: Fed, outs: &mut O) -> Result<Fed, Fault>
+    requires ready { engine.old.is_over ≡ false → S.Ready engine.old.stage (O.slots outs.old) }
+    requires owns { (first : ℕ) × S.Owns engine.old.stage first (O.slots outs.old) }
+    ensures { EndsSo S.Holds S.Owns S.work O.told engine.old fed (O.slots outs.old) (O.slots outs.new) result }
 {
     match engine.close(outs) {
         Ok(()) => Ok(fed),
@@ -108,11 +109,11 @@ fn end<E: Engine, O: Outs>(engine: &mut E, fed: Fed, outs: &mut O) -> Result<Fed
 }
 
 /// Gives up an engine's files after its fault, unless that is a verdict on its input, and returns the fault.
-fn given_up<E: Engine, O: Outs>(engine: &mut E, fault: Fault, outs: &mut O) -> Fault
-    requires { is_verdict fault ≡ false → ((first : ℕ) × E.Owns engine.old first (O.slots outs.old)) }
+fn given_up<S: Stage, O: Outs>(engine: &mut Guarded<S>, fault: Fault, outs: &mut O) -> Fault
+    requires { is_verdict fault ≡ false → ((first : ℕ) × S.Owns engine.old.stage first (O.slots outs.old)) }
     ensures same { result ≡ fault }
     ensures judged { is_verdict fault ≡ true → O.slots outs.new ≡ O.slots outs.old }
-    ensures swept { is_verdict fault ≡ false → Clears E.Owns E.work engine.old (O.slots outs.old) (O.slots outs.new) }
+    ensures swept { is_verdict fault ≡ false → Clears S.Owns S.work engine.old.stage (O.slots outs.old) (O.slots outs.new) }
 {
     if !is_verdict(&fault) {
         engine.abandon(outs);

@@ -5,19 +5,19 @@ use Rattle.ports_core.specs.Slot.{Slot}
 use Rattle.ports_core.specs.Part.{Part}
 use Rattle.ports_core.specs.Engine.{StandsAt, CutsOff, Finishes, EndsShort}
 use Rattle.ports_core.specs.declared.fault.Fault.{Fault}
-use Rattle.split_core.specs.declared.ways.Ways.{Ways}
-use Rattle.split_core.specs.declared.ways.Ways.TheVariants.{Parts, Round}
+use Rattle.split_core.specs.declared.splitter.Splitter.{Splitter}
+use Rattle.split_core.specs.declared.splitter.Splitter.TheVariants.{Parts, Round}
 use Rattle.split_core.specs.PartsState.{PartsState, Stands}
 use Rattle.split_core.specs.PartState as part
 use Rattle.split_core.specs.Ways.{Holds, Owns, work}
 use Rattle.split_core.proofs.PartStageLemmas.{never_done}
 
 -- as long as the engine goes on, all files have names
-pub all_named : (way : Ways) (x : List ℕ) → Holds way x → (work way).is_complete x ≡ false
+pub all_named : (way : Splitter) (x : List ℕ) → Holds way x → (work way).is_complete x ≡ false
 all_named (Parts parts) x holds = sym (never_done parts x holds)
 all_named (Round round) x holds = refl
 
-pub never_short : (engine : GuardState Ways) (x : List ℕ) → HoldsIn Holds engine x → (work engine.stage).is_complete x ≡ false
+pub never_short : (engine : GuardState Splitter) (x : List ℕ) → HoldsIn Holds engine x → (work engine.stage).is_complete x ≡ false
 never_short engine x holds = all_named engine.stage x holds.within
 
 -- what parts owe, the way of parts owes
@@ -25,7 +25,7 @@ never_short engine x holds = all_named engine.stage x holds.within
 parts_at : (told : Bool) (parts : PartsState) (before : List Slot) (x : List ℕ) (out : Part) (now : List Slot) → StandsAt Holds Owns (Parts parts) told before x out now → StandsAt Stands part.Owns parts told before x out now
 parts_at told parts before x out now at = record { holds = at.holds; owns = at.owns; outputs = at.outputs }
 
-module _ (told : Bool) (parts : PartsState) (way : Ways) (old new : List Slot) (is : way ≡ Parts parts) where
+module _ (told : Bool) (parts : PartsState) (way : Splitter) (old new : List Slot) (is : way ≡ Parts parts) where
   cut_here : (piece : List ℕ) (result : Result (Unit {0}) Fault) → IfErr result (CutsOff Stands part.Owns part.work parts piece told old new) → IfErr result (CutsOff Holds Owns work (Parts parts) piece told old new)
   cut_here piece (Ok u) cuts = tt
   cut_here piece (Err f) cuts = λ before x at. cuts before x (parts_at told parts before x _ old at)

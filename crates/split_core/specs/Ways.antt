@@ -1,9 +1,9 @@
 -- The two ways to cut, as one stage.
-use Rattle.std.specs.Prelude.{ℕ, Bool, true, List}
+use Rattle.std.specs.Prelude.{ℕ, List, length}
 use Rattle.ports_core.specs.Slot.{Slot}
 use Rattle.ports_core.specs.Work.{Work, IsLawful}
-use Rattle.split_core.specs.declared.ways.Ways.{Ways}
-use Rattle.split_core.specs.declared.ways.Ways.TheVariants.{Parts, Round}
+use Rattle.split_core.specs.declared.splitter.Splitter.{Splitter}
+use Rattle.split_core.specs.declared.splitter.Splitter.TheVariants.{Parts, Round}
 use Rattle.split_core.specs.Split.{from_start}
 use Rattle.split_core.specs.PartsState.{Stands}
 use Rattle.split_core.specs.PartState as part
@@ -11,29 +11,27 @@ use Rattle.split_core.specs.PartStateLaws as part_law
 use Rattle.split_core.specs.Round as round
 use Rattle.split_core.specs.RoundLaws as round_law
 
-abbrev pub Holds : Ways → List ℕ → Type 0
+abbrev pub Holds : Splitter → List ℕ → Type 0
 Holds (Parts state) x = Stands state x
 Holds (Round state) x = round.Holds state x
 
-abbrev pub work : Ways → Work
+abbrev pub work : Splitter → Work
 work (Parts state) = part.work state
 work (Round state) = round.work state
 
--- what waits is bounded by the limit, so nothing counts it
-abbrev pub held : Ways → ℕ
-held way = 0
+-- how many bytes wait; where lines are dealt, none
+abbrev pub held : Splitter → ℕ
+held (Parts state) = length state.waiting
+held (Round state) = 0
 
-abbrev pub may_lack : Ways → List ℕ → Bool
-may_lack way piece = true
-
-abbrev pub Ready : Ways → List Slot → Type 0
+abbrev pub Ready : Splitter → List Slot → Type 0
 Ready (Parts state) slots = part.Ready state slots
 Ready (Round state) slots = round.Ready state slots
 
-abbrev pub Owns : Ways → ℕ → List Slot → Type 0
+abbrev pub Owns : Splitter → ℕ → List Slot → Type 0
 Owns (Parts state) first slots = part.Owns state first slots
 Owns (Round state) first slots = round.Owns state first slots
 
-pub lawful : (way : Ways) → IsLawful (work way)
+pub lawful : (way : Splitter) → IsLawful (work way)
 lawful (Parts state) = part_law.lawful state.limit (from_start state.names)
 lawful (Round state) = round_law.lawful state.delim state.count state.elide (from_start state.files.names)

@@ -11,7 +11,7 @@ ghost use Rattle.split_core.specs.Sections.{AreLineByteParts, byte_parts, line_p
 ghost use Rattle.split_core.specs.Split.{Plan, Share, dealt_files, is_short, settled_parts, share, split_work, waiting};
 ghost use Rattle.split_core.specs.Splitter.{IsPositive};
 ghost use Rattle.split_core.specs.Ways.{Holds, work};
-ghost use Rattle.split_core.specs.declared.ways.Ways.{Ways};
+ghost use Rattle.split_core.specs.declared.splitter.Splitter.{Splitter};
 
 use crate::Limit;
 
@@ -76,5 +76,5 @@ pub fn agreed_is_settled()
 
 /// An engine that has returned no fault has named all files that its input needs: names that ran out are always told.
 pub fn all_files_have_names()
-    ensures { (engine : GuardState Ways) (x : List ℕ) → HoldsIn Holds engine x → (work engine.stage).is_complete x ≡ false }
+    ensures { (engine : GuardState Splitter) (x : List ℕ) → HoldsIn Holds engine x → (work engine.stage).is_complete x ≡ false }
 {}

@@ -13,7 +13,6 @@ mod round_files;
 mod round_splitter;
 mod splitter;
 mod step;
-mod ways;
 
 pub use laws::{
     agreed_is_settled, all_files_have_names, line_byte_parts, lines_are_dealt, parts_are_runs,

@@ -1,10 +1,10 @@
 //! Parts that follow one another, as a stage (POSIX.1-2017, XCU split; `-C` is GNU's). It takes memory for names, and
 //! for the bytes that wait: fewer than a part has, and only under a limit of bytes for whole lines.
-ghost use Rattle.std.specs.Prelude.{◌≡◌, true};
+ghost use Rattle.std.specs.Prelude.{◌≡◌, true, length};
 ghost use Rattle.split_core.specs.PartState.{Owns, Ready, work};
 ghost use Rattle.split_core.specs.PartStateLaws.{lawful};
 ghost use Rattle.split_core.specs.PartsState.{Stands};
-ghost use Rattle.split_core.specs.Split.{from_start};
+ghost use Rattle.split_core.specs.Split.{from_start, waiting};
 
 use crate::parts::Parts;
 use ports_core::{Fault, Outs, Stage};
@@ -14,7 +14,9 @@ impl Stage for Parts {
 
     ghost work = { work };
 
-    ghost held = { λ parts. 0 };
+    ghost held = { λ parts. length parts.waiting };
+
+    ghost waiting = { λ parts. waiting (work parts) };
 
     ghost may_lack = { λ parts piece. true };
 
@@ -36,6 +38,10 @@ impl Stage for Parts {
 
     fn is_done(&self) -> bool {
         false
+    }
+
+    fn waits(&self) -> u64 {
+        self.held()
     }
 
     ghost lawful = { λ parts. lawful parts.limit (from_start parts.names) };

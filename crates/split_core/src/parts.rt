@@ -69,7 +69,7 @@ impl Parts {
 
     /// How many bytes wait.
     pub(crate) fn held(&self) -> u64
-        ensures { (x : List ℕ) → Stands self.now x → result ≡ length (waiting (work self.now) x) }
+        ensures { result ≡ length self.now.waiting }
     {
         self.waiting.len()
     }

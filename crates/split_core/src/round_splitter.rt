@@ -6,7 +6,7 @@ ghost use Rattle.split_core.specs.Dealt.{dealt_first, reached_by};
 ghost use Rattle.split_core.specs.Round.{AreReady, Holds, Owns, Ready, round_plan, work};
 ghost use Rattle.split_core.specs.RoundLaws.{lawful};
 ghost use Rattle.split_core.specs.Sharing.{Became, CannotOpen, IsOfFiles, KeepsFiles, StopsShort, added};
-ghost use Rattle.split_core.specs.Split.{are_named, from_start, settled_by, split_work};
+ghost use Rattle.split_core.specs.Split.{are_named, from_start, settled_by, split_work, waiting};
 
 use crate::deal::Deal;
 use crate::round_files::RoundFiles;
@@ -78,6 +78,8 @@ impl Stage for RoundSplitter {
 
     ghost held = { λ round. 0 };
 
+    ghost waiting = { λ round. waiting (work round) };
+
     ghost may_lack = { λ round piece. true };
 
     ghost Ready = { Ready };
@@ -98,6 +100,11 @@ impl Stage for RoundSplitter {
 
     fn is_done(&self) -> bool {
         false
+    }
+
+    /// Always 0: each piece is written at once.
+    fn waits(&self) -> u64 {
+        0
     }
 
     ghost lawful = { λ round. lawful round.delim round.count round.elide (from_start round.files.names) };

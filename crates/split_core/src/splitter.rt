@@ -1,21 +1,18 @@
-//! One engine for all ways to cut.
-ghost use Rattle.std.specs.Prelude.{◌≡◌, ◌^◌, ◌<◌, ◌≤◌, [], List, ℕ, false, length, IfOk, IfErr, OnOk};
-ghost use Rattle.ports_core.specs.Guard.{GuardState, HoldsIn};
+//! The stage of `split`, for all ways to cut.
+ghost use Rattle.std.specs.Prelude.{◌≡◌, ◌^◌, ◌<◌, ◌≤◌, [], List, ℕ, false, true, length, IfOk, IfErr, OnOk};
+ghost use Rattle.ports_core.specs.Guard.{HoldsIn};
 ghost use Rattle.ports_core.specs.Part.{OutputsAt, StoppedBetween, nothing};
 ghost use Rattle.ports_core.specs.Slot.{Slot};
 ghost use Rattle.split_core.specs.Sharing.{CannotOpen};
 ghost use Rattle.split_core.specs.Split.{settled_by, split_work, waiting};
 ghost use Rattle.split_core.specs.Splitter.{HasNames, IsPositive};
-ghost use Rattle.split_core.specs.Ways.{Holds, Owns, Ready, lawful, may_lack, work};
-ghost use Rattle.split_core.specs.declared.ways.Ways.{Ways};
+ghost use Rattle.split_core.specs.Ways.{Holds, Owns, Ready, held, lawful, work};
 
 use crate::parts::Parts;
 use crate::round_splitter::RoundSplitter;
-use crate::ways::Ways;
 use crate::{Cut, Limit};
-use ports_core::{Engine, Fault, Guarded, Names, Outs};
+use ports_core::{Fault, Guarded, Names, Outs, Stage};
 use std::alloc::Global;
-use std::marker::Model;
 
 /// Cuts its input into files (POSIX.1-2017, XCU split; `-C` and `-n r/N` are GNU's). A file is opened with its first
 /// byte, and closed before the next is opened; where lines are dealt, files are closed at the end alone.
@@ -23,14 +20,11 @@ use std::marker::Model;
 /// It takes memory for names; under `-C` for the open line after whole ones; and where lines are dealt, for one piece and a list of the
 /// files.
 #[derive(Drop)]
-pub struct Splitter {
-    engine: Guarded<Ways>,
-}
-
-impl Model for Splitter {
-    ghost Value = { GuardState Ways };
-
-    ghost view = { λ s. s.engine };
+pub enum Splitter {
+    /// Into parts that follow one another.
+    Parts(Parts),
+    /// By lines that are dealt in turn.
+    Round(RoundSplitter),
 }
 
 impl Splitter {
@@ -48,7 +42,7 @@ impl Splitter {
         elide: bool,
         delim: u8,
         outs: &mut O,
-    ) -> Result<Splitter, Fault>
+    ) -> Result<Guarded<Splitter>, Fault>
         requires some { IsPositive cut }
         requires fresh { names.drawn ≡ 0 }
         requires enough { HasNames cut names }
@@ -68,65 +62,59 @@ impl Splitter {
             Cut::LineBytes(most) => Limit::LineBytes(most, delim),
             Cut::Round(count) => {
                 let round = RoundSplitter::open(alloc, count, names, elide, delim, outs)?;
-                return Ok(Splitter::new(Ways::Round(round)));
+                return Ok(Guarded::new(Splitter::Round(round)));
             }
         };
         let parts = Parts::open(alloc, limit, names)?;
-        Ok(Splitter::new(Ways::Parts(parts)))
-    }
-
-    /// An engine that cuts in this way, and has been fed nothing.
-    fn new(way: Ways) -> Splitter
-        ensures { result ≡ record { stage = way; fed = 0; is_over = false } }
-    {
-        Splitter {
-            engine: Guarded::new(way),
-        }
-    }
-
-    /// How many bytes wait: those that came in and that no file has yet.
-    pub fn held(&self) -> u64
-        ensures { (x : List ℕ) → HoldsIn Holds self.now x → result ≡ length (waiting (work self.now.stage) x) }
-    {
-        self.engine.stage().held()
+        Ok(Guarded::new(Splitter::Parts(parts)))
     }
 }
 
-impl Engine for Splitter {
-    ghost Holds = { HoldsIn Holds };
+impl Stage for Splitter {
+    ghost Holds = { Holds };
 
-    ghost work = { λ splitter. work splitter.stage };
+    ghost work = { work };
 
-    ghost fed = { λ splitter. splitter.fed };
+    ghost held = { held };
 
-    ghost is_over = { λ splitter. splitter.is_over };
+    ghost waiting = { λ splitter. waiting (work splitter) };
 
-    ghost may_lack = { λ splitter. may_lack splitter.stage };
+    ghost may_lack = { λ splitter piece. true };
 
-    ghost Ready = { λ splitter. Ready splitter.stage };
+    ghost Ready = { Ready };
 
-    ghost Owns = { λ splitter. Owns splitter.stage };
+    ghost Owns = { Owns };
 
-    fn feed<O: Outs>(&mut self, piece: &[u8], outs: &mut O) -> Result<(), Fault> {
-        self.engine.feed(piece, outs)
+    fn pass<O: Outs>(&mut self, piece: &[u8], outs: &mut O) -> Result<(), Fault> {
+        match self {
+            Splitter::Parts(parts) => parts.pass(piece, outs),
+            Splitter::Round(round) => round.pass(piece, outs),
+        }
     }
 
-    fn close<O: Outs>(&mut self, outs: &mut O) -> Result<(), Fault> {
-        self.engine.close(outs)
+    fn finish<O: Outs>(&mut self, outs: &mut O) -> Result<(), Fault> {
+        match self {
+            Splitter::Parts(parts) => parts.finish(outs),
+            Splitter::Round(round) => round.finish(outs),
+        }
     }
 
-    fn abandon<O: Outs>(&mut self, outs: &mut O) {
-        self.engine.abandon(outs);
+    /// It removes nothing: all files stay.
+    fn clear<O: Outs>(&mut self, outs: &mut O) {
+        let _ = outs;
     }
 
     /// Always false: where the input needs more files than there are names, that is a fault.
-    fn done(&self) -> bool {
-        self.engine.done()
+    fn is_done(&self) -> bool {
+        false
     }
 
-    ghost live = { λ splitter x holds. holds.live };
+    fn waits(&self) -> u64 {
+        match self {
+            Splitter::Parts(parts) => parts.waits(),
+            Splitter::Round(round) => round.waits(),
+        }
+    }
 
-    ghost counts = { λ splitter x holds. holds.count };
-
-    ghost lawful = { λ splitter. lawful splitter.stage };
+    ghost lawful = { lawful };
 }

@@ -5,6 +5,7 @@ use Rattle.ports_core.specs.Slot.{Slot}
 use Rattle.ports_core.specs.Part.{OutputsAt, StoppedBetween, nothing, only_out}
 use Rattle.ports_core.specs.Swept.{Swept}
 use Rattle.ports_core.specs.Work.{Work, Needs}
+use Rattle.ports_core.specs.Guard.{GuardState, HoldsIn}
 use Rattle.ports_core.specs.Engine.{is_verdict}
 use Rattle.ports_core.specs.declared.alphabet.Alphabet.{Alphabet}
 use Rattle.ports_core.specs.declared.fault.Fault.{Fault}
@@ -100,11 +101,11 @@ pub if_does : {E : Type 0} (work : E → Work) (first asked : Work) (result : Re
 if_does work first asked (Ok e) does is = does ∙ is
 if_does work first asked (Err fault) does is = tt
 
-pub opened_of : {E : Type 0} (Holds : E → List ℕ → Type 0) (Owns : E → ℕ → List Slot → Type 0) (work : E → Work) (Ready : E → List Slot → Type 0) (fed : E → ℕ) (asked : Work) (told : Bool) (old new : List Slot) (result : Result E Fault)
-    → IfOk result (λ e. Holds e []) → IfOk result (λ e. work e ≡ asked) → IfOk result (λ e. fed e < 2 ^ 63) → IfOk result (λ e. Ready e new) → IfOk result (λ e. Owns e (length old) new) → OutputsAt told old (asked.settled []) new
-    → IfOk result (Opens Holds Owns work Ready fed asked told old new)
-opened_of Holds Owns work Ready fed asked told old new (Ok e) fresh does bound ready owns at = record { fresh = fresh; does = does; bound = bound; ready = ready; owns = owns; outputs = at }
-opened_of Holds Owns work Ready fed asked told old new (Err fault) fresh does bound ready owns at = tt
+pub opened_of : {S : Type 0} (Holds : S → List ℕ → Type 0) (Owns : S → ℕ → List Slot → Type 0) (work : S → Work) (Ready : S → List Slot → Type 0) (asked : Work) (told : Bool) (old new : List Slot) (result : Result (GuardState S) Fault)
+    → IfOk result (λ e. HoldsIn Holds e []) → IfOk result (λ e. work e.stage ≡ asked) → IfOk result (λ e. e.fed < 2 ^ 63) → IfOk result (λ e. Ready e.stage new) → IfOk result (λ e. Owns e.stage (length old) new) → OutputsAt told old (asked.settled []) new
+    → IfOk result (Opens Holds Owns work Ready asked told old new)
+opened_of Holds Owns work Ready asked told old new (Ok e) fresh does bound ready owns at = record { fresh = fresh; does = does; bound = bound; ready = ready; owns = owns; outputs = at }
+opened_of Holds Owns work Ready asked told old new (Err fault) fresh does bound ready owns at = tt
 
 pub whatever : {E : Type 0} (P : E → Type 0) (result : Result E Fault) → ((e : E) → P e) → IfOk result P
 whatever P (Ok e) all = all e
@@ -131,14 +132,14 @@ pub tail_asked : (asked : EndsAsked) (unit : Counted) (count : Count) (headers :
 tail_asked asked unit count headers delim names plus is signed = ap (λ b. tail_work delim unit b count.amount) signed ∙ ap (λ (those : EndsAsked). (tail_task those).work) is
 
 -- split, with the names that were made
-pub split_opened : {E : Type 0} (Holds : E → List ℕ → Type 0) (Owns : E → ℕ → List Slot → Type 0) (work : E → Work) (Ready : E → List Slot → Type 0) (fed : E → ℕ) (plan asked : Plan) (told : Bool) (old new : List Slot) (result : Result E Fault) → plan ≡ asked → 2 ≤ length old
-    → IfOk result (λ e. Holds e []) → IfOk result (λ e. work e ≡ split_work plan) → IfOk result (λ e. fed e < 2 ^ 63) → IfOk result (λ e. Ready e new) → IfOk result (λ e. Owns e (length old) new)
+pub split_opened : {S : Type 0} (Holds : S → List ℕ → Type 0) (Owns : S → ℕ → List Slot → Type 0) (work : S → Work) (Ready : S → List Slot → Type 0) (plan asked : Plan) (told : Bool) (old new : List Slot) (result : Result (GuardState S) Fault) → plan ≡ asked → 2 ≤ length old
+    → IfOk result (λ e. HoldsIn Holds e []) → IfOk result (λ e. work e.stage ≡ split_work plan) → IfOk result (λ e. e.fed < 2 ^ 63) → IfOk result (λ e. Ready e.stage new) → IfOk result (λ e. Owns e.stage (length old) new)
     → OnOk result ((before : List Slot) → OutputsAt told before nothing old → OutputsAt told before (settled_by plan []) new)
-    → IfOk result (Opens Holds Owns work Ready fed (split_work asked) told old new)
-split_opened Holds Owns work Ready fed plan asked told old new (Ok e) is two fresh does bound ready owns puts =
-    subst (λ those. Opens Holds Owns work Ready fed (split_work those) told old new e) is
+    → IfOk result (Opens Holds Owns work Ready (split_work asked) told old new)
+split_opened Holds Owns work Ready plan asked told old new (Ok e) is two fresh does bound ready owns puts =
+    subst (λ those. Opens Holds Owns work Ready (split_work those) told old new e) is
     (record { fresh = fresh; does = does; bound = bound; ready = ready; owns = owns; outputs = split_starts told plan old new two puts })
-split_opened Holds Owns work Ready fed plan asked told old new (Err fault) is two fresh does bound ready owns puts = tt
+split_opened Holds Owns work Ready plan asked told old new (Err fault) is two fresh does bound ready owns puts = tt
 
 pub split_short_if : {E : Type 0} (told : Bool) (plan asked : Plan) (opening : Needs) (old new : List Slot) (result : Result E Fault) → opening.memory ≡ true → opening.files ≡ true → plan ≡ asked → 2 ≤ length old
     → IfErr result (λ fault. (before : List Slot) → OutputsAt told before nothing old → StoppedBetween told before nothing (settled_by plan []) fault new) → IfErr result (CannotOpen old new) → IfErr result (OpensShort (split_work asked) opening told old new)

@@ -1,6 +1,7 @@
 -- Lemmas on opening the engine of `csplit`.
 use Rattle.std.proofs.Common.{◌≡◌, ℕ, ◌<◌, ◌≤◌, ◌^◌, Bool, true, false, not, List, [], length, Result, Ok, Err, IfOk, IfErr, OnOk, refl, sym, ap, subst, arith}
 use Rattle.std.proofs.lemmas.Bool.{false≢true}
+use Rattle.ports_core.specs.Guard.{GuardState, HoldsIn}
 use Rattle.ports_core.specs.Slot.{Slot}
 use Rattle.ports_core.specs.Part.{OutputsAt, StoppedBetween, nothing}
 use Rattle.ports_core.specs.Swept.{AreMade}
@@ -63,14 +64,14 @@ csplit_short told style asked operands opening old new E (Ok engine) may opens i
 csplit_short told style asked operands opening old new E (Err fault) may opens is two stop breaks none =
     subst (λ those. OpensShort (csplit_work those operands) opening told old new fault) is (csplit_stops told style operands opening old new fault may opens two stop breaks none)
 
-pub csplit_opened : {E : Type 0} (Holds : E → List ℕ → Type 0) (Owns : E → ℕ → List Slot → Type 0) (work : E → Work) (Ready : E → List Slot → Type 0) (fed : E → ℕ) (style asked : Style) (operands : List Operand) (told : Bool) (old new : List Slot) (result : Result E Fault) → style ≡ asked → 2 ≤ length old
-    → IfOk result (λ e. Holds e []) → IfOk result (λ e. work e ≡ csplit_work style operands) → IfOk result (λ e. fed e < 2 ^ 63) → IfOk result (λ e. Ready e new) → IfOk result (λ e. Owns e (length old) new)
+pub csplit_opened : {S : Type 0} (Holds : S → List ℕ → Type 0) (Owns : S → ℕ → List Slot → Type 0) (work : S → Work) (Ready : S → List Slot → Type 0) (style asked : Style) (operands : List Operand) (told : Bool) (old new : List Slot) (result : Result (GuardState S) Fault) → style ≡ asked → 2 ≤ length old
+    → IfOk result (λ e. HoldsIn Holds e []) → IfOk result (λ e. work e.stage ≡ csplit_work style operands) → IfOk result (λ e. e.fed < 2 ^ 63) → IfOk result (λ e. Ready e.stage new) → IfOk result (λ e. Owns e.stage (length old) new)
     → OnOk result ((before : List Slot) → OutputsAt told before nothing old → OutputsAt told before (settled_by style operands []) new)
-    → IfOk result (Opens Holds Owns work Ready fed (csplit_work asked operands) told old new)
-csplit_opened Holds Owns work Ready fed style asked operands told old new (Ok e) is two fresh does bound ready owns puts =
-    subst (λ those. Opens Holds Owns work Ready fed (csplit_work those operands) told old new e) is
+    → IfOk result (Opens Holds Owns work Ready (csplit_work asked operands) told old new)
+csplit_opened Holds Owns work Ready style asked operands told old new (Ok e) is two fresh does bound ready owns puts =
+    subst (λ those. Opens Holds Owns work Ready (csplit_work those operands) told old new e) is
     (record { fresh = fresh; does = does; bound = bound; ready = ready; owns = owns; outputs = puts old (nothing_out told old (some_there old two)) })
-csplit_opened Holds Owns work Ready fed style asked operands told old new (Err fault) is two fresh does bound ready owns puts = tt
+csplit_opened Holds Owns work Ready style asked operands told old new (Err fault) is two fresh does bound ready owns puts = tt
 
 -- there was no memory for a copy of the style
 pub csplit_unstyled : (told : Bool) (style : Style) (operands : List Operand) (opening : Needs) (slots : List Slot) (fault : Fault) → opening.memory ≡ true → 2 ≤ length slots → fault ≡ Memory → OpensShort (csplit_work style operands) opening told slots slots fault

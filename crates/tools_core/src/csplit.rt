@@ -2,7 +2,7 @@
 ghost use Rattle.tools_core.specs.Tasks.{csplit_task};
 
 use csplit_core::{Csplitter, Operands};
-use ports_core::{Fault, Outs, Tool};
+use ports_core::{Fault, Guarded, Outs, Tool};
 use run_core::Adapter;
 use std::alloc::Global;
 use words_core::CsplitSettings;
@@ -42,7 +42,7 @@ impl<'a, 'b> Adapter for CsplitAdapter<'a, 'b> {
         alloc: Global,
         coming: u64,
         outs: &mut O,
-    ) -> Result<Csplitter<'a>, Fault> {
+    ) -> Result<Guarded<Csplitter<'a>>, Fault> {
         let _ = coming;
         let settings = self.settings;
         let style = settings.style.try_clone(alloc)?;

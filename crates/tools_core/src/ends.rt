@@ -4,7 +4,7 @@ ghost use Rattle.std.specs.Prelude.{◌≡◌, map};
 ghost use Rattle.tools_core.specs.Tasks.{has_headers, head_task, is_minus, is_plus, tail_task};
 
 use ends_core::{Head, Tail};
-use ports_core::{Fault, Outs, Tool};
+use ports_core::{Fault, Guarded, Outs, Tool};
 use run_core::Adapter;
 use seg_core::count::{Count, Sign};
 use std::alloc::Global;
@@ -42,7 +42,12 @@ impl<'a, 'b> Adapter for HeadAdapter<'a, 'b> {
         ""
     }
 
-    fn open<O: Outs>(&self, alloc: Global, coming: u64, outs: &mut O) -> Result<Head, Fault> {
+    fn open<O: Outs>(
+        &self,
+        alloc: Global,
+        coming: u64,
+        outs: &mut O,
+    ) -> Result<Guarded<Head>, Fault> {
         let _ = coming;
         let _ = outs;
         let settings = self.settings;
@@ -69,7 +74,12 @@ impl<'a, 'b> Adapter for TailAdapter<'a, 'b> {
         ""
     }
 
-    fn open<O: Outs>(&self, alloc: Global, coming: u64, outs: &mut O) -> Result<Tail, Fault> {
+    fn open<O: Outs>(
+        &self,
+        alloc: Global,
+        coming: u64,
+        outs: &mut O,
+    ) -> Result<Guarded<Tail>, Fault> {
         let _ = outs;
         let settings = self.settings;
         let Count { sign, amount } = settings.count;

@@ -3,7 +3,7 @@ ghost use Rattle.tools_core.specs.Props.{CanSplit-prop};
 ghost use Rattle.tools_core.specs.Tasks.{split_task};
 ghost use Rattle.words_core.specs.SplitWords.{CanSplit};
 
-use ports_core::{Fault, Names, Outs, Tool};
+use ports_core::{Fault, Guarded, Names, Outs, Tool};
 use run_core::Adapter;
 use split_core::Splitter;
 use std::alloc::Global;
@@ -35,7 +35,12 @@ impl<'a, 'b> Adapter for SplitAdapter<'a, 'b> {
         ""
     }
 
-    fn open<O: Outs>(&self, alloc: Global, coming: u64, outs: &mut O) -> Result<Splitter, Fault> {
+    fn open<O: Outs>(
+        &self,
+        alloc: Global,
+        coming: u64,
+        outs: &mut O,
+    ) -> Result<Guarded<Splitter>, Fault> {
         let _ = coming;
         let settings = self.settings;
         let names = Names::new(

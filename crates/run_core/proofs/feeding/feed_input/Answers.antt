@@ -4,7 +4,7 @@ use Rattle.std.proofs.lemmas.Bool.{false≢true}
 use Rattle.ports_core.specs.Source.{source_at}
 use Rattle.ports_core.specs.Work.{Work}
 use Rattle.run_core.specs.Feeding.{IsNeeded}
-use Rattle.run_core.proofs.FeedingLemmas.{sound_at, read_none_more, keeps_again, keeps_others, read_broken, broken_off, of_content, still_readable, read_more, read_failed, goes_on, stopped_feeding, read_to_end, ended, needed_more, piece_within, asked_again, asked_at_end, broken_now, ends_sound, given_so, Laws}
+use Rattle.run_core.proofs.FeedingLemmas.{sound_at, read_none_more, keeps_again, keeps_others, read_broken, broken_off, of_content, still_readable, read_more, read_failed, goes_on, stopped_feeding, read_to_end, ended, needed_more, piece_within, asked_again, asked_at_end, broken_now, ends_sound, given_so}
 use Rattle.run_core.proofs.LoadLemmas.{loaded_feeds, loaded_readable, loaded_others, loaded_read, loaded_needed, loaded_asked}
 use Rattle.run_core.proofs.feeding.feed_input.Goals as goal
 
@@ -12,14 +12,16 @@ use Rattle.run_core.proofs.feeding.feed_input.Goals as goal
 
 pub pieces-init : goal.pieces-init
 pieces-init g c =
+    let start = c.args.engine.now in
+    let now = c.load.new.self in
     let loads = c.load.ensures.loads in record {
       fed = loads.front;
-      feeds = loaded_feeds _ _ _ _ _ _ _ _ _ _ _ _ _ loads _ _ g.met.E.Engine.counts c.load.ensures.same c.load.ensures.bound;
-      readable = loaded_readable _ _ _ _ g.E.Engine.is_over g.E.Engine.fed _ _ _ _ _ _ _ loads c.requires.input;
-      others = loaded_others _ _ _ _ g.E.Engine.is_over g.E.Engine.fed _ _ _ _ _ _ _ loads;
-      read = λ told. loaded_read _ _ _ _ g.E.Engine.is_over g.E.Engine.fed _ _ _ _ _ _ _ loads told c.requires.input;
-      needed = loaded_needed _ _ _ _ g.E.Engine.is_over g.E.Engine.fed _ _ _ _ _ _ _ loads _;
-      asked = λ within. loaded_asked _ _ _ _ g.E.Engine.is_over g.E.Engine.fed _ _ _ _ _ _ _ loads _ c.requires.input within;
+      feeds = loaded_feeds _ _ _ _ _ _ _ start now _ _ loads _ _ c.load.ensures.same c.load.ensures.fed c.load.ensures.live c.load.ensures.bound;
+      readable = loaded_readable _ _ _ _ _ _ _ start now _ _ loads c.requires.input;
+      others = loaded_others _ _ _ _ _ _ _ start now _ _ loads;
+      read = λ told. loaded_read _ _ _ _ _ _ _ start now _ _ loads told c.requires.input;
+      needed = loaded_needed _ _ _ _ _ _ _ start now _ _ loads _;
+      asked = λ within. loaded_asked _ _ _ _ _ _ _ start now _ _ loads _ c.requires.input within;
       laid = c.load.ensures.laid;
       ready = loads.ready _ c.requires.output;
     }
@@ -35,11 +37,11 @@ abandon-requires g c = (c.requires.owns.0, c.pieces.invariant.feeds.owns c.requi
 pub returns-in-Err-clause-ends : goal.returns-in-Err-clause-ends
 returns-in-Err-clause-ends g c before opening own at =
     let so_far = c.pieces.invariant in
-    let going : (g.E.Engine.work c.pieces.engine).is_complete so_far.fed ≡ false = sym (c.done.ensures so_far.fed so_far.feeds.holds) ∙ c.pieces-test.true in
+    let going : (g.S.Stage.work c.pieces.engine.stage).is_complete so_far.fed ≡ false = sym (c.done.ensures.complete so_far.fed so_far.feeds.holds) ∙ c.pieces-test.true in
     of_content g.I.Inputs.told _ (record { bytes = so_far.fed; breaks_off = true }) (source_at (g.I.Inputs.sources c.read.new.self) c.args.slot) _
     (λ told. let broke = read_broken _ _ _ _ (so_far.read told) (c.in-Err.ensures.break_off told) in
-    broken_off _ _ _ _ _ _ opening _ _ _ _ _ so_far.fed _ _ _ before so_far.feeds own at broke.0 broke.1 going c.abandon.ensures.swept)
-    (λ _. broken_off _ _ _ _ _ _ opening _ _ _ _ _ so_far.fed _ _ _ before so_far.feeds own at refl refl going c.abandon.ensures.swept)
+    broken_off _ _ _ _ opening _ _ _ _ _ so_far.fed _ _ _ before so_far.feeds own at broke.0 broke.1 going c.abandon.ensures.swept)
+    (λ _. broken_off _ _ _ _ opening _ _ _ _ _ so_far.fed _ _ _ before so_far.feeds own at refl refl going c.abandon.ensures.swept)
     (λ _. broken_now _ _ _ _ so_far.readable c.in-Err.ensures.err.1)
 
 pub returns-in-Err-clause-others : goal.returns-in-Err-clause-others
@@ -63,17 +65,15 @@ end-requires-clause-owns g c = (c.requires.owns.0, c.pieces.invariant.feeds.owns
 pub returns-then-n-eq0-clause-ends : goal.returns-then-n-eq0-clause-ends
 returns-then-n-eq0-clause-ends g c before opening own at =
     let so_far = c.pieces.invariant in
-    let going : (g.E.Engine.work c.pieces.engine).is_complete so_far.fed ≡ false = sym (c.done.ensures so_far.fed so_far.feeds.holds) ∙ c.pieces-test.true in
-    let laws : Laws g.E.Engine.Holds g.E.Engine.Owns g.E.Engine.work g.E.Engine.is_over g.E.Engine.fed
-    = record { live = g.met.E.Engine.live; counts = g.met.E.Engine.counts; lawful = g.met.E.Engine.lawful } in
+    let going : (g.S.Stage.work c.pieces.engine.stage).is_complete so_far.fed ≡ false = sym (c.done.ensures.complete so_far.fed so_far.feeds.holds) ∙ c.pieces-test.true in
     of_content g.I.Inputs.told _ (record { bytes = so_far.fed; breaks_off = false }) (source_at (g.I.Inputs.sources c.read.new.self) c.args.slot) _
     (λ told. let at_end = (c.in-Ok.ensures.bytes told).ended c.if-n-eq0.true (omega (arith, c.requires.room)) in
-    ended _ _ _ _ _ laws _ opening _ _ _ _ _ so_far.fed _ _ _ before _ c.end.result so_far.feeds own at
+    ended _ _ _ g.met.S.Stage.lawful _ opening _ _ _ _ _ so_far.fed _ _ _ before _ c.end.result so_far.feeds own at
     (let all = read_to_end _ _ _ _ (so_far.read told) at_end.0 at_end.1 in (all.0, going, all.1))
     (subst (λ (those : Work). IsNeeded those.is_complete (length c.args.buffer.now) so_far.fed) (sym so_far.feeds.same) so_far.needed)
     (sound_at (g.I.Inputs.sources c.read.new.self) c.args.slot (still_readable _ _ _ _ c.in-Ok.n c.in-Ok.ensures.rest so_far.readable), λ _. read_none_more _ _ _ _ _ _ c.in-Ok.n (so_far.read told) so_far.readable c.if-n-eq0.true c.in-Ok.ensures.rest)
     c.end.ensures)
-    (λ untold. ended _ _ _ _ _ laws _ opening _ _ _ _ _ so_far.fed _ _ _ before _ c.end.result so_far.feeds own at (refl, going, refl) (subst (λ (those : Work). IsNeeded those.is_complete (length c.args.buffer.now) so_far.fed) (sym so_far.feeds.same) so_far.needed) (sound_at (g.I.Inputs.sources c.read.new.self) c.args.slot (still_readable _ _ _ _ c.in-Ok.n c.in-Ok.ensures.rest so_far.readable), λ told. absurd (false≢true (sym untold ∙ told))) c.end.ensures)
+    (λ untold. ended _ _ _ g.met.S.Stage.lawful _ opening _ _ _ _ _ so_far.fed _ _ _ before _ c.end.result so_far.feeds own at (refl, going, refl) (subst (λ (those : Work). IsNeeded those.is_complete (length c.args.buffer.now) so_far.fed) (sym so_far.feeds.same) so_far.needed) (sound_at (g.I.Inputs.sources c.read.new.self) c.args.slot (still_readable _ _ _ _ c.in-Ok.n c.in-Ok.ensures.rest so_far.readable), λ told. absurd (false≢true (sym untold ∙ told))) c.end.ensures)
     (λ breaks. absurd (false≢true breaks))
 
 pub returns-then-n-eq0-clause-others : goal.returns-then-n-eq0-clause-others
@@ -83,7 +83,7 @@ pub returns-then-n-eq0-clause-reads : goal.returns-then-n-eq0-clause-reads
 returns-then-n-eq0-clause-reads g c told =
     let so_far = c.pieces.invariant in (
       so_far.fed ++ take c.in-Ok.n c.read.new.buffer,
-      needed_more _ _ c.in-Ok.n so_far.fed c.read.new.buffer (ap (λ (work : Work). work.is_complete so_far.fed) (sym so_far.feeds.same) ∙ sym (c.done.ensures so_far.fed so_far.feeds.holds) ∙ c.pieces-test.true) (omega (arith, c.in-Ok.ensures.bound)),
+      needed_more _ _ c.in-Ok.n so_far.fed c.read.new.buffer (ap (λ (work : Work). work.is_complete so_far.fed) (sym so_far.feeds.same) ∙ sym (c.done.ensures.complete so_far.fed so_far.feeds.holds) ∙ c.pieces-test.true) (omega (arith, c.in-Ok.ensures.bound)),
       (read_more _ _ _ _ _ _ _ _ _ (so_far.read told) so_far.readable (c.in-Ok.ensures.bytes told) c.in-Ok.ensures.rest).bytes,
     )
 
@@ -91,7 +91,7 @@ pub returns-then-n-eq0-clause-asked : goal.returns-then-n-eq0-clause-asked
 returns-then-n-eq0-clause-asked g c within = asked_again _ _ _ _ _ _ c.pieces.invariant.readable c.in-Ok.ensures.rest (omega arith) (c.pieces.invariant.asked within)
 
 pub returns-then-n-eq0-clause-broke : goal.returns-then-n-eq0-clause-broke
-returns-then-n-eq0-clause-broke g c = ends_sound _ _ _ _ _ _ _ _ _ _ c.end.result _ (λ is. cc) c.end.ensures
+returns-then-n-eq0-clause-broke g c = ends_sound _ _ _ _ _ _ _ _ c.end.result _ (λ is. cc) c.end.ensures
 
 -- where the engine took the piece
 
@@ -99,11 +99,11 @@ pub pieces-preserved : goal.pieces-preserved
 pieces-preserved g c =
     let so_far = c.pieces.invariant in record {
       fed = so_far.fed ++ take c.in-Ok.n c.read.new.buffer;
-      feeds = goes_on _ _ _ _ _ _ _ _ _ so_far.fed (take c.in-Ok.n c.read.new.buffer) _ _ _ so_far.feeds c.in-Ok-feed.ensures.same c.in-Ok-feed.ensures.holds c.in-Ok-feed.ensures.outputs c.in-Ok-feed.ensures.owns c.in-Ok-feed.ensures.bound;
+      feeds = goes_on _ _ _ _ _ _ _ so_far.fed (take c.in-Ok.n c.read.new.buffer) _ _ _ so_far.feeds c.in-Ok-feed.ensures.same c.in-Ok-feed.ensures.holds c.in-Ok-feed.ensures.outputs c.in-Ok-feed.ensures.owns c.in-Ok-feed.ensures.bound;
       readable = still_readable _ _ _ _ c.in-Ok.n c.in-Ok.ensures.rest so_far.readable;
       others = keeps_again _ _ _ _ so_far.others (keeps_others _ _ _ _ c.in-Ok.ensures.rest);
       read = λ told. read_more _ _ _ _ _ _ _ _ _ (so_far.read told) so_far.readable (c.in-Ok.ensures.bytes told) c.in-Ok.ensures.rest;
-      needed = needed_more _ _ c.in-Ok.n so_far.fed c.read.new.buffer (ap (λ (work : Work). work.is_complete so_far.fed) (sym so_far.feeds.same) ∙ sym (c.done.ensures so_far.fed so_far.feeds.holds) ∙ c.pieces-test.true) (omega (arith, c.in-Ok.ensures.bound));
+      needed = needed_more _ _ c.in-Ok.n so_far.fed c.read.new.buffer (ap (λ (work : Work). work.is_complete so_far.fed) (sym so_far.feeds.same) ∙ sym (c.done.ensures.complete so_far.fed so_far.feeds.holds) ∙ c.pieces-test.true) (omega (arith, c.in-Ok.ensures.bound));
       asked = λ within. asked_again _ _ _ _ _ _ so_far.readable c.in-Ok.ensures.rest (omega arith) (so_far.asked within);
       laid = c.read.ensures.kept ∙ so_far.laid;
       ready = c.in-Ok-feed.ensures.ready;
@@ -118,15 +118,13 @@ pub returns-in-Err-feed-clause-ends : goal.returns-in-Err-feed-clause-ends
 returns-in-Err-feed-clause-ends g c before opening own at =
     let so_far = c.pieces.invariant in
     let within : length (take c.in-Ok.n c.read.new.buffer) ≤ length c.args.buffer.now = piece_within c.in-Ok.n _ c.read.new.buffer (omega (arith, c.in-Ok.ensures.bound)) in
-    let going : (g.E.Engine.work c.pieces.engine).is_complete so_far.fed ≡ false = sym (c.done.ensures so_far.fed so_far.feeds.holds) ∙ c.pieces-test.true in
-    let laws : Laws g.E.Engine.Holds g.E.Engine.Owns g.E.Engine.work g.E.Engine.is_over g.E.Engine.fed
-    = record { live = g.met.E.Engine.live; counts = g.met.E.Engine.counts; lawful = g.met.E.Engine.lawful } in
+    let going : (g.S.Stage.work c.pieces.engine.stage).is_complete so_far.fed ≡ false = sym (c.done.ensures.complete so_far.fed so_far.feeds.holds) ∙ c.pieces-test.true in
     of_content g.I.Inputs.told _ (record { bytes = so_far.fed ++ take c.in-Ok.n c.read.new.buffer; breaks_off = false }) (source_at (g.I.Inputs.sources c.read.new.self) c.args.slot) _
     (λ told. let more = (read_more _ _ _ _ _ _ _ _ _ (so_far.read told) so_far.readable (c.in-Ok.ensures.bytes told) c.in-Ok.ensures.rest).bytes in
-    given_so _ _ _ _ opening _ _ _ _ _ c.given_up.ensures.same (stopped_feeding _ _ _ _ _ laws _ opening _ _ _ _ _ _ _ so_far.fed (take c.in-Ok.n c.read.new.buffer) _ _ _ _ _ before c.in-Err-feed.fault so_far.feeds own at
+    given_so _ _ _ _ opening _ _ _ _ _ c.given_up.ensures.same (stopped_feeding _ _ _ g.met.S.Stage.lawful _ opening _ _ _ _ c.feed.new.self _ _ so_far.fed (take c.in-Ok.n c.read.new.buffer) _ _ _ _ _ before c.in-Err-feed.fault so_far.feeds own at
     more within going (sound_at (g.I.Inputs.sources c.read.new.self) c.args.slot (still_readable _ _ _ _ c.in-Ok.n c.in-Ok.ensures.rest so_far.readable), λ _. more)
     c.in-Err-feed.ensures.cut c.in-Err-feed.ensures.refused c.feed.ensures.same c.in-Err-feed.ensures.owned c.given_up.ensures.judged c.given_up.ensures.swept))
-    (λ untold. given_so _ _ _ _ opening _ _ _ _ _ c.given_up.ensures.same (stopped_feeding _ _ _ _ _ laws _ opening _ _ _ _ _ _ _ so_far.fed (take c.in-Ok.n c.read.new.buffer) [] _ _ _ _ before c.in-Err-feed.fault so_far.feeds own at
+    (λ untold. given_so _ _ _ _ opening _ _ _ _ _ c.given_up.ensures.same (stopped_feeding _ _ _ g.met.S.Stage.lawful _ opening _ _ _ _ c.feed.new.self _ _ so_far.fed (take c.in-Ok.n c.read.new.buffer) [] _ _ _ _ before c.in-Err-feed.fault so_far.feeds own at
     (sym (append-nil _)) within going (sound_at (g.I.Inputs.sources c.read.new.self) c.args.slot (still_readable _ _ _ _ c.in-Ok.n c.in-Ok.ensures.rest so_far.readable), λ told. absurd (false≢true (sym untold ∙ told))) c.in-Err-feed.ensures.cut c.in-Err-feed.ensures.refused c.feed.ensures.same c.in-Err-feed.ensures.owned c.given_up.ensures.judged c.given_up.ensures.swept))
     (λ breaks. absurd (false≢true breaks))
 
@@ -137,7 +135,7 @@ pub returns-in-Err-feed-clause-reads : goal.returns-in-Err-feed-clause-reads
 returns-in-Err-feed-clause-reads g c told =
     let so_far = c.pieces.invariant in (
       so_far.fed ++ take c.in-Ok.n c.read.new.buffer,
-      needed_more _ _ c.in-Ok.n so_far.fed c.read.new.buffer (ap (λ (work : Work). work.is_complete so_far.fed) (sym so_far.feeds.same) ∙ sym (c.done.ensures so_far.fed so_far.feeds.holds) ∙ c.pieces-test.true) (omega (arith, c.in-Ok.ensures.bound)),
+      needed_more _ _ c.in-Ok.n so_far.fed c.read.new.buffer (ap (λ (work : Work). work.is_complete so_far.fed) (sym so_far.feeds.same) ∙ sym (c.done.ensures.complete so_far.fed so_far.feeds.holds) ∙ c.pieces-test.true) (omega (arith, c.in-Ok.ensures.bound)),
       (read_more _ _ _ _ _ _ _ _ _ (so_far.read told) so_far.readable (c.in-Ok.ensures.bytes told) c.in-Ok.ensures.rest).bytes,
     )
 
@@ -150,17 +148,15 @@ pub end-requires-2-clause-owns : goal.end-requires-2-clause-owns
 end-requires-2-clause-owns g c = (c.requires.owns.0, c.pieces.invariant.feeds.owns c.requires.owns.0 c.requires.owns.1)
 
 pub returns-clause-broke : goal.returns-clause-broke
-returns-clause-broke g c = ends_sound _ _ _ _ _ _ _ _ _ _ c.end-2.result _ (λ is. cc) c.end-2.ensures
+returns-clause-broke g c = ends_sound _ _ _ _ _ _ _ _ c.end-2.result _ (λ is. cc) c.end-2.ensures
 
 pub returns-clause-ends : goal.returns-clause-ends
 returns-clause-ends g c before opening own at =
     let so_far = c.pieces.invariant in
-    let done : (g.E.Engine.work c.pieces.engine).is_complete so_far.fed ≡ true = sym (c.done.ensures so_far.fed so_far.feeds.holds) ∙ c.pieces-test.false in
-    let laws : Laws g.E.Engine.Holds g.E.Engine.Owns g.E.Engine.work g.E.Engine.is_over g.E.Engine.fed
-    = record { live = g.met.E.Engine.live; counts = g.met.E.Engine.counts; lawful = g.met.E.Engine.lawful } in
+    let done : (g.S.Stage.work c.pieces.engine.stage).is_complete so_far.fed ≡ true = sym (c.done.ensures.complete so_far.fed so_far.feeds.holds) ∙ c.pieces-test.false in
     of_content g.I.Inputs.told _ (record { bytes = so_far.fed; breaks_off = false }) (source_at (g.I.Inputs.sources c.pieces.inputs) c.args.slot) _
-    (λ told. ended _ _ _ _ _ laws _ opening _ _ _ _ _ so_far.fed _ _ _ before _ c.end-2.result so_far.feeds own at (done, (_, (so_far.read told).bytes)) (subst (λ (those : Work). IsNeeded those.is_complete (length c.args.buffer.now) so_far.fed) (sym so_far.feeds.same) so_far.needed) (sound_at (g.I.Inputs.sources c.pieces.inputs) c.args.slot so_far.readable, λ _. (so_far.read told).bytes) c.end-2.ensures)
-    (λ untold. ended _ _ _ _ _ laws _ opening _ _ _ _ _ so_far.fed _ _ _ before _ c.end-2.result so_far.feeds own at (done, ([], sym (append-nil so_far.fed))) (subst (λ (those : Work). IsNeeded those.is_complete (length c.args.buffer.now) so_far.fed) (sym so_far.feeds.same) so_far.needed) (sound_at (g.I.Inputs.sources c.pieces.inputs) c.args.slot so_far.readable, λ told. absurd (false≢true (sym untold ∙ told))) c.end-2.ensures)
+    (λ told. ended _ _ _ g.met.S.Stage.lawful _ opening _ _ _ _ _ so_far.fed _ _ _ before _ c.end-2.result so_far.feeds own at (done, (_, (so_far.read told).bytes)) (subst (λ (those : Work). IsNeeded those.is_complete (length c.args.buffer.now) so_far.fed) (sym so_far.feeds.same) so_far.needed) (sound_at (g.I.Inputs.sources c.pieces.inputs) c.args.slot so_far.readable, λ _. (so_far.read told).bytes) c.end-2.ensures)
+    (λ untold. ended _ _ _ g.met.S.Stage.lawful _ opening _ _ _ _ _ so_far.fed _ _ _ before _ c.end-2.result so_far.feeds own at (done, ([], sym (append-nil so_far.fed))) (subst (λ (those : Work). IsNeeded those.is_complete (length c.args.buffer.now) so_far.fed) (sym so_far.feeds.same) so_far.needed) (sound_at (g.I.Inputs.sources c.pieces.inputs) c.args.slot so_far.readable, λ told. absurd (false≢true (sym untold ∙ told))) c.end-2.ensures)
     (λ breaks. absurd (false≢true breaks))
 
 pub returns-clause-reads : goal.returns-clause-reads

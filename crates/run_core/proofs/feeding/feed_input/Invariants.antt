@@ -7,15 +7,15 @@ use Rattle.run_core.proofs.feeding.feed_input.Given as goal
 abbrev pub invariant-pieces : goal.invariant-pieces
 invariant-pieces g l = record {
   fed : List ℕ;
-  feeds : Feeds g.E.Engine.Holds g.E.Engine.Owns g.E.Engine.work g.E.Engine.is_over g.E.Engine.fed g.O.Outs.told l.fn.engine l.engine fed (g.O.Outs.slots l.fn.outs) (g.O.Outs.slots l.outs);
+  feeds : Feeds g.S.Stage.Holds g.S.Stage.Owns g.S.Stage.work g.O.Outs.told l.fn.engine l.engine fed (g.O.Outs.slots l.fn.outs) (g.O.Outs.slots l.outs);
   readable : IsTrue (is_readable (g.I.Inputs.sources l.inputs) l.slot);
   others : KeepsOthers l.slot (g.I.Inputs.sources l.fn.inputs) (g.I.Inputs.sources l.inputs);
   read : g.I.Inputs.told ≡ true → HasRead (source_at (g.I.Inputs.sources l.fn.inputs) l.slot).left fed l.slot (g.I.Inputs.sources l.inputs);
-  needed : IsNeeded (g.E.Engine.work l.fn.engine).is_complete (length l.fn.buffer) fed;
+  needed : IsNeeded (g.S.Stage.work l.fn.engine.stage).is_complete (length l.fn.buffer) fed;
   asked : (source_at (g.I.Inputs.sources l.fn.inputs) l.slot).asked ≤ length l.fn.buffer → (source_at (g.I.Inputs.sources l.inputs) l.slot).asked ≤ length l.fn.buffer;
   laid : g.I.Inputs.laid l.inputs ≡ g.I.Inputs.laid l.fn.inputs;
-  ready : g.E.Engine.Ready l.engine (g.O.Outs.slots l.outs);
+  ready : g.S.Stage.Ready l.engine.stage (g.O.Outs.slots l.outs);
 }
 
 abbrev pub decreases-pieces : goal.decreases-pieces
-decreases-pieces g l = 2 ^ 63 - g.E.Engine.fed l.engine
+decreases-pieces g l = 2 ^ 63 - l.engine.fed

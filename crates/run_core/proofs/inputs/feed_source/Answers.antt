@@ -7,13 +7,13 @@ pub returns-in_err-engine-clause-fed : goal.returns-in_err-engine-clause-fed
 returns-in_err-engine-clause-fed g c = rw (handed_on _ _ c.from_residual.ensures.1) (unread_source _ _ _ _ _ _ c.requires.input (λ content unread done. (not_opened _ _ _ _ content _ _ _ c.in_err-engine.field-0.0 c.in_err-engine.ensures.err unread, done)))
 
 pub returns-in-Some-clause-fed : goal.returns-in-Some-clause-fed
-returns-in-Some-clause-fed g c = fed_as _ _ _ _ _ _ _ _ _ _ _ _ _ _ _ _ _ _ _ c.in-Some.is c.in_ok-engine.ensures.ok (still_within _ _ _ _ c.in-Some.is c.requires.input c.feed_input.ensures.others) c.feed_input.ensures.ends c.feed_input.ensures.reads
+returns-in-Some-clause-fed g c = fed_as _ _ _ _ _ _ _ _ _ _ _ _ _ _ _ _ _ _ c.in-Some.is c.in_ok-engine.ensures.ok (still_within _ _ _ _ c.in-Some.is c.requires.input c.feed_input.ensures.others) c.feed_input.ensures.ends c.feed_input.ensures.reads
 
 pub returns-in-Some-clause-asked : goal.returns-in-Some-clause-asked
 returns-in-Some-clause-asked g c = asks_from _ _ _ _ _ c.in-Some.is c.feed_input.ensures.others c.feed_input.ensures.asked
 
 pub returns-clause-fed : goal.returns-clause-fed
-returns-clause-fed g c = fed_none _ _ _ _ _ _ _ _ _ _ _ _ _ _ _ _ _ _ c.in-None.is c.in_ok-engine.ensures.ok c.feed_nothing.ensures.ends
+returns-clause-fed g c = fed_none _ _ _ _ _ _ _ _ _ _ _ _ _ _ _ _ _ c.in-None.is c.in_ok-engine.ensures.ok c.feed_nothing.ensures.ends
 
 pub returns-in_err-engine-clause-others : goal.returns-in_err-engine-clause-others
 returns-in_err-engine-clause-others g c = keeps_all _ _

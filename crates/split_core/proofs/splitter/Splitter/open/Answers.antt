@@ -8,7 +8,7 @@ use Rattle.split_core.specs.declared.limit.Limit.{Limit}
 use Rattle.split_core.specs.PartState.{parts_work}
 use Rattle.split_core.specs.Split.{settled_by, split_work}
 use Rattle.split_core.specs.Ways.{work}
-use Rattle.split_core.specs.declared.ways.Ways.{Ways}
+use Rattle.split_core.specs.declared.splitter.Splitter.{Splitter}
 use Rattle.split_core.proofs.splitter.Splitter.open.Goals as goal
 use Rattle.split_core.proofs.splitter.Splitter.open.Goals.{in-Lines, in-Bytes, in-LineBytes}
 
@@ -26,7 +26,7 @@ returns-in-Round-clause-outputs g c =
 
 pub returns-clause-does : goal.returns-clause-does
 returns-clause-does g c =
-    ap (λ (engine : GuardState Ways). work engine.stage) c.new-2.ensures
+    ap (λ (engine : GuardState Splitter). work engine.stage) c.new-2.ensures
     ∙ c.in_ok-parts.ensures.does
     ∙ elim c.match-cut.branch [
       | in-Lines w ↦ by_limit c.args.names w.limit-is ∙ sym (by_cut c.args.delim c.args.elide c.args.names w.in-Lines.is)

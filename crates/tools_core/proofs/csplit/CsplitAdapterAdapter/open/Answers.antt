@@ -10,7 +10,7 @@ returns-in_err-style-clause-err g c = fault_is _ _ _ c.from_residual.ensures.1 (
 pub returns-clause-ok : goal.returns-clause-ok
 returns-clause-ok g c =
     let same = c.in_ok-style.ensures ∙ ap (λ (asked : CsplitAsked). asked.style) c.settings.view_is in
-    csplit_opened _ _ _ _ _ _ _ _ _ _ _ c.open.result same c.requires.streams c.open.ensures.holds c.open.ensures.does c.open.ensures.bound c.open.ensures.ready c.open.ensures.owns c.open.ensures.outputs
+    csplit_opened _ _ _ _ _ _ _ _ _ _ c.open.result same c.requires.streams c.open.ensures.holds c.open.ensures.does c.open.ensures.bound c.open.ensures.ready c.open.ensures.owns c.open.ensures.outputs
 
 pub returns-clause-err : goal.returns-clause-err
 returns-clause-err g c =

@@ -9,7 +9,7 @@ returns-in_err-names-clause-err g c = fault_is _ _ _ c.from_residual.ensures.1 (
 pub returns-clause-ok : goal.returns-clause-ok
 returns-clause-ok g c =
     let same = plan_is _ c.settings.inside.cut _ _ _ c.settings.inside.elide _ _ _ c.settings.inside.delim c.in_ok-names.names c.in_ok-names.ensures.ok c.settings.view_is in
-    split_opened _ _ _ _ _ _ _ _ _ _ c.open.result same c.requires.streams c.open.ensures.holds c.open.ensures.does c.open.ensures.bound c.open.ensures.ready c.open.ensures.owns c.open.ensures.outputs
+    split_opened _ _ _ _ _ _ _ _ _ c.open.result same c.requires.streams c.open.ensures.holds c.open.ensures.does c.open.ensures.bound c.open.ensures.ready c.open.ensures.owns c.open.ensures.outputs
 
 pub returns-clause-err : goal.returns-clause-err
 returns-clause-err g c =

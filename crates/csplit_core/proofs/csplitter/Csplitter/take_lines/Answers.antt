@@ -1,0 +1,21 @@
+use Rattle.ports_core.proofs.HandedOn.{result_is}
+use Rattle.seg_core.proofs.LineCounts.{ends_with-some}
+use Rattle.csplit_core.specs.Cutter.{Takes}
+use Rattle.csplit_core.specs.Input.{newline}
+use Rattle.csplit_core.proofs.ByteLemmas.{first_line, others_whole}
+use Rattle.csplit_core.proofs.StageSteps.{lines_stop, lines_after}
+use Rattle.csplit_core.proofs.csplitter.Csplitter.take_lines.Goals as goal
+
+pub take_open-requires-clause-line : goal.take_open-requires-clause-line
+take_open-requires-clause-line g c = first_line c.args.lines.now c.next_line.result.0.now c.next_line.result.1.now (c.next_line.ensures.first (ends_with-some newline c.args.lines.now c.requires.whole))
+
+pub returns-in_err-take_open-clause-takes : goal.returns-in_err-take_open-clause-takes
+returns-in_err-take_open-clause-takes g c = result_is (Takes g.O.Outs.told c.args.self.now.cutter _ _ _ c.take_open.new.self.cutter) c.from_residual.result _ c.from_residual.ensures.1
+    (lines_stop g.O.Outs.told _ _ c.args.self.now.rest c.args.lines.now c.next_line.result.0.now c.next_line.result.1.now _ _ _ c.next_line.ensures.joined c.next_line.ensures.last c.requires.whole c.in_err-take_open.ensures.takes)
+
+pub take-requires-2-clause-whole : goal.take-requires-2-clause-whole
+take-requires-2-clause-whole g c = others_whole c.args.lines.now c.next_line.result.0.now c.next_line.result.1.now c.next_line.ensures.joined c.requires.whole
+
+pub returns-clause-takes : goal.returns-clause-takes
+returns-clause-takes g c = lines_after g.O.Outs.told _ _ _ c.take_open.new.self c.args.self.now.rest c.args.lines.now c.next_line.result.0.now c.next_line.result.1.now _ _ _ c.take-2.result c.self-2.view_is c.next_line.ensures.joined c.next_line.ensures.last c.requires.whole
+    c.in_ok-take_open.ensures.takes c.take-2.ensures
