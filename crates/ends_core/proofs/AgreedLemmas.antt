@@ -17,8 +17,7 @@ use Rattle.ends_core.specs.EndsLaws.{measure-append, measure-delimiters, first_o
 use Rattle.ends_core.specs.Head.{head_work, head_waiting}
 use Rattle.ends_core.specs.Tail.{tail_work, tail_waiting}
 use Rattle.ends_core.specs.Place.{head_spots, skipped, tail_spots}
-use Rattle.ends_core.specs.HeadLaws as head
-use Rattle.ends_core.specs.TailLaws as tail
+use Rattle.ends_core.specs.WorkLaws as law
 
 -- Some continuations
 
@@ -42,7 +41,7 @@ far delim unit n x = elim (cases_lt (length x) (length (but_last_of delim unit n
 -- Heads
 
 pub head_agreed : (delim : ℕ) (unit : Counted) (but_last : Bool) (n : ℕ) (x : List ℕ) → IsAgreed (head_work delim unit but_last n) x ((head_work delim unit but_last n).settled x)
-head_agreed delim unit but_last n x = agreed_now (head_work delim unit but_last n) x (common (head_work delim unit but_last n) (head.lawful delim unit but_last n) x) refl
+head_agreed delim unit but_last n x = agreed_now (head_work delim unit but_last n) x (common (head_work delim unit but_last n) (law.head_lawful delim unit but_last n) x) refl
 
 -- the first n of a text with fewer, which goes on, have all of it
 first_long : (delim : ℕ) (unit : Counted) (n : ℕ) (x y : List ℕ) → measure delim unit x < n → length x ≤ length (first_of delim unit n (x ++ y))
@@ -248,9 +247,9 @@ last_longest delim unit n x apart zero less = (apart.y, apart.z, apart.y_comes, 
 last_longest delim unit n x apart (suc place) less = absurd (omega (arith, less))
 
 pub tail_agreed : (delim : ℕ) → delim < 256 → (unit : Counted) (from_nth : Bool) (n : ℕ) (x : List ℕ) → IsAgreed (tail_work delim unit from_nth n) x ((tail_work delim unit from_nth n).settled x)
-tail_agreed delim byte unit true n x = agreed_now (tail_work delim unit true n) x (common (tail_work delim unit true n) (tail.lawful delim unit true n) x) refl
+tail_agreed delim byte unit true n x = agreed_now (tail_work delim unit true n) x (common (tail_work delim unit true n) (law.tail_lawful delim unit true n) x) refl
 tail_agreed delim byte unit false n x = record {
-  common = λ y can. common (tail_work delim unit false n) (tail.lawful delim unit false n) x y;
+  common = λ y can. common (tail_work delim unit false n) (law.tail_lawful delim unit false n) x y;
   fewest = ([], none_comes, refl);
   longest = last_longest delim unit n x (apart delim byte unit n x);
 }

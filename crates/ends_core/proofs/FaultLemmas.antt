@@ -1,17 +1,16 @@
 -- Which faults an engine can give that lacks no memory.
-use Rattle.std.proofs.Common.{◌≡◌, ℕ, List, length, Bool, not, true, false, ◌⊎◌, inl, inr, refl, sym, ◌∙◌, ap}
+use Rattle.std.proofs.Common.{◌≡◌, ℕ, List, ◌++◌, length, Bool, true, false, ◌⊎◌, inl, inr, refl, sym, ◌∙◌, ap, subst}
 use Rattle.std.proofs.lemmas.Bool.{false≢true}
 use Rattle.std.proofs.lemmas.Option.{none-some}
 use Rattle.ports_core.specs.Slot.{Slot}
-use Rattle.ports_core.specs.Work.{on_output}
+use Rattle.ports_core.specs.Work.{Means, on_output}
 use Rattle.ports_core.specs.Engine.{EndsWith, IsCaused, IsMet, over, long, met}
 use Rattle.ports_core.specs.Guard.{GuardState, HoldsIn}
 use Rattle.ports_core.specs.declared.fault.Fault.{Fault}
 use Rattle.ports_core.specs.declared.fault.Fault.TheVariants.{Memory, Write, Read, Open, Suffixes, NoMatch, Range, Usage, Failed, TooLong}
-use Rattle.ends_core.specs.Head as of_head
-use Rattle.ends_core.specs.HeadState.{HeadState}
-use Rattle.ends_core.specs.Tail as of_tail
-use Rattle.ends_core.specs.TailState.{TailState}
+use Rattle.ends_core.specs.declared.ends.Ends.{Ends}
+use Rattle.ends_core.specs.Stage.{Holds, IsRefused, count_of, delim_of, keeps, may_lack, stretch_of, unit_of, work}
+use Rattle.ends_core.proofs.EndsLemmas.{always_well, on_means}
 
 -- of what writes to standard output alone, lacks no memory and has no fault of its own
 only_writes : (memory lacks : Bool) (Ends : Fault → Type 0) (old new : List Slot) (fault : Fault) → lacks ≡ false → ((other : Fault) → Ends other → ⊥)
@@ -33,12 +32,13 @@ only_these memory lacks is_over Ends fed size old new _ live enough well (over e
 only_these memory lacks is_over Ends fed size old new _ live enough well (long going much same) = inr refl
 only_these memory lacks is_over Ends fed size old new _ live enough well (met fault going cause) = only_writes memory lacks Ends old new fault enough well cause
 
-pub head_fails : (head : GuardState HeadState) (x piece : List ℕ) (old new : List Slot) (fault : Fault) → HoldsIn of_head.Holds head x → head.stage.may_lack ≡ false
-    → of_head.IsRefused head piece old new fault → (fault ≡ Write 0) ⊎ (fault ≡ TooLong)
-head_fails head x piece old new fault holds enough refused =
-    only_these head.stage.but_last head.stage.may_lack head.is_over (EndsWith of_head.Holds of_head.work head.stage piece) head.fed (length piece) old new fault holds.live enough (λ other ends. none-some other (ends x holds.within).1) refused
-
-pub tail_fails : (tail : GuardState TailState) (x piece : List ℕ) (old new : List Slot) (fault : Fault) → HoldsIn of_tail.Holds tail x → tail.stage.may_lack ≡ false
-    → of_tail.IsRefused tail piece old new fault → (fault ≡ Write 0) ⊎ (fault ≡ TooLong)
-tail_fails tail x piece old new fault holds enough refused =
-    only_these (not tail.stage.from_nth) tail.stage.may_lack tail.is_over (EndsWith of_tail.Holds of_tail.work tail.stage piece) tail.fed (length piece) old new fault holds.live enough (λ other ends. none-some other (ends x holds.within).1) refused
+pub fails : (engine : GuardState Ends) (x piece : List ℕ) (old new : List Slot) (fault : Fault) → HoldsIn Holds engine x → may_lack engine.stage ≡ false
+    → IsRefused engine piece old new fault → (fault ≡ Write 0) ⊎ (fault ≡ TooLong)
+fails engine x piece old new fault holds enough refused =
+    let s = stretch_of engine.stage in
+    let delim = delim_of engine.stage in
+    let unit = unit_of engine.stage in
+    let n = count_of engine.stage in
+    only_these (keeps s) (may_lack engine.stage) engine.is_over (EndsWith Holds work engine.stage piece) engine.fed (length piece) old new fault holds.live enough
+    (λ other ends. none-some other (sym (always_well s delim unit n (x ++ piece)) ∙ (ends x holds.within).1))
+    (subst (λ (means : Means). IsCaused (IsMet means means.feeding (may_lack engine.stage ≡ true) (EndsWith Holds work engine.stage piece) old new) engine.is_over engine.fed (length piece) old new fault) (on_means s delim unit n) refused)

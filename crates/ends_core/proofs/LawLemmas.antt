@@ -1,21 +1,20 @@
--- What waits in heads and tails that were fed a text.
-use Rattle.std.proofs.Common.{◌≡◌, ℕ, List, ◌++◌, true, false, ◌∙◌, ap}
+-- What waits in an engine that was fed a text.
+use Rattle.std.proofs.Common.{◌≡◌, ℕ, List, ◌++◌, ◌∙◌, ap}
 use Rattle.ports_core.specs.Guard.{GuardState, HoldsIn}
-use Rattle.ends_core.specs.Ends.{last_of, head_of}
+use Rattle.ends_core.specs.declared.ends.Ends.{Ends}
+use Rattle.ends_core.specs.Ends.{last_of}
 use Rattle.ends_core.specs.EndsLaws.{ends_together}
-use Rattle.ends_core.specs.Head.{head_waiting, work, Holds as HeadHolds}
-use Rattle.ends_core.specs.HeadState.{HeadState}
-use Rattle.ends_core.specs.Tail.{tail_waiting, Holds as TailHolds}
-use Rattle.ends_core.specs.TailState.{TailState}
+use Rattle.ends_core.specs.Stage.{Holds, all_but_last, count_of, delim_of, stretch_of, the_last, unit_of, waiting_in, waiting_of, work, work_in}
 
-pub head_waits : (head : GuardState HeadState) (x : List ℕ) → HoldsIn HeadHolds head x → head.stage.but_last ≡ true → head.stage.waiting ≡ last_of head.stage.delim head.stage.unit head.stage.count x
-head_waits head x holds but_last = holds.within.waits ∙ ap (λ b. head_waiting head.stage.delim head.stage.unit b head.stage.count x) but_last
+module _ (engine : GuardState Ends) (x : List ℕ) (holds : HoldsIn Holds engine x) where
+  pub head_waits : stretch_of engine.stage ≡ all_but_last → waiting_of engine.stage ≡ last_of (delim_of engine.stage) (unit_of engine.stage) (count_of engine.stage) x
+  head_waits is = holds.within.waits ∙ ap (λ s. waiting_in s (delim_of engine.stage) (unit_of engine.stage) (count_of engine.stage) x) is
 
-pub head_loses_nothing : (head : GuardState HeadState) (x : List ℕ) → HoldsIn HeadHolds head x → head.stage.but_last ≡ true → ((work head.stage).settled x).out ++ head.stage.waiting ≡ x
-head_loses_nothing head x holds but_last =
-    ap (λ held. head_of head.stage.delim head.stage.unit head.stage.but_last head.stage.count x ++ held) (head_waits head x holds but_last)
-    ∙ ap (λ b. head_of head.stage.delim head.stage.unit b head.stage.count x ++ last_of head.stage.delim head.stage.unit head.stage.count x) but_last
-    ∙ ends_together head.stage.delim head.stage.unit head.stage.count x
+  pub tail_waits : stretch_of engine.stage ≡ the_last → waiting_of engine.stage ≡ last_of (delim_of engine.stage) (unit_of engine.stage) (count_of engine.stage) x
+  tail_waits is = holds.within.waits ∙ ap (λ s. waiting_in s (delim_of engine.stage) (unit_of engine.stage) (count_of engine.stage) x) is
 
-pub tail_waits : (tail : GuardState TailState) (x : List ℕ) → HoldsIn TailHolds tail x → tail.stage.from_nth ≡ false → tail.stage.waiting ≡ last_of tail.stage.delim tail.stage.unit tail.stage.count x
-tail_waits tail x holds last = holds.within.waits ∙ ap (λ b. tail_waiting tail.stage.delim tail.stage.unit b tail.stage.count x) last
+  pub loses_nothing : stretch_of engine.stage ≡ all_but_last → ((work engine.stage).settled x).out ++ waiting_of engine.stage ≡ x
+  loses_nothing is =
+      ap (λ held. ((work engine.stage).settled x).out ++ held) (head_waits is)
+      ∙ ap (λ s. ((work_in s (delim_of engine.stage) (unit_of engine.stage) (count_of engine.stage)).settled x).out ++ last_of (delim_of engine.stage) (unit_of engine.stage) (count_of engine.stage) x) is
+      ∙ ends_together (delim_of engine.stage) (unit_of engine.stage) (count_of engine.stage) x

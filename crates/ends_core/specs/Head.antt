@@ -1,16 +1,10 @@
 -- The first part of an input, as an engine writes it: POSIX.1-2017, XCU head; the option -c is GNU's.
-use Rattle.std.specs.Prelude.{◌≡◌, ℕ, ◌-◌, ◌++◌, ◌&&◌, ◌<◌, ◌≤◌, not, nat_le, Bool, true, false, List, [], length, if◌then◌else◌}
+use Rattle.std.specs.Prelude.{◌≡◌, ℕ, ◌++◌, ◌&&◌, not, nat_le, Bool, false, List, [], if◌then◌else◌}
 use Rattle.seg_core.specs.Line.{AreBytes}
 use Rattle.ports_core.specs.Part.{only_out}
 use Rattle.seg_core.specs.declared.unit.Unit.{Unit as Counted}
-use Rattle.seg_core.specs.declared.unit.Unit.TheVariants.{Bytes}
 use Rattle.ports_core.specs.Work.{Work, on_output, always_well}
-use Rattle.ports_core.specs.Slot.{Slot}
-use Rattle.ports_core.specs.Engine.{IsCaused, IsMet, EndsWith}
-use Rattle.ports_core.specs.Guard.{GuardState}
-use Rattle.ports_core.specs.declared.fault.Fault.{Fault}
 use Rattle.ends_core.specs.Ends.{measure, last_of, head_of}
-use Rattle.ends_core.specs.HeadState.{HeadState}
 
 -- What a head makes of its input: what belongs to the head whatever may still come is written at once, and nothing at the
 -- end. Of the first n it is complete once n came in. It takes memory where all but the last are asked for, since those wait.
@@ -24,28 +18,9 @@ head_work delim unit but_last n = record {
   means = on_output but_last;
 }
 
--- the work of a head in this state
-abbrev pub work : HeadState → Work
-work head = head_work head.delim head.unit head.but_last head.count
-
 -- what came in and isn't written yet, since what follows decides it: the last lines or bytes, where all but them are asked for
 abbrev pub head_waiting : ℕ → Counted → Bool → ℕ → List ℕ → List ℕ
 head_waiting delim unit but_last n x = if but_last then last_of delim unit n x else []
-
--- the head can have been fed x
-pub record Holds (head : HeadState) (x : List ℕ) : Type 0 where
-  -- the delimiter is a byte
-  pub byte : head.delim < 256
-  pub left : head.but_last ≡ false → head.left ≡ head.count - measure head.delim head.unit x
-  pub waits : head.waiting ≡ head_waiting head.delim head.unit head.but_last head.count x
-  -- where nothing waits no memory can be wanting, nor once as many bytes came in as wait
-  pub none : head.but_last ≡ false → head.may_lack ≡ false
-  pub full : head.unit ≡ Bytes → head.count ≤ length x → head.may_lack ≡ false
-
--- what is known of a fault of `feed`, by its clause `refused`
-abbrev pub IsRefused : GuardState HeadState → List ℕ → List Slot → List Slot → Fault → Type 0
-IsRefused head piece old new fault =
-    IsCaused (IsMet (work head.stage).means (work head.stage).means.feeding (head.stage.may_lack ≡ true) (EndsWith Holds work head.stage piece) old new) head.is_over head.fed (length piece) old new fault
 
 -- whatever comes after x, the head of it is that of x
 abbrev pub IsDone : ℕ → Counted → Bool → ℕ → List ℕ → Type 0

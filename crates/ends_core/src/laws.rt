@@ -2,11 +2,11 @@
 ghost use Rattle.std.specs.Prelude.{◌≡◌, ◌<◌, ◌≤◌, ◌+◌, ◌-◌, ◌++◌, ◌⊎◌, ℕ, Bool, List, length, true, false};
 ghost use Rattle.seg_core.specs.Line.{delimiters, ends_with, line_count};
 ghost use Rattle.ends_core.specs.Ends.{behind_of, but_last_of, first_of, last_of, measure, size, tail_of};
-ghost use Rattle.ends_core.specs.Head.{head_waiting, head_work, work, Holds as HeadHolds, IsRefused as HeadRefused};
-ghost use Rattle.ends_core.specs.HeadState.{HeadState};
+ghost use Rattle.ends_core.specs.Head.{head_waiting, head_work};
 ghost use Rattle.ends_core.specs.Place.{head_spots, tail_spots};
-ghost use Rattle.ends_core.specs.Tail.{tail_waiting, tail_work, Holds as TailHolds, IsRefused as TailRefused};
-ghost use Rattle.ends_core.specs.TailState.{TailState};
+ghost use Rattle.ends_core.specs.Stage.{Holds, IsRefused, all_but_last, count_of, delim_of, keeps, may_lack, stretch_of, the_last, unit_of, waiting_of, work};
+ghost use Rattle.ends_core.specs.Tail.{tail_waiting, tail_work};
+ghost use Rattle.ends_core.specs.declared.ends.Ends.{Ends};
 ghost use Rattle.ports_core.specs.Agreed.{ArePlaced, IsAgreed, IsUndecided};
 ghost use Rattle.ports_core.specs.Guard.{GuardState, HoldsIn};
 ghost use Rattle.ports_core.specs.Slot.{Slot};
@@ -21,7 +21,7 @@ use ports_core::Fault;
 pub fn head_goes_on(unit: Unit, delim: u8)
     ensures first { (n : ℕ) (x y : List ℕ) → first_of delim unit n (x ++ y) ≡ first_of delim unit n x ++ first_of delim unit (n - measure delim unit x) y }
     ensures but_last { (n : ℕ) (x y : List ℕ) → but_last_of delim unit n (x ++ y) ≡ but_last_of delim unit n x ++ but_last_of delim unit n (last_of delim unit n x ++ y) }
-    ensures waits { (head : GuardState HeadState) (x : List ℕ) → HoldsIn HeadHolds head x → head.stage.but_last ≡ true → head.stage.waiting ≡ last_of head.stage.delim head.stage.unit head.stage.count x }
+    ensures waits { (head : GuardState Ends) (x : List ℕ) → HoldsIn Holds head x → stretch_of head.stage ≡ all_but_last → waiting_of head.stage ≡ last_of (delim_of head.stage) (unit_of head.stage) (count_of head.stage) x }
 {
     let _ = (unit, delim);
 }
@@ -31,7 +31,7 @@ pub fn head_goes_on(unit: Unit, delim: u8)
 pub fn nothing_is_lost(unit: Unit, delim: u8)
     ensures first { (n : ℕ) (x : List ℕ) → first_of delim unit n x ++ behind_of delim unit n x ≡ x }
     ensures last { (n : ℕ) (x : List ℕ) → but_last_of delim unit n x ++ last_of delim unit n x ≡ x }
-    ensures waits { (head : GuardState HeadState) (x : List ℕ) → HoldsIn HeadHolds head x → head.stage.but_last ≡ true → ((work head.stage).settled x).out ++ head.stage.waiting ≡ x }
+    ensures waits { (head : GuardState Ends) (x : List ℕ) → HoldsIn Holds head x → stretch_of head.stage ≡ all_but_last → ((work head.stage).settled x).out ++ waiting_of head.stage ≡ x }
 {
     let _ = (unit, delim);
 }
@@ -42,7 +42,7 @@ pub fn nothing_is_lost(unit: Unit, delim: u8)
 pub fn tail_goes_on(unit: Unit, delim: u8)
     ensures from_nth { (n : ℕ) (x y : List ℕ) → tail_of delim unit true n (x ++ y) ≡ tail_of delim unit true n x ++ behind_of delim unit (n - 1 - measure delim unit x) y }
     ensures last { (n : ℕ) (x y : List ℕ) → last_of delim unit n (x ++ y) ≡ last_of delim unit n (last_of delim unit n x ++ y) }
-    ensures waits { (tail : GuardState TailState) (x : List ℕ) → HoldsIn TailHolds tail x → tail.stage.from_nth ≡ false → tail.stage.waiting ≡ last_of tail.stage.delim tail.stage.unit tail.stage.count x }
+    ensures waits { (tail : GuardState Ends) (x : List ℕ) → HoldsIn Holds tail x → stretch_of tail.stage ≡ the_last → waiting_of tail.stage ≡ last_of (delim_of tail.stage) (unit_of tail.stage) (count_of tail.stage) x }
     ensures few { (n : ℕ) (x : List ℕ) → size delim unit (last_of delim unit n x) ≤ n }
 {
     let _ = (unit, delim);
@@ -67,12 +67,9 @@ pub fn agreed_is_settled(unit: Unit, delim: u8)
 /// tail from the nth on. Nor where bytes wait, once as many came in as are to wait. Then `feed` fails only where standard
 /// output breaks, or where the input is too long.
 pub fn full_windows_lack_nothing()
-    ensures head { (head : GuardState HeadState) (x : List ℕ) → HoldsIn HeadHolds head x → head.stage.unit ≡ Unit.Bytes → head.stage.count ≤ length x → head.stage.may_lack ≡ false }
-    ensures first { (head : GuardState HeadState) (x : List ℕ) → HoldsIn HeadHolds head x → head.stage.but_last ≡ false → head.stage.may_lack ≡ false }
-    ensures head_fails { (head : GuardState HeadState) (x piece : List ℕ) (old new : List Slot) (fault : Fault) → HoldsIn HeadHolds head x → head.stage.may_lack ≡ false → HeadRefused head piece old new fault → (fault ≡ Fault.Write 0) ⊎ (fault ≡ Fault.TooLong) }
-    ensures tail { (tail : GuardState TailState) (x : List ℕ) → HoldsIn TailHolds tail x → tail.stage.unit ≡ Unit.Bytes → tail.stage.count ≤ length x → tail.stage.may_lack ≡ false }
-    ensures from_nth { (tail : GuardState TailState) (x : List ℕ) → HoldsIn TailHolds tail x → tail.stage.from_nth ≡ true → tail.stage.may_lack ≡ false }
-    ensures tail_fails { (tail : GuardState TailState) (x piece : List ℕ) (old new : List Slot) (fault : Fault) → HoldsIn TailHolds tail x → tail.stage.may_lack ≡ false → TailRefused tail piece old new fault → (fault ≡ Fault.Write 0) ⊎ (fault ≡ Fault.TooLong) }
+    ensures full { (engine : GuardState Ends) (x : List ℕ) → HoldsIn Holds engine x → unit_of engine.stage ≡ Unit.Bytes → count_of engine.stage ≤ length x → may_lack engine.stage ≡ false }
+    ensures none { (engine : GuardState Ends) (x : List ℕ) → HoldsIn Holds engine x → keeps (stretch_of engine.stage) ≡ false → may_lack engine.stage ≡ false }
+    ensures fails { (engine : GuardState Ends) (x piece : List ℕ) (old new : List Slot) (fault : Fault) → HoldsIn Holds engine x → may_lack engine.stage ≡ false → IsRefused engine piece old new fault → (fault ≡ Fault.Write 0) ⊎ (fault ≡ Fault.TooLong) }
 {}
 
 /// How many lines a text has: as many as delimiters, and one more if its last line is open.

@@ -3,7 +3,7 @@
 ghost use Rattle.std.specs.Prelude.{◌≡◌, map};
 ghost use Rattle.tools_core.specs.Tasks.{has_headers, head_task, is_minus, is_plus, tail_task};
 
-use ends_core::{Head, Tail};
+use ends_core::{Ends, Head, Tail};
 use ports_core::{Fault, Guarded, Outs, Tool};
 use run_core::Adapter;
 use seg_core::count::{Count, Sign};
@@ -25,7 +25,7 @@ pub struct TailAdapter<'a, 'b> {
 }
 
 impl<'a, 'b> Adapter for HeadAdapter<'a, 'b> {
-    type Driven = Head;
+    type Driven = Ends;
 
     ghost task = { λ adapter. head_task adapter.settings.now };
 
@@ -47,7 +47,7 @@ impl<'a, 'b> Adapter for HeadAdapter<'a, 'b> {
         alloc: Global,
         coming: u64,
         outs: &mut O,
-    ) -> Result<Guarded<Head>, Fault> {
+    ) -> Result<Guarded<Ends>, Fault> {
         let _ = coming;
         let _ = outs;
         let settings = self.settings;
@@ -57,7 +57,7 @@ impl<'a, 'b> Adapter for HeadAdapter<'a, 'b> {
 }
 
 impl<'a, 'b> Adapter for TailAdapter<'a, 'b> {
-    type Driven = Tail;
+    type Driven = Ends;
 
     ghost task = { λ adapter. tail_task adapter.settings.now };
 
@@ -79,7 +79,7 @@ impl<'a, 'b> Adapter for TailAdapter<'a, 'b> {
         alloc: Global,
         coming: u64,
         outs: &mut O,
-    ) -> Result<Guarded<Tail>, Fault> {
+    ) -> Result<Guarded<Ends>, Fault> {
         let _ = outs;
         let settings = self.settings;
         let Count { sign, amount } = settings.count;

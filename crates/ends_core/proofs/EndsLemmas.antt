@@ -1,0 +1,263 @@
+-- Lemmas on the stage of `head` and `tail`.
+use Rattle.std.proofs.Common.{◌≡◌, ℕ, ◌+◌, ◌-◌, ◌<◌, ◌≤◌, ◌==◌, ◌&&◌, not, List, [], ◌∷◌, ◌++◌, ◌⊎◌, length, Bool, true, false, IsTrue, Ok, Err, Result, OnOk, IfErr, nat_le, inl, inr, None, refl, sym, ◌∙◌, ap, subst, arith, length-append, ◌↔◌, replicate, lit<}
+use Rattle.std.proofs.lemmas.Bool.{false≢true, leb-false}
+use Rattle.std.proofs.lemmas.Bool.Decides.{nat_tests}
+use Rattle.std.proofs.lemmas.List.{append-nil, nil_from_length}
+use Rattle.std.proofs.lemmas.List.Elements.{All-replicate}
+use Rattle.ports_core.specs.Slot.{Slot, is_writable, with_written, told_of}
+use Rattle.ports_core.specs.Source.{Source}
+use Rattle.ports_core.specs.Part.{only_out}
+use Rattle.ports_core.specs.Swept.{Swept}
+use Rattle.ports_core.specs.Work.{on_output}
+use Rattle.ports_core.specs.Engine.{Loads, TakesIn, PutsOut, CutsOff, Finishes, EndsShort, EndsWith, EndsThere, IsMet, Clears, OwnsNone}
+use Rattle.ports_core.specs.declared.fault.Fault.{Fault}
+use Rattle.ports_core.specs.declared.fault.Fault.TheVariants as fault
+use Rattle.seg_core.specs.declared.unit.Unit.{Unit as Counted}
+use Rattle.seg_core.specs.declared.unit.Unit.TheVariants.{Bytes}
+use Rattle.ends_core.specs.declared.ends.Ends.{Ends}
+use Rattle.ends_core.specs.declared.ends.Ends.TheVariants.{First, ButLast, FromNth, Last}
+use Rattle.ends_core.specs.declared.kept.Kept.{Kept}
+use Rattle.ends_core.specs.Ends.{measure, first_of, behind_of, last_of, but_last_of}
+use Rattle.ends_core.specs.Head.{head_work, IsDone}
+use Rattle.ends_core.specs.Stage.{Stretch, the_first, all_but_last, from_the_nth, the_last, is_last, keeps, work_in, waiting_in, front_in, stretch_of, delim_of, unit_of, count_of, left_of, waiting_of, waiting, due, due_at_end, left_waiting, is_done, is_full, may_lack, work, FullLacksNone, Holds, SameAsked}
+use Rattle.ends_core.specs.Kept.{most_of, may_lack_of, delim_of as kept_delim, unit_of as kept_unit}
+use Rattle.ends_core.specs.Load.{Passes}
+use Rattle.ends_core.specs.Stops.{Stops}
+use Rattle.ends_core.specs.WorkLaws.{full_head}
+use Rattle.ends_core.specs.EndsLaws.{ends_together, measure-append, measure-delimiters, first_of-append, first_of-short, first_of-more, behind_of-append, last_of-append, but_last_of-append, but_last_grows}
+use Rattle.ends_core.proofs.StopLemmas as stop
+use Rattle.ends_core.proofs.KeptLemmas.{full_once}
+use Rattle.ends_core.proofs.LoadLemmas.{last_none}
+
+-- what is a function of what was asked for is the same where the same was asked for
+same_for : {A : Type 0} (f : Stretch → ℕ → Counted → ℕ → A) (old new : Ends) → SameAsked old new → f (stretch_of new) (delim_of new) (unit_of new) (count_of new) ≡ f (stretch_of old) (delim_of old) (unit_of old) (count_of old)
+same_for f old new same = ap (λ s. f s (delim_of new) (unit_of new) (count_of new)) same.stretch ∙ ap (λ d. f (stretch_of old) d (unit_of new) (count_of new)) same.delim
+    ∙ ap (λ u. f (stretch_of old) (delim_of old) u (count_of new)) same.unit ∙ ap (f (stretch_of old) (delim_of old) (unit_of old)) same.count
+
+pub same_work : (old new : Ends) → SameAsked old new → work new ≡ work old
+same_work old new same = same_for work_in old new same
+
+-- it writes to standard output alone, and may want memory where the last are kept
+pub on_means : (s : Stretch) (delim : ℕ) (unit : Counted) (n : ℕ) → (work_in s delim unit n).means ≡ on_output (keeps s)
+on_means the_first delim unit n = refl
+on_means all_but_last delim unit n = refl
+on_means from_the_nth delim unit n = refl
+on_means the_last delim unit n = refl
+
+never_clears : (s : Stretch) (delim : ℕ) (unit : Counted) (n : ℕ) → (work_in s delim unit n).clears ≡ false
+never_clears the_first delim unit n = refl
+never_clears all_but_last delim unit n = refl
+never_clears from_the_nth delim unit n = refl
+never_clears the_last delim unit n = refl
+
+pub always_well : (s : Stretch) (delim : ℕ) (unit : Counted) (n : ℕ) (x : List ℕ) → (work_in s delim unit n).verdict x ≡ None
+always_well the_first delim unit n x = refl
+always_well all_but_last delim unit n x = refl
+always_well from_the_nth delim unit n x = refl
+always_well the_last delim unit n x = refl
+
+pub clears_none : (ends : Ends) (slots : List Slot) → Clears OwnsNone work ends slots slots
+clears_none ends slots first own = subst (λ clears. Swept clears first slots slots) (sym (never_clears (stretch_of ends) (delim_of ends) (unit_of ends) (count_of ends))) refl
+
+-- what is written with a piece is what the output gains by it
+went_out : (ends : Ends) (x piece : List ℕ) → Holds ends x → record ((work ends).settled x) { out = ((work ends).settled x).out ++ due ends piece } ≡ (work ends).settled (x ++ piece)
+went_out (First count front) x piece holds =
+    ap (λ left. only_out (first_of front.delim front.unit count x ++ first_of front.delim front.unit left piece)) (holds.left refl) ∙ ap only_out (sym (first_of-append front.delim front.unit count x piece))
+went_out (ButLast kept) x piece holds =
+    ap (λ held. only_out (but_last_of (kept_delim kept) (kept_unit kept) (most_of kept) x ++ but_last_of (kept_delim kept) (kept_unit kept) (most_of kept) (held ++ piece))) holds.waits
+    ∙ ap only_out (sym (but_last_of-append (kept_delim kept) (kept_unit kept) (most_of kept) x piece))
+went_out (FromNth count front) x piece holds =
+    ap (λ left. only_out (behind_of front.delim front.unit (count - 1) x ++ behind_of front.delim front.unit left piece)) (holds.left refl) ∙ ap only_out (sym (behind_of-append front.delim front.unit (count - 1) x piece))
+went_out (Last kept) x piece holds = refl
+
+-- and at the end
+rest_out : (ends : Ends) (x : List ℕ) → Holds ends x → record ((work ends).settled x) { out = ((work ends).settled x).out ++ due_at_end ends } ≡ (work ends).whole x
+rest_out (First count front) x holds = ap only_out (append-nil (first_of front.delim front.unit count x))
+rest_out (ButLast kept) x holds = ap only_out (append-nil (but_last_of (kept_delim kept) (kept_unit kept) (most_of kept) x))
+rest_out (FromNth count front) x holds = ap only_out (append-nil (behind_of front.delim front.unit (count - 1) x))
+rest_out (Last kept) x holds = ap only_out holds.waits
+
+pub puts_out : (told : Bool) (ends : Ends) (piece : List ℕ) (old new : List Slot) → new ≡ with_written 0 (told_of told (due ends piece)) old → PutsOut Holds OwnsNone work ends piece told old new
+puts_out told ends piece old new wrote = stop.puts_out Holds OwnsNone work told ends piece (due ends piece) old new (λ x holds. went_out ends x piece holds) wrote
+
+pub cuts_off : (told lacks : Bool) (ends : Ends) (piece : List ℕ) (old new : List Slot) (f : Fault) → Stops told lacks (due ends piece) old new f → CutsOff Holds OwnsNone work ends piece told old new f
+cuts_off told lacks ends piece old new f stops = stop.cuts_off Holds OwnsNone work told lacks ends piece (due ends piece) old new f (λ x holds. went_out ends x piece holds) stops
+
+pub finishes : (told : Bool) (ends : Ends) (old new : List Slot) → new ≡ with_written 0 (told_of told (due_at_end ends)) old → Finishes Holds OwnsNone work ends told old new
+finishes told ends old new wrote =
+    stop.finishes Holds OwnsNone work told ends (due_at_end ends) old new (λ x holds. rest_out ends x holds) (always_well (stretch_of ends) (delim_of ends) (unit_of ends) (count_of ends)) wrote
+
+pub ends_short : (told lacks : Bool) (ends : Ends) (old new : List Slot) (f : Fault) → Stops told lacks (due_at_end ends) old new f → EndsShort Holds OwnsNone work ends told old new f
+ends_short told lacks ends old new f stops = stop.ends_short Holds OwnsNone work told lacks ends (due_at_end ends) old new f (λ x holds. rest_out ends x holds) stops
+
+minus_both : (n a b : ℕ) → (n - a) - b ≡ n - (a + b)
+minus_both n a b = omega arith
+
+-- what waits after the piece
+waits_next : (ends : Ends) (x piece : List ℕ) → Holds ends x → left_waiting ends piece ≡ waiting ends (x ++ piece)
+waits_next (First count front) x piece holds = refl
+waits_next (ButLast kept) x piece holds =
+    ap (λ held. last_of (kept_delim kept) (kept_unit kept) (most_of kept) (held ++ piece)) holds.waits ∙ sym (last_of-append (kept_delim kept) (kept_unit kept) (most_of kept) x piece)
+waits_next (FromNth count front) x piece holds = refl
+waits_next (Last kept) x piece holds =
+    ap (λ held. last_of (kept_delim kept) (kept_unit kept) (most_of kept) (held ++ piece)) holds.waits ∙ sym (last_of-append (kept_delim kept) (kept_unit kept) (most_of kept) x piece)
+
+waits_now : (ends next : Ends) (x piece : List ℕ) → SameAsked ends next → waiting_of next ≡ left_waiting ends piece → Holds ends x → waiting_of next ≡ waiting next (x ++ piece)
+waits_now ends next x piece same waits holds = waits ∙ waits_next ends x piece holds ∙ sym (same_for (λ s d u n. waiting_in s d u n (x ++ piece)) ends next same)
+
+none_lacks : (ends : Ends) → keeps (stretch_of ends) ≡ false → may_lack ends ≡ false
+none_lacks (First count front) none = refl
+none_lacks (ButLast kept) none = absurd (false≢true (sym none))
+none_lacks (FromNth count front) none = refl
+none_lacks (Last kept) none = absurd (false≢true (sym none))
+
+full_lacks : (ends : Ends) (x : List ℕ) → waiting_of ends ≡ waiting ends x → FullLacksNone ends → unit_of ends ≡ Bytes → count_of ends ≤ length x → may_lack ends ≡ false
+full_lacks (First count front) x waits full bytes enough = refl
+full_lacks (ButLast kept) x waits full bytes enough = full bytes (full_once kept x waits bytes enough)
+full_lacks (FromNth count front) x waits full bytes enough = refl
+full_lacks (Last kept) x waits full bytes enough = full bytes (full_once kept x waits bytes enough)
+
+pub takes_in : (ends next : Ends) (piece : List ℕ) → SameAsked ends next
+    → left_of next ≡ left_of ends - measure (delim_of ends) (unit_of ends) piece → waiting_of next ≡ left_waiting ends piece → FullLacksNone next → TakesIn Holds piece ends next
+takes_in ends next piece same left waits full x holds = record {
+  byte = subst (λ delim. delim < 256) (sym same.delim) holds.byte;
+  left = λ none. left ∙ ap (λ n. n - measure (delim_of ends) (unit_of ends) piece) (holds.left (sym (ap keeps same.stretch) ∙ none))
+      ∙ minus_both (front_in (stretch_of ends) (count_of ends)) (measure (delim_of ends) (unit_of ends) x) (measure (delim_of ends) (unit_of ends) piece)
+      ∙ ap (λ n. front_in (stretch_of ends) (count_of ends) - n) (sym (measure-append (delim_of ends) (unit_of ends) x piece))
+      ∙ sym (same_for (λ s d u n. front_in s n - measure d u (x ++ piece)) ends next same);
+  waits = waits_now ends next x piece same waits holds;
+  none = none_lacks next;
+  full = full_lacks next (x ++ piece) (waits_now ends next x piece same waits holds) full;
+}
+
+-- a head is complete exactly where it is done
+
+incomplete : (delim : ℕ) (unit : Counted) (but_last : Bool) (n : ℕ) (x : List ℕ) → delim < 256 → (not but_last && nat_le n (measure delim unit x)) ≡ false → IsDone delim unit but_last n x → ⊥
+incomplete delim unit false n x byte short done =
+    let few : measure delim unit x < n = leb-false n (measure delim unit x) short in
+    let same : x ++ 0 ∷ [] ≡ x = sym (first_of-more delim unit n x 0 few) ∙ done (0 ∷ []) (All-replicate (λ byte. byte < 256) 1 0 (lit< tt)) ∙ first_of-short delim unit n x few in
+    let longer : length x + 1 ≡ length x = sym (length-append x (0 ∷ [])) ∙ ap length same in
+    omega arith
+incomplete delim unit true n x byte short done =
+    but_last_grows delim unit n x (replicate (n + 1) delim) (let many = measure-delimiters delim unit (n + 1) in omega arith) (done (replicate (n + 1) delim) (All-replicate (λ byte. byte < 256) (n + 1) delim byte))
+
+head_exact : (delim : ℕ) (unit : Counted) (but_last : Bool) (n : ℕ) (x : List ℕ) (full : Bool) → delim < 256 → full ≡ (head_work delim unit but_last n).is_complete x → IsTrue full ↔ IsDone delim unit but_last n x
+head_exact delim unit but_last n x true byte is = (λ yes y bytes. (full_head delim unit but_last n x y (sym is)).1, λ done. refl)
+head_exact delim unit but_last n x false byte is = (λ yes. absurd (false≢true yes), λ done. absurd (incomplete delim unit but_last n x byte (sym is) done))
+
+pub done_is_exact : (ends : Ends) (x : List ℕ) (full : Bool) → Holds ends x → full ≡ (work ends).is_complete x → IsTrue full ↔ is_done ends x
+done_is_exact (First count front) x full holds is = head_exact front.delim front.unit false count x full holds.byte is
+done_is_exact (ButLast kept) x full holds is = head_exact (kept_delim kept) (kept_unit kept) true (most_of kept) x full holds.byte is
+done_is_exact (FromNth count front) x full holds is = (λ yes. absurd (false≢true (sym is ∙ yes)), λ never. absurd never)
+done_is_exact (Last kept) x full holds is = (λ yes. absurd (false≢true (sym is ∙ yes)), λ never. absurd never)
+
+pub full_is : (ends : Ends) (x : List ℕ) → Holds ends x → is_full ends ≡ (work ends).is_complete x
+full_is (First count front) x holds = ap (λ left. left == 0) (holds.left refl) ∙ none_left count (measure front.delim front.unit x) where
+  none_left : (n m : ℕ) → (n - m == 0) ≡ nat_le n m
+  none_left n m = grind (arith, nat_tests)
+full_is (ButLast kept) x holds = refl
+full_is (FromNth count front) x holds = refl
+full_is (Last kept) x holds = refl
+
+-- where memory may be wanted, something is kept
+lacks_kept : (ends : Ends) → may_lack ends ≡ true → keeps (stretch_of ends) ≡ true
+lacks_kept (First count front) lacking = absurd (false≢true lacking)
+lacks_kept (ButLast kept) lacking = refl
+lacks_kept (FromNth count front) lacking = absurd (false≢true lacking)
+lacks_kept (Last kept) lacking = refl
+
+pub met : (told : Bool) (ends : Ends) (piece bytes : List ℕ) (old new : List Slot) (f : Fault) → IsTrue (is_writable old 0)
+    → Stops told (may_lack ends) bytes old new f → IsMet (work ends).means (work ends).means.feeding (may_lack ends ≡ true) (EndsWith Holds work ends piece) old new f
+met told ends piece bytes old new f can stops =
+    subst (λ means. IsMet means means.feeding (may_lack ends ≡ true) (EndsWith Holds work ends piece) old new f) (sym (on_means (stretch_of ends) (delim_of ends) (unit_of ends) (count_of ends)))
+    (stop.met (on_output (keeps (stretch_of ends))) (on_output (keeps (stretch_of ends))).feeding (may_lack ends ≡ true) (EndsWith Holds work ends piece) told (may_lack ends) bytes old new f refl (λ lacking. (lacks_kept ends lacking, lacking)) can stops)
+
+pub end_met : (told : Bool) (ends : Ends) (bytes : List ℕ) (old new : List Slot) (f : Fault) → IsTrue (is_writable old 0)
+    → Stops told false bytes old new f → IsMet (work ends).means (work ends).means.closing (Unit {0}) (EndsThere Holds work ends) old new f
+end_met told ends bytes old new f can stops =
+    subst (λ means. IsMet means means.closing (Unit {0}) (EndsThere Holds work ends) old new f) (sym (on_means (stretch_of ends) (delim_of ends) (unit_of ends) (count_of ends)))
+    (stop.met (on_output (keeps (stretch_of ends))) (on_output (keeps (stretch_of ends))).closing (Unit {0}) (EndsThere Holds work ends) told false bytes old new f refl (λ never. absurd (false≢true never)) can stops)
+
+-- where the last are kept, nothing is written before the end
+pub no_room : (told : Bool) (ends : Ends) (kept : Kept) (piece : List ℕ) (slots : List Slot) (result : Result (Unit {0}) Fault) → ends ≡ Last kept → IfErr result (λ f. (f ≡ fault.Memory) × (may_lack_of kept ≡ true))
+    → IfErr result (Stops told (may_lack ends) (due ends piece) slots slots)
+no_room told ends kept piece slots result is err =
+    subst (λ those. IfErr result (Stops told (may_lack those) (due those piece) slots slots)) (sym is) (stop.no_room_here told (may_lack_of kept) slots result err)
+
+-- what a call owes for its result, from what the call within it gave
+
+pub on_ok : {P Q : Type 0} (result : Result (Unit {0}) Fault) → (P → Q) → OnOk result P → OnOk result Q
+on_ok (Ok u) also is = also is
+on_ok (Err f) also is = tt
+
+pub on_ok_each : {P P2 P3 Q : Type 0} (result : Result (Unit {0}) Fault) → (P → P2 → P3 → Q) → OnOk result P → OnOk result P2 → OnOk result P3 → OnOk result Q
+on_ok_each (Ok u) also is too three = also is too three
+on_ok_each (Err f) also is too three = tt
+
+pub if_err : {P Q : Fault → Type 0} (result : Result (Unit {0}) Fault) → ((f : Fault) → P f → Q f) → IfErr result P → IfErr result Q
+if_err (Ok u) also is = tt
+if_err (Err f) also is = also f is
+
+-- what is taken in of an input before any piece
+
+-- nothing waits before anything came in
+pub waits_none : (s : Stretch) (delim : ℕ) (unit : Counted) (n : ℕ) → waiting_in s delim unit n [] ≡ []
+waits_none the_first delim unit n = refl
+waits_none all_but_last delim unit n = last_none delim unit n
+waits_none from_the_nth delim unit n = refl
+waits_none the_last delim unit n = last_none delim unit n
+
+last_within : (delim : ℕ) (unit : Counted) (n : ℕ) (x : List ℕ) → length (last_of delim unit n x) ≤ length x
+last_within delim unit n x = omega (arith, sym (length-append (but_last_of delim unit n x) (last_of delim unit n x)) ∙ ap length (ends_together delim unit n x))
+
+-- no more waits than came in
+pub waits_within : (s : Stretch) (delim : ℕ) (unit : Counted) (n : ℕ) (x : List ℕ) → length (waiting_in s delim unit n x) ≤ length x
+waits_within the_first delim unit n x = omega arith
+waits_within all_but_last delim unit n x = last_within delim unit n x
+waits_within from_the_nth delim unit n x = omega arith
+waits_within the_last delim unit n x = last_within delim unit n x
+
+-- only where the last are asked for is a front taken in, and of these nothing is written before the end
+
+settled_same : (s : Stretch) (delim : ℕ) (unit : Counted) (n : ℕ) (x : List ℕ) → (is_last s ≡ false → x ≡ []) → (work_in s delim unit n).settled x ≡ (work_in s delim unit n).settled []
+settled_same the_first delim unit n x none = ap (work_in the_first delim unit n).settled (none refl)
+settled_same all_but_last delim unit n x none = ap (work_in all_but_last delim unit n).settled (none refl)
+settled_same from_the_nth delim unit n x none = ap (work_in from_the_nth delim unit n).settled (none refl)
+settled_same the_last delim unit n x none = refl
+
+goes_on : (s : Stretch) (delim : ℕ) (unit : Counted) (n : ℕ) (x : List ℕ) → (is_last s ≡ false → x ≡ []) → (x ≡ []) ⊎ ((work_in s delim unit n).is_complete x ≡ false)
+goes_on the_first delim unit n x none = inl (none refl)
+goes_on all_but_last delim unit n x none = inl (none refl)
+goes_on from_the_nth delim unit n x none = inl (none refl)
+goes_on the_last delim unit n x none = inr refl
+
+not_last : (s : Stretch) → keeps s ≡ false → is_last s ≡ false
+not_last the_first none = refl
+not_last all_but_last none = refl
+not_last from_the_nth none = refl
+not_last the_last none = absurd (false≢true (sym none))
+
+pub loads : (told : Bool) (slot count : ℕ) (ends next : Ends) (old new : List Source) → Holds ends [] → SameAsked ends next → left_of next ≡ left_of ends → (is_last (stretch_of ends) ≡ false → count ≡ 0)
+    → Passes told slot count (λ x. waiting_of next ≡ waiting ends x) old new → FullLacksNone next → Loads Holds (λ (those : Ends) slots. IsTrue (is_writable slots 0)) OwnsNone work told slot count ends next old new
+loads told slot count ends next old new fresh same left others passes full =
+    let none : is_last (stretch_of ends) ≡ false → passes.front ≡ [] = λ is. nil_from_length passes.front (sym passes.long ∙ others is) in
+    let waits = passes.keeps ∙ sym (same_for (λ s d u n. waiting_in s d u n passes.front) ends next same) in
+    record {
+      front = passes.front;
+      long = passes.long;
+      there = passes.there;
+      passed = passes.passed;
+      holds = record {
+        byte = subst (λ delim. delim < 256) (sym same.delim) fresh.byte;
+        left = λ is. let before = sym (ap keeps same.stretch) ∙ is in
+            left ∙ fresh.left before ∙ sym (same_for (λ s d u n. front_in s n - measure d u []) ends next same)
+            ∙ sym (ap (λ x. front_in (stretch_of next) (count_of next) - measure (delim_of next) (unit_of next) x) (none (not_last (stretch_of ends) before)));
+        waits = waits;
+        none = none_lacks next;
+        full = full_lacks next passes.front waits full;
+      };
+      ready = λ slots is. is;
+      owns = λ first slots is. is;
+      idle = settled_same (stretch_of ends) (delim_of ends) (unit_of ends) (count_of ends) passes.front none;
+      going = goes_on (stretch_of ends) (delim_of ends) (unit_of ends) (count_of ends) passes.front none;
+    }

@@ -1,0 +1,174 @@
+-- The one stage of `head` and `tail`, as contracts see it.
+use Rattle.std.specs.Prelude.{◌≡◌, ℕ, ◌==◌, ◌-◌, ◌<◌, ◌≤◌, Bool, true, false, List, [], ◌++◌, length}
+use Rattle.ports_core.specs.Work.{Work}
+use Rattle.ports_core.specs.Slot.{Slot}
+use Rattle.ports_core.specs.Engine.{IsCaused, IsMet, EndsWith}
+use Rattle.ports_core.specs.Guard.{GuardState}
+use Rattle.ports_core.specs.declared.fault.Fault.{Fault}
+use Rattle.seg_core.specs.declared.unit.Unit.{Unit as Counted}
+use Rattle.seg_core.specs.declared.unit.Unit.TheVariants.{Bytes}
+use Rattle.ends_core.specs.declared.ends.Ends.{Ends}
+use Rattle.ends_core.specs.declared.ends.Ends.TheVariants.{First, ButLast, FromNth, Last}
+use Rattle.ends_core.specs.Ends.{measure, first_of, behind_of, last_of, but_last_of}
+use Rattle.ends_core.specs.Head.{head_work, head_waiting, IsDone}
+use Rattle.ends_core.specs.Tail.{tail_work, tail_waiting}
+use Rattle.ends_core.specs.Kept.{held_of, most_of, may_lack_of, delim_of as kept_delim, unit_of as kept_unit}
+
+-- which part of an input is written
+pub data Stretch : Type 0 where
+  the_first : Stretch
+  all_but_last : Stretch
+  from_the_nth : Stretch
+  the_last : Stretch
+
+abbrev pub is_last : Stretch → Bool
+is_last the_first = false
+is_last all_but_last = false
+is_last from_the_nth = false
+is_last the_last = true
+
+-- the last are kept
+abbrev pub keeps : Stretch → Bool
+keeps the_first = false
+keeps all_but_last = true
+keeps from_the_nth = false
+keeps the_last = true
+
+-- what it makes of an input, where n lines or bytes were asked for: the work of a head, or of a tail
+abbrev pub work_in : Stretch → ℕ → Counted → ℕ → Work
+work_in the_first delim unit n = head_work delim unit false n
+work_in all_but_last delim unit n = head_work delim unit true n
+work_in from_the_nth delim unit n = tail_work delim unit true n
+work_in the_last delim unit n = tail_work delim unit false n
+
+-- what came in and isn't written yet
+abbrev pub waiting_in : Stretch → ℕ → Counted → ℕ → List ℕ → List ℕ
+waiting_in the_first delim unit n x = head_waiting delim unit false n x
+waiting_in all_but_last delim unit n x = head_waiting delim unit true n x
+waiting_in from_the_nth delim unit n x = tail_waiting delim unit true n x
+waiting_in the_last delim unit n x = tail_waiting delim unit false n x
+
+-- whatever comes after x, a head stays; a tail is never done
+abbrev pub done_in : Stretch → ℕ → Counted → ℕ → List ℕ → Type 0
+done_in the_first delim unit n x = IsDone delim unit false n x
+done_in all_but_last delim unit n x = IsDone delim unit true n x
+done_in from_the_nth delim unit n x = ⊥
+done_in the_last delim unit n x = ⊥
+
+-- how many of the front are written, or passed over
+abbrev pub front_in : Stretch → ℕ → ℕ
+front_in the_first n = n
+front_in all_but_last n = n
+front_in from_the_nth n = n - 1
+front_in the_last n = n
+
+abbrev pub stretch_of : Ends → Stretch
+stretch_of (First count front) = the_first
+stretch_of (ButLast kept) = all_but_last
+stretch_of (FromNth count front) = from_the_nth
+stretch_of (Last kept) = the_last
+
+abbrev pub unit_of : Ends → Counted
+unit_of (First count front) = front.unit
+unit_of (ButLast kept) = kept_unit kept
+unit_of (FromNth count front) = front.unit
+unit_of (Last kept) = kept_unit kept
+
+-- the byte with which lines end, where it counts lines
+abbrev pub delim_of : Ends → ℕ
+delim_of (First count front) = front.delim
+delim_of (ButLast kept) = kept_delim kept
+delim_of (FromNth count front) = front.delim
+delim_of (Last kept) = kept_delim kept
+
+-- how many lines or bytes were asked for
+abbrev pub count_of : Ends → ℕ
+count_of (First count front) = count
+count_of (ButLast kept) = most_of kept
+count_of (FromNth count front) = count
+count_of (Last kept) = most_of kept
+
+-- how many of the front are still to come
+abbrev pub left_of : Ends → ℕ
+left_of (First count front) = front.left
+left_of (ButLast kept) = 0
+left_of (FromNth count front) = front.left
+left_of (Last kept) = 0
+
+-- the bytes that wait
+abbrev pub waiting_of : Ends → List ℕ
+waiting_of (First count front) = []
+waiting_of (ButLast kept) = held_of kept
+waiting_of (FromNth count front) = []
+waiting_of (Last kept) = held_of kept
+
+-- there may be no memory for more of them
+abbrev pub may_lack : Ends → Bool
+may_lack (First count front) = false
+may_lack (ButLast kept) = may_lack_of kept
+may_lack (FromNth count front) = false
+may_lack (Last kept) = may_lack_of kept
+
+abbrev pub work : Ends → Work
+work ends = work_in (stretch_of ends) (delim_of ends) (unit_of ends) (count_of ends)
+
+abbrev pub waiting : Ends → List ℕ → List ℕ
+waiting ends x = waiting_in (stretch_of ends) (delim_of ends) (unit_of ends) (count_of ends) x
+
+abbrev pub is_done : Ends → List ℕ → Type 0
+is_done ends x = done_in (stretch_of ends) (delim_of ends) (unit_of ends) (count_of ends) x
+
+-- it can have been fed x
+pub record Holds (ends : Ends) (x : List ℕ) : Type 0 where
+  -- the delimiter is a byte
+  pub byte : delim_of ends < 256
+  pub left : keeps (stretch_of ends) ≡ false → left_of ends ≡ front_in (stretch_of ends) (count_of ends) - measure (delim_of ends) (unit_of ends) x
+  pub waits : waiting_of ends ≡ waiting ends x
+  -- where nothing waits no memory can be wanting, nor once as many bytes came in as wait
+  pub none : keeps (stretch_of ends) ≡ false → may_lack ends ≡ false
+  pub full : unit_of ends ≡ Bytes → count_of ends ≤ length x → may_lack ends ≡ false
+
+-- what is known of a fault of `feed`, by its clause `refused`
+abbrev pub IsRefused : GuardState Ends → List ℕ → List Slot → List Slot → Fault → Type 0
+IsRefused engine piece old new fault =
+    IsCaused (IsMet (work engine.stage).means (work engine.stage).means.feeding (may_lack engine.stage ≡ true) (EndsWith Holds work engine.stage piece) old new)
+    engine.is_over engine.fed (length piece) old new fault
+
+-- if bytes are kept and as many wait as are to be kept, no memory can be wanting
+abbrev pub FullLacksNone : Ends → Type 0
+FullLacksNone ends = unit_of ends ≡ Bytes → count_of ends ≤ length (waiting_of ends) → may_lack ends ≡ false
+
+-- what is written with a piece
+abbrev pub due : Ends → List ℕ → List ℕ
+due (First count front) piece = first_of front.delim front.unit front.left piece
+due (ButLast kept) piece = but_last_of (kept_delim kept) (kept_unit kept) (most_of kept) (held_of kept ++ piece)
+due (FromNth count front) piece = behind_of front.delim front.unit front.left piece
+due (Last kept) piece = []
+
+-- what waits after the piece
+abbrev pub left_waiting : Ends → List ℕ → List ℕ
+left_waiting (First count front) piece = []
+left_waiting (ButLast kept) piece = last_of (kept_delim kept) (kept_unit kept) (most_of kept) (held_of kept ++ piece)
+left_waiting (FromNth count front) piece = []
+left_waiting (Last kept) piece = last_of (kept_delim kept) (kept_unit kept) (most_of kept) (held_of kept ++ piece)
+
+-- what is written at the end
+abbrev pub due_at_end : Ends → List ℕ
+due_at_end (First count front) = []
+due_at_end (ButLast kept) = []
+due_at_end (FromNth count front) = []
+due_at_end (Last kept) = held_of kept
+
+-- nothing more is to come
+abbrev pub is_full : Ends → Bool
+is_full (First count front) = front.left == 0
+is_full (ButLast kept) = false
+is_full (FromNth count front) = false
+is_full (Last kept) = false
+
+-- both were asked for the same
+pub record SameAsked (old new : Ends) : Type 0 where
+  pub stretch : stretch_of new ≡ stretch_of old
+  pub delim : delim_of new ≡ delim_of old
+  pub unit : unit_of new ≡ unit_of old
+  pub count : count_of new ≡ count_of old

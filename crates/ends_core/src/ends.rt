@@ -1,0 +1,276 @@
+//! The stage of `head` and `tail`: which part of an input is written.
+ghost use Rattle.std.specs.Prelude.{◌≡◌, ◌+◌, ◌-◌, ◌^◌, ◌<◌, ◌≤◌, ℕ, List, [], true, false, if◌then◌else◌, length, IsTrue, IfOk, IfErr, OnOk};
+ghost use Rattle.ports_core.specs.Slot.{is_writable, with_written, told_of};
+ghost use Rattle.ports_core.specs.Source.{is_readable};
+ghost use Rattle.ports_core.specs.Engine.{OwnsNone};
+ghost use Rattle.ports_core.specs.Guard.{HoldsIn};
+ghost use Rattle.ends_core.specs.Ends.{measure};
+ghost use Rattle.ends_core.specs.Head.{head_work};
+ghost use Rattle.ends_core.specs.Tail.{tail_work};
+ghost use Rattle.ends_core.specs.Stage.{FullLacksNone, Holds, SameAsked, all_but_last, count_of, delim_of, due, due_at_end, from_the_nth, is_done, is_full, is_last, left_of, left_waiting, may_lack, stretch_of, the_first, the_last, unit_of, waiting, waiting_of, work};
+ghost use Rattle.ends_core.specs.WorkLaws.{lawful};
+ghost use Rattle.ends_core.specs.Load.{Passes};
+ghost use Rattle.ends_core.specs.Stops.{Stops};
+
+use crate::Unit;
+use crate::front::{Front, pass_behind, pass_front};
+use crate::kept::Kept;
+use ports_core::{Fault, Guarded, Inputs, Outs, Stage};
+use std::alloc::Global;
+
+/// Writes a part of an input, each byte as soon as nothing that follows can change that it is written. For the first, and
+/// from the nth on, it takes no memory. For all but the last, and for the last, it takes as much as the last lines or
+/// bytes of what came in, or of bytes as many as it was told are coming, and of bytes no more is asked for once as many
+/// came in as are kept.
+#[derive(Drop)]
+pub enum Ends {
+    /// The first lines or bytes: how many were asked for, and those that are still to come.
+    First(u64, Front),
+    /// All but the last, which are kept.
+    ButLast(Kept),
+    /// All from the nth on: which n that is, and those that are still to be passed over.
+    FromNth(u64, Front),
+    /// The last, which are kept and written at the end.
+    Last(Kept),
+}
+
+/// `head`: the first lines or bytes of an input, or all but the last (POSIX.1-2017, XCU head; bytes and all but the last
+/// are GNU's).
+pub struct Head;
+
+/// `tail`: the last lines or bytes of an input, or all from the nth on (POSIX.1-2017, XCU tail).
+pub struct Tail;
+
+impl Head {
+    /// An engine that writes the first `count` lines or bytes, or, with `but_last`, all but the last `count`. Lines end
+    /// with `delim`. With a count of 0 it writes nothing, or everything.
+    ///
+    /// # Errors
+    ///
+    /// `Memory` where there is no room for what waits: only where all but the last are asked for.
+    pub fn open(
+        alloc: Global,
+        unit: Unit,
+        but_last: bool,
+        count: u64,
+        delim: u8,
+    ) -> Result<Guarded<Ends>, Fault>
+        ensures holds { IfOk result (λ head. HoldsIn Holds head []) }
+        ensures unit { IfOk result (λ head. unit_of head.stage ≡ unit) }
+        ensures delim { IfOk result (λ head. unit ≡ Unit.Lines → delim_of head.stage ≡ delim) }
+        ensures stretch { IfOk result (λ head. stretch_of head.stage ≡ (if but_last then all_but_last else the_first)) }
+        ensures count { IfOk result (λ head. count_of head.stage ≡ count) }
+        ensures does { IfOk result (λ head. work head.stage ≡ head_work delim unit but_last count) }
+        ensures bound { IfOk result (λ head. head.fed < 2 ^ 63) }
+        ensures err { IfErr result (λ fault. (fault ≡ Fault.Memory) × (but_last ≡ true)) }
+    {
+        if but_last {
+            return match Kept::open(alloc, unit, count, delim, 0) {
+                Ok(kept) => Ok(Guarded::new(Ends::ButLast(kept))),
+                Err(fault) => Err(fault),
+            };
+        }
+        let front = Front {
+            unit,
+            delim,
+            left: count,
+        };
+        Ok(Guarded::new(Ends::First(count, front)))
+    }
+}
+
+impl Tail {
+    /// An engine that writes the last `count` lines or bytes, or, with `from_nth`, all from number `count` on. The first
+    /// is number 1, and 0 is read as 1. Lines end with `delim`.
+    ///
+    /// # Errors
+    ///
+    /// `Memory` where there is no room for what waits: only where the last are asked for.
+    pub fn open(
+        alloc: Global,
+        unit: Unit,
+        from_nth: bool,
+        count: u64,
+        delim: u8,
+    ) -> Result<Guarded<Ends>, Fault>
+        ensures holds { IfOk result (λ tail. HoldsIn Holds tail []) }
+        ensures unit { IfOk result (λ tail. unit_of tail.stage ≡ unit) }
+        ensures delim { IfOk result (λ tail. unit ≡ Unit.Lines → delim_of tail.stage ≡ delim) }
+        ensures stretch { IfOk result (λ tail. stretch_of tail.stage ≡ (if from_nth then from_the_nth else the_last)) }
+        ensures count { IfOk result (λ tail. count_of tail.stage ≡ count) }
+        ensures does { IfOk result (λ tail. work tail.stage ≡ tail_work delim unit from_nth count) }
+        ensures bound { IfOk result (λ tail. tail.fed < 2 ^ 63) }
+        ensures err { IfErr result (λ fault. (fault ≡ Fault.Memory) × (from_nth ≡ false)) }
+    {
+        Tail::open_for(alloc, unit, from_nth, count, delim, 0)
+    }
+
+    /// The same for an input that says that it has `coming` bytes. Where the last bytes are asked for, there is room for
+    /// as many of these as are kept, where there is memory for them now.
+    ///
+    /// # Errors
+    ///
+    /// `Memory` where there is no room for what waits: only where the last are asked for.
+    pub fn open_for(
+        alloc: Global,
+        unit: Unit,
+        from_nth: bool,
+        count: u64,
+        delim: u8,
+        coming: u64,
+    ) -> Result<Guarded<Ends>, Fault>
+        ensures holds { IfOk result (λ tail. HoldsIn Holds tail []) }
+        ensures unit { IfOk result (λ tail. unit_of tail.stage ≡ unit) }
+        ensures delim { IfOk result (λ tail. unit ≡ Unit.Lines → delim_of tail.stage ≡ delim) }
+        ensures stretch { IfOk result (λ tail. stretch_of tail.stage ≡ (if from_nth then from_the_nth else the_last)) }
+        ensures count { IfOk result (λ tail. count_of tail.stage ≡ count) }
+        ensures does { IfOk result (λ tail. work tail.stage ≡ tail_work delim unit from_nth count) }
+        ensures bound { IfOk result (λ tail. tail.fed < 2 ^ 63) }
+        ensures err { IfErr result (λ fault. (fault ≡ Fault.Memory) × (from_nth ≡ false)) }
+    {
+        if from_nth {
+            let front = Front {
+                unit,
+                delim,
+                left: count.saturating_sub(1),
+            };
+            return Ok(Guarded::new(Ends::FromNth(count, front)));
+        }
+        match Kept::open(alloc, unit, count, delim, coming) {
+            Ok(kept) => Ok(Guarded::new(Ends::Last(kept))),
+            Err(fault) => Err(fault),
+        }
+    }
+}
+
+impl Stage for Ends {
+    ghost Holds = { Holds };
+
+    ghost work = { work };
+
+    ghost held = { λ ends. length (waiting_of ends) };
+
+    ghost waiting = { waiting };
+
+    ghost size = { λ ends. length (waiting_of ends) };
+
+    ghost IsDone = { is_done };
+
+    ghost may_lack = { λ ends piece. may_lack ends };
+
+    ghost Ready = { λ ends slots. IsTrue (is_writable slots 0) };
+
+    ghost Owns = { OwnsNone };
+
+    fn pass<O: Outs>(&mut self, piece: &[u8], outs: &mut O) -> Result<(), Fault> {
+        self.take(piece, outs)
+    }
+
+    fn load<I: Inputs>(&mut self, slot: usize, buffer: &mut [u8], inputs: &mut I) -> u64 {
+        self.load_last(slot, buffer, inputs)
+    }
+
+    fn finish<O: Outs>(&mut self, outs: &mut O) -> Result<(), Fault> {
+        self.end(outs)
+    }
+
+    /// It has no files to remove.
+    fn clear<O: Outs>(&mut self, outs: &mut O) {
+        let _ = outs;
+    }
+
+    fn is_done(&self) -> bool {
+        self.is_full()
+    }
+
+    fn waits(&self) -> u64 {
+        self.held()
+    }
+
+    ghost lawful = { lawful };
+}
+
+impl Ends {
+    /// Takes in a piece, and writes to standard output what is decided now, of what waited and of the piece. What no
+    /// longer has to wait, and isn't written, is dropped.
+    ///
+    /// # Errors
+    ///
+    /// `Write(0)` where standard output broke, `Memory` where there is no room for what waits.
+    fn take<O: Outs>(&mut self, piece: &[u8], outs: &mut O) -> Result<(), Fault>
+        requires fits { length (waiting_of self.old) + length piece.now < 2 ^ 64 }
+        requires writable { IsTrue (is_writable (O.slots outs.old) 0) }
+        ensures same { SameAsked self.old self.new }
+        ensures bound { length (waiting_of self.new) ≤ length (waiting_of self.old) + length piece.now }
+        ensures left { OnOk result (left_of self.new ≡ left_of self.old - measure (delim_of self.old) (unit_of self.old) piece.now) }
+        ensures waits { OnOk result (waiting_of self.new ≡ left_waiting self.old piece.now) }
+        ensures full { OnOk result (FullLacksNone self.new) }
+        ensures out { OnOk result (O.slots outs.new ≡ with_written 0 (told_of O.told (due self.old piece.now)) (O.slots outs.old)) }
+        ensures cut { IfErr result (Stops O.told (may_lack self.old) (due self.old piece.now) (O.slots outs.old) (O.slots outs.new)) }
+    {
+        match self {
+            Ends::First(_, front) => pass_front(front, piece, outs),
+            Ends::ButLast(kept) => kept.pass(piece, outs),
+            Ends::FromNth(_, front) => pass_behind(front, piece, outs),
+            Ends::Last(kept) => kept.take_in(piece),
+        }
+    }
+
+    /// Takes in all that an input has left before any piece, where the last are asked for, and returns how many bytes
+    /// these are.
+    fn load_last<I: Inputs>(&mut self, slot: usize, buffer: &mut [u8], inputs: &mut I) -> u64
+        requires room { 0 < length buffer.old }
+        requires input { IsTrue (is_readable (I.sources inputs.old) slot) }
+        requires none { waiting_of self.old ≡ [] }
+        requires full { FullLacksNone self.old }
+        ensures same { SameAsked self.old self.new }
+        ensures left { left_of self.new ≡ left_of self.old }
+        ensures others { is_last (stretch_of self.old) ≡ false → result ≡ 0 }
+        ensures passes { Passes I.told slot result (λ x. waiting_of self.new ≡ waiting self.old x) (I.sources inputs.old) (I.sources inputs.new) }
+        ensures full { FullLacksNone self.new }
+        ensures laid { I.laid inputs.new ≡ I.laid inputs.old }
+        ensures bound { result < 2 ^ 63 }
+    {
+        let Ends::Last(kept) = self else {
+            return 0;
+        };
+        kept.load(slot, buffer, inputs)
+    }
+
+    /// Writes what waits, where the last are asked for.
+    ///
+    /// # Errors
+    ///
+    /// `Write(0)` where standard output broke.
+    fn end<O: Outs>(&mut self, outs: &mut O) -> Result<(), Fault>
+        requires writable { IsTrue (is_writable (O.slots outs.old) 0) }
+        ensures same { SameAsked self.old self.new }
+        ensures bound { length (waiting_of self.new) ≤ length (waiting_of self.old) }
+        ensures out { OnOk result (O.slots outs.new ≡ with_written 0 (told_of O.told (due_at_end self.old)) (O.slots outs.old)) }
+        ensures cut { IfErr result (Stops O.told false (due_at_end self.old) (O.slots outs.old) (O.slots outs.new)) }
+    {
+        let Ends::Last(kept) = self else {
+            return Ok(());
+        };
+        let all = kept.len();
+        kept.write_front(all, outs)
+    }
+
+    fn is_full(&self) -> bool
+        ensures { result ≡ is_full self.now }
+    {
+        match self {
+            Ends::First(_, front) => front.left == 0,
+            Ends::ButLast(_) | Ends::FromNth(_, _) | Ends::Last(_) => false,
+        }
+    }
+
+    fn held(&self) -> u64
+        ensures { result ≡ length (waiting_of self.now) }
+    {
+        match self {
+            Ends::First(_, _) | Ends::FromNth(_, _) => 0,
+            Ends::ButLast(kept) | Ends::Last(kept) => kept.len(),
+        }
+    }
+}
