@@ -5,19 +5,20 @@ use Rattle.std.proofs.lemmas.List.{append-nil}
 use Rattle.ports_core.specs.Slot.{Slot, is_open, adds, changed_at, told_of}
 use Rattle.ports_core.specs.Message.{PrintsOn}
 use Rattle.follow_core.specs.Telling.{TellsAll}
+use Rattle.follow_core.specs.declared.visitor.Stop.{Stop}
+use Rattle.follow_core.specs.declared.visitor.Stop.TheVariants.{Broke, Over}
+use Rattle.follow_core.specs.declared.notice.Notice.TheVariants.{Truncated}
+use Rattle.follow_core.specs.Notice.{notice_of}
+use Rattle.follow_core.specs.Printing.{PrinterState, Short, no_room, text_under, broke as short_broke}
+use Rattle.follow_core.specs.Sharing.{WroteShort, CanPrint, HasError}
+use Rattle.follow_core.specs.inner.Copying.{Copied, Stops, read_broke, over as copy_over}
+use Rattle.follow_core.specs.Share.{IsFront}
+use Rattle.follow_core.specs.inner.Giving.{Gives, Halts, Ends, whole, broke, over}
+use Rattle.follow_core.specs.inner.Calls.{CanGoOn, Keeps, bytes_past, lines_past}
 use Rattle.follow_core.proofs.TellingLemmas.{all_told_state}
 use Rattle.ports_core.specs.declared.fault.Fault.{Fault}
 use Rattle.ports_core.specs.declared.fault.Fault.TheVariants as fault
 use Rattle.watch_core.specs.Watched.{Watched, breaks}
-use Rattle.follow_core.specs.declared.copying.Stop.{Stop}
-use Rattle.follow_core.specs.declared.copying.Stop.TheVariants.{Broke, Over}
-use Rattle.follow_core.specs.declared.notice.Notice.TheVariants.{Truncated}
-use Rattle.follow_core.specs.Notice.{notice_of}
-use Rattle.follow_core.specs.Printing.{PrinterState, Short, no_room, text_under, broke as short_broke}
-use Rattle.follow_core.specs.Sharing.{WroteShort}
-use Rattle.follow_core.specs.Copying.{Copied, Stops, read_broke, over as copy_over}
-use Rattle.follow_core.specs.Giving.{IsFront, Gives, Halts, Ends, whole, broke, over}
-use Rattle.follow_core.specs.Catching.{CanGoOn, CanPrint, HasError, Keeps, bytes_past, lines_past}
 use Rattle.follow_core.proofs.PrintLemmas.{no_memory}
 use Rattle.follow_core.proofs.GiveLemmas.{gives_nothing, gives_put, gives_line, halts_short, front_nil, stops_early, goes_after}
 

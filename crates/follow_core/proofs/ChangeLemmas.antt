@@ -8,17 +8,16 @@ use Rattle.ports_core.specs.declared.fault.Fault.TheVariants as fault
 use Rattle.watch_core.specs.Snapshot.{Snapshot, latest}
 use Rattle.watch_core.specs.Watched.{Watched, Finds, Reopens, breaks, file_seen, is_readable, is_some, is_watchable, open_contents, opens, watched_at}
 use Rattle.watch_core.specs.declared.watch.Seen.{Seen}
-use Rattle.follow_core.specs.declared.copying.Stop.{Stop}
-use Rattle.follow_core.specs.declared.copying.Stop.TheVariants.{Broke, Over}
+use Rattle.follow_core.specs.declared.visitor.Stop.{Stop}
+use Rattle.follow_core.specs.declared.visitor.Stop.TheVariants.{Broke, Over}
 use Rattle.follow_core.specs.declared.notice.Notice.{Notice}
 use Rattle.follow_core.specs.declared.notice.Notice.TheVariants.{Truncated, Replaced, Inaccessible, Appeared}
 use Rattle.follow_core.specs.Version.{version_in}
 use Rattle.follow_core.specs.Gain.{gains_later}
 use Rattle.follow_core.specs.Notice.{notice_of, notices_later}
 use Rattle.follow_core.specs.Printing.{PrinterState}
-use Rattle.follow_core.specs.Giving.{Ends}
-use Rattle.follow_core.specs.Catching.{Keeps, bytes_past, lines_past}
-use Rattle.follow_core.specs.Changing.{held_at, Follows, bytes_led, change_between, lines_led}
+use Rattle.follow_core.specs.inner.Giving.{Ends}
+use Rattle.follow_core.specs.inner.Calls.{Keeps, bytes_past, lines_past, held_at, Follows, bytes_led, change_between, lines_led}
 use Rattle.follow_core.proofs.GiveLemmas.{stops_early, goes_after}
 use Rattle.follow_core.proofs.CatchLemmas.{due_as, no_line, nothing_due}
 
@@ -131,7 +130,11 @@ ends_told told_in told printer after name due more snapshot opened led change ol
     (λ t. ((dues t).0 ∙ sym (change_led name snapshot opened led change (is t)).0, ap (λ lines. notice_of change name ∷ lines) (dues t).1 ∙ sym (change_led name snapshot opened led change (is t)).1))
     (goes_after told_in told printer printer after name [] due (notice_of change name ∷ []) more old mid new value result line ends)
 
-none_of : (file : Option ℕ) → is_some file ≡ false → file ≡ None
+pub some_of : (file : Option ℕ) → is_some file ≡ true → (id : ℕ) × (file ≡ Some id)
+some_of None some = absurd (false≢true some)
+some_of (Some id) some = (id, refl)
+
+pub none_of : (file : Option ℕ) → is_some file ≡ false → file ≡ None
 none_of None is = refl
 none_of (Some file) is = absurd (false≢true (sym is))
 
@@ -153,22 +156,21 @@ contents_led told snapshot now old new place name is_there seen can reopens is t
     ∙ contents_at snapshot (watched_at old place) reopens.file
     ∙ ap (held_at snapshot) (reopens.leads t ∙ ap snapshot.leads is)
 
-past_zero : (contents : List ℕ) → bytes_past 0 contents ≡ contents
+pub past_zero : (contents : List ℕ) → bytes_past 0 contents ≡ contents
 past_zero contents = by (nat_lt (length contents) 0) where
   by : (test : Bool) → (if test then contents else drop 0 contents) ≡ contents
   by true = refl
   by false = refl
-
-pub dues_led : (told : Bool) (snapshot now : Snapshot) (old new : List Watched) (place : ℕ) (name : List ℕ) (is_there : Bool) → now ≡ snapshot → IsTrue (is_watchable old place) → Reopens told snapshot old new place is_there → (watched_at old place).name ≡ name → told ≡ true
-    → (bytes_past 0 (open_contents now (watched_at new place)) ≡ held_at snapshot (snapshot.leads name)) × (lines_past name 0 (length (open_contents now (watched_at new place))) ≡ [])
-dues_led told snapshot now old new place name is_there seen can reopens is t =
-    (past_zero _ ∙ contents_led told snapshot now old new place name is_there seen can reopens is t, no_line name 0 (length (open_contents now (watched_at new place))) (nat_lt (length (open_contents now (watched_at new place))) 0) refl (omega arith))
 
 pub readable_there : (told : Bool) (snapshot : Snapshot) (old new : List Watched) (place : ℕ) (is_there : Bool) → Reopens told snapshot old new place is_there → is_there ≡ true → IsTrue (is_watchable old place) → IsTrue (is_readable new place)
 readable_there told snapshot old new place is_there reopens there can =
     ap (λ those. is_readable those place) reopens.names
     ∙ ap (λ (those : Watched). is_some those.opened && not those.is_broken) (opened_there old place reopens.file can)
     ∙ ap (λ test. test && is_watchable old place) (reopens.found ∙ there) ∙ can
+
+pub watchable_there : (told : Bool) (snapshot : Snapshot) (old new : List Watched) (place : ℕ) (is_there : Bool) → Reopens told snapshot old new place is_there → IsTrue (is_watchable old place) → IsTrue (is_watchable new place)
+watchable_there told snapshot old new place is_there reopens can =
+    ap (λ those. is_watchable those place) reopens.names ∙ ap (λ (those : Watched). not those.is_broken) (opened_there old place reopens.file can) ∙ can
 
 pub follows_there : (told : Bool) (snapshot : Snapshot) (old mid new : List Watched) (place : ℕ) (name : List ℕ) (is_there : Bool) (result : Result ℕ Stop) → Reopens told snapshot old mid place is_there → (watched_at old place).name ≡ name → Keeps {T = ℕ} place mid new result → Follows {T = ℕ} told (snapshot.leads name) place old new result
 follows_there told snapshot old mid new place name is_there (Ok value) reopens is keeps = (reopens.file, keeps ∙ reopens.names, λ t. reopens.leads t ∙ ap snapshot.leads is)
@@ -184,7 +186,3 @@ pub change_seen : (told : Bool) (snapshot : Snapshot) (old now : List Watched) (
     → (watched_at old place).name ≡ name → (told ≡ true → Finds snapshot (watched_at old place).name found) → told ≡ true → change_between (watched_at old place).opened (snapshot.leads name) ≡ result
 change_seen told snapshot old now place name found id result is opened same named finds t =
     sym (is ∙ ap (λ those. change_between those (option_map (λ (file : Seen). file.id) found)) opened ∙ seen_change snapshot old now place name found same named (finds t))
-
-pub len_led : (told : Bool) (position seen len : ℕ) (result : Result ℕ Stop) → (told ≡ true → seen ≡ len) → IfOk result (λ n. told ≡ true → n ≡ seen) → (Before : Type 0) → IfOk result (λ n. told ≡ true → Before → n ≡ len)
-len_led told position seen len (Ok n) same is Before = λ t before. is t ∙ same t
-len_led told position seen len (Err stop) same is Before = tt

@@ -7,10 +7,9 @@ use Rattle.ports_core.proofs.WriteLemmas.{writable-written}
 use Rattle.ends_core.proofs.StopLemmas.{nothing_written, written_both}
 use Rattle.watch_core.specs.Snapshot.{Snapshot}
 use Rattle.watch_core.specs.Watched.{Watched, GaveFrom}
-use Rattle.follow_core.specs.Printing.{PrinterState, text_under, printer_under}
-use Rattle.follow_core.specs.Copying.{PutOut, Stops, read_broke, over}
-use Rattle.follow_core.specs.Printing.{Short}
-use Rattle.follow_core.specs.declared.copying.Stop.TheVariants.{Broke, Over}
+use Rattle.follow_core.specs.Printing.{PrinterState, text_under, printer_under, Short}
+use Rattle.follow_core.specs.inner.Copying.{PutOut, Stops, read_broke, over}
+use Rattle.follow_core.specs.declared.visitor.Stop.TheVariants.{Broke, Over}
 use Rattle.ports_core.specs.declared.fault.Fault.{Fault}
 use Rattle.ports_core.specs.declared.fault.Fault.TheVariants as fault
 use Rattle.ports_core.specs.Part.{IsBeginning}

@@ -5,7 +5,7 @@ use Rattle.std.proofs.lemmas.List.{map-append}
 use Rattle.watch_core.specs.Snapshot.{Snapshot}
 use Rattle.follow_core.specs.Version.{Entry, gap, version_in, entries_at_look, entries_led, entries_later, entries_of, entries_open, open_after, open_after_later, open_after_look}
 use Rattle.follow_core.specs.Gain.{file_of, last_from, last_of, seen_length}
-use Rattle.follow_core.specs.Changing.{held_at}
+use Rattle.follow_core.specs.inner.Calls.{held_at}
 use Rattle.follow_core.specs.Look.{Fate, Look, Ways, entries_in, fate_at, is_dropped, is_sound, snapshots}
 use Rattle.follow_core.proofs.LaterLemmas.{Some_entries, entries_more, open_step, some_at}
 

@@ -3,23 +3,23 @@ use Rattle.std.proofs.Common.{◌≡◌, ℕ, Bool, true, false, not, ◌&&◌, 
 use Rattle.std.proofs.lemmas.Bool.{false≢true}
 use Rattle.ports_core.specs.Slot.{adds, told_of, with_written}
 use Rattle.follow_core.specs.Telling.{TellsAll}
+use Rattle.follow_core.specs.declared.visitor.Stop.{Stop}
+use Rattle.follow_core.specs.declared.visitor.Stop.TheVariants.{Broke, Over}
+use Rattle.follow_core.specs.Followed.{header_after, is_empty, share_text}
+use Rattle.follow_core.specs.Printing.{PrinterState, Short, is_due, printer_under, text_under}
+use Rattle.follow_core.specs.inner.Giving.{opened_under, opening_under, Ends, Gives, Halts, whole, broke, over as ends_over, Shared, SharedShort}
+use Rattle.follow_core.specs.inner.Copying.{Copied, Stops}
+use Rattle.follow_core.specs.Share.{IsFront}
+use Rattle.follow_core.specs.inner.Calls.{Keeps, held_at}
+use Rattle.follow_core.specs.inner.Looked.{LooksFirst, opened_share, nowhere, opened, over, unopened, unread}
 use Rattle.ports_core.specs.declared.fault.Fault.{Fault}
 use Rattle.ports_core.specs.declared.fault.Fault.TheVariants as fault
 use Rattle.watch_core.specs.Snapshot.{Snapshot}
 use Rattle.watch_core.specs.Watched.{Reopens, is_some, watched_at}
 use Rattle.ports_core.specs.Slot.{Slot}
 use Rattle.watch_core.specs.Watched.{Watched}
-use Rattle.follow_core.specs.declared.copying.Stop.{Stop}
-use Rattle.follow_core.specs.declared.copying.Stop.TheVariants.{Broke, Over}
-use Rattle.follow_core.specs.Followed.{header_after, is_empty, share_text}
-use Rattle.follow_core.specs.Printing.{PrinterState, Short, is_due, opened_under, opening_under, printer_under, text_under}
-use Rattle.follow_core.specs.Copying.{Copied, Stops}
-use Rattle.follow_core.specs.Giving.{Ends, Gives, Halts, IsFront, whole, broke, over as ends_over}
-use Rattle.follow_core.specs.Catching.{Keeps}
-use Rattle.follow_core.specs.Changing.{held_at}
-use Rattle.follow_core.specs.Sharing.{Shared, SharedShort}
-use Rattle.follow_core.specs.First.{LooksFirst, opened_share, nowhere, opened, over, unopened, unread}
 use Rattle.follow_core.proofs.CatchLemmas.{copied_ends, due_as, stops_ends}
+use Rattle.follow_core.proofs.ChangeLemmas.{none_of, some_of}
 use Rattle.follow_core.proofs.GiveLemmas.{adds_both, front_nil}
 use Rattle.follow_core.proofs.PrintLemmas.{itself, short_after, short_more}
 
@@ -98,10 +98,6 @@ opened_halts told printer name bytes lines old mid new why first halts = record 
         (subst (λ text. Short told text (adds (told_of told (opening_under printer name)) output ∷ error_after ∷ others) new why) (opened_text printer name bytes) short)),
   )
 
-some_of : (file : Option ℕ) → is_some file ≡ true → (id : ℕ) × (file ≡ Some id)
-some_of None some = absurd (false≢true some)
-some_of (Some id) some = (id, refl)
-
 -- where the name leads, once its file was opened
 pub led_file : (told : Bool) (snapshot : Snapshot) (old new : List Watched) (place : ℕ) (name : List ℕ) (is_there : Bool) → Reopens told snapshot old new place is_there → is_there ≡ true → (watched_at old place).name ≡ name
     → told ≡ true → (id : ℕ) × (snapshot.leads name ≡ Some id)
@@ -109,14 +105,10 @@ led_file told snapshot old new place name is_there reopens there named is = by (
   by : (id : ℕ) × (reopens.file ≡ Some id) → (id : ℕ) × (snapshot.leads name ≡ Some id)
   by (id, file) = (id, sym (ap snapshot.leads named) ∙ sym (reopens.leads is) ∙ file)
 
-no_file : (file : Option ℕ) → is_some file ≡ false → file ≡ None
-no_file None none = refl
-no_file (Some id) none = absurd (false≢true (sym none))
-
 pub led_nowhere : (told_in told : Bool) (start : List ℕ → List ℕ) (snapshot : Snapshot) (old new : List Watched) (place : ℕ) (name : List ℕ) (is_there : Bool) (printer : PrinterState) (slots : List Slot) → Reopens told_in snapshot old new place is_there → is_there ≡ false → (watched_at old place).name ≡ name
     → LooksFirst told_in told start snapshot place name printer slots printer slots (Ok None)
 led_nowhere told_in told start snapshot old new place name is_there printer slots reopens there named =
-    nowhere (λ is. sym (ap snapshot.leads named) ∙ sym (reopens.leads is) ∙ no_file reopens.file (reopens.found ∙ there)) refl refl
+    nowhere (λ is. sym (ap snapshot.leads named) ∙ sym (reopens.leads is) ∙ none_of reopens.file (reopens.found ∙ there)) refl refl
 
 pub led_broken : (told_in told : Bool) (start : List ℕ → List ℕ) (snapshot : Snapshot) (place : ℕ) (name : List ℕ) (printer : PrinterState) (slots : List Slot) (why : Fault) → why ≡ fault.Open place → LooksFirst told_in told start snapshot place name printer slots printer slots (Err (Broke why))
 led_broken told_in told start snapshot place name printer slots why is = subst (λ those. LooksFirst told_in told start snapshot place name printer slots printer slots (Err (Broke those))) (sym is) (unopened refl refl)

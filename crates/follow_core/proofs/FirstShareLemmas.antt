@@ -11,9 +11,8 @@ use Rattle.follow_core.specs.Version.{version_in, entries_led}
 use Rattle.follow_core.specs.Run.{name_text}
 use Rattle.follow_core.specs.Notice.{is_missing, notice_of, notices_of}
 use Rattle.follow_core.specs.Look.{Ways, Look, sound, unopened, unread, entries_in}
-use Rattle.follow_core.specs.Share.{gain, missing_share, share_by, told_at_look}
-use Rattle.follow_core.specs.Giving.{IsFront}
-use Rattle.follow_core.specs.First.{FrontOf, StartOf, opened_share}
+use Rattle.follow_core.specs.Share.{gain, missing_share, share_by, told_at_look, IsFront}
+use Rattle.follow_core.specs.inner.Looked.{FrontOf, StartOf, opened_share}
 
 -- the entries of a name after one look
 entries_first : (ways : Ways) (name : List ℕ) (look : Look) (led : Option ℕ) → look.snapshot.leads name ≡ led → entries_in ways name (look ∷ []) ≡ entries_led look.snapshot None led

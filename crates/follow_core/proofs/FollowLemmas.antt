@@ -1,14 +1,10 @@
 -- A look at all names more, and one that was stopped.
-use Rattle.std.proofs.Common.{◌≡◌, ℕ, zero, suc, ◌<◌, ◌+◌, Bool, true, false, not, ◌||◌, ◌&&◌, List, [], ◌∷◌, ◌++◌, length, map, slice_index_or, refl, sym, ◌∙◌, ap, subst, arith, inl, inr}
+use Rattle.std.proofs.Common.{Err, ◌≡◌, ℕ, zero, suc, ◌<◌, ◌+◌, Bool, true, false, not, ◌||◌, ◌&&◌, List, [], ◌∷◌, ◌++◌, length, map, slice_index_or, refl, sym, ◌∙◌, ap, subst, arith, inl, inr}
 use Rattle.std.proofs.lemmas.Bool.{false≢true}
 use Rattle.std.proofs.lemmas.List.{length-map}
 use Rattle.std.proofs.Math.Seq.{take-length}
 use Rattle.ports_core.specs.Slot.{Slot, adds, told_of}
 use Rattle.follow_core.specs.Telling.{TellsAll}
-use Rattle.ports_core.specs.declared.fault.Fault.{Fault}
-use Rattle.ports_core.specs.declared.fault.Fault.TheVariants as fault
-use Rattle.watch_core.specs.Snapshot.{Snapshot}
-use Rattle.watch_core.specs.Watched.{Watched, added, is_some, watched_at}
 use Rattle.follow_core.specs.declared.name.Standing.{Standing}
 use Rattle.follow_core.specs.declared.name.Standing.TheVariants.{New, Followed, Left}
 use Rattle.follow_core.specs.declared.follow.Stage.{Stage}
@@ -16,13 +12,20 @@ use Rattle.follow_core.specs.declared.follow.Stage.TheVariants.{Fresh, Looking, 
 use Rattle.follow_core.specs.Ending.{AreBroken}
 use Rattle.follow_core.specs.Followed.{any_failed, last_header_from, messages_of, text_from}
 use Rattle.follow_core.specs.FollowState.{AllReady, FollowState, Holds, LooksOn, StandsIn, StopsOn, goes_on_at, is_alive, is_alive_from, new_state, nothing, up_to}
+use Rattle.follow_core.specs.inner.Looking.{Begins, MakesLook}
 use Rattle.follow_core.specs.Look.{Look, Ways, is_dropped, snapshots}
 use Rattle.follow_core.specs.Printing.{PrinterState, Short, fresh_printer, no_room}
 use Rattle.follow_core.specs.Share.{Share, shares_at_look, shares_of}
 use Rattle.follow_core.specs.Sharing.{AllShared, AllShort, Wrote, WroteShort}
-use Rattle.follow_core.specs.Standing.{AllKeep, AllStand, CanVisit, IsFollowed, NameState, Stands, any_goes_on, goes_on_as, state_at, texts}
+use Rattle.follow_core.specs.Standing.{AllKeep, AllStand, CanVisit, IsFollowed, NameState, Stands, state_at, texts}
+use Rattle.follow_core.specs.inner.Standing.{any_goes_on, goes_on_as}
 use Rattle.follow_core.specs.Version.{open_after}
-use Rattle.follow_core.specs.Visited.{StoppedAt, VisitedAll, ways_of}
+use Rattle.follow_core.specs.inner.Visited.{StoppedAt, VisitedAll}
+use Rattle.follow_core.specs.Visited.{ways_of}
+use Rattle.ports_core.specs.declared.fault.Fault.{Fault}
+use Rattle.ports_core.specs.declared.fault.Fault.TheVariants as fault
+use Rattle.watch_core.specs.Snapshot.{Snapshot}
+use Rattle.watch_core.specs.Watched.{Watched, added, is_some, watched_at}
 use Rattle.follow_core.proofs.EntryLemmas.{last_file}
 use Rattle.follow_core.proofs.ShareLemmas.{failed-append, last-append, messages-append, shares_more, text-append}
 use Rattle.follow_core.proofs.VisitAllLemmas.{nothing_shared, wrote_as, wrote_both}
@@ -138,7 +141,7 @@ look_stopped told_in told snapshot old watched slots slots_new why looking halts
       (halts looks (stand_in told_in told ways headers names looks first old watched slots looking holds) (keep_in told_in told ways headers names looks snapshot first old watched slots holds keep)))
 
 -- there was no memory to begin one
-pub look_refused : (told_in told : Bool) (snapshot : Snapshot) (old : FollowState) (watched : List Watched) (slots slots_new : List Slot) (why : Fault) → why ≡ fault.Memory → slots_new ≡ slots → StopsOn told_in told snapshot old watched slots slots_new why
+look_refused : (told_in told : Bool) (snapshot : Snapshot) (old : FollowState) (watched : List Watched) (slots slots_new : List Slot) (why : Fault) → why ≡ fault.Memory → slots_new ≡ slots → StopsOn told_in told snapshot old watched slots slots_new why
 look_refused told_in told snapshot old watched slots slots_new why is same ways headers names looks first holds keep = record {
   shares = holds.shares;
   are = holds.are;
@@ -177,7 +180,7 @@ can_at text Left = tt
 added_ready : (names : List NameState) → AllReady names (map added (texts names))
 added_ready names place within = subst (CanVisit (state_at names place)) (sym (texts_new names place within)) (can_at (state_at names place).text (state_at names place).standing)
 
-pub names_ready : (names : List NameState) (watched : List Watched) → watched ≡ map added (texts names) → AllReady names watched
+names_ready : (names : List NameState) (watched : List Watched) → watched ≡ map added (texts names) → AllReady names watched
 names_ready names watched is = subst (AllReady names) (sym is) (added_ready names)
 
 -- following stands as before, but that its names are watched
@@ -205,15 +208,43 @@ held_added told_in told ways headers names looks first old mid watched watched_m
       new : (looks ≡ []) × (old.names ≡ map new_state (texts old.names))
       new = subst (StandsIn told_in ways looks old.names watched) is.fresh holds.stand
 
-pub first_made : (told_in told : Bool) (snapshot snapshot_mid : Snapshot) (old mid new : FollowState) (watched watched_mid watched_new : List Watched) (slots slots_new : List Slot) → IsAdded old mid watched watched_mid → snapshot_mid ≡ snapshot
-    → LooksOn told_in told snapshot_mid mid watched_mid slots new watched_new slots_new → LooksOn told_in told snapshot old watched slots new watched_new slots_new
-first_made told_in told snapshot snapshot_mid old mid new watched watched_mid watched_new slots slots_new is same looks_on = subst (λ s. LooksOn told_in told s old watched slots new watched_new slots_new) same
-    (λ ways headers names looks first holds keep. looks_on ways headers names looks first (held_added told_in told ways headers names looks first old mid watched watched_mid slots is holds) keep)
+pub added_begins : (told_in : Bool) (old mid : FollowState) (watched watched_mid : List Watched) → IsAdded old mid watched watched_mid → Begins told_in old watched mid watched_mid
+added_begins told_in old mid watched watched_mid is = record {
+  stage = ap (λ (f : FollowState). f.stage) is.mid_is;
+  ready = names_ready mid.names watched_mid (is.watched_is ∙ ap (λ (f : FollowState). map added (texts f.names)) (sym is.mid_is));
+  holds = λ told ways headers names looks first slots holds. held_added told_in told ways headers names looks first old mid watched watched_mid slots is holds;
+}
 
-pub first_stopped : (told_in told : Bool) (snapshot snapshot_mid : Snapshot) (old mid : FollowState) (watched watched_mid : List Watched) (slots slots_new : List Slot) (why : Fault) → IsAdded old mid watched watched_mid → snapshot_mid ≡ snapshot
+-- a look that goes on from there
+
+pub begun_looked : (told_in told : Bool) (snapshot snapshot_mid : Snapshot) (old mid new : FollowState) (watched watched_mid watched_new : List Watched) (slots slots_new : List Slot) → Begins told_in old watched mid watched_mid → snapshot_mid ≡ snapshot
+    → LooksOn told_in told snapshot_mid mid watched_mid slots new watched_new slots_new → LooksOn told_in told snapshot old watched slots new watched_new slots_new
+begun_looked told_in told snapshot snapshot_mid old mid new watched watched_mid watched_new slots slots_new begins same looks_on = subst (λ s. LooksOn told_in told s old watched slots new watched_new slots_new) same
+    (λ ways headers names looks first holds keep. looks_on ways headers names looks first (begins.holds told ways headers names looks first slots holds) keep)
+
+pub begun_stopped : (told_in told : Bool) (snapshot snapshot_mid : Snapshot) (old mid : FollowState) (watched watched_mid : List Watched) (slots slots_new : List Slot) (why : Fault) → Begins told_in old watched mid watched_mid → snapshot_mid ≡ snapshot
     → StopsOn told_in told snapshot_mid mid watched_mid slots slots_new why → StopsOn told_in told snapshot old watched slots slots_new why
-first_stopped told_in told snapshot snapshot_mid old mid watched watched_mid slots slots_new why is same stops = subst (λ s. StopsOn told_in told s old watched slots slots_new why) same
-    (λ ways headers names looks first holds keep. stops ways headers names looks first (held_added told_in told ways headers names looks first old mid watched watched_mid slots is holds) keep)
+begun_stopped told_in told snapshot snapshot_mid old mid watched watched_mid slots slots_new why begins same stops = subst (λ s. StopsOn told_in told s old watched slots slots_new why) same
+    (λ ways headers names looks first holds keep. stops ways headers names looks first (begins.holds told ways headers names looks first slots holds) keep)
+
+pub makes_none : (told_in told : Bool) (snapshot : Snapshot) (seen seen_new : List Snapshot) (old new : FollowState) (watched watched_new : List Watched) (slots : List Slot) (why : Fault) → why ≡ fault.Memory → seen_new ≡ seen
+    → MakesLook told_in told snapshot seen old watched slots seen_new new watched_new slots (Err why)
+makes_none told_in told snapshot seen seen_new old new watched watched_new slots why is same = record {
+  looked = tt;
+  stopped = look_refused told_in told snapshot old watched slots slots why is refl;
+  seen_is = tt;
+  saw = inl same;
+  stage = tt;
+  ready = tt;
+  can = tt;
+}
+
+-- what the look sees is what the watch shows
+pub shown : (shows_mid shows : ℕ → Snapshot) (seen seen_mid seen_new : List Snapshot) → shows_mid ≡ shows → seen_mid ≡ seen → seen_new ≡ seen_mid ++ shows_mid (length seen_mid) ∷ []
+    → (shows_mid (length seen_mid) ≡ shows (length seen)) × (seen_new ≡ seen ++ shows (length seen) ∷ [])
+shown shows_mid shows seen seen_mid seen_new shows_same same is =
+    let next = ap (λ (those : ℕ → Snapshot). those (length seen_mid)) shows_same ∙ ap (λ (those : List Snapshot). shows (length those)) same in
+    (next, is ∙ ap (λ (those : List Snapshot). those ++ shows_mid (length seen_mid) ∷ []) same ∙ ap (λ snapshot. seen ++ snapshot ∷ []) next)
 
 -- whether a further look can give something
 

@@ -4,13 +4,14 @@ use Rattle.std.proofs.lemmas.List.{append-nil}
 use Rattle.ports_core.specs.Slot.{Slot, adds, with_written, told_of}
 use Rattle.ports_core.specs.Message.{Prints, PrintsOn}
 use Rattle.follow_core.specs.Telling.{TellsAll}
+use Rattle.follow_core.specs.declared.visitor.Stop.{Stop}
+use Rattle.follow_core.specs.Printing.{PrinterState, Short, text_under, printer_under}
+use Rattle.follow_core.specs.inner.Copying.{PutOut}
+use Rattle.follow_core.specs.Share.{IsFront}
+use Rattle.follow_core.specs.inner.Giving.{Gives, Halts, Ends, whole, broke, over}
 use Rattle.ports_core.specs.declared.fault.Fault.{Fault}
 use Rattle.follow_core.proofs.TellingLemmas.{tells_after, told_by}
 use Rattle.ports_core.proofs.WriteLemmas.{told_of-append, told_of-nil}
-use Rattle.follow_core.specs.declared.copying.Stop.{Stop}
-use Rattle.follow_core.specs.Printing.{PrinterState, Short, text_under, printer_under}
-use Rattle.follow_core.specs.Copying.{PutOut}
-use Rattle.follow_core.specs.Giving.{IsFront, Gives, Halts, Ends, whole, broke, over}
 use Rattle.follow_core.proofs.PrintLemmas.{under_append, last_append, under_nil, last_nil, short_after}
 
 pub adds-nil : (told : Bool) (slot : Slot) → adds (told_of told []) slot ≡ slot

@@ -5,22 +5,21 @@ use Rattle.ports_core.specs.Slot.{Slot, adds, told_of}
 use Rattle.ports_core.specs.Text.{message_of}
 use Rattle.ports_core.specs.Message.{Says, SaysOn}
 use Rattle.follow_core.specs.Telling.{IsFailure, TellsAll}
+use Rattle.follow_core.specs.declared.visitor.Stop.{Stop}
+use Rattle.follow_core.specs.declared.visitor.Stop.TheVariants.{Broke, Over}
+use Rattle.follow_core.specs.declared.visitor.Came.TheVariants.{Through, Missing, Dropped}
+use Rattle.follow_core.specs.Followed.{header_after, share_text}
+use Rattle.follow_core.specs.Printing.{PrinterState}
+use Rattle.follow_core.specs.Look.{Fate, Ways, sound, unopened as not_opened, unread as not_read}
+use Rattle.follow_core.specs.Share.{Share, missing_share, share_by, BeginsShare}
+use Rattle.follow_core.specs.inner.Giving.{Shared}
+use Rattle.follow_core.specs.inner.Looked.{FrontOf, LooksFirst, StartOf, opened_share, nowhere, opened, over, unopened, unread, Looked, Stopped}
 use Rattle.follow_core.proofs.TellingLemmas.{failure_told, tells_after}
 use Rattle.ports_core.proofs.WriteLemmas.{told_of-nil}
 use Rattle.ports_core.specs.declared.tool.Tool.TheVariants.{Tail}
 use Rattle.ports_core.specs.declared.fault.Fault.{Fault}
 use Rattle.ports_core.specs.declared.fault.Fault.TheVariants.{Open, Read}
 use Rattle.watch_core.specs.Snapshot.{Snapshot}
-use Rattle.follow_core.specs.declared.copying.Stop.{Stop}
-use Rattle.follow_core.specs.declared.copying.Stop.TheVariants.{Broke, Over}
-use Rattle.follow_core.specs.declared.meeting.Came.TheVariants.{Through, Missing, Dropped}
-use Rattle.follow_core.specs.Followed.{header_after, share_text}
-use Rattle.follow_core.specs.Printing.{PrinterState}
-use Rattle.follow_core.specs.Look.{Fate, Ways, sound, unopened as not_opened, unread as not_read}
-use Rattle.follow_core.specs.Share.{Share, missing_share, share_by}
-use Rattle.follow_core.specs.Sharing.{Shared}
-use Rattle.follow_core.specs.First.{FrontOf, LooksFirst, StartOf, opened_share, nowhere, opened, over, unopened, unread}
-use Rattle.follow_core.specs.Looked.{BeginsShare, Looked, Stopped}
 use Rattle.follow_core.proofs.FirstShareLemmas.{share_missing, share_opened, share_unopened, share_unread}
 
 adds-nil : (told : Bool) (slot : Slot) → adds (told_of told []) slot ≡ slot
@@ -57,7 +56,7 @@ empty_shared told printer after name old new same_printer same = record {
   text true last = refl
   text false last = refl
 
-meets_some : (told_in told : Bool) (ways : Ways) (snapshot : Snapshot) (place : ℕ) (name : List ℕ) (printer after : PrinterState) (old new : List Slot) (len : ℕ) → LooksFirst told_in told ways.start snapshot place name printer old after new (Ok (Some len))
+pub meets_some : (told_in told : Bool) (ways : Ways) (snapshot : Snapshot) (place : ℕ) (name : List ℕ) (printer after : PrinterState) (old new : List Slot) (len : ℕ) → LooksFirst told_in told ways.start snapshot place name printer old after new (Ok (Some len))
     → Looked told_in told ways [] snapshot name printer old after new (Through len)
 meets_some told_in told ways snapshot place name printer after old new _ (opened bytes lines len are shared) = record {
   fate = sound;
@@ -68,7 +67,7 @@ meets_some told_in told ways snapshot place name printer after old new _ (opened
   shared = shared;
 }
 
-meets_nothing : (told_in told : Bool) (ways : Ways) (snapshot : Snapshot) (place : ℕ) (name : List ℕ) (printer after : PrinterState) (old mid new : List Slot) → LooksFirst told_in told ways.start snapshot place name printer old after mid (Ok None)
+pub meets_nothing : (told_in told : Bool) (ways : Ways) (snapshot : Snapshot) (place : ℕ) (name : List ℕ) (printer after : PrinterState) (old mid new : List Slot) → LooksFirst told_in told ways.start snapshot place name printer old after mid (Ok None)
     → SaysOn told Tail (message_of Tail (Open place) name) mid new → Looked told_in told ways [] snapshot name printer old after new Missing
 meets_nothing told_in told ways snapshot place name printer after old mid new (nowhere leads same_printer same) says = record {
   fate = sound;
@@ -79,7 +78,7 @@ meets_nothing told_in told ways snapshot place name printer after old mid new (n
   shared = told_after told printer after (empty_share name) (message_of Tail (Open 0) name) old mid new (empty_shared told printer after name old mid same_printer same) (name, inl refl) says;
 }
 
-meets_broken : (told_in told : Bool) (ways : Ways) (snapshot : Snapshot) (place : ℕ) (name : List ℕ) (printer after : PrinterState) (old mid new : List Slot) (why : Fault) → LooksFirst told_in told ways.start snapshot place name printer old after mid (Err (Broke why))
+pub meets_broken : (told_in told : Bool) (ways : Ways) (snapshot : Snapshot) (place : ℕ) (name : List ℕ) (printer after : PrinterState) (old mid new : List Slot) (why : Fault) → LooksFirst told_in told ways.start snapshot place name printer old after mid (Err (Broke why))
     → SaysOn told Tail (message_of Tail why name) mid new → Looked told_in told ways [] snapshot name printer old after new Dropped
 meets_broken told_in told ways snapshot place name printer after old mid new _ (unopened same_printer same) says = record {
   fate = not_opened 0 0;
@@ -98,19 +97,6 @@ meets_broken told_in told ways snapshot place name printer after old mid new _ (
   shared = told_after told printer after (opened_share name bytes lines) (message_of Tail (Read 0) name) old mid new shared (name, inr refl) says;
 }
 
--- the same, by what the look returned
-pub meets_opened : (told_in told : Bool) (ways : Ways) (snapshot : Snapshot) (place : ℕ) (name : List ℕ) (printer after : PrinterState) (old new : List Slot) (found : Option ℕ) (len : ℕ) → found ≡ Some len → LooksFirst told_in told ways.start snapshot place name printer old after new (Ok found)
-    → Looked told_in told ways [] snapshot name printer old after new (Through len)
-meets_opened told_in told ways snapshot place name printer after old new found len is looks = meets_some told_in told ways snapshot place name printer after old new len (subst (λ those. LooksFirst told_in told ways.start snapshot place name printer old after new (Ok those)) is looks)
-
-pub meets_none : (told_in told : Bool) (ways : Ways) (snapshot : Snapshot) (place : ℕ) (name : List ℕ) (printer after : PrinterState) (old mid new : List Slot) (found : Option ℕ) → found ≡ None → LooksFirst told_in told ways.start snapshot place name printer old after mid (Ok found)
-    → SaysOn told Tail (message_of Tail (Open place) name) mid new → Looked told_in told ways [] snapshot name printer old after new Missing
-meets_none told_in told ways snapshot place name printer after old mid new found is looks = meets_nothing told_in told ways snapshot place name printer after old mid new (subst (λ those. LooksFirst told_in told ways.start snapshot place name printer old after mid (Ok those)) is looks)
-
-pub meets_failure : (told_in told : Bool) (ways : Ways) (snapshot : Snapshot) (place : ℕ) (name : List ℕ) (printer after : PrinterState) (old mid new : List Slot) (stop : Stop) (why : Fault) → stop ≡ Broke why → LooksFirst told_in told ways.start snapshot place name printer old after mid (Err stop)
-    → SaysOn told Tail (message_of Tail why name) mid new → Looked told_in told ways [] snapshot name printer old after new Dropped
-meets_failure told_in told ways snapshot place name printer after old mid new stop why is looks = meets_broken told_in told ways snapshot place name printer after old mid new why (subst (λ those. LooksFirst told_in told ways.start snapshot place name printer old after mid (Err those)) is looks)
-
 -- what was given before the first look was stopped begins the name's share
 front_begins : (ways : Ways) (snapshot : Snapshot) (name bytes : List ℕ) (lines : List (List ℕ)) (fates : List Fate) → FrontOf ways.start snapshot name bytes lines → BeginsShare (opened_share name bytes lines) (share_by ways name [] (record { snapshot = snapshot; fates = fates }) sound)
 front_begins ways snapshot name bytes lines fates front =
@@ -122,14 +108,10 @@ front_begins ways snapshot name bytes lines fates front =
       messages = ([], sym (ap (λ those. those ++ []) front.quiet));
     })
 
-meets_stop : (told_in told : Bool) (ways : Ways) (snapshot : Snapshot) (place : ℕ) (name : List ℕ) (printer after : PrinterState) (old new : List Slot) (why : Fault) → LooksFirst told_in told ways.start snapshot place name printer old after new (Err (Over why))
+pub meets_stop : (told_in told : Bool) (ways : Ways) (snapshot : Snapshot) (place : ℕ) (name : List ℕ) (printer after : PrinterState) (old new : List Slot) (why : Fault) → LooksFirst told_in told ways.start snapshot place name printer old after new (Err (Over why))
     → Stopped told_in told ways [] snapshot name printer old new why
 meets_stop told_in told ways snapshot place name printer after old new _ (over why bytes lines are short) = record {
   share = opened_share name bytes lines;
   begins = λ is fates. front_begins ways snapshot name bytes lines fates (are is);
   short = short;
 }
-
-pub meets_over : (told_in told : Bool) (ways : Ways) (snapshot : Snapshot) (place : ℕ) (name : List ℕ) (printer after : PrinterState) (old new : List Slot) (stop : Stop) (why : Fault) → stop ≡ Over why → LooksFirst told_in told ways.start snapshot place name printer old after new (Err stop)
-    → Stopped told_in told ways [] snapshot name printer old new why
-meets_over told_in told ways snapshot place name printer after old new stop why is looks = meets_stop told_in told ways snapshot place name printer after old new why (subst (λ those. LooksFirst told_in told ways.start snapshot place name printer old after new (Err those)) is looks)

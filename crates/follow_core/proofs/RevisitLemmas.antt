@@ -7,21 +7,20 @@ use Rattle.ports_core.specs.declared.tool.Tool.TheVariants.{Tail}
 use Rattle.ports_core.specs.declared.fault.Fault.{Fault}
 use Rattle.ports_core.specs.declared.fault.Fault.TheVariants.{Open, Read}
 use Rattle.watch_core.specs.Snapshot.{Snapshot}
-use Rattle.follow_core.specs.declared.copying.Stop.{Stop}
-use Rattle.follow_core.specs.declared.copying.Stop.TheVariants.{Broke, Over}
-use Rattle.follow_core.specs.declared.meeting.Came.TheVariants.{Through, Dropped}
-use Rattle.watch_core.specs.Watched.{Watched}
-use Rattle.follow_core.specs.Again.{StandsAt, bytes_again, lines_again}
-use Rattle.follow_core.specs.Changing.{Follows}
+use Rattle.follow_core.specs.declared.visitor.Stop.{Stop}
+use Rattle.follow_core.specs.declared.visitor.Stop.TheVariants.{Broke, Over}
+use Rattle.follow_core.specs.declared.visitor.Came.TheVariants.{Through, Dropped}
+use Rattle.follow_core.specs.Standing.{StandsAt}
+use Rattle.follow_core.specs.inner.Calls.{bytes_again, lines_again, Follows}
 use Rattle.follow_core.specs.Gain.{last_of}
-use Rattle.follow_core.specs.Giving.{Ends, Gives, Halts, IsFront, broke, over, whole}
+use Rattle.follow_core.specs.inner.Giving.{Ends, Gives, Halts, broke, over, whole, Shared, SharedShort}
+use Rattle.follow_core.specs.Share.{IsFront, Share, gain, told_at_look}
 use Rattle.follow_core.specs.Look.{Fate, Look, Ways, entries_in, snapshots, sound, unopened as not_opened, unread as not_read}
-use Rattle.follow_core.specs.Looked.{IsReady, Looked, Stopped}
+use Rattle.follow_core.specs.inner.Looked.{IsReady, Looked, Stopped}
 use Rattle.follow_core.specs.Printing.{PrinterState, is_due}
 use Rattle.follow_core.specs.Run.{AreKept}
-use Rattle.follow_core.specs.Share.{Share, gain, told_at_look}
-use Rattle.follow_core.specs.Sharing.{Shared, SharedShort}
 use Rattle.follow_core.specs.Version.{Entry, open_after}
+use Rattle.watch_core.specs.Watched.{Watched}
 use Rattle.follow_core.proofs.EntryLemmas.{last_file, same_entries}
 use Rattle.follow_core.proofs.FirstShareLemmas.{front_taken}
 use Rattle.follow_core.proofs.LaterLemmas.{again_share, gain_more, told_more}
@@ -40,7 +39,7 @@ gives_shared told printer after name bytes lines old new gives = record {
 halts_shared : (told : Bool) (printer : PrinterState) (name bytes : List ℕ) (lines : List (List ℕ)) (old new : List Slot) (why : Fault) → Halts told printer name bytes lines old new why → SharedShort told printer (again_share name bytes lines) old new why
 halts_shared told printer name bytes lines old new why halts = record { slots = halts.slots }
 
-abbrev last_in : Ways → List ℕ → Look → List Look → Entry
+abbrev pub last_in : Ways → List ℕ → Look → List Look → Entry
 last_in ways name before looks = last_of (entries_in ways name (before ∷ looks))
 
 -- what is due at the look is what the definition gives
@@ -56,7 +55,7 @@ due_again ways name before looks snapshot fates opened position by_name way read
           ∙ sym (told_more ways name before looks (record { snapshot = snapshot; fates = fates })),
     )
 
-again_whole : (told_in told : Bool) (ways : Ways) (before : Look) (looks : List Look) (snapshot : Snapshot) (name : List ℕ) (opened : Option ℕ) (position : ℕ) (by_name : Bool) (printer after : PrinterState) (old new : List Slot) (len : ℕ) → ways.by_name ≡ by_name → (told_in ≡ true → IsReady ways (before ∷ looks) snapshot name opened position)
+pub again_whole : (told_in told : Bool) (ways : Ways) (before : Look) (looks : List Look) (snapshot : Snapshot) (name : List ℕ) (opened : Option ℕ) (position : ℕ) (by_name : Bool) (printer after : PrinterState) (old new : List Slot) (len : ℕ) → ways.by_name ≡ by_name → (told_in ≡ true → IsReady ways (before ∷ looks) snapshot name opened position)
     → Ends {T = ℕ} told_in told printer name (bytes_again by_name name (last_in ways name before looks) snapshot opened) (lines_again by_name name (last_in ways name before looks) snapshot opened) old after new (Ok len)
     → Looked told_in told ways (before ∷ looks) snapshot name printer old after new (Through len)
 again_whole told_in told ways before looks snapshot name opened position by_name printer after old new _ way ready (whole len bytes lines are gives) = record {
@@ -70,12 +69,6 @@ again_whole told_in told ways before looks snapshot name opened position by_name
   shared = gives_shared told printer after name bytes lines old new gives;
 }
 
-pub again_looked : (told_in told : Bool) (ways : Ways) (before : Look) (looks : List Look) (snapshot : Snapshot) (name : List ℕ) (opened : Option ℕ) (position : ℕ) (by_name : Bool) (printer after : PrinterState) (old new : List Slot) (len : ℕ) → ways.by_name ≡ by_name → (told_in ≡ true → IsReady ways (before ∷ looks) snapshot name opened position)
-    → ((last : Entry) → (told_in ≡ true → StandsAt last opened position) → Ends {T = ℕ} told_in told printer name (bytes_again by_name name last snapshot opened) (lines_again by_name name last snapshot opened) old after new (Ok len))
-    → Looked told_in told ways (before ∷ looks) snapshot name printer old after new (Through len)
-again_looked told_in told ways before looks snapshot name opened position by_name printer after old new len way ready ends =
-    again_whole told_in told ways before looks snapshot name opened position by_name printer after old new len way ready (ends (last_in ways name before looks) (λ is. (ready is).stands))
-
 -- a call on it failed: a beginning was given, and the message follows
 failed_share : (ways : Ways) (name bytes : List ℕ) (lines : List (List ℕ)) (before : Look) (looks : List Look) (look : Look) (line : List ℕ) → IsFront bytes (gain ways name (before ∷ looks) look) → IsFront lines (told_at_look ways name (before ∷ looks) look)
     → ◌≡◌ {A = Share} (record { name = name; is_opened = false; bytes = bytes; messages = lines ++ line ∷ []; has_failed = true })
@@ -84,7 +77,7 @@ failed_share ways name bytes lines before looks look line front lines_front =
     ap (λ those. record { name = name; is_opened = false; bytes = those; messages = lines ++ line ∷ []; has_failed = true }) (sym (front_taken bytes (gain ways name (before ∷ looks) look) front))
     ∙ ap (λ those. record { name = name; is_opened = false; bytes = take (length bytes) (gain ways name (before ∷ looks) look); messages = those ++ line ∷ []; has_failed = true }) (sym (front_taken lines (told_at_look ways name (before ∷ looks) look) lines_front))
 
-again_broke : (told_in told : Bool) (ways : Ways) (before : Look) (looks : List Look) (snapshot : Snapshot) (place : ℕ) (name : List ℕ) (opened : Option ℕ) (position : ℕ) (by_name : Bool) (printer after : PrinterState) (old mid new : List Slot) (why : Fault) → ways.by_name ≡ by_name → (told_in ≡ true → IsReady ways (before ∷ looks) snapshot name opened position)
+pub again_broke : (told_in told : Bool) (ways : Ways) (before : Look) (looks : List Look) (snapshot : Snapshot) (place : ℕ) (name : List ℕ) (opened : Option ℕ) (position : ℕ) (by_name : Bool) (printer after : PrinterState) (old mid new : List Slot) (why : Fault) → ways.by_name ≡ by_name → (told_in ≡ true → IsReady ways (before ∷ looks) snapshot name opened position)
     → (why ≡ Open place) ⊎ (why ≡ Read place)
     → Ends {T = ℕ} told_in told printer name (bytes_again by_name name (last_in ways name before looks) snapshot opened) (lines_again by_name name (last_in ways name before looks) snapshot opened) old after mid (Err (Broke why))
     → SaysOn told Tail (message_of Tail why name) mid new → Looked told_in told ways (before ∷ looks) snapshot name printer old after new Dropped
@@ -109,16 +102,7 @@ again_broke told_in told ways before looks snapshot place name opened position b
   shared = told_after told printer after (again_share name bytes lines) (message_of Tail (Read 0) name) old mid new (gives_shared told printer after name bytes lines old mid gives) (name, inr refl) (subst (λ those. SaysOn told Tail (message_of Tail those name) mid new) read says);
 }
 
-pub again_failed : (told_in told : Bool) (ways : Ways) (before : Look) (looks : List Look) (snapshot : Snapshot) (place : ℕ) (name : List ℕ) (opened led : Option ℕ) (position : ℕ) (by_name : Bool) (printer after : PrinterState) (old mid new : List Slot) (watched watched_new : List Watched) (stop : Stop) (why : Fault) → stop ≡ Broke why → ways.by_name ≡ by_name → (told_in ≡ true → IsReady ways (before ∷ looks) snapshot name opened position)
-    → ((last : Entry) → (told_in ≡ true → StandsAt last opened position) → Ends {T = ℕ} told_in told printer name (bytes_again by_name name last snapshot opened) (lines_again by_name name last snapshot opened) old after mid (Err stop))
-    → Follows {T = ℕ} told_in led place watched watched_new (Err stop)
-    → SaysOn told Tail (message_of Tail why name) mid new → Looked told_in told ways (before ∷ looks) snapshot name printer old after new Dropped
-again_failed told_in told ways before looks snapshot place name opened led position by_name printer after old mid new watched watched_new stop why is way ready ends follows says =
-    let last = last_in ways name before looks in
-    again_broke told_in told ways before looks snapshot place name opened position by_name printer after old mid new why way ready (subst (λ those. Follows {T = ℕ} told_in led place watched watched_new (Err those)) is follows).2
-    (subst (λ those. Ends {T = ℕ} told_in told printer name (bytes_again by_name name last snapshot opened) (lines_again by_name name last snapshot opened) old after mid (Err those)) is (ends last (λ t. (ready t).stands))) says
-
-again_over : (told_in told : Bool) (ways : Ways) (before : Look) (looks : List Look) (snapshot : Snapshot) (name : List ℕ) (opened : Option ℕ) (position : ℕ) (by_name : Bool) (printer after : PrinterState) (old new : List Slot) (why : Fault) → ways.by_name ≡ by_name → (told_in ≡ true → IsReady ways (before ∷ looks) snapshot name opened position)
+pub again_over : (told_in told : Bool) (ways : Ways) (before : Look) (looks : List Look) (snapshot : Snapshot) (name : List ℕ) (opened : Option ℕ) (position : ℕ) (by_name : Bool) (printer after : PrinterState) (old new : List Slot) (why : Fault) → ways.by_name ≡ by_name → (told_in ≡ true → IsReady ways (before ∷ looks) snapshot name opened position)
     → Ends {T = ℕ} told_in told printer name (bytes_again by_name name (last_in ways name before looks) snapshot opened) (lines_again by_name name (last_in ways name before looks) snapshot opened) old after new (Err (Over why))
     → Stopped told_in told ways (before ∷ looks) snapshot name printer old new why
 again_over told_in told ways before looks snapshot name opened position by_name printer after old new _ way ready (over why bytes lines are halts) = record {
@@ -128,11 +112,3 @@ again_over told_in told ways before looks snapshot name opened position by_name 
       record { name = refl; opened = refl; bytes = subst (IsFront bytes) due.0 (are is).0; messages = subst (IsFront lines) due.1 (are is).1 };
   short = halts_shared told printer name bytes lines old new why halts;
 }
-
-pub again_stopped : (told_in told : Bool) (ways : Ways) (before : Look) (looks : List Look) (snapshot : Snapshot) (name : List ℕ) (opened : Option ℕ) (position : ℕ) (by_name : Bool) (printer after : PrinterState) (old new : List Slot) (stop : Stop) (why : Fault) → stop ≡ Over why → ways.by_name ≡ by_name → (told_in ≡ true → IsReady ways (before ∷ looks) snapshot name opened position)
-    → ((last : Entry) → (told_in ≡ true → StandsAt last opened position) → Ends {T = ℕ} told_in told printer name (bytes_again by_name name last snapshot opened) (lines_again by_name name last snapshot opened) old after new (Err stop))
-    → Stopped told_in told ways (before ∷ looks) snapshot name printer old new why
-again_stopped told_in told ways before looks snapshot name opened position by_name printer after old new stop why is way ready ends =
-    let last = last_in ways name before looks in
-    again_over told_in told ways before looks snapshot name opened position by_name printer after old new why way ready
-    (subst (λ those. Ends {T = ℕ} told_in told printer name (bytes_again by_name name last snapshot opened) (lines_again by_name name last snapshot opened) old after new (Err those)) is (ends last (λ t. (ready t).stands)))

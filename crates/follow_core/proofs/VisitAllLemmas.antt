@@ -4,18 +4,19 @@ use Rattle.std.proofs.lemmas.List.{append-nil, get_or-map, get_or-set_other, get
 use Rattle.std.proofs.Math.Seq.{get_or-append_seam, map-set_same, take-suc}
 use Rattle.ports_core.specs.Slot.{Slot, adds, told_of}
 use Rattle.follow_core.specs.Telling.{TellsAll}
+use Rattle.follow_core.specs.Followed.{any_failed, header_after, last_header_from, messages_of, share_text, text_from}
+use Rattle.follow_core.specs.Look.{Fate, Look, Ways, fate_at, is_dropped, sound}
+use Rattle.follow_core.specs.Share.{BeginsShare, Share, share_by, share_of, no_share, shares_at_look_from}
+use Rattle.follow_core.specs.inner.Looked.{Stopped}
+use Rattle.follow_core.specs.Printing.{PrinterState, Short}
+use Rattle.follow_core.specs.Sharing.{AllShared, AllShort, Wrote, WroteShort}
+use Rattle.follow_core.specs.inner.Giving.{Shared, SharedShort}
+use Rattle.follow_core.specs.Standing.{AllKeep, AllStand, CanVisit, KeepsBytes, NameState, Stands, no_state, state_at, texts}
+use Rattle.follow_core.specs.inner.Visited.{KeepsOthers, StoppedAt, Visited, VisitedAll, VisitedUpTo}
 use Rattle.follow_core.proofs.TellingLemmas.{tells_after}
 use Rattle.ports_core.specs.declared.fault.Fault.{Fault}
 use Rattle.watch_core.specs.Snapshot.{Snapshot}
 use Rattle.watch_core.specs.Watched.{Watched, watched_at}
-use Rattle.follow_core.specs.Followed.{any_failed, header_after, last_header_from, messages_of, share_text, text_from}
-use Rattle.follow_core.specs.Look.{Fate, Look, Ways, fate_at, is_dropped, sound}
-use Rattle.follow_core.specs.Looked.{BeginsShare, Stopped}
-use Rattle.follow_core.specs.Printing.{PrinterState, Short}
-use Rattle.follow_core.specs.Share.{Share, share_by, share_of, no_share, shares_at_look_from}
-use Rattle.follow_core.specs.Sharing.{AllShared, AllShort, Shared, SharedShort, Wrote, WroteShort}
-use Rattle.follow_core.specs.Standing.{AllKeep, AllStand, CanVisit, KeepsBytes, NameState, Stands, no_state, state_at, texts}
-use Rattle.follow_core.specs.Visited.{KeepsOthers, StoppedAt, Visited, VisitedAll, VisitedUpTo}
 use Rattle.follow_core.proofs.GiveLemmas.{adds_both, adds-nil}
 use Rattle.follow_core.proofs.PrintLemmas.{short_after}
 use Rattle.follow_core.proofs.ShareLemmas.{failed-append, last-append, messages-append, text-append}

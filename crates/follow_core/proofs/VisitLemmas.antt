@@ -1,30 +1,34 @@
 -- A visit of one name.
-use Rattle.std.proofs.Common.{◌≡◌, ℕ, zero, suc, Bool, true, false, not, ◌||◌, IsTrue, List, [], ◌∷◌, ◌++◌, length, map, Option, None, slice_index_or, refl, sym, ◌∙◌, ap, subst, inl, inr, if◌then◌else◌}
+use Rattle.std.proofs.Common.{Result, Ok, Err, ◌≡◌, ℕ, zero, suc, Bool, true, false, not, ◌||◌, IsTrue, List, [], ◌∷◌, ◌++◌, length, map, Option, None, slice_index_or, refl, sym, ◌∙◌, ap, subst, inl, inr, if◌then◌else◌}
 use Rattle.std.proofs.lemmas.Bool.{false≢true}
 use Rattle.ports_core.specs.Slot.{Slot, changed_at}
 use Rattle.ports_core.specs.declared.fault.Fault.{Fault}
 use Rattle.ports_core.proofs.SlotLemmas.{changed_at-again, length-changed_at}
 use Rattle.watch_core.specs.Snapshot.{Snapshot}
-use Rattle.watch_core.specs.Watched.{Watched, breaks, is_some, is_watchable, no_name, opens, watched_at}
-use Rattle.follow_core.specs.declared.meeting.Came.{Came}
-use Rattle.follow_core.specs.declared.meeting.Came.TheVariants.{Through, Missing, Dropped}
+use Rattle.watch_core.specs.Watched.{Reopens, Watched, added, open_contents, breaks, is_some, is_watchable, no_name, opens, watched_at}
+use Rattle.follow_core.specs.declared.visitor.Came.{Came}
+use Rattle.follow_core.specs.declared.visitor.Came.TheVariants.{Through, Missing, Dropped}
 use Rattle.follow_core.specs.declared.name.Standing.{Standing}
 use Rattle.follow_core.specs.declared.name.Standing.TheVariants.{New, Followed, Left}
-use Rattle.follow_core.specs.declared.start.Start.{Start}
-use Rattle.follow_core.specs.Changing.{held_at}
+use Rattle.follow_core.specs.declared.visitor.Stop.{Stop}
+use Rattle.follow_core.specs.declared.visitor.Stop.TheVariants.{Broke, Over}
+use Rattle.follow_core.specs.inner.Calls.{Follows, held_at}
 use Rattle.follow_core.specs.Gain.{file_of, gains_later, last_of}
 use Rattle.follow_core.specs.Notice.{notice_of, notices_later}
 use Rattle.follow_core.specs.Run.{AreKept}
 use Rattle.follow_core.specs.Look.{Fate, Look, Ways, entries_in, fate_at, is_dropped, is_sound, snapshots, sound}
-use Rattle.follow_core.specs.Looked.{IsLater, IsReady, IsThere, Leaves, Looked, Stopped, came_through, has_failed}
+use Rattle.follow_core.specs.inner.Looked.{LooksFirst, TellsStop, IsLater, IsReady, IsThere, Leaves, Looked, Stopped, came_through, has_failed}
 use Rattle.follow_core.specs.Printing.{PrinterState}
 use Rattle.follow_core.specs.Share.{Share, no_share, share_by, share_of}
-use Rattle.follow_core.specs.Standing.{CanVisit, IsFollowed, IsLeft, IsMissed, KeepsBytes, NameState, Stands, standing_after}
+use Rattle.follow_core.specs.Standing.{CanVisit, IsFollowed, IsLeft, IsMissed, KeepsBytes, NameState, Stands}
+use Rattle.follow_core.specs.inner.Standing.{standing_after}
 use Rattle.follow_core.specs.Version.{Entry, version, gap, entries_at_look, open_after, open_after_look}
-use Rattle.follow_core.specs.Visited.{KeepsOthers, Visited, ways_of}
-use Rattle.follow_core.proofs.ChangeLemmas.{opened_there}
+use Rattle.follow_core.specs.inner.Visited.{KeepsOthers, Looks, Visited, Visits}
+use Rattle.follow_core.proofs.ChangeLemmas.{contents_led, none_of, opened_there}
 use Rattle.follow_core.proofs.LaterLemmas.{again_share, later_share}
-use Rattle.follow_core.proofs.MeetLemmas.{empty_shared}
+use Rattle.follow_core.proofs.AgainLemmas.{LooksAgain}
+use Rattle.follow_core.proofs.MeetLemmas.{empty_shared, meets_broken, meets_stop}
+use Rattle.follow_core.proofs.RevisitLemmas.{again_broke, again_over, again_whole, last_in}
 use Rattle.follow_core.proofs.EntryLemmas.{dropped_more, first_last, last_file, last_later, same_entries}
 
 changed_elsewhere : {X : Type 0} (default : X) (place other : ℕ) (change : X → X) (xs : List X) → (other ≡ place → ⊥) → slice_index_or (changed_at place change xs) other default ≡ slice_index_or xs other default
@@ -122,51 +126,64 @@ first_stands told ways snapshot place name old new Dropped look fate seen named 
   why = inl (dropped_more place [] look ∙ fate_sound place look fate false at through, broken_now place old new leaves);
 }
 
-pub first_visited : (told_in told by_name : Bool) (start : Start) (snapshot : Snapshot) (place : ℕ) (name text : List ℕ) (printer after : PrinterState) (slots slots_new : List Slot) (old new : List Watched) (came : Came) (looks : List Look) → text ≡ name → looks ≡ [] → (watched_at old place).name ≡ name → (watched_at old place).is_broken ≡ false
-    → Looked told_in told (ways_of by_name start) [] snapshot text printer slots after slots_new came → Leaves told_in snapshot (snapshot.leads text) place old new came → IsThere told_in (snapshot.leads text) came
-    → Visited told_in told (ways_of by_name start) looks snapshot place name printer slots after slots_new (watched_at new place) (standing_after by_name came) (has_failed came)
-first_visited told_in told by_name start snapshot place name text printer after slots slots_new old new came looks same fresh named unbroken looked leaves there =
-    let ways = ways_of by_name start in
-    subst (λ those. Visited told_in told ways looks snapshot place those printer slots after slots_new (watched_at new place) (standing_after by_name came) (has_failed came)) same
-    (subst (λ those. Visited told_in told ways those snapshot place text printer slots after slots_new (watched_at new place) (standing_after by_name came) (has_failed came)) (sym fresh) (record {
+first_visited : (told_in told : Bool) (ways : Ways) (snapshot : Snapshot) (place : ℕ) (name : List ℕ) (printer after : PrinterState) (slots slots_new : List Slot) (old new : List Watched) (came : Came) (looks : List Look) → (looks ≡ []) × (watched_at old place ≡ added name)
+    → Looked told_in told ways [] snapshot name printer slots after slots_new came → Leaves told_in snapshot (snapshot.leads name) place old new came → IsThere told_in (snapshot.leads name) came
+    → Visited told_in told ways looks snapshot place name printer slots after slots_new (watched_at new place) (standing_after ways.by_name came) (has_failed came)
+first_visited told_in told ways snapshot place name printer after slots slots_new old new came looks (fresh, new_name) looked leaves there =
+    subst (λ those. Visited told_in told ways those snapshot place name printer slots after slots_new (watched_at new place) (standing_after ways.by_name came) (has_failed came)) (sym fresh) (record {
       fate = looked.fate;
       share = looked.share;
-      is_share = λ is fates at. looked.is_share is fates ∙ ap (share_by ways text [] (record { snapshot = snapshot; fates = fates })) (sym at);
+      is_share = λ is fates at. looked.is_share is fates ∙ ap (share_by ways name [] (record { snapshot = snapshot; fates = fates })) (sym at);
       is_failed = looked.failed;
       shared = looked.shared;
-      stands = λ fates at. first_stands told_in ways snapshot place text old new came (record { snapshot = snapshot; fates = fates }) looked.fate refl (named ∙ sym same) unbroken leaves there looked.through at;
-    }))
+      stands = λ fates at. first_stands told_in ways snapshot place name old new came (record { snapshot = snapshot; fates = fates }) looked.fate refl (ap (λ (w : Watched). w.name) new_name) (ap (λ (w : Watched). w.is_broken) new_name) leaves there looked.through at;
+    })
 
-pub first_stopped : (told_in told : Bool) (ways : Ways) (snapshot : Snapshot) (place : ℕ) (name text : List ℕ) (printer : PrinterState) (slots slots_new : List Slot) (why : Fault) (looks : List Look) → text ≡ name → looks ≡ []
-    → Stopped told_in told ways [] snapshot text printer slots slots_new why → (is_dropped place looks ≡ false) × Stopped told_in told ways looks snapshot name printer slots slots_new why
-first_stopped told_in told ways snapshot place name text printer slots slots_new why looks same fresh stopped = (
-  ap (is_dropped place) fresh,
-  subst (λ those. Stopped told_in told ways those snapshot name printer slots slots_new why) (sym fresh) (subst (λ those. Stopped told_in told ways [] snapshot those printer slots slots_new why) same stopped),
+-- which file is open, whatever the files tell
+untold : (told : Bool) (snapshot : Snapshot) (led other : Option ℕ) (place : ℕ) (old new : List Watched) (came : Came) → Leaves told snapshot led place old new came → Leaves false snapshot other place old new came
+untold told snapshot led other place old new (Through len) (file, is, are) = (file, is, λ t. absurd (false≢true t))
+untold told snapshot led other place old new Missing (file, is, are) = (file, is, λ t. absurd (false≢true t))
+untold told snapshot led other place old new Dropped leaves = leaves
+
+pub first_looks : (told_in told : Bool) (ways : Ways) (snapshot : Snapshot) (place : ℕ) (name : List ℕ) (printer after : PrinterState) (slots slots_new : List Slot) (old new : List Watched) (came : Came)
+    → Looked told_in told ways [] snapshot name printer slots after slots_new came → Leaves told_in snapshot (snapshot.leads name) place old new came → IsThere told_in (snapshot.leads name) came
+    → Looks told_in told ways snapshot place name New old printer slots new after slots_new (Ok came)
+first_looks told_in told ways snapshot place name printer after slots slots_new old new came looked leaves there = record {
+  visited = λ looks stands keeps. first_visited told_in told ways snapshot place name printer after slots slots_new old new came looks stands looked leaves there;
+  stopped = tt;
+  leaves = untold told_in snapshot (snapshot.leads name) (snapshot.leads name) place old new came leaves;
+}
+
+-- what the first look leaves open, where the name leads to a file and where it leads nowhere
+pub opened_leaves : (told : Bool) (snapshot now : Snapshot) (old mid new : List Watched) (place : ℕ) (name : List ℕ) (is_there : Bool) (len : ℕ) → now ≡ snapshot → IsTrue (is_watchable old place) → Reopens told snapshot old mid place is_there → is_there ≡ true → (watched_at old place).name ≡ name → new ≡ mid
+    → (told ≡ true → len ≡ length (open_contents now (watched_at mid place))) → Leaves told snapshot (snapshot.leads name) place old new (Through len) × IsThere told (snapshot.leads name) (Through len)
+opened_leaves told snapshot now old mid new place name is_there len seen can reopens there named same long = (
+  (reopens.file, same ∙ reopens.names, λ t. (reopens.leads t ∙ ap snapshot.leads named, long t ∙ ap length (contents_led told snapshot now old mid place name is_there seen can reopens named t))),
+  λ t. ap is_some (sym (reopens.leads t ∙ ap snapshot.leads named)) ∙ reopens.found ∙ there,
 )
 
--- what stands before a visit, by how the name stands
+pub missing_leaves : (told : Bool) (snapshot : Snapshot) (old new : List Watched) (place : ℕ) (name : List ℕ) (is_there : Bool) → Reopens told snapshot old new place is_there → is_there ≡ false → (watched_at old place).name ≡ name → Leaves told snapshot (snapshot.leads name) place old new Missing
+missing_leaves told snapshot old new place name is_there reopens gone named =
+    (reopens.file, reopens.names, λ t. (reopens.leads t ∙ ap snapshot.leads named, sym (reopens.leads t ∙ ap snapshot.leads named) ∙ none_of reopens.file (reopens.found ∙ gone)))
 
-pub can_first : (name : NameState) (watched : Watched) → name.standing ≡ New → CanVisit name watched → (watched.name ≡ name.text) × (watched.is_broken ≡ false)
-can_first name watched fresh can = subst (λ those. CanVisit (record { text = name.text; standing = those }) watched) fresh can
+pub first_over : (told_in told : Bool) (ways : Ways) (snapshot : Snapshot) (place : ℕ) (name : List ℕ) (printer after : PrinterState) (slots slots_new : List Slot) (old new : List Watched) (why : Fault)
+    → Stopped told_in told ways [] snapshot name printer slots slots_new why → Looks told_in told ways snapshot place name New old printer slots new after slots_new (Err why)
+first_over told_in told ways snapshot place name printer after slots slots_new old new why stopped = record {
+  visited = tt;
+  stopped = λ looks stands keeps. (ap (is_dropped place) stands.0, subst (λ those. Stopped told_in told ways those snapshot name printer slots slots_new why) (sym stands.0) stopped);
+  leaves = tt;
+}
 
-pub can_later : (name : NameState) (watched : Watched) (position : ℕ) → name.standing ≡ Followed position → CanVisit name watched → (watched.name ≡ name.text) × (watched.is_broken ≡ false)
-can_later name watched position followed can = subst (λ those. CanVisit (record { text = name.text; standing = those }) watched) followed can
-
-pub fresh_of : (told : Bool) (ways : Ways) (looks : List Look) (place : ℕ) (name : List ℕ) (watched : Watched) (standing : Standing) → standing ≡ New → Stands told ways looks place name watched standing → looks ≡ []
-fresh_of told ways looks place name watched standing fresh stands = (subst (λ those. Stands told ways looks place name watched those) fresh stands).0
-
--- the same visit, with how the name was left
-pub visited_by : (told_in told : Bool) (ways : Ways) (looks : List Look) (snapshot : Snapshot) (place : ℕ) (name : List ℕ) (printer after : PrinterState) (slots slots_new : List Slot) (watched : List Watched) (old new : NameState) (by_name : Bool) (came : Came) (failed : Bool) → new ≡ record old { standing = standing_after by_name came } → failed ≡ has_failed came
-    → Visited told_in told ways looks snapshot place name printer slots after slots_new (watched_at watched place) (standing_after by_name came) (has_failed came)
-    → Visited told_in told ways looks snapshot place name printer slots after slots_new (watched_at watched place) new.standing failed
-visited_by told_in told ways looks snapshot place name printer after slots slots_new watched old new by_name came failed is failed_is visited =
-    subst (λ (those : NameState). Visited told_in told ways looks snapshot place name printer slots after slots_new (watched_at watched place) those.standing failed) (sym is)
-    (subst (λ those. Visited told_in told ways looks snapshot place name printer slots after slots_new (watched_at watched place) (standing_after by_name came) those) (sym failed_is) visited)
-
--- a later look
-
-pub followed_at : (told : Bool) (ways : Ways) (looks : List Look) (place : ℕ) (name : List ℕ) (watched : Watched) (standing : Standing) (position : ℕ) → standing ≡ Followed position → Stands told ways looks place name watched standing → IsFollowed told ways looks place name watched position
-followed_at told ways looks place name watched standing position followed stands = subst (λ those. Stands told ways looks place name watched those) followed stands
+-- what stopped the first look is told, or ends following
+pub first_fails : (told_in told : Bool) (ways : Ways) (snapshot : Snapshot) (place : ℕ) (name : List ℕ) (printer after : PrinterState) (slots mid slots_new : List Slot) (old new : List Watched) (stop : Stop) (result : Result Came Fault)
+    → LooksFirst told_in told ways.start snapshot place name printer slots after mid (Err stop) → Follows {T = ℕ} told_in (snapshot.leads name) place old new (Err stop) → TellsStop told name mid slots_new stop result
+    → Looks told_in told ways snapshot place name New old printer slots new after slots_new result
+first_fails told_in told ways snapshot place name printer after slots mid slots_new old new (Broke why) result looks follows (is, says) =
+    subst (λ those. Looks told_in told ways snapshot place name New old printer slots new after slots_new those) (sym is)
+    (first_looks told_in told ways snapshot place name printer after slots slots_new old new Dropped (meets_broken told_in told ways snapshot place name printer after slots mid slots_new why looks says) (follows.0, follows.1) tt)
+first_fails told_in told ways snapshot place name printer after slots mid slots_new old new (Over why) result looks follows (is, same) =
+    subst (λ those. Looks told_in told ways snapshot place name New old printer slots new after slots_new those) (sym is)
+    (first_over told_in told ways snapshot place name printer after slots slots_new old new why (subst (λ those. Stopped told_in told ways [] snapshot name printer slots those why) (sym same) (meets_stop told_in told ways snapshot place name printer after slots mid why looks)))
 
 later_stands : (told : Bool) (ways : Ways) (before : Look) (looks : List Look) (snapshot : Snapshot) (place : ℕ) (name : List ℕ) (position : ℕ) (old new : List Watched) (came : Came) (look : Look) (fate : Fate) → look.snapshot ≡ snapshot → IsFollowed told ways (before ∷ looks) place name (watched_at old place) position
     → Leaves told snapshot (open_after_look ways.by_name name (watched_at old place).opened snapshot) place old new came → IsLater came → is_sound fate ≡ came_through came → fate_at place look ≡ fate
@@ -198,39 +215,103 @@ later_share_of ways before looks look place name fate kept at =
     ap (share_by ways name (before ∷ looks) look) (sym at)
     ∙ ap (λ test. if test then no_share name else share_by ways name (before ∷ looks) look (fate_at place look)) (sym kept)
 
--- the callee's clause, at the looks that were made
-pub later_visited : (told_in told by_name : Bool) (ways : Ways) (snapshot : Snapshot) (place : ℕ) (name text : List ℕ) (position : ℕ) (printer after : PrinterState) (slots slots_new : List Slot) (old new : List Watched) (came : Came) (looks : List Look) → text ≡ name → ways.by_name ≡ by_name → IsFollowed told_in ways looks place name (watched_at old place) position → KeepsBytes told_in ways looks snapshot name
-    → ((ways : Ways) (before : Look) (looks : List Look) → ways.by_name ≡ by_name → (told_in ≡ true → IsReady ways (before ∷ looks) snapshot text (watched_at old place).opened position) → Looked told_in told ways (before ∷ looks) snapshot text printer slots after slots_new came)
-    → ((ways : Ways) (before : Look) (looks : List Look) → ways.by_name ≡ by_name → (told_in ≡ true → IsReady ways (before ∷ looks) snapshot text (watched_at old place).opened position) → Leaves told_in snapshot (open_after_look by_name text (watched_at old place).opened snapshot) place old new came)
+-- the looks that were made are not none
+later_visited : (told_in told : Bool) (ways : Ways) (snapshot : Snapshot) (place : ℕ) (name : List ℕ) (position : ℕ) (printer after : PrinterState) (slots slots_new : List Slot) (old new : List Watched) (came : Came) (looks : List Look) → IsFollowed told_in ways looks place name (watched_at old place) position → KeepsBytes told_in ways looks snapshot name
+    → ((before : Look) (looks : List Look) → (told_in ≡ true → IsReady ways (before ∷ looks) snapshot name (watched_at old place).opened position)
+    → Looked told_in told ways (before ∷ looks) snapshot name printer slots after slots_new came × Leaves told_in snapshot (open_after_look ways.by_name name (watched_at old place).opened snapshot) place old new came)
     → IsLater came
-    → Visited told_in told ways looks snapshot place name printer slots after slots_new (watched_at new place) (standing_after by_name came) (has_failed came)
-later_visited told_in told by_name ways snapshot place name text position printer after slots slots_new old new came [] same way followed keeps looked leaves later = absurd (false≢true (sym followed.begun))
-later_visited told_in told by_name ways snapshot place name text position printer after slots slots_new old new came (before ∷ looks) same way followed keeps looked leaves later =
-    let ready : told_in ≡ true → IsReady ways (before ∷ looks) snapshot text (watched_at old place).opened position = λ t.
-    subst (λ those. IsReady ways (before ∷ looks) snapshot those (watched_at old place).opened position) (sym same) (record { stands = followed.stands t; kept = keeps t }) in
-    let one : Looked told_in told ways (before ∷ looks) snapshot name printer slots after slots_new came = subst (λ those. Looked told_in told ways (before ∷ looks) snapshot those printer slots after slots_new came) same (looked ways before looks way ready) in
-    let left : Leaves told_in snapshot (open_after_look ways.by_name name (watched_at old place).opened snapshot) place old new came =
-    subst (λ those. Leaves told_in snapshot (open_after_look those name (watched_at old place).opened snapshot) place old new came) (sym way)
-    (subst (λ those. Leaves told_in snapshot (open_after_look by_name those (watched_at old place).opened snapshot) place old new came) same (leaves ways before looks way ready)) in
+    → Visited told_in told ways looks snapshot place name printer slots after slots_new (watched_at new place) (standing_after ways.by_name came) (has_failed came)
+later_visited told_in told ways snapshot place name position printer after slots slots_new old new came [] followed keeps made later = absurd (false≢true (sym followed.begun))
+later_visited told_in told ways snapshot place name position printer after slots slots_new old new came (before ∷ looks) followed keeps made later =
+    let both = made before looks (λ t. record { stands = followed.stands t; kept = keeps t }) in
+    let one : Looked told_in told ways (before ∷ looks) snapshot name printer slots after slots_new came = both.0 in
     record {
       fate = one.fate;
       share = one.share;
       is_share = λ is fates at. one.is_share is fates ∙ later_share_of ways before looks (record { snapshot = snapshot; fates = fates }) place name one.fate followed.kept at;
       is_failed = one.failed;
       shared = one.shared;
-      stands = λ fates at. subst (λ those. Stands told_in ways ((before ∷ looks) ++ record { snapshot = snapshot; fates = fates } ∷ []) place name (watched_at new place) (standing_after those came)) way
-          (later_stands told_in ways before looks snapshot place name position old new came (record { snapshot = snapshot; fates = fates }) one.fate refl followed left later one.through at);
+      stands = λ fates at. later_stands told_in ways before looks snapshot place name position old new came (record { snapshot = snapshot; fates = fates }) one.fate refl followed both.1 later one.through at;
     }
 
-pub later_stopped : (told_in told by_name : Bool) (ways : Ways) (snapshot : Snapshot) (place : ℕ) (name text : List ℕ) (position : ℕ) (watched : Watched) (printer : PrinterState) (slots slots_new : List Slot) (why : Fault) (looks : List Look) → text ≡ name → ways.by_name ≡ by_name → IsFollowed told_in ways looks place name watched position → KeepsBytes told_in ways looks snapshot name
-    → ((ways : Ways) (before : Look) (looks : List Look) → ways.by_name ≡ by_name → (told_in ≡ true → IsReady ways (before ∷ looks) snapshot text watched.opened position) → Stopped told_in told ways (before ∷ looks) snapshot text printer slots slots_new why)
+later_stopped : (told_in told : Bool) (ways : Ways) (snapshot : Snapshot) (place : ℕ) (name : List ℕ) (position : ℕ) (watched : Watched) (printer : PrinterState) (slots slots_new : List Slot) (why : Fault) (looks : List Look) → IsFollowed told_in ways looks place name watched position → KeepsBytes told_in ways looks snapshot name
+    → ((before : Look) (looks : List Look) → (told_in ≡ true → IsReady ways (before ∷ looks) snapshot name watched.opened position) → Stopped told_in told ways (before ∷ looks) snapshot name printer slots slots_new why)
     → (is_dropped place looks ≡ false) × Stopped told_in told ways looks snapshot name printer slots slots_new why
-later_stopped told_in told by_name ways snapshot place name text position watched printer slots slots_new why [] same way followed keeps stopped = absurd (false≢true (sym followed.begun))
-later_stopped told_in told by_name ways snapshot place name text position watched printer slots slots_new why (before ∷ looks) same way followed keeps stopped = (
-  followed.kept,
-  subst (λ those. Stopped told_in told ways (before ∷ looks) snapshot those printer slots slots_new why) same
-      (stopped ways before looks way (λ t. subst (λ those. IsReady ways (before ∷ looks) snapshot those watched.opened position) (sym same) (record { stands = followed.stands t; kept = keeps t }))),
-)
+later_stopped told_in told ways snapshot place name position watched printer slots slots_new why [] followed keeps stopped = absurd (false≢true (sym followed.begun))
+later_stopped told_in told ways snapshot place name position watched printer slots slots_new why (before ∷ looks) followed keeps stopped =
+    (followed.kept, stopped before looks (λ t. record { stands = followed.stands t; kept = keeps t }))
+
+pub again_through : (told_in told : Bool) (ways : Ways) (snapshot : Snapshot) (place : ℕ) (name : List ℕ) (position : ℕ) (old new : List Watched) (printer after : PrinterState) (slots slots_new : List Slot) (len : ℕ)
+    → LooksAgain told_in told ways.by_name snapshot place name position old printer slots new after slots_new (Ok len)
+    → Looks told_in told ways snapshot place name (Followed position) old printer slots new after slots_new (Ok (Through len))
+again_through told_in told ways snapshot place name position old new printer after slots slots_new len again = record {
+  visited = λ looks stands keeps. later_visited told_in told ways snapshot place name position printer after slots slots_new old new (Through len) looks stands keeps (λ before looks ready. (
+    again_whole told_in told ways before looks snapshot name (watched_at old place).opened position ways.by_name printer after slots slots_new len refl ready (again.ends (last_in ways name before looks) (λ t. (ready t).stands)),
+    (again.follows.0, again.follows.1, λ t. (again.follows.2 t, again.len t (last_in ways name before looks) (ready t).stands)),
+  )) tt;
+  stopped = tt;
+  leaves = (again.follows.0, again.follows.1, λ t. absurd (false≢true t));
+}
+
+-- what stopped it is told, or ends following
+pub again_fails : (told_in told : Bool) (ways : Ways) (snapshot : Snapshot) (place : ℕ) (name : List ℕ) (position : ℕ) (old new : List Watched) (printer after : PrinterState) (slots mid slots_new : List Slot) (stop : Stop) (result : Result Came Fault)
+    → LooksAgain told_in told ways.by_name snapshot place name position old printer slots new after mid (Err stop) → TellsStop told name mid slots_new stop result
+    → Looks told_in told ways snapshot place name (Followed position) old printer slots new after slots_new result
+again_fails told_in told ways snapshot place name position old new printer after slots mid slots_new (Broke why) result again (is, says) =
+    subst (λ those. Looks told_in told ways snapshot place name (Followed position) old printer slots new after slots_new those) (sym is) (record {
+      visited = λ looks stands keeps. later_visited told_in told ways snapshot place name position printer after slots slots_new old new Dropped looks stands keeps (λ before looks ready. (
+        again_broke told_in told ways before looks snapshot place name (watched_at old place).opened position ways.by_name printer after slots mid slots_new why refl ready again.follows.2 (again.ends (last_in ways name before looks) (λ t. (ready t).stands)) says,
+        (again.follows.0, again.follows.1),
+      )) tt;
+      stopped = tt;
+      leaves = (again.follows.0, again.follows.1);
+    })
+again_fails told_in told ways snapshot place name position old new printer after slots mid slots_new (Over why) result again (is, same) =
+    subst (λ those. Looks told_in told ways snapshot place name (Followed position) old printer slots new after slots_new those) (sym is) (record {
+      visited = tt;
+      stopped = λ looks stands keeps. later_stopped told_in told ways snapshot place name position (watched_at old place) printer slots slots_new why looks stands keeps (λ before looks ready.
+          subst (λ those. Stopped told_in told ways (before ∷ looks) snapshot name printer slots those why) (sym same)
+          (again_over told_in told ways before looks snapshot name (watched_at old place).opened position ways.by_name printer after slots mid why refl ready (again.ends (last_in ways name before looks) (λ t. (ready t).stands))));
+      leaves = tt;
+    })
+
+-- what stands before a visit, by how the name stands
+pub can_first : (name : NameState) (watched : Watched) → name.standing ≡ New → CanVisit name watched → (watched.name ≡ name.text) × (watched.is_broken ≡ false)
+can_first name watched fresh can = subst (λ those. CanVisit (record { text = name.text; standing = those }) watched) fresh can
+
+pub can_later : (name : NameState) (watched : Watched) (position : ℕ) → name.standing ≡ Followed position → CanVisit name watched → (watched.name ≡ name.text) × (watched.is_broken ≡ false)
+can_later name watched position followed can = subst (λ those. CanVisit (record { text = name.text; standing = those }) watched) followed can
+
+-- the name itself, after the look
+pub visit_made : (told_in told : Bool) (ways : Ways) (snapshot : Snapshot) (place : ℕ) (text : List ℕ) (standing : Standing) (old new : NameState) (watched watched_new : List Watched) (printer after : PrinterState) (slots slots_new : List Slot) (came : Came) (failed : Bool)
+    → text ≡ old.text → old.standing ≡ standing → (watched_at watched place).name ≡ old.text → (watched_at watched place).is_broken ≡ false → new ≡ record old { standing = standing_after ways.by_name came } → failed ≡ has_failed came
+    → Looks told_in told ways snapshot place text standing watched printer slots watched_new after slots_new (Ok came)
+    → Visits told_in told ways snapshot place old watched printer slots new watched_new after slots_new (Ok failed)
+visit_made told_in told ways snapshot place text standing old new watched watched_new printer after slots slots_new came failed same stood named unbroken is failed_is looks =
+    subst (λ (those : NameState). Visits told_in told ways snapshot place old watched printer slots those watched_new after slots_new (Ok failed)) (sym is)
+    (subst (λ those. Visits told_in told ways snapshot place old watched printer slots (record old { standing = standing_after ways.by_name came }) watched_new after slots_new (Ok those)) (sym failed_is) (record {
+      visited = seen.visited;
+      stopped = tt;
+      same = refl;
+      ready = can_again false ways.by_name snapshot (snapshot.leads old.text) place old.text watched watched_new came named unbroken seen.leaves;
+      others = leaves_others false snapshot (snapshot.leads old.text) place watched watched_new came seen.leaves;
+    })) where
+      seen : Looks told_in told ways snapshot place old.text old.standing watched printer slots watched_new after slots_new (Ok came)
+      seen = subst (λ those. Looks told_in told ways snapshot place old.text those watched printer slots watched_new after slots_new (Ok came)) (sym stood)
+          (subst (λ those. Looks told_in told ways snapshot place those standing watched printer slots watched_new after slots_new (Ok came)) same looks)
+
+pub visit_over : (told_in told : Bool) (ways : Ways) (snapshot : Snapshot) (place : ℕ) (text : List ℕ) (standing : Standing) (old new : NameState) (watched watched_new : List Watched) (printer after : PrinterState) (slots slots_new : List Slot) (why : Fault)
+    → text ≡ old.text → old.standing ≡ standing → new ≡ old
+    → Looks told_in told ways snapshot place text standing watched printer slots watched_new after slots_new (Err why)
+    → Visits told_in told ways snapshot place old watched printer slots new watched_new after slots_new (Err why)
+visit_over told_in told ways snapshot place text standing old new watched watched_new printer after slots slots_new why same stood is looks = record {
+  visited = tt;
+  stopped = (subst (λ those. Looks told_in told ways snapshot place old.text those watched printer slots watched_new after slots_new (Err why)) (sym stood)
+      (subst (λ those. Looks told_in told ways snapshot place those standing watched printer slots watched_new after slots_new (Err why)) same looks)).stopped;
+  same = ap (λ (those : NameState). those.text) is;
+  ready = tt;
+  others = tt;
+}
 
 -- a name that is looked at no more
 
@@ -279,7 +360,7 @@ still_left told ways (before ∷ looks) look place name watched fine left = reco
 left_at : (told : Bool) (ways : Ways) (looks : List Look) (place : ℕ) (name : List ℕ) (watched : Watched) (standing : Standing) → standing ≡ Left → Stands told ways looks place name watched standing → IsLeft told ways looks place name watched
 left_at told ways looks place name watched standing left stands = subst (λ those. Stands told ways looks place name watched those) left stands
 
-pub left_visited : (told_in told : Bool) (ways : Ways) (snapshot : Snapshot) (place : ℕ) (name : List ℕ) (printer : PrinterState) (slots : List Slot) (watched : Watched) (standing : Standing) (looks : List Look) → standing ≡ Left → Stands told_in ways looks place name watched standing → KeepsBytes told_in ways looks snapshot name
+left_visited : (told_in told : Bool) (ways : Ways) (snapshot : Snapshot) (place : ℕ) (name : List ℕ) (printer : PrinterState) (slots : List Slot) (watched : Watched) (standing : Standing) (looks : List Look) → standing ≡ Left → Stands told_in ways looks place name watched standing → KeepsBytes told_in ways looks snapshot name
     → Visited told_in told ways looks snapshot place name printer slots printer slots watched standing false
 left_visited told_in told ways snapshot place name printer slots watched standing looks is stands keeps =
     let left = left_at told_in ways looks place name watched standing is stands in
@@ -291,3 +372,13 @@ left_visited told_in told ways snapshot place name printer slots watched standin
       shared = empty_shared told printer printer name slots slots refl refl;
       stands = λ fates at. subst (λ those. Stands told_in ways (looks ++ record { snapshot = snapshot; fates = fates } ∷ []) place name watched those) (sym is) (still_left told_in ways looks (record { snapshot = snapshot; fates = fates }) place name watched at left);
     }
+
+pub visit_left : (told_in told : Bool) (ways : Ways) (snapshot : Snapshot) (place : ℕ) (name : NameState) (watched : List Watched) (printer : PrinterState) (slots : List Slot) → name.standing ≡ Left → CanVisit name (watched_at watched place)
+    → Visits told_in told ways snapshot place name watched printer slots name watched printer slots (Ok false)
+visit_left told_in told ways snapshot place name watched printer slots left can = record {
+  visited = λ looks stands keeps. left_visited told_in told ways snapshot place name.text printer slots (watched_at watched place) name.standing looks left stands keeps;
+  stopped = tt;
+  same = refl;
+  ready = can;
+  others = record { count = refl; others = λ other differs. refl };
+}

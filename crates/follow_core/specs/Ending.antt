@@ -38,15 +38,6 @@ pub record Made (told_in : Bool) (ways : Ways) (names : List (List ℕ)) (shows 
 abbrev pub AreBroken : List Look → List (List ℕ) → List Watched → Type 0
 AreBroken looks names watched = (0 < length looks → length watched ≡ length names) × ((place : ℕ) → place < length names → is_dropped place looks ≡ true → (watched_at watched place).is_broken ≡ true)
 
--- As many looks were made, or those after which nothing more can come, and no others; and the outputs have what they give.
-pub record LookedAll (told_in told : Bool) (ways : Ways) (headers : Bool) (names : List (List ℕ)) (count : ℕ) (shows : ℕ → Snapshot) (first : List Slot) (follow : FollowState) (seen : List Snapshot) (watched : List Watched) (slots : List Slot) : Type 0 where
-  pub looks : List Look
-  pub observed : seen ≡ snapshots looks
-  pub made : Made told_in ways names shows looks
-  pub within : length looks ≤ count
-  pub over : length looks < count → (0 < length looks) × (told_in ≡ true → is_alive ways names looks ≡ false)
-  pub holds : Holds told_in told ways headers names looks first follow watched slots
-
 -- The look after these was stopped by a fault, and no other was made.
 pub record StoppedIn (told_in told : Bool) (ways : Ways) (headers : Bool) (names : List (List ℕ)) (count : ℕ) (shows : ℕ → Snapshot) (first : List Slot) (seen : List Snapshot) (slots : List Slot) (why : Fault) : Type 0 where
   pub looks : List Look

@@ -8,15 +8,9 @@ pub mod Followed
 pub mod Placing
 pub mod Telling
 pub mod Printing
-pub mod Copying
-pub mod Giving
-pub mod Catching
-pub mod Changing
-pub mod Again
 pub mod Sharing
-pub mod First
-pub mod Looked
 pub mod Standing
 pub mod Visited
 pub mod FollowState
 pub mod Ending
+pub mod inner

@@ -38,10 +38,3 @@ printer_under printer name bytes = if is_due printer name bytes then record prin
 pub data Short (told : Bool) (text : List ℕ) (old new : List Slot) : Fault → Type 0 where
   broke : (n : ℕ) → BrokeAfter told old new 0 text n → Short told text old new (fault.Write 0)
   no_room : (n : ℕ) → n ≤ length text → new ≡ with_written 0 (told_of told (take n text)) old → Short told text old new fault.Memory
-
--- the header that stands before a file as it is opened first
-abbrev pub opening_under : PrinterState → List ℕ → List ℕ
-opening_under printer name = if printer.headers then header_under printer name else []
-
-abbrev pub opened_under : PrinterState → List ℕ → PrinterState
-opened_under printer name = if printer.headers then record printer { last = Some name } else printer

@@ -1,5 +1,5 @@
 -- What one look gives for one name.
-use Rattle.std.specs.Prelude.{ℕ, ◌+◌, Bool, true, false, ◌&&◌, List, [], ◌∷◌, ◌++◌, length, take, drop, map, if◌then◌else◌}
+use Rattle.std.specs.Prelude.{◌≡◌, ℕ, ◌+◌, Bool, true, false, ◌&&◌, List, [], ◌∷◌, ◌++◌, length, take, drop, map, if◌then◌else◌}
 use Rattle.ports_core.specs.Text.{message_of}
 use Rattle.ports_core.specs.declared.tool.Tool.TheVariants.{Tail}
 use Rattle.ports_core.specs.declared.fault.Fault.TheVariants.{Open, Read}
@@ -71,3 +71,13 @@ shares_from ways names before (look ∷ looks) = shares_at_look ways names befor
 -- what all looks give, look by look and at each for the names in order
 abbrev pub shares_of : Ways → List (List ℕ) → List Look → List Share
 shares_of ways names looks = shares_from ways names [] looks
+
+abbrev pub IsFront : {X : Type 0} → List X → List X → Type 0
+IsFront {X} front whole = (rest : List X) × (whole ≡ front ++ rest)
+
+-- this share begins as that one
+pub record BeginsShare (part whole : Share) : Type 0 where
+  pub name : part.name ≡ whole.name
+  pub opened : part.is_opened ≡ whole.is_opened
+  pub bytes : IsFront part.bytes whole.bytes
+  pub messages : IsFront part.messages whole.messages

@@ -1,12 +1,12 @@
 -- How what a look gives for a name comes to the outputs: text to standard output, under a header where one is due, and lines to
 -- standard error.
-use Rattle.std.specs.Prelude.{◌≡◌, ℕ, Bool, List, ◌∷◌}
-use Rattle.ports_core.specs.Slot.{Slot, adds, told_of}
+use Rattle.std.specs.Prelude.{◌≡◌, ℕ, Bool, true, List, ◌∷◌, IsTrue}
+use Rattle.ports_core.specs.Slot.{Slot, adds, is_open, is_writable, slot_at, told_of}
 use Rattle.follow_core.specs.Telling.{TellsAll}
-use Rattle.ports_core.specs.declared.fault.Fault.{Fault}
 use Rattle.follow_core.specs.Followed.{header_after, last_header_from, messages_of, share_text, text_from}
 use Rattle.follow_core.specs.Printing.{PrinterState, Short}
 use Rattle.follow_core.specs.Share.{Share}
+use Rattle.ports_core.specs.declared.fault.Fault.{Fault}
 
 -- this text came to standard output, and these lines to standard error; no other output changed
 abbrev pub Wrote : Bool → List ℕ → List (List ℕ) → List Slot → List Slot → Type 0
@@ -18,15 +18,6 @@ abbrev pub WroteShort : Bool → List ℕ → List (List ℕ) → List Slot → 
 WroteShort told text lines old new fault = (output error : Slot) (others : List Slot) → old ≡ output ∷ error ∷ others
     → (error_after : Slot) × TellsAll told lines error error_after × Short told text (output ∷ error_after ∷ others) new fault
 
--- all of a share came there
-pub record Shared (told : Bool) (printer : PrinterState) (share : Share) (old : List Slot) (after : PrinterState) (new : List Slot) : Type 0 where
-  pub printer_is : after ≡ record printer { last = header_after printer.headers printer.last share }
-  pub slots : Wrote told (share_text printer.headers printer.last share) share.messages old new
-
--- a beginning of it did
-pub record SharedShort (told : Bool) (printer : PrinterState) (share : Share) (old new : List Slot) (fault : Fault) : Type 0 where
-  pub slots : WroteShort told (share_text printer.headers printer.last share) share.messages old new fault
-
 -- all shares came there, one after another
 pub record AllShared (told : Bool) (printer : PrinterState) (shares : List Share) (old : List Slot) (after : PrinterState) (new : List Slot) : Type 0 where
   pub printer_is : after ≡ record printer { last = last_header_from printer.headers printer.last shares }
@@ -35,3 +26,11 @@ pub record AllShared (told : Bool) (printer : PrinterState) (shares : List Share
 -- a beginning of them did
 pub record AllShort (told : Bool) (printer : PrinterState) (shares : List Share) (old new : List Slot) (fault : Fault) : Type 0 where
   pub slots : WroteShort told (text_from printer.headers printer.last shares) (messages_of shares) old new fault
+
+-- standard error is open, broken or not
+abbrev pub HasError : List Slot → Type 0
+HasError slots = is_open (slot_at slots 1).state ≡ true
+
+-- and standard output can be written
+abbrev pub CanPrint : List Slot → Type 0
+CanPrint slots = IsTrue (is_writable slots 0) × HasError slots

@@ -1,16 +1,15 @@
 -- How a name stands between two looks.
-use Rattle.std.specs.Prelude.{◌≡◌, ◌<◌, ℕ, Bool, true, false, ◌||◌, List, [], ◌∷◌, ◌++◌, None, ◌⊎◌, length, map, slice_index_or, if◌then◌else◌}
+use Rattle.std.specs.Prelude.{◌≡◌, ◌<◌, ℕ, Bool, true, false, ◌||◌, List, [], ◌∷◌, ◌++◌, Option, None, ◌⊎◌, length, map, slice_index_or, if◌then◌else◌}
 use Rattle.watch_core.specs.Snapshot.{Snapshot}
 use Rattle.watch_core.specs.Watched.{Watched, added, is_some, watched_at}
-use Rattle.follow_core.specs.declared.meeting.Came.{Came}
-use Rattle.follow_core.specs.declared.meeting.Came.TheVariants.{Through, Missing, Dropped}
+use Rattle.follow_core.specs.declared.visitor.Came.{Came}
+use Rattle.follow_core.specs.declared.visitor.Came.TheVariants.{Through, Missing, Dropped}
 use Rattle.follow_core.specs.declared.name.Standing.{Standing}
 use Rattle.follow_core.specs.declared.name.Standing.TheVariants.{New, Followed, Left}
-use Rattle.follow_core.specs.Again.{StandsAt}
-use Rattle.follow_core.specs.Gain.{last_of}
+use Rattle.follow_core.specs.Gain.{file_of, last_of, seen_length}
 use Rattle.follow_core.specs.Look.{Look, Ways, entries_in, is_dropped, is_first, snapshots}
 use Rattle.follow_core.specs.Run.{AreKept}
-use Rattle.follow_core.specs.Version.{open_after}
+use Rattle.follow_core.specs.Version.{Entry, open_after}
 
 pub record NameState : Type 0 where
   pub text : List ℕ
@@ -33,6 +32,11 @@ CanVisit name watched = elim name.standing [
   | Followed position ↦ (watched.name ≡ name.text) × (watched.is_broken ≡ false)
   | Left ↦ Unit {0}
 ]
+
+-- a name stands at this entry: its file is the open one, and so much of it was seen
+pub record StandsAt (last : Entry) (opened : Option ℕ) (position : ℕ) : Type 0 where
+  pub file : opened ≡ file_of last
+  pub seen : position ≡ seen_length last
 
 -- It is looked at again: its open file is that of the last entry, and this much of it was seen.
 pub record IsFollowed (told : Bool) (ways : Ways) (looks : List Look) (place : ℕ) (name : List ℕ) (watched : Watched) (position : ℕ) : Type 0 where
@@ -71,20 +75,3 @@ KeepsBytes told ways looks snapshot name = told ≡ true → AreKept (entries_in
 -- that is so of all these names
 abbrev pub AllKeep : Bool → Ways → List Look → Snapshot → List (List ℕ) → Type 0
 AllKeep told ways looks snapshot names = (place : ℕ) → place < length names → KeepsBytes told ways looks snapshot (slice_index_or names place [])
-
--- how it stands after a look that it came through so
-abbrev pub standing_after : (by_name : Bool) → Came → Standing
-standing_after by_name (Through len) = Followed len
-standing_after by_name Missing = if by_name then Followed 0 else Left
-standing_after by_name Dropped = Left
-
--- a further look can give something of it
-abbrev pub goes_on_as : (by_name : Bool) → Standing → Bool
-goes_on_as by_name New = by_name
-goes_on_as by_name (Followed position) = true
-goes_on_as by_name Left = false
-
--- of one of these names
-abbrev pub any_goes_on : (by_name : Bool) → List NameState → Bool
-any_goes_on by_name [] = false
-any_goes_on by_name (name ∷ names) = goes_on_as by_name name.standing || any_goes_on by_name names

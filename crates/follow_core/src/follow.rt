@@ -2,23 +2,18 @@
 ghost use Rattle.std.specs.Prelude.{◌≡◌, ◌<◌, ◌∷◌, ◌++◌, [], ℕ, Bool, List, true, length, map, Err, IfOk, IfErr, OnOk};
 ghost use Rattle.ports_core.specs.Slot.{Slot};
 ghost use Rattle.watch_core.specs.Watched.{Watched};
-ghost use Rattle.follow_core.specs.Catching.{CanPrint, HasError};
-ghost use Rattle.follow_core.specs.FollowState.{AllReady, CanLook, FollowState, Holds, LooksOn, SawOrNot, StopsOn, is_alive, opened_follow};
+ghost use Rattle.follow_core.specs.Sharing.{CanPrint, HasError};
+ghost use Rattle.follow_core.specs.inner.Looking.{Begins, CanBegin, MakesLook};
+ghost use Rattle.follow_core.specs.FollowState.{CanLook, FollowState, Holds, LooksOn, SawOrNot, StopsOn, is_alive, opened_follow};
 ghost use Rattle.follow_core.specs.Look.{Look, Ways};
-ghost use Rattle.follow_core.specs.Standing.{any_goes_on};
 
-use crate::adding::{add_all, new_names};
-use crate::name::Name;
-use crate::printer::Printer;
+use crate::name::{Name, add_all, any_goes_on, new_names, visit_all};
 use crate::start::Start;
-use crate::visiting::visit_all;
+use crate::visitor::Visitor;
 use ports_core::{Fault, Outs};
 use std::alloc::Global;
 use std::marker::Model;
 use watch_core::Watch;
-
-/// How many bytes are read at once, at the most.
-const PIECE: usize = 65_536;
 
 /// Where following stands.
 #[derive(Clone, Copy, Debug, PartialEq, Eq)]
@@ -38,22 +33,18 @@ pub enum Stage {
 /// It keeps the names and one buffer of 65,536 bytes; of a file only how many bytes were seen.
 #[derive(Drop)]
 pub struct Follow {
-    alloc: Global,
     by_name: bool,
     start: Start,
     names: Vec<Name>,
-    printer: Printer,
+    visitor: Visitor,
     stage: Stage,
     has_failed: bool,
-    buffer: Vec<u8>,
 }
 
 impl Model for Follow {
     ghost Value = { FollowState };
 
-    ghost view = { λ f. record { by_name = f.by_name; start = f.start; names = f.names.items; printer = f.printer; stage = f.stage; has_failed = f.has_failed } };
-
-    ghost invariant = { λ f. 0 < length f.buffer.items };
+    ghost view = { λ f. record { by_name = f.by_name; start = f.start; names = f.names.items; printer = f.visitor; stage = f.stage; has_failed = f.has_failed } };
 }
 
 impl Follow {
@@ -75,14 +66,12 @@ impl Follow {
         ensures err { IfErr result (λ fault. fault ≡ Fault.Memory) }
     {
         Ok(Follow {
-            alloc,
             by_name,
             start,
             names: new_names(alloc, names)?,
-            printer: Printer::new(alloc, headers),
+            visitor: Visitor::new(alloc, headers)?,
             stage: Stage::Fresh,
             has_failed: false,
-            buffer: vec![in alloc; 0u8; PIECE]?,
         })
     }
 
@@ -146,79 +135,22 @@ impl Follow {
     fn make_look<W: Watch, O: Outs>(&mut self, watch: &mut W, outs: &mut O) -> Result<(), Fault>
         requires live { self.old.stage ≡ Stage.Over → ⊥ }
         requires can { CanLook self.old (W.watched watch.old) (O.slots outs.old) }
-        ensures looked { OnOk result (LooksOn W.told O.told (W.shows watch.old (length (W.seen watch.old))) self.old (W.watched watch.old) (O.slots outs.old) self.new (W.watched watch.new) (O.slots outs.new)) }
-        ensures stopped { IfErr result (StopsOn W.told O.told (W.shows watch.old (length (W.seen watch.old))) self.old (W.watched watch.old) (O.slots outs.old) (O.slots outs.new)) }
-        ensures seen { OnOk result (W.seen watch.new ≡ W.seen watch.old ++ W.shows watch.old (length (W.seen watch.old)) ∷ []) }
-        ensures saw { IfErr result (λ _. SawOrNot (W.seen watch.old) (W.shows watch.old (length (W.seen watch.old))) (W.seen watch.new)) }
-        ensures stage { OnOk result (self.new.stage ≡ Stage.Looking) }
-        ensures ready { OnOk result (AllReady self.new.names (W.watched watch.new)) }
-        ensures can { OnOk result (CanPrint (O.slots outs.new)) }
-        ensures error { HasError (O.slots outs.old) → HasError (O.slots outs.new) }
+        ensures makes { MakesLook W.told O.told (W.shows watch.old (length (W.seen watch.old))) (W.seen watch.old) self.old (W.watched watch.old) (O.slots outs.old) (W.seen watch.new) self.new (W.watched watch.new) (O.slots outs.new) result }
+        ensures error { HasError (O.slots outs.new) }
         ensures shows { W.shows watch.new ≡ W.shows watch.old }
     {
-        match self.stage {
-            Stage::Fresh => self.look_first(watch, outs),
-            // It isn't over, by what is required.
-            Stage::Looking | Stage::Over => self.look_on(watch, outs),
-        }
-    }
-
-    /// The first look: the names are added before it.
-    ///
-    /// # Errors
-    ///
-    /// As `look`.
-    fn look_first<W: Watch, O: Outs>(&mut self, watch: &mut W, outs: &mut O) -> Result<(), Fault>
-        requires fresh { self.old.stage ≡ Stage.Fresh }
-        requires unwatched { W.watched watch.old ≡ [] }
-        requires can { CanPrint (O.slots outs.old) }
-        ensures looked { OnOk result (LooksOn W.told O.told (W.shows watch.old (length (W.seen watch.old))) self.old (W.watched watch.old) (O.slots outs.old) self.new (W.watched watch.new) (O.slots outs.new)) }
-        ensures stopped { IfErr result (StopsOn W.told O.told (W.shows watch.old (length (W.seen watch.old))) self.old (W.watched watch.old) (O.slots outs.old) (O.slots outs.new)) }
-        ensures seen { OnOk result (W.seen watch.new ≡ W.seen watch.old ++ W.shows watch.old (length (W.seen watch.old)) ∷ []) }
-        ensures saw { IfErr result (λ _. SawOrNot (W.seen watch.old) (W.shows watch.old (length (W.seen watch.old))) (W.seen watch.new)) }
-        ensures stage { OnOk result (self.new.stage ≡ Stage.Looking) }
-        ensures ready { OnOk result (AllReady self.new.names (W.watched watch.new)) }
-        ensures can { OnOk result (CanPrint (O.slots outs.new)) }
-        ensures error { IfErr result (λ _. HasError (O.slots outs.new)) }
-        ensures shows { W.shows watch.new ≡ W.shows watch.old }
-    {
-        if let Err(fault) = add_all(&self.names, watch) {
+        if let Err(fault) = self.begin(watch) {
             return Err(fault);
         }
-        self.stage = Stage::Looking;
-        self.look_on(watch, outs)
-    }
-
-    /// A look at names that are watched.
-    ///
-    /// # Errors
-    ///
-    /// As `look`.
-    fn look_on<W: Watch, O: Outs>(&mut self, watch: &mut W, outs: &mut O) -> Result<(), Fault>
-        requires looking { self.old.stage ≡ Stage.Looking }
-        requires ready { AllReady self.old.names (W.watched watch.old) }
-        requires can { CanPrint (O.slots outs.old) }
-        ensures looked { OnOk result (LooksOn W.told O.told (W.shows watch.old (length (W.seen watch.old))) self.old (W.watched watch.old) (O.slots outs.old) self.new (W.watched watch.new) (O.slots outs.new)) }
-        ensures stopped { IfErr result (StopsOn W.told O.told (W.shows watch.old (length (W.seen watch.old))) self.old (W.watched watch.old) (O.slots outs.old) (O.slots outs.new)) }
-        ensures seen { OnOk result (W.seen watch.new ≡ W.seen watch.old ++ W.shows watch.old (length (W.seen watch.old)) ∷ []) }
-        ensures saw { IfErr result (λ _. SawOrNot (W.seen watch.old) (W.shows watch.old (length (W.seen watch.old))) (W.seen watch.new)) }
-        ensures stage { OnOk result (self.new.stage ≡ Stage.Looking) }
-        ensures ready { OnOk result (AllReady self.new.names (W.watched watch.new)) }
-        ensures can { OnOk result (CanPrint (O.slots outs.new)) }
-        ensures error { IfErr result (λ _. HasError (O.slots outs.new)) }
-        ensures shows { W.shows watch.new ≡ W.shows watch.old }
-    {
         if let Err(fault) = watch.turn() {
             return Err(fault);
         }
         match visit_all(
-            self.alloc,
             self.by_name,
             self.start,
             &mut self.names,
+            &mut self.visitor,
             watch,
-            &mut self.printer,
-            &mut self.buffer,
             outs,
         ) {
             Ok(failed) => {
@@ -228,18 +160,28 @@ impl Follow {
             Err(fault) => Err(fault),
         }
     }
-}
 
-/// Whether a further look can give something of one of the names.
-fn any_goes_on(names: &[Name], by_name: bool) -> bool
-    ensures { result ≡ any_goes_on by_name names.now }
-{
-    let mut left = names;
-    while let [name, rest @ ..] = left {
-        if name.goes_on(by_name) {
-            return true;
+    /// Adds the names to what is watched, before the first look; does nothing before a later one.
+    ///
+    /// # Errors
+    ///
+    /// `Memory` where there was none for a name.
+    fn begin<W: Watch>(&mut self, watch: &mut W) -> Result<(), Fault>
+        requires { CanBegin self.old (W.watched watch.old) }
+        ensures begins { OnOk result (Begins W.told self.old (W.watched watch.old) self.new (W.watched watch.new)) }
+        ensures err { IfErr result (λ fault. fault ≡ Fault.Memory) }
+        ensures seen { W.seen watch.new ≡ W.seen watch.old }
+        ensures shows { W.shows watch.new ≡ W.shows watch.old }
+    {
+        match self.stage {
+            Stage::Fresh => {
+                if let Err(fault) = add_all(&self.names, watch) {
+                    return Err(fault);
+                }
+                self.stage = Stage::Looking;
+                Ok(())
+            }
+            Stage::Looking | Stage::Over => Ok(()),
         }
-        left = rest;
     }
-    false
 }

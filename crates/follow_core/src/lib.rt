@@ -1,23 +1,14 @@
 //! `tail` that follows files: what it writes and says of names that are watched.
 #![tactic(auto)]
 
-mod adding;
-mod again;
-mod catching;
-mod changing;
-mod copying;
-mod first;
 mod follow;
 mod laws;
-mod meeting;
 mod name;
 mod notice;
 mod printer;
-mod reading;
-mod revisit;
 mod run;
 mod start;
-mod visiting;
+mod visitor;
 
 pub use follow::{Follow, Stage};
 pub use laws::{looks_agree, notices_are_no_failures, one_look_more, text_goes_on};

@@ -1,17 +1,18 @@
-//! A name that is followed.
-ghost use Rattle.std.specs.Prelude.{◌≡◌, ◌<◌, length, string_bytes, IfOk, IfErr, OnOk};
+//! Names that are followed.
+ghost use Rattle.std.specs.Prelude.{◌≡◌, ◌<◌, ◌≤◌, [], ℕ, List, length, map, string_bytes, IfOk, IfErr, OnOk};
 ghost use Rattle.watch_core.specs.Snapshot.{latest};
-ghost use Rattle.watch_core.specs.Watched.{watched_at};
-ghost use Rattle.follow_core.specs.Catching.{CanPrint, HasError};
-ghost use Rattle.follow_core.specs.Look.{Ways};
-ghost use Rattle.follow_core.specs.Looked.{has_failed};
-ghost use Rattle.follow_core.specs.Standing.{CanVisit, NameState, goes_on_as, standing_after};
-ghost use Rattle.follow_core.specs.Visited.{KeepsOthers, StopsVisit, VisitsOn, ways_of};
+ghost use Rattle.watch_core.specs.Watched.{added, watched_at};
+ghost use Rattle.follow_core.specs.Sharing.{CanPrint, HasError};
+ghost use Rattle.follow_core.specs.FollowState.{new_state};
+ghost use Rattle.follow_core.specs.Look.{Look};
+ghost use Rattle.follow_core.specs.inner.Looked.{has_failed};
+ghost use Rattle.follow_core.specs.Standing.{AllKeep, AllStand, CanVisit, NameState, state_at, texts};
+ghost use Rattle.follow_core.specs.inner.Standing.{any_goes_on, goes_on_as, standing_after};
+ghost use Rattle.follow_core.specs.inner.Visited.{StoppedAt, VisitedAll, Visits};
+ghost use Rattle.follow_core.specs.Visited.{ways_of};
 
-use crate::meeting::{Came, meet};
-use crate::printer::Printer;
-use crate::revisit::revisit;
 use crate::start::Start;
+use crate::visitor::{Came, Visitor};
 use ports_core::{Fault, Outs};
 use std::alloc::{AllocError, Global};
 use std::marker::Model;
@@ -82,127 +83,33 @@ impl Name {
     /// `Write(0)` where standard output broke, `Memory` where there was none for a header or a line that tells what changed.
     pub(crate) fn visit<W: Watch, O: Outs>(
         &mut self,
-        alloc: Global,
         by_name: bool,
         start: Start,
+        visitor: &mut Visitor,
         watch: &mut W,
         place: usize,
-        printer: &mut Printer,
-        buffer: &mut [u8],
         outs: &mut O,
     ) -> Result<bool, Fault>
         requires ready { CanVisit self.old (watched_at (W.watched watch.old) place) }
         requires can { CanPrint (O.slots outs.old) }
-        requires room { 0 < length buffer.old }
-        ensures visited { IfOk result (VisitsOn W.told O.told (ways_of by_name start) (latest (W.seen watch.old)) place self.old (watched_at (W.watched watch.old) place) printer.old (O.slots outs.old) self.new (watched_at (W.watched watch.new) place) printer.new (O.slots outs.new)) }
-        ensures stopped { IfErr result (StopsVisit W.told O.told (ways_of by_name start) (latest (W.seen watch.old)) place self.old (watched_at (W.watched watch.old) place) printer.old (O.slots outs.old) (O.slots outs.new)) }
-        ensures text { self.new.text ≡ self.old.text }
-        ensures ready { OnOk result (CanVisit self.new (watched_at (W.watched watch.new) place)) }
-        ensures others { OnOk result (KeepsOthers place (W.watched watch.old) (W.watched watch.new)) }
+        ensures visits { Visits W.told O.told (ways_of by_name start) (latest (W.seen watch.old)) place self.old (W.watched watch.old) visitor.old (O.slots outs.old) self.new (W.watched watch.new) visitor.new (O.slots outs.new) result }
         ensures can { OnOk result (CanPrint (O.slots outs.new)) }
         ensures error { IfErr result (λ _. HasError (O.slots outs.new)) }
         ensures seen { W.seen watch.new ≡ W.seen watch.old }
         ensures shows { W.shows watch.new ≡ W.shows watch.old }
     {
         match self.standing {
-            Standing::New => self.visit_first(
-                alloc, by_name, start, watch, place, printer, buffer, outs,
-            ),
-            Standing::Followed(position) => self.visit_again(
-                alloc, by_name, position, watch, place, printer, buffer, outs,
-            ),
+            Standing::New => match visitor.first(start, watch, place, self.text(), outs) {
+                Ok(came) => Ok(self.leave(by_name, came)),
+                Err(fault) => Err(fault),
+            },
+            Standing::Followed(position) => {
+                match visitor.again(by_name, watch, place, self.text(), position, outs) {
+                    Ok(came) => Ok(self.leave(by_name, came)),
+                    Err(fault) => Err(fault),
+                }
+            }
             Standing::Left => Ok(false),
-        }
-    }
-
-    /// The first look at it.
-    ///
-    /// # Errors
-    ///
-    /// As `visit`.
-    fn visit_first<W: Watch, O: Outs>(
-        &mut self,
-        alloc: Global,
-        by_name: bool,
-        start: Start,
-        watch: &mut W,
-        place: usize,
-        printer: &mut Printer,
-        buffer: &mut [u8],
-        outs: &mut O,
-    ) -> Result<bool, Fault>
-        requires fresh { self.old.standing ≡ Standing.New }
-        requires ready { CanVisit self.old (watched_at (W.watched watch.old) place) }
-        requires can { CanPrint (O.slots outs.old) }
-        requires room { 0 < length buffer.old }
-        ensures visited { IfOk result (VisitsOn W.told O.told (ways_of by_name start) (latest (W.seen watch.old)) place self.old (watched_at (W.watched watch.old) place) printer.old (O.slots outs.old) self.new (watched_at (W.watched watch.new) place) printer.new (O.slots outs.new)) }
-        ensures stopped { IfErr result (StopsVisit W.told O.told (ways_of by_name start) (latest (W.seen watch.old)) place self.old (watched_at (W.watched watch.old) place) printer.old (O.slots outs.old) (O.slots outs.new)) }
-        ensures text { self.new.text ≡ self.old.text }
-        ensures ready { OnOk result (CanVisit self.new (watched_at (W.watched watch.new) place)) }
-        ensures others { OnOk result (KeepsOthers place (W.watched watch.old) (W.watched watch.new)) }
-        ensures can { OnOk result (CanPrint (O.slots outs.new)) }
-        ensures error { IfErr result (λ _. HasError (O.slots outs.new)) }
-        ensures seen { W.seen watch.new ≡ W.seen watch.old }
-        ensures shows { W.shows watch.new ≡ W.shows watch.old }
-    {
-        match meet(
-            alloc,
-            start,
-            watch,
-            place,
-            self.text(),
-            printer,
-            buffer,
-            outs,
-        ) {
-            Ok(came) => Ok(self.leave(by_name, came)),
-            Err(fault) => Err(fault),
-        }
-    }
-
-    /// A later look at it.
-    ///
-    /// # Errors
-    ///
-    /// As `visit`.
-    fn visit_again<W: Watch, O: Outs>(
-        &mut self,
-        alloc: Global,
-        by_name: bool,
-        position: u64,
-        watch: &mut W,
-        place: usize,
-        printer: &mut Printer,
-        buffer: &mut [u8],
-        outs: &mut O,
-    ) -> Result<bool, Fault>
-        requires followed { self.old.standing ≡ Standing.Followed position }
-        requires ready { CanVisit self.old (watched_at (W.watched watch.old) place) }
-        requires can { CanPrint (O.slots outs.old) }
-        requires room { 0 < length buffer.old }
-        ensures visited { IfOk result (λ failed. (ways : Ways) → ways.by_name ≡ by_name → VisitsOn W.told O.told ways (latest (W.seen watch.old)) place self.old (watched_at (W.watched watch.old) place) printer.old (O.slots outs.old) self.new (watched_at (W.watched watch.new) place) printer.new (O.slots outs.new) failed) }
-        ensures stopped { IfErr result (λ why. (ways : Ways) → ways.by_name ≡ by_name → StopsVisit W.told O.told ways (latest (W.seen watch.old)) place self.old (watched_at (W.watched watch.old) place) printer.old (O.slots outs.old) (O.slots outs.new) why) }
-        ensures text { self.new.text ≡ self.old.text }
-        ensures ready { OnOk result (CanVisit self.new (watched_at (W.watched watch.new) place)) }
-        ensures others { OnOk result (KeepsOthers place (W.watched watch.old) (W.watched watch.new)) }
-        ensures can { OnOk result (CanPrint (O.slots outs.new)) }
-        ensures error { IfErr result (λ _. HasError (O.slots outs.new)) }
-        ensures seen { W.seen watch.new ≡ W.seen watch.old }
-        ensures shows { W.shows watch.new ≡ W.shows watch.old }
-    {
-        match revisit(
-            alloc,
-            by_name,
-            watch,
-            place,
-            self.text(),
-            position,
-            printer,
-            buffer,
-            outs,
-        ) {
-            Ok(came) => Ok(self.leave(by_name, came)),
-            Err(fault) => Err(fault),
         }
     }
 
@@ -230,4 +137,96 @@ impl Name {
             }
         }
     }
+}
+
+/// Names that were not looked at yet.
+///
+/// # Errors
+///
+/// `Memory` where there is no room for them.
+pub(crate) fn new_names(alloc: Global, names: &[&str]) -> Result<Vec<Name>, Fault>
+    ensures ok { IfOk result (λ made. made.items ≡ map new_state (map (λ name. name.now) names.now)) }
+    ensures err { IfErr result (λ fault. fault ≡ Fault.Memory) }
+{
+    let mut made = Vec::new(alloc);
+    let mut left = names;
+    while let [name, rest @ ..] = left {
+        made.push(Name::new(alloc, name)?)?;
+        left = rest;
+    }
+    Ok(made)
+}
+
+/// Adds the names to what is watched, each at its number.
+///
+/// # Errors
+///
+/// `Memory` where there is none: the first of them may have been added.
+pub(crate) fn add_all<W: Watch>(names: &[Name], watch: &mut W) -> Result<(), Fault>
+    requires { W.watched watch.old ≡ [] }
+    ensures ok { OnOk result (W.watched watch.new ≡ map added (texts names.now)) }
+    ensures err { IfErr result (λ fault. fault ≡ Fault.Memory) }
+    ensures seen { W.seen watch.new ≡ W.seen watch.old }
+    ensures shows { W.shows watch.new ≡ W.shows watch.old }
+{
+    let mut left = names;
+    while let [name, rest @ ..] = left {
+        watch.add(name.text())?;
+        left = rest;
+    }
+    Ok(())
+}
+
+/// Looks at all names in order, each at its number in the watch. Returns whether one was missing at the first look, or a call on one
+/// failed.
+///
+/// # Errors
+///
+/// `Write(0)` where standard output broke, `Memory` where there was none for a header or a line that tells what changed.
+pub(crate) fn visit_all<W: Watch, O: Outs>(
+    by_name: bool,
+    start: Start,
+    names: &mut [Name],
+    visitor: &mut Visitor,
+    watch: &mut W,
+    outs: &mut O,
+) -> Result<bool, Fault>
+    requires ready { (place : ℕ) → place < length names.old → CanVisit (state_at names.old place) (watched_at (W.watched watch.old) place) }
+    requires can { CanPrint (O.slots outs.old) }
+    ensures visited { IfOk result (λ failed. (looks : List Look) → AllStand W.told (ways_of by_name start) looks names.old (W.watched watch.old) → AllKeep W.told (ways_of by_name start) looks (latest (W.seen watch.old)) (texts names.old)
+        → VisitedAll W.told O.told (ways_of by_name start) looks (latest (W.seen watch.old)) names.old visitor.old (O.slots outs.old) visitor.new (O.slots outs.new) (W.watched watch.new) names.new failed) }
+    ensures stopped { IfErr result (λ why. (looks : List Look) → AllStand W.told (ways_of by_name start) looks names.old (W.watched watch.old) → AllKeep W.told (ways_of by_name start) looks (latest (W.seen watch.old)) (texts names.old)
+        → StoppedAt W.told O.told (ways_of by_name start) looks (latest (W.seen watch.old)) (texts names.old) visitor.old (O.slots outs.old) (O.slots outs.new) why) }
+    ensures texts { texts names.new ≡ texts names.old }
+    ensures ready { OnOk result ((place : ℕ) → place < length names.new → CanVisit (state_at names.new place) (watched_at (W.watched watch.new) place)) }
+    ensures count { OnOk result (length (W.watched watch.new) ≡ length (W.watched watch.old)) }
+    ensures can { OnOk result (CanPrint (O.slots outs.new)) }
+    ensures error { IfErr result (λ _. HasError (O.slots outs.new)) }
+    ensures seen { W.seen watch.new ≡ W.seen watch.old }
+    ensures shows { W.shows watch.new ≡ W.shows watch.old }
+{
+    let mut has_failed = false;
+    let mut place = 0;
+    while place < names.len() {
+        match names[place].visit(by_name, start, visitor, watch, place, outs) {
+            Ok(failed) => has_failed |= failed,
+            Err(fault) => return Err(fault),
+        }
+        place += 1;
+    }
+    Ok(has_failed)
+}
+
+/// Whether a further look can give something of one of the names.
+pub(crate) fn any_goes_on(names: &[Name], by_name: bool) -> bool
+    ensures { result ≡ any_goes_on by_name names.now }
+{
+    let mut left = names;
+    while let [name, rest @ ..] = left {
+        if name.goes_on(by_name) {
+            return true;
+        }
+        left = rest;
+    }
+    false
 }

@@ -1,8 +1,9 @@
 //! A whole run of following.
 ghost use Rattle.std.specs.Prelude.{◌≡◌, ◌∷◌, [], ℕ, Bool, List, map, IfErr, OnOk};
 ghost use Rattle.ports_core.specs.Slot.{Slot, streams};
-ghost use Rattle.follow_core.specs.Catching.{HasError};
-ghost use Rattle.follow_core.specs.Ending.{FollowEndsAs, KeptSoLong, LookedAll, StoppedIn};
+ghost use Rattle.follow_core.specs.Sharing.{HasError};
+ghost use Rattle.follow_core.specs.Ending.{FollowEndsAs, KeptSoLong, StoppedIn};
+ghost use Rattle.follow_core.specs.inner.Ending.{LookedAll};
 ghost use Rattle.follow_core.specs.FollowState.{CanLook, Holds};
 ghost use Rattle.follow_core.specs.Look.{Ways};
 ghost use Rattle.follow_core.specs.Visited.{ways_of};

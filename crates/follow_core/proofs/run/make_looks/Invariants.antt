@@ -1,6 +1,6 @@
 use Rattle.std.proofs.Common.{◌≡◌, ◌≤◌, ◌-◌, ℕ, Bool, List, []}
 use Rattle.ports_core.specs.Slot.{Slot}
-use Rattle.follow_core.specs.Catching.{HasError}
+use Rattle.follow_core.specs.Sharing.{HasError}
 use Rattle.follow_core.specs.Ending.{KeptIn, seen_first}
 use Rattle.follow_core.specs.FollowState.{CanLook, Holds}
 use Rattle.follow_core.specs.Look.{Ways}

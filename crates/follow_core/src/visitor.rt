@@ -1,0 +1,435 @@
+//! A look at one name: what came to its file is written, and what changed or failed is told.
+ghost use Rattle.std.specs.Prelude.{◌≡◌, ◌≤◌, ◌<◌, ◌^◌, ◌-◌, ◌∷◌, [], ℕ, List, Bool, true, false, length, take, drop, nat_lt, option_map, if◌then◌else◌, IsTrue, IfOk, IfErr, OnOk, Err};
+ghost use Rattle.ends_core.specs.Ends.{tail_of};
+ghost use Rattle.ports_core.specs.Slot.{changed_at, is_writable};
+ghost use Rattle.watch_core.specs.Snapshot.{latest};
+ghost use Rattle.watch_core.specs.Watched.{breaks, is_readable, is_watchable, open_contents, watched_at};
+ghost use Rattle.follow_core.specs.declared.name.Standing.TheVariants.{New, Followed};
+ghost use Rattle.follow_core.specs.Notice.{notice_of};
+ghost use Rattle.follow_core.specs.Printing.{PrinterState, fresh_printer};
+ghost use Rattle.follow_core.specs.Version.{Entry, open_after_look};
+ghost use Rattle.follow_core.specs.Standing.{StandsAt};
+ghost use Rattle.follow_core.specs.inner.Calls.{bytes_open, lines_open, CanGoOn, Keeps, as_stop, lines_past, Follows, bytes_led, change_between, held_at, lines_led};
+ghost use Rattle.follow_core.specs.Sharing.{CanPrint, HasError};
+ghost use Rattle.follow_core.specs.inner.Copying.{Copied, Stops};
+ghost use Rattle.follow_core.specs.inner.Giving.{Ends};
+ghost use Rattle.follow_core.specs.inner.Looked.{TellsStop};
+ghost use Rattle.follow_core.specs.inner.Visited.{Looks};
+ghost use Rattle.follow_core.specs.Visited.{ways_of};
+
+use crate::notice::{Notice, notice_line};
+use crate::printer::Printer;
+use crate::start::Start;
+use ports_core::{Fault, Outs, Tool, print, say};
+use std::alloc::Global;
+use std::marker::Model;
+use watch_core::{Seen, Watch};
+
+/// How many bytes are read at once, at the most.
+const PIECE: usize = 65_536;
+
+/// How a name came through a look.
+pub(crate) enum Came {
+    /// No call on it failed. Holds how many bytes of its open file were seen; 0 where none is open.
+    Through(u64),
+    /// It led nowhere at the first look, which was told.
+    Missing,
+    /// A call on it failed, which was told: it is dropped.
+    Dropped,
+}
+
+/// What stops a name, or all of them.
+pub(crate) enum Stop {
+    /// A call on the name failed: it is dropped.
+    Broke(Fault),
+    /// Standard output broke, or memory was wanting: following ends.
+    Over(Fault),
+}
+
+/// What all looks at names share: standard output with its headers, and the one buffer.
+#[derive(Drop)]
+pub(crate) struct Visitor {
+    alloc: Global,
+    printer: Printer,
+    buffer: Vec<u8>,
+}
+
+impl Model for Visitor {
+    ghost Value = { PrinterState };
+
+    ghost view = { λ v. v.printer };
+
+    ghost invariant = { λ v. 0 < length v.buffer.items };
+}
+
+impl Visitor {
+    /// A visitor that has written nothing yet, with a buffer of 65,536 bytes.
+    ///
+    /// # Errors
+    ///
+    /// `Memory` where there is no room for the buffer.
+    pub(crate) fn new(alloc: Global, headers: bool) -> Result<Self, Fault>
+        ensures ok { IfOk result (λ visitor. visitor ≡ fresh_printer headers) }
+        ensures err { IfErr result (λ fault. fault ≡ Fault.Memory) }
+    {
+        Ok(Visitor {
+            alloc,
+            printer: Printer::new(alloc, headers),
+            buffer: vec![in alloc; 0u8; PIECE]?,
+        })
+    }
+
+    /// Looks at a name for the first time: opens the file that it leads to, and writes its header, where headers are written, and the
+    /// part of it that the first look writes. Tells where it leads nowhere, or where a call on it fails; a message that can't be written
+    /// is passed over.
+    ///
+    /// # Errors
+    ///
+    /// `Write(0)` where standard output broke, `Memory` where there was none for a header.
+    pub(crate) fn first<W: Watch, O: Outs>(
+        &mut self,
+        start: Start,
+        watch: &mut W,
+        place: usize,
+        name: &str,
+        outs: &mut O,
+    ) -> Result<Came, Fault>
+        requires watchable { IsTrue (is_watchable (W.watched watch.old) place) }
+        requires name { (watched_at (W.watched watch.old) place).name ≡ name.now }
+        requires can { CanPrint (O.slots outs.old) }
+        ensures looks { (by_name : Bool) → Looks W.told O.told (ways_of by_name start) (latest (W.seen watch.old)) place name.now New (W.watched watch.old) self.old (O.slots outs.old) (W.watched watch.new) self.new (O.slots outs.new) result }
+        ensures can { OnOk result (CanPrint (O.slots outs.new)) }
+        ensures error { IfErr result (λ _. HasError (O.slots outs.new)) }
+        ensures seen { W.seen watch.new ≡ W.seen watch.old }
+        ensures shows { W.shows watch.new ≡ W.shows watch.old }
+    {
+        match watch.reopen(place) {
+            Ok(true) => {}
+            Ok(false) => {
+                say(self.alloc, Tool::Tail, &Fault::Open(place), name, outs);
+                return Ok(Came::Missing);
+            }
+            Err(fault) => return self.stop(Stop::Broke(fault), name, outs),
+        }
+        if let Err(fault) = self.printer.open(name, outs) {
+            return Err(fault);
+        }
+        match self.write_start(start, watch, place, name, outs) {
+            Ok(len) => Ok(Came::Through(len)),
+            Err(stop) => self.stop(stop, name, outs),
+        }
+    }
+
+    /// Writes the part of the open file that the first look writes. Returns how long the file is.
+    ///
+    /// # Errors
+    ///
+    /// `Broke` where asking for its length or reading it failed, `Over` where standard output broke or memory was wanting.
+    fn write_start<W: Watch, O: Outs>(
+        &mut self,
+        start: Start,
+        watch: &mut W,
+        place: usize,
+        name: &str,
+        outs: &mut O,
+    ) -> Result<u64, Stop>
+        requires readable { IsTrue (is_readable (W.watched watch.old) place) }
+        requires can { CanPrint (O.slots outs.old) }
+        ensures ends { let contents = open_contents (latest (W.seen watch.old)) (watched_at (W.watched watch.old) place) in
+            Ends W.told O.told self.old name.now (tail_of start.delim start.unit start.from_nth start.count contents) [] (O.slots outs.old) self.new (O.slots outs.new) result }
+        ensures len { IfOk result (λ len. W.told ≡ true → len ≡ length (open_contents (latest (W.seen watch.old)) (watched_at (W.watched watch.old) place))) }
+        ensures keeps { Keeps place (W.watched watch.old) (W.watched watch.new) result }
+        ensures can { CanGoOn result (O.slots outs.new) }
+        ensures seen { W.seen watch.new ≡ W.seen watch.old }
+        ensures shows { W.shows watch.new ≡ W.shows watch.old }
+    {
+        let len = match watch.open_len(place) {
+            Ok(len) => len,
+            Err(fault) => return Err(Stop::Broke(fault)),
+        };
+        let begin = match start.find(watch, place, len, &mut self.buffer) {
+            Ok(begin) => begin,
+            Err(fault) => return Err(Stop::Broke(fault)),
+        };
+        if let Err(stop) = copy(
+            watch,
+            place,
+            name,
+            begin,
+            len,
+            &mut self.printer,
+            &mut self.buffer,
+            outs,
+        ) {
+            return Err(stop);
+        }
+        Ok(len)
+    }
+
+    /// Looks again at a name of whose open file `position` bytes were seen: writes what came to the file, and follows the name to where
+    /// it leads, if names are followed. Tells where a call on it fails; a message that can't be written is passed over.
+    ///
+    /// # Errors
+    ///
+    /// `Write(0)` where standard output broke, `Memory` where there was none for a header or a line that tells what changed.
+    pub(crate) fn again<W: Watch, O: Outs>(
+        &mut self,
+        by_name: bool,
+        watch: &mut W,
+        place: usize,
+        name: &str,
+        position: u64,
+        outs: &mut O,
+    ) -> Result<Came, Fault>
+        requires watchable { IsTrue (is_watchable (W.watched watch.old) place) }
+        requires name { (watched_at (W.watched watch.old) place).name ≡ name.now }
+        requires can { CanPrint (O.slots outs.old) }
+        ensures looks { (start : List ℕ → List ℕ) → Looks W.told O.told (record { by_name = by_name; start = start }) (latest (W.seen watch.old)) place name.now (Followed position) (W.watched watch.old) self.old (O.slots outs.old) (W.watched watch.new) self.new (O.slots outs.new) result }
+        ensures can { OnOk result (CanPrint (O.slots outs.new)) }
+        ensures error { IfErr result (λ _. HasError (O.slots outs.new)) }
+        ensures seen { W.seen watch.new ≡ W.seen watch.old }
+        ensures shows { W.shows watch.new ≡ W.shows watch.old }
+    {
+        let len = match self.catch_up(watch, place, name, position, outs) {
+            Ok(len) => len,
+            Err(stop) => return self.stop(stop, name, outs),
+        };
+        if !by_name {
+            return Ok(Came::Through(len));
+        }
+        match self.follow_name(watch, place, name, len, outs) {
+            Ok(now) => Ok(Came::Through(now)),
+            Err(stop) => self.stop(stop, name, outs),
+        }
+    }
+
+    /// Follows a name to where it leads: where that is another file than the open one, tells so, opens it and writes all of it.
+    /// Returns how much of the open file was seen then, where this much was seen before.
+    ///
+    /// # Errors
+    ///
+    /// `Broke` where a call on the name failed, `Over` where standard output broke or memory was wanting.
+    fn follow_name<W: Watch, O: Outs>(
+        &mut self,
+        watch: &mut W,
+        place: usize,
+        name: &str,
+        position: u64,
+        outs: &mut O,
+    ) -> Result<u64, Stop>
+        requires watchable { IsTrue (is_watchable (W.watched watch.old) place) }
+        requires name { (watched_at (W.watched watch.old) place).name ≡ name.now }
+        requires can { CanPrint (O.slots outs.old) }
+        ensures ends { let snapshot = latest (W.seen watch.old) in let opened = (watched_at (W.watched watch.old) place).opened in
+            Ends W.told O.told self.old name.now (bytes_led snapshot opened (snapshot.leads name.now)) (lines_led name.now snapshot opened (snapshot.leads name.now)) (O.slots outs.old) self.new (O.slots outs.new) result }
+        ensures len { IfOk result (λ len. W.told ≡ true → let snapshot = latest (W.seen watch.old) in position ≡ length (held_at snapshot (watched_at (W.watched watch.old) place).opened) → len ≡ length (held_at snapshot (snapshot.leads name.now))) }
+        ensures follows { Follows W.told ((latest (W.seen watch.old)).leads name.now) place (W.watched watch.old) (W.watched watch.new) result }
+        ensures can { CanGoOn result (O.slots outs.new) }
+        ensures seen { W.seen watch.new ≡ W.seen watch.old }
+        ensures shows { W.shows watch.new ≡ W.shows watch.old }
+    {
+        let found = match watch.look(place) {
+            Ok(found) => found,
+            Err(fault) => return Err(Stop::Broke(fault)),
+        };
+        let Some(change) = change_of(watch.open_id(place), found) else {
+            return Ok(position);
+        };
+        if let Err(fault) = tell(self.alloc, change, name, outs) {
+            return Err(Stop::Over(fault));
+        }
+        let is_there = match watch.reopen(place) {
+            Ok(is_there) => is_there,
+            Err(fault) => return Err(Stop::Broke(fault)),
+        };
+        if !is_there {
+            return Ok(0);
+        }
+        self.catch_up(watch, place, name, 0, outs)
+    }
+
+    /// Writes what the open file of a name has past a position, where one is open; all of it, with a line that tells so, where it is
+    /// shorter. Returns how long it is.
+    ///
+    /// # Errors
+    ///
+    /// `Broke` where asking for its length or reading it failed, `Over` where standard output broke or memory was wanting.
+    fn catch_up<W: Watch, O: Outs>(
+        &mut self,
+        watch: &mut W,
+        place: usize,
+        name: &str,
+        position: u64,
+        outs: &mut O,
+    ) -> Result<u64, Stop>
+        requires watchable { IsTrue (is_watchable (W.watched watch.old) place) }
+        requires can { CanPrint (O.slots outs.old) }
+        ensures ends { let snapshot = latest (W.seen watch.old) in let opened = (watched_at (W.watched watch.old) place).opened in
+            (last : Entry) → (W.told ≡ true → StandsAt last opened position) → Ends W.told O.told self.old name.now (bytes_open last snapshot opened) (lines_open name.now last snapshot opened) (O.slots outs.old) self.new (O.slots outs.new) result }
+        ensures len { let snapshot = latest (W.seen watch.old) in let opened = (watched_at (W.watched watch.old) place).opened in
+            IfOk result (λ len. W.told ≡ true → (last : Entry) → StandsAt last opened position → len ≡ length (held_at snapshot opened)) }
+        ensures keeps { Keeps place (W.watched watch.old) (W.watched watch.new) result }
+        ensures can { CanGoOn result (O.slots outs.new) }
+        ensures seen { W.seen watch.new ≡ W.seen watch.old }
+        ensures shows { W.shows watch.new ≡ W.shows watch.old }
+    {
+        let Some(_) = watch.open_id(place) else {
+            return Ok(position);
+        };
+        let len = match watch.open_len(place) {
+            Ok(len) => len,
+            Err(fault) => return Err(Stop::Broke(fault)),
+        };
+        let from = match begin_at(self.alloc, name, position, len, outs) {
+            Ok(from) => from,
+            Err(fault) => return Err(Stop::Over(fault)),
+        };
+        if let Err(stop) = copy(
+            watch,
+            place,
+            name,
+            from,
+            len,
+            &mut self.printer,
+            &mut self.buffer,
+            outs,
+        ) {
+            return Err(stop);
+        }
+        Ok(len)
+    }
+
+    /// Tells that a call on a name failed, which is dropped then. A message that can't be written is passed over.
+    ///
+    /// # Errors
+    ///
+    /// The fault that ends following, which is handed on.
+    fn stop<O: Outs>(&self, stop: Stop, name: &str, outs: &mut O) -> Result<Came, Fault>
+        requires can { CanGoOn {T = ℕ} (Err stop) (O.slots outs.old) }
+        ensures tells { TellsStop O.told name.now (O.slots outs.old) (O.slots outs.new) stop result }
+        ensures can { OnOk result (CanPrint (O.slots outs.new)) }
+        ensures error { IfErr result (λ _. HasError (O.slots outs.new)) }
+    {
+        match stop {
+            Stop::Broke(fault) => {
+                say(self.alloc, Tool::Tail, &fault, name, outs);
+                Ok(Came::Dropped)
+            }
+            Stop::Over(fault) => Err(fault),
+        }
+    }
+}
+
+/// Writes the open file's bytes from a place to another, or to where a read gives none, by way of the buffer.
+///
+/// # Errors
+///
+/// `Broke` where a read failed, `Over` where standard output broke or memory was wanting.
+fn copy<W: Watch, O: Outs>(
+    watch: &mut W,
+    place: usize,
+    name: &str,
+    from: u64,
+    len: u64,
+    printer: &mut Printer,
+    buffer: &mut [u8],
+    outs: &mut O,
+) -> Result<(), Stop>
+    requires readable { IsTrue (is_readable (W.watched watch.old) place) }
+    requires writable { IsTrue (is_writable (O.slots outs.old) 0) }
+    requires within { from ≤ len }
+    requires room { 0 < length buffer.old }
+    requires whole { W.told ≡ true → len ≡ length (open_contents (latest (W.seen watch.old)) (watched_at (W.watched watch.old) place)) }
+    ensures copied { OnOk result (Copied W.told O.told printer.old name.now (drop from (open_contents (latest (W.seen watch.old)) (watched_at (W.watched watch.old) place))) (O.slots outs.old) printer.new (O.slots outs.new)) }
+    ensures stops { IfErr result (Stops W.told O.told printer.old name.now (drop from (open_contents (latest (W.seen watch.old)) (watched_at (W.watched watch.old) place))) place (W.watched watch.old) (O.slots outs.old) printer.new (W.watched watch.new) (O.slots outs.new)) }
+    ensures same { OnOk result (W.watched watch.new ≡ W.watched watch.old) }
+    ensures writable { OnOk result (IsTrue (is_writable (O.slots outs.new) 0)) }
+    ensures seen { W.seen watch.new ≡ W.seen watch.old }
+    ensures shows { W.shows watch.new ≡ W.shows watch.old }
+{
+    let mut at = from;
+    while at < len {
+        let room = (len - at).min(buffer.len() as u64) as usize;
+        match watch.read_at(place, at, &mut buffer[..room]) {
+            Ok(0) => return Ok(()),
+            Ok(n) => {
+                match printer.put(name, &buffer[..n], outs) {
+                    Ok(()) => at += n as u64,
+                    Err(fault) => return Err(Stop::Over(fault)),
+                }
+            }
+            Err(fault) => return Err(Stop::Broke(fault)),
+        }
+    }
+    Ok(())
+}
+
+/// The place from which a file of `len` bytes is to be written: the position, or 0 where the file is shorter than that. Then it is told
+/// that it was truncated.
+///
+/// # Errors
+///
+/// `Memory` where there was none for the line that tells it.
+fn begin_at<O: Outs>(
+    alloc: Global,
+    name: &str,
+    position: u64,
+    len: u64,
+    outs: &mut O,
+) -> Result<u64, Fault>
+    requires can { CanPrint (O.slots outs.old) }
+    ensures ends { (told_in : Bool) (printer : PrinterState) → Ends told_in O.told printer name.now [] (lines_past name.now position len) (O.slots outs.old) printer (O.slots outs.new) (as_stop result) }
+    ensures from { IfOk result (λ from. from ≡ (if nat_lt len position then 0 else position)) }
+    ensures can { OnOk result (CanPrint (O.slots outs.new)) }
+    ensures error { IfErr result (λ _. HasError (O.slots outs.new)) }
+{
+    if len >= position {
+        return Ok(position);
+    }
+    match tell(alloc, Notice::Truncated, name, outs) {
+        Ok(()) => Ok(0),
+        Err(fault) => Err(fault),
+    }
+}
+
+/// Tells on standard error what a look found of a name.
+///
+/// # Errors
+///
+/// `Memory` where there was none for the line.
+fn tell<O: Outs>(alloc: Global, found: Notice, name: &str, outs: &mut O) -> Result<(), Fault>
+    requires can { CanPrint (O.slots outs.old) }
+    ensures ends { (told_in : Bool) (printer : PrinterState) → Ends told_in O.told printer name.now [] (notice_of found name.now ∷ []) (O.slots outs.old) printer (O.slots outs.new) (as_stop result) }
+    ensures can { OnOk result (CanPrint (O.slots outs.new)) }
+    ensures error { IfErr result (λ _. HasError (O.slots outs.new)) }
+{
+    match notice_line(alloc, found, name) {
+        Ok(line) => {
+            print(&line, outs);
+            Ok(())
+        }
+        Err(memory) => Err(memory),
+    }
+}
+
+/// What a look finds, where a file of this identity is open, and the name leads to that one.
+fn change_of(opened: Option<u128>, found: Option<Seen>) -> Option<Notice>
+    ensures { result ≡ change_between opened (option_map (λ file. file.id) found) }
+{
+    match found {
+        Some(file) => match opened {
+            Some(id) => {
+                if file.id == id {
+                    None
+                } else {
+                    Some(Notice::Replaced)
+                }
+            }
+            None => Some(Notice::Appeared),
+        },
+        None => match opened {
+            Some(_) => Some(Notice::Inaccessible),
+            None => None,
+        },
+    }
+}
