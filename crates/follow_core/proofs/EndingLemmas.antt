@@ -9,7 +9,7 @@ use Rattle.watch_core.specs.Snapshot.{Snapshot}
 use Rattle.watch_core.specs.Watched.{Watched}
 use Rattle.follow_core.specs.declared.start.Start.{Start}
 use Rattle.follow_core.specs.Ending.{FollowEndsAs, KeptIn, KeptSoLong, Made, StoppedIn, looked, seen_first}
-use Rattle.follow_core.specs.inner.Ending.{LookedAll}
+use Rattle.follow_core.specs.inner.Looks.{LookedAll}
 use Rattle.follow_core.specs.FollowState.{FollowState, Halted, Holds, LooksOn, SawOrNot, StopsOn, is_alive, new_state, opened_follow}
 use Rattle.follow_core.specs.Look.{Fate, Look, Ways, snapshots}
 use Rattle.follow_core.specs.Run.{AreKept}

@@ -1,4 +1,5 @@
 -- A look at all names more, and one that was stopped.
+use Rattle.std.proofs.Math.Bool.{or-false as or_none, and-false as and_none}
 use Rattle.std.proofs.Common.{Err, ◌≡◌, ℕ, zero, suc, ◌<◌, ◌+◌, Bool, true, false, not, ◌||◌, ◌&&◌, List, [], ◌∷◌, ◌++◌, length, map, slice_index_or, refl, sym, ◌∙◌, ap, subst, arith, inl, inr}
 use Rattle.std.proofs.lemmas.Bool.{false≢true}
 use Rattle.std.proofs.lemmas.List.{length-map}
@@ -12,21 +13,20 @@ use Rattle.follow_core.specs.declared.follow.Stage.TheVariants.{Fresh, Looking, 
 use Rattle.follow_core.specs.Ending.{AreBroken}
 use Rattle.follow_core.specs.Followed.{any_failed, last_header_from, messages_of, text_from}
 use Rattle.follow_core.specs.FollowState.{AllReady, FollowState, Holds, LooksOn, StandsIn, StopsOn, goes_on_at, is_alive, is_alive_from, new_state, nothing, up_to}
-use Rattle.follow_core.specs.inner.Looking.{Begins, MakesLook}
+use Rattle.follow_core.specs.inner.Looks.{Begins, MakesLook}
 use Rattle.follow_core.specs.Look.{Look, Ways, is_dropped, snapshots}
 use Rattle.follow_core.specs.Printing.{PrinterState, Short, fresh_printer, no_room}
 use Rattle.follow_core.specs.Share.{Share, shares_at_look, shares_of}
 use Rattle.follow_core.specs.Sharing.{AllShared, AllShort, Wrote, WroteShort}
 use Rattle.follow_core.specs.Standing.{AllKeep, AllStand, CanVisit, IsFollowed, NameState, Stands, state_at, texts}
-use Rattle.follow_core.specs.inner.Standing.{any_goes_on, goes_on_as}
+use Rattle.follow_core.specs.inner.Visits.{any_goes_on, goes_on_as, StoppedAt, VisitedAll}
 use Rattle.follow_core.specs.Version.{open_after}
-use Rattle.follow_core.specs.inner.Visited.{StoppedAt, VisitedAll}
 use Rattle.follow_core.specs.Visited.{ways_of}
 use Rattle.ports_core.specs.declared.fault.Fault.{Fault}
 use Rattle.ports_core.specs.declared.fault.Fault.TheVariants as fault
 use Rattle.watch_core.specs.Snapshot.{Snapshot}
 use Rattle.watch_core.specs.Watched.{Watched, added, is_some, watched_at}
-use Rattle.follow_core.proofs.EntryLemmas.{last_file}
+use Rattle.follow_core.proofs.LaterLemmas.{last_file}
 use Rattle.follow_core.proofs.ShareLemmas.{failed-append, last-append, messages-append, shares_more, text-append}
 use Rattle.follow_core.proofs.VisitAllLemmas.{nothing_shared, wrote_as, wrote_both}
 
@@ -124,8 +124,8 @@ look_made told_in told snapshot old new watched watched_new slots slots_new fail
   after : List Look
   after = looks ++ look ∷ []
 
-pub look_stopped : (told_in told : Bool) (snapshot : Snapshot) (old : FollowState) (watched : List Watched) (slots slots_new : List Slot) (why : Fault) → old.stage ≡ Looking → Halts told_in told snapshot old watched slots slots_new why → StopsOn told_in told snapshot old watched slots slots_new why
-look_stopped told_in told snapshot old watched slots slots_new why looking halts ways headers names looks first holds keep = record {
+pub look_stopped : {told_in told : Bool} {snapshot : Snapshot} {old : FollowState} {watched : List Watched} {slots slots_new : List Slot} {why : Fault} → old.stage ≡ Looking → Halts told_in told snapshot old watched slots slots_new why → StopsOn told_in told snapshot old watched slots slots_new why
+look_stopped {told_in} {told} {snapshot} {old} {watched} {slots} {slots_new} {why} looking halts ways headers names looks first holds keep = record {
   shares = holds.shares;
   are = holds.are;
   printer = old.printer;
@@ -217,19 +217,19 @@ added_begins told_in old mid watched watched_mid is = record {
 
 -- a look that goes on from there
 
-pub begun_looked : (told_in told : Bool) (snapshot snapshot_mid : Snapshot) (old mid new : FollowState) (watched watched_mid watched_new : List Watched) (slots slots_new : List Slot) → Begins told_in old watched mid watched_mid → snapshot_mid ≡ snapshot
+pub begun_looked : {told_in told : Bool} {snapshot snapshot_mid : Snapshot} {old mid new : FollowState} {watched watched_mid watched_new : List Watched} {slots slots_new : List Slot} → Begins told_in old watched mid watched_mid → snapshot_mid ≡ snapshot
     → LooksOn told_in told snapshot_mid mid watched_mid slots new watched_new slots_new → LooksOn told_in told snapshot old watched slots new watched_new slots_new
-begun_looked told_in told snapshot snapshot_mid old mid new watched watched_mid watched_new slots slots_new begins same looks_on = subst (λ s. LooksOn told_in told s old watched slots new watched_new slots_new) same
+begun_looked {told_in} {told} {snapshot} {snapshot_mid} {old} {mid} {new} {watched} {watched_mid} {watched_new} {slots} {slots_new} begins same looks_on = subst (λ s. LooksOn told_in told s old watched slots new watched_new slots_new) same
     (λ ways headers names looks first holds keep. looks_on ways headers names looks first (begins.holds told ways headers names looks first slots holds) keep)
 
-pub begun_stopped : (told_in told : Bool) (snapshot snapshot_mid : Snapshot) (old mid : FollowState) (watched watched_mid : List Watched) (slots slots_new : List Slot) (why : Fault) → Begins told_in old watched mid watched_mid → snapshot_mid ≡ snapshot
+pub begun_stopped : {told_in told : Bool} {snapshot snapshot_mid : Snapshot} {old mid : FollowState} {watched watched_mid : List Watched} {slots slots_new : List Slot} {why : Fault} → Begins told_in old watched mid watched_mid → snapshot_mid ≡ snapshot
     → StopsOn told_in told snapshot_mid mid watched_mid slots slots_new why → StopsOn told_in told snapshot old watched slots slots_new why
-begun_stopped told_in told snapshot snapshot_mid old mid watched watched_mid slots slots_new why begins same stops = subst (λ s. StopsOn told_in told s old watched slots slots_new why) same
+begun_stopped {told_in} {told} {snapshot} {snapshot_mid} {old} {mid} {watched} {watched_mid} {slots} {slots_new} {why} begins same stops = subst (λ s. StopsOn told_in told s old watched slots slots_new why) same
     (λ ways headers names looks first holds keep. stops ways headers names looks first (begins.holds told ways headers names looks first slots holds) keep)
 
-pub makes_none : (told_in told : Bool) (snapshot : Snapshot) (seen seen_new : List Snapshot) (old new : FollowState) (watched watched_new : List Watched) (slots : List Slot) (why : Fault) → why ≡ fault.Memory → seen_new ≡ seen
+pub makes_none : {told_in told : Bool} {snapshot : Snapshot} {seen seen_new : List Snapshot} {old new : FollowState} {watched watched_new : List Watched} {slots : List Slot} {why : Fault} → why ≡ fault.Memory → seen_new ≡ seen
     → MakesLook told_in told snapshot seen old watched slots seen_new new watched_new slots (Err why)
-makes_none told_in told snapshot seen seen_new old new watched watched_new slots why is same = record {
+makes_none {told_in} {told} {snapshot} {seen} {seen_new} {old} {new} {watched} {watched_new} {slots} {why} is same = record {
   looked = tt;
   stopped = look_refused told_in told snapshot old watched slots slots why is refl;
   seen_is = tt;
@@ -247,14 +247,6 @@ shown shows_mid shows seen seen_mid seen_new shows_same same is =
     (next, is ∙ ap (λ (those : List Snapshot). those ++ shows_mid (length seen_mid) ∷ []) same ∙ ap (λ snapshot. seen ++ snapshot ∷ []) next)
 
 -- whether a further look can give something
-
-or_none : (a : Bool) → (a || false) ≡ a
-or_none true = refl
-or_none false = refl
-
-and_none : (a : Bool) → (a && false) ≡ false
-and_none true = refl
-and_none false = refl
 
 open_there : (ways : Ways) (looks : List Look) (place : ℕ) (name : List ℕ) (watched : Watched) (position : ℕ) → IsFollowed true ways looks place name watched position → (by_name : Bool) → ways.by_name ≡ by_name → (by_name || is_some (open_after ways.by_name name (snapshots looks))) ≡ true
 open_there ways looks place name watched position followed true is = refl

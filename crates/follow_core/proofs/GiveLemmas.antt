@@ -1,18 +1,125 @@
--- What is given in two steps.
-use Rattle.std.proofs.Common.{◌≡◌, ℕ, Bool, List, [], ◌∷◌, ◌++◌, Result, Ok, Err, refl, sym, ◌∙◌, ap, subst, append_assoc}
-use Rattle.std.proofs.lemmas.List.{append-nil}
-use Rattle.ports_core.specs.Slot.{Slot, adds, with_written, told_of}
-use Rattle.ports_core.specs.Message.{Prints, PrintsOn}
-use Rattle.follow_core.specs.Telling.{TellsAll}
-use Rattle.follow_core.specs.declared.visitor.Stop.{Stop}
-use Rattle.follow_core.specs.Printing.{PrinterState, Short, text_under, printer_under}
-use Rattle.follow_core.specs.inner.Copying.{PutOut}
-use Rattle.follow_core.specs.Share.{IsFront}
-use Rattle.follow_core.specs.inner.Giving.{Gives, Halts, Ends, whole, broke, over}
+-- What is given for a name: bytes under headers, and lines.
+use Rattle.std.proofs.Common.{◌≡◌, ℕ, Bool, List, [], ◌∷◌, ◌++◌, inl, inr, ◌∙◌, ap, subst, ◌+◌, ◌<◌, length, take, true, false, not, ◌&&◌, if◌then◌else◌, Some, refl, sym, arith, append_assoc, length-append, Result, Ok, Err, ◌-◌, ◌≤◌, drop, min, IsTrue, length-drop}
+use Rattle.ports_core.specs.Slot.{Slot, with_written, with_broken, told_of, adds, is_writable, changed_at}
+use Rattle.ports_core.specs.Message.{Prints, Says, PrintsOn}
+use Rattle.ports_core.specs.declared.tool.Tool.TheVariants.{Tail}
+use Rattle.ports_core.proofs.MessageLemmas.{printed_open}
+use Rattle.follow_core.specs.Telling.{IsFailure, Tells, TellsAll}
+use Rattle.std.proofs.lemmas.List.{append-nil, take-append-le, length-take, take-append-drop, take_all, drop-drop as drop_drop}
+use Rattle.std.proofs.Math.Seq.{take-append-add, take-add}
+use Rattle.std.specs.Str.{bytes_eq}
+use Rattle.std.proofs.lemmas.Slice.Eq.{bytes_eq-Decides}
+use Rattle.std.proofs.lemmas.Bool.{false≢true}
+use Rattle.ports_core.specs.Write.{BrokeAfter}
 use Rattle.ports_core.specs.declared.fault.Fault.{Fault}
-use Rattle.follow_core.proofs.TellingLemmas.{tells_after, told_by}
-use Rattle.ports_core.proofs.WriteLemmas.{told_of-append, told_of-nil}
-use Rattle.follow_core.proofs.PrintLemmas.{under_append, last_append, under_nil, last_nil, short_after}
+use Rattle.ends_core.proofs.StopLemmas.{nothing_written, broke_later, written_both}
+use Rattle.follow_core.specs.Followed.{is_empty, is_last}
+use Rattle.follow_core.specs.Printing.{PrinterState, Short, broke as short_broke, no_room}
+use Rattle.follow_core.specs.inner.Giving.{header_under, is_due, front_under, text_under, printer_under, PutOut, Gives, Halts, Ends, whole, broke, over}
+use Rattle.follow_core.specs.declared.visitor.Stop.{Stop}
+use Rattle.follow_core.specs.Share.{IsFront}
+use Rattle.ports_core.proofs.WriteLemmas.{told_of-append, told_of-nil, writable-written}
+use Rattle.watch_core.specs.Snapshot.{Snapshot}
+use Rattle.watch_core.specs.Watched.{Watched, GaveFrom, breaks}
+use Rattle.follow_core.specs.declared.visitor.Stop.TheVariants.{Broke, Over}
+use Rattle.follow_core.specs.inner.Calls.{Keeps}
+use Rattle.ports_core.specs.declared.fault.Fault.TheVariants as fault
+
+-- lines that following says, one after another
+
+-- a line that was printed
+pub told_by : (told : Bool) (line said : List ℕ) (old new : Slot) → said ≡ line → Prints told said old new → Tells told line old new
+told_by told line said old new is printed = record { said = said; is = inl is; printed = printed }
+
+-- the message of a failure that was said
+pub failure_told : (told : Bool) (line : List ℕ) (old new : Slot) → IsFailure line → Says told Tail line old new → Tells told line old new
+failure_told told line old new failure says = record { said = says.said; is = elim says.is [ inl same ↦ inl same | inr memory ↦ inr (failure, memory) ]; printed = says.printed }
+
+pub all_told_state : (told : Bool) (lines : List (List ℕ)) (old new : Slot) → TellsAll told lines old new → new.state ≡ old.state
+all_told_state told [] old new is = ap (λ slot. slot.state) is
+all_told_state told (line ∷ lines) old new tells = all_told_state told lines tells.0 new tells.2 ∙ printed_open told tells.1.said old tells.0 tells.1.printed
+
+pub tells_after : (told : Bool) (lines more : List (List ℕ)) (old mid new : Slot) → TellsAll told lines old mid → TellsAll told more mid new → TellsAll told (lines ++ more) old new
+tells_after told [] more old mid new so_far tells = subst (λ slot. TellsAll told more slot new) so_far tells
+tells_after told (first ∷ lines) more old mid new so_far tells = (so_far.0, so_far.1, tells_after told lines more so_far.0 mid new so_far.2 tells)
+
+-- what is printed under headers
+
+pub no_memory : (told : Bool) (text : List ℕ) (slots : List Slot) → Short told text slots slots fault.Memory
+no_memory told text slots = no_room 0 (omega arith) (sym (nothing_written told slots))
+
+pub short_more : (told : Bool) (text more : List ℕ) (old new : List Slot) (why : Fault) → Short told text old new why → Short told (text ++ more) old new why
+short_more told text more old new _ (short_broke n cut) = short_broke n (record {
+  within = let a : length (text ++ more) ≡ length text + length more = length-append text more in let b : n < length text = cut.within in omega arith;
+  slots = cut.slots ∙ ap (λ bytes. with_broken 0 (with_written 0 (told_of told bytes) old)) (sym (take-append-le n text more (let b : n < length text = cut.within in omega arith)));
+})
+short_more told text more old new _ (no_room n within is) = no_room n (let a : length (text ++ more) ≡ length text + length more = length-append text more in omega (arith, within)) (is ∙ ap (λ bytes. with_written 0 (told_of told bytes) old) (sym (take-append-le n text more within)))
+
+pub short_later : (told : Bool) (first text : List ℕ) (old mid new : List Slot) (n : ℕ) → mid ≡ with_written 0 (told_of told first) old → BrokeAfter told mid new 0 text n → Short told (first ++ text) old new (fault.Write 0)
+short_later told first text old mid new n one cut = short_broke (length first + n) (subst (λ rest. BrokeAfter told old new 0 (first ++ rest) (length first + n)) (append-nil text) (broke_later told old mid new first text [] n one cut))
+
+pub itself : (name : List ℕ) → bytes_eq name name ≡ true
+itself name = (bytes_eq-Decides name name).1 refl
+
+-- bytes in two pieces are bytes in one
+same_last : (printer : PrinterState) (name first more : List ℕ) → is_empty first ≡ false → is_due (printer_under printer name first) name more ≡ false
+same_last printer name first more some = by printer.headers (is_last name printer.last) refl refl where
+  by : (headers last : Bool) → printer.headers ≡ headers → is_last name printer.last ≡ last → is_due (printer_under printer name first) name more ≡ false
+  by false last h l = rw h refl
+  by true true h l = rw (h, some, l, l) (by_more (is_empty more)) where
+    by_more : (e : Bool) → (true && (not e && not true)) ≡ false
+    by_more true = refl
+    by_more false = refl
+  by true false h l = rw (h, some, l, itself name) (by_more (is_empty more)) where
+    by_more : (e : Bool) → (true && (not e && not true)) ≡ false
+    by_more true = refl
+    by_more false = refl
+
+pub not_due : (printer : PrinterState) (name : List ℕ) → is_due printer name [] ≡ false
+not_due printer name = by printer.headers refl where
+  by : (h : Bool) → printer.headers ≡ h → is_due printer name [] ≡ false
+  by true h = rw h refl
+  by false h = rw h refl
+
+no_bytes : (printer : PrinterState) (name more : List ℕ) → text_under printer name more ≡ text_under printer name [] ++ text_under (printer_under printer name []) name more
+no_bytes printer name more = rw (not_due printer name) refl
+
+first_some : (printer : PrinterState) (name first more : List ℕ) → is_empty first ≡ false → is_due printer name (first ++ more) ≡ is_due printer name first
+first_some printer name [] more some = absurd (false≢true (sym some))
+first_some printer name (byte ∷ first) more some = refl
+
+pub under_append : (printer : PrinterState) (name first more : List ℕ) → text_under printer name (first ++ more) ≡ text_under printer name first ++ text_under (printer_under printer name first) name more
+under_append printer name first more = by first refl where
+  by : (front : List ℕ) → first ≡ front → text_under printer name (first ++ more) ≡ text_under printer name first ++ text_under (printer_under printer name first) name more
+  by [] is = rw is (no_bytes printer name more)
+  by (byte ∷ front) is =
+      let some : is_empty first ≡ false = ap is_empty is in
+      ap (λ due. (if due then header_under printer name else []) ++ (first ++ more)) (first_some printer name first more some)
+      ∙ sym (append_assoc (front_under printer name first) first more)
+      ∙ ap (λ due. text_under printer name first ++ ((if due then header_under (printer_under printer name first) name else []) ++ more)) (sym (same_last printer name first more some))
+
+pub last_append : (printer : PrinterState) (name first more : List ℕ) → printer_under printer name (first ++ more) ≡ printer_under (printer_under printer name first) name more
+last_append printer name first more = by first refl where
+  by : (front : List ℕ) → first ≡ front → printer_under printer name (first ++ more) ≡ printer_under (printer_under printer name first) name more
+  by [] is = rw is (rw (not_due printer name) refl)
+  by (byte ∷ front) is =
+      let some : is_empty first ≡ false = ap is_empty is in
+      ap (λ due. if due then record printer { last = Some name } else printer) (first_some printer name first more some)
+      ∙ ap (λ due. if due then record (printer_under printer name first) { last = Some name } else printer_under printer name first) (sym (same_last printer name first more some))
+
+pub under_nil : (printer : PrinterState) (name : List ℕ) → text_under printer name [] ≡ []
+under_nil printer name = rw (not_due printer name) refl
+
+pub last_nil : (printer : PrinterState) (name : List ℕ) → printer_under printer name [] ≡ printer
+last_nil printer name = rw (not_due printer name) refl
+
+pub short_after : (told : Bool) (first second : List ℕ) (old mid new : List Slot) (why : Fault) → mid ≡ with_written 0 (told_of told first) old → Short told second mid new why → Short told (first ++ second) old new why
+short_after told first second old mid new _ one (short_broke n cut) = short_later told first second old mid new n one cut
+short_after told first second old mid new _ one (no_room n within is) = no_room (length first + n)
+    (let a : length (first ++ second) ≡ length first + length second = length-append first second in omega (arith, within))
+    (written_both told old mid new first (take n second) one is ∙ ap (λ bytes. with_written 0 (told_of told bytes) old) (sym (take-append-add first second n)))
+
+-- what is given in two steps
 
 pub adds-nil : (told : Bool) (slot : Slot) → adds (told_of told []) slot ≡ slot
 adds-nil told slot = ap (λ bytes. record slot { written = slot.written ++ bytes }) (told_of-nil told) ∙ ap (λ written. record slot { written = written }) (append-nil slot.written)
@@ -51,12 +158,12 @@ gives_both told printer mid after name first second lines more old now new one o
   text : text_under printer name first ++ text_under mid name second ≡ text_under printer name (first ++ second)
   text = ap (λ (p : PrinterState). text_under printer name first ++ text_under p name second) one.printer_is ∙ sym (under_append printer name first second)
 
-  both : (output error : Slot) (others : List Slot) → (then : Slot) × TellsAll told lines error then × (now ≡ adds (told_of told (text_under printer name first)) output ∷ then ∷ others)
+  both : (output error : Slot) (others : List Slot) → (error_mid : Slot) × TellsAll told lines error error_mid × (now ≡ adds (told_of told (text_under printer name first)) output ∷ error_mid ∷ others)
       → (last : Slot) × TellsAll told (lines ++ more) error last × (new ≡ adds (told_of told (text_under printer name (first ++ second))) output ∷ last ∷ others)
-  both output error others (then, said, are) = joined (other.slots _ then others are) where
-    joined : (last : Slot) × TellsAll told more then last × (new ≡ adds (told_of told (text_under mid name second)) (adds (told_of told (text_under printer name first)) output) ∷ last ∷ others)
+  both output error others (error_mid, said, are) = joined (other.slots _ error_mid others are) where
+    joined : (last : Slot) × TellsAll told more error_mid last × (new ≡ adds (told_of told (text_under mid name second)) (adds (told_of told (text_under printer name first)) output) ∷ last ∷ others)
         → (last : Slot) × TellsAll told (lines ++ more) error last × (new ≡ adds (told_of told (text_under printer name (first ++ second))) output ∷ last ∷ others)
-    joined (last, more_said, now_are) = (last, tells_after told lines more error then last said more_said, now_are ∙ ap (λ slot. slot ∷ last ∷ others) (adds_both told _ _ output ∙ ap (λ bytes. adds (told_of told bytes) output) text))
+    joined (last, more_said, now_are) = (last, tells_after told lines more error error_mid last said more_said, now_are ∙ ap (λ slot. slot ∷ last ∷ others) (adds_both told _ _ output ∙ ap (λ bytes. adds (told_of told bytes) output) text))
 
 pub halts_after : (told : Bool) (printer mid : PrinterState) (name first second : List ℕ) (lines more : List (List ℕ)) (old now new : List Slot) (why : Fault)
     → Gives told printer name first lines old mid now → Halts told mid name second more now new why → Halts told printer name (first ++ second) (lines ++ more) old new why
@@ -66,12 +173,12 @@ halts_after told printer mid name first second lines more old now new why one ot
   text : text_under printer name first ++ text_under mid name second ≡ text_under printer name (first ++ second)
   text = ap (λ (p : PrinterState). text_under printer name first ++ text_under p name second) one.printer_is ∙ sym (under_append printer name first second)
 
-  both : (output error : Slot) (others : List Slot) → (then : Slot) × TellsAll told lines error then × (now ≡ adds (told_of told (text_under printer name first)) output ∷ then ∷ others)
+  both : (output error : Slot) (others : List Slot) → (error_mid : Slot) × TellsAll told lines error error_mid × (now ≡ adds (told_of told (text_under printer name first)) output ∷ error_mid ∷ others)
       → (last : Slot) × TellsAll told (lines ++ more) error last × Short told (text_under printer name (first ++ second)) (output ∷ last ∷ others) new why
-  both output error others (then, said, are) = joined (other.slots _ then others are) where
-    joined : (last : Slot) × TellsAll told more then last × Short told (text_under mid name second) (adds (told_of told (text_under printer name first)) output ∷ last ∷ others) new why
+  both output error others (error_mid, said, are) = joined (other.slots _ error_mid others are) where
+    joined : (last : Slot) × TellsAll told more error_mid last × Short told (text_under mid name second) (adds (told_of told (text_under printer name first)) output ∷ last ∷ others) new why
         → (last : Slot) × TellsAll told (lines ++ more) error last × Short told (text_under printer name (first ++ second)) (output ∷ last ∷ others) new why
-    joined (last, more_said, short) = (last, tells_after told lines more error then last said more_said, subst (λ bytes. Short told bytes (output ∷ last ∷ others) new why) text (short_after told (text_under printer name first) (text_under mid name second) (output ∷ last ∷ others) _ new why refl short))
+    joined (last, more_said, short) = (last, tells_after told lines more error error_mid last said more_said, subst (λ bytes. Short told bytes (output ∷ last ∷ others) new why) text (short_after told (text_under printer name first) (text_under mid name second) (output ∷ last ∷ others) _ new why refl short))
 
 -- nothing more was written
 pub halts_short : (told : Bool) (printer : PrinterState) (name bytes : List ℕ) (old new : List Slot) (why : Fault) → Short told (text_under printer name bytes) old new why → Halts told printer name bytes [] old new why
@@ -109,3 +216,122 @@ goes_after told_in told printer mid after name first second lines more old now n
 goes_after told_in told printer mid after name first second lines more old now new _ _ (whole done bytes said are gives) (over why bytes2 said2 are2 halts) =
     over why (bytes ++ bytes2) (said ++ said2) (λ is. (subst (λ x. IsFront (x ++ bytes2) (first ++ second)) (sym (are is).0) (front_after first bytes2 second (are2 is).0), subst (λ x. IsFront (x ++ said2) (lines ++ more)) (sym (are is).1) (front_after lines said2 more (are2 is).1)))
     (halts_after told printer mid name bytes bytes2 said said2 old now new why gives halts)
+
+-- copying, read by read
+
+pub record Copying (told_in told : Bool) (printer : PrinterState) (name contents : List ℕ) (from at len : ℕ) (old : List Slot) (after : PrinterState) (now : List Slot) (seen_old seen_now : List Snapshot) (watched_old watched_now : List Watched) (room : ℕ) : Type 0 where
+  pub bytes : List ℕ
+  pub are : told_in ≡ true → bytes ≡ take (at - from) (drop from contents)
+  pub put : PutOut told printer name bytes old after now
+  pub writable : IsTrue (is_writable now 0)
+  pub within : at ≤ len
+  pub past : from ≤ at
+  pub seen_same : seen_now ≡ seen_old
+  pub watched_same : watched_now ≡ watched_old
+  pub some : 0 < room
+
+pub nothing_put : (told : Bool) (printer : PrinterState) (name : List ℕ) (old : List Slot) → PutOut told printer name [] old printer old
+nothing_put told printer name old = record {
+  slots = sym (ap (λ text. with_written 0 (told_of told text) old) (under_nil printer name) ∙ nothing_written told old);
+  printer_is = sym (last_nil printer name);
+}
+
+pub put_more : (told : Bool) (printer mid after : PrinterState) (name first more : List ℕ) (old now new : List Slot) → PutOut told printer name first old mid now
+    → new ≡ with_written 0 (told_of told (text_under mid name more)) now → after ≡ printer_under mid name more → PutOut told printer name (first ++ more) old after new
+put_more told printer mid after name first more old now new put wrote is = record {
+  slots = written_both told old now new (text_under printer name first) (text_under mid name more) put.slots wrote
+      ∙ ap (λ text. with_written 0 (told_of told text) old) (ap (λ (p : PrinterState). text_under printer name first ++ text_under p name more) put.printer_is ∙ sym (under_append printer name first more));
+  printer_is = is ∙ ap (λ (p : PrinterState). printer_under p name more) put.printer_is ∙ sym (last_append printer name first more);
+}
+
+pub copy_starts : (told_in told : Bool) (printer : PrinterState) (name contents : List ℕ) (from len : ℕ) (old : List Slot) (seen : List Snapshot) (watched : List Watched) (room : ℕ) → IsTrue (is_writable old 0) → from ≤ len → 0 < room → Copying told_in told printer name contents from from len old printer old seen seen watched watched room
+copy_starts told_in told printer name contents from len old seen watched room can within some = record {
+  bytes = [];
+  are = λ _. (let none : from - from ≡ 0 = omega arith in sym (ap (λ n. take n (drop from contents)) none));
+  put = nothing_put told printer name old;
+  writable = can;
+  within = within;
+  past = omega arith;
+  seen_same = refl;
+  watched_same = refl;
+  some = some;
+}
+
+next_bytes : (contents read_old read_new tail bytes : List ℕ) (from at n : ℕ) → from ≤ at → n ≤ length read_old → length read_new ≡ length read_old → GaveFrom contents at read_old read_new n → bytes ≡ take (at - from) (drop from contents)
+    → bytes ++ take n (read_new ++ tail) ≡ take ((at + n) - from) (drop from contents)
+next_bytes contents read_old read_new tail bytes from at n past few long gave are =
+    let count : (at + n) - from ≡ (at - from) + n = omega (arith, past) in
+    let place : from + (at - from) ≡ at = omega (arith, past) in
+    ap (λ front. front ++ take n (read_new ++ tail)) are
+    ∙ ap (λ piece. take (at - from) (drop from contents) ++ piece) (take-append-le n read_new tail (omega (arith, few, long)) ∙ gave.front ∙ ap (λ k. take n (drop k contents)) (sym place) ∙ ap (take n) (sym (drop_drop (at - from) from contents)))
+    ∙ sym (ap (λ k. take k (drop from contents)) count ∙ take-add (at - from) n (drop from contents))
+
+pub copy_more : (told_in told : Bool) (printer : PrinterState) (name contents now_contents : List ℕ) (from at len n : ℕ) (old : List Slot) (mid after : PrinterState) (now new : List Slot) (seen_old seen_now seen_new : List Snapshot) (watched_old watched_now watched_new : List Watched) (room : ℕ) (read_old read_new tail : List ℕ)
+    → Copying told_in told printer name contents from at len old mid now seen_old seen_now watched_old watched_now room
+    → contents ≡ now_contents → n ≤ length read_old → length read_new ≡ length read_old → n ≤ len - at → at < len
+    → (told_in ≡ true → GaveFrom now_contents at read_old read_new n)
+    → new ≡ with_written 0 (told_of told (text_under mid name (take n (read_new ++ tail)))) now → after ≡ printer_under mid name (take n (read_new ++ tail))
+    → seen_new ≡ seen_now → watched_new ≡ watched_now → 0 < length (read_new ++ tail)
+    → Copying told_in told printer name contents from (at + n) len old after new seen_old seen_new watched_old watched_new (length (read_new ++ tail))
+copy_more told_in told printer name contents now_contents from at len n old mid after now new seen_old seen_now seen_new watched_old watched_now watched_new room read_old read_new tail c same few long fits inner gave wrote shown seen watched some = record {
+  bytes = c.bytes ++ take n (read_new ++ tail);
+  are = λ is. next_bytes contents read_old read_new tail c.bytes from at n c.past few long (subst (λ those. GaveFrom those at read_old read_new n) (sym same) (gave is)) (c.are is);
+  put = put_more told printer mid after name c.bytes _ old now new c.put wrote shown;
+  writable = subst (λ those. is_writable those 0 ≡ true) (sym wrote) (writable-written now 0 0 _ ∙ c.writable);
+  within = omega (arith, fits, inner);
+  past = let b : from ≤ at = c.past in omega arith;
+  seen_same = seen ∙ c.seen_same;
+  watched_same = watched ∙ c.watched_same;
+  some = some;
+}
+
+pub few_fit : (n room a b : ℕ) (buffer : List ℕ) → n ≤ length (take room buffer) → room ≡ min a b → n ≤ a
+few_fit n room a b buffer few is = let t : length (take room buffer) ≡ min room (length buffer) = length-take room buffer in omega (arith, few, is)
+
+pub some_left : (room : ℕ) (buffer read : List ℕ) → length read ≡ length (take room buffer) → 0 < length buffer → 0 < length (read ++ drop room buffer)
+some_left room buffer read same some =
+    let a : length (read ++ drop room buffer) ≡ length read + length (drop room buffer) = length-append read (drop room buffer) in
+    let t : length (take room buffer) ≡ min room (length buffer) = length-take room buffer in
+    let d : length (drop room buffer) ≡ length buffer - room = length-drop room buffer in omega (arith, same, some)
+
+front_taken_by : (n : ℕ) (xs : List ℕ) → IsFront (take n xs) xs
+front_taken_by n xs = (drop n xs, sym (take-append-drop n xs))
+
+pub copy_broke : (told_in told : Bool) (printer : PrinterState) (name contents : List ℕ) (from at len place : ℕ) (old : List Slot) (mid : PrinterState) (now : List Slot) (seen_old seen_now : List Snapshot) (watched_old watched_now watched_new : List Watched) (room : ℕ) (why : Fault)
+    → Copying told_in told printer name contents from at len old mid now seen_old seen_now watched_old watched_now room
+    → why ≡ fault.Read place → watched_new ≡ changed_at place breaks watched_now
+    → Ends {T = ℕ} told_in told printer name (drop from contents) [] old mid now (Err (Broke why)) × Keeps {T = ℕ} place watched_old watched_new (Err (Broke why))
+copy_broke told_in told printer name contents from at len place old mid now seen_old seen_now watched_old watched_now watched_new room why c is failed = (
+  broke why c.bytes [] (λ told. (subst (λ bytes. IsFront bytes (drop from contents)) (sym (c.are told)) (front_taken_by (at - from) (drop from contents)), front_nil [])) (gives_put told printer mid name c.bytes old now c.put),
+  (is, failed ∙ ap (changed_at place breaks) c.watched_same),
+)
+
+pub copy_over : (told_in told : Bool) (printer : PrinterState) (name contents now_contents : List ℕ) (from at len n : ℕ) (old : List Slot) (mid after : PrinterState) (now new : List Slot) (seen_old seen_now : List Snapshot) (watched_old watched_now : List Watched) (room : ℕ) (read_old read_new tail : List ℕ) (why : Fault)
+    → Copying told_in told printer name contents from at len old mid now seen_old seen_now watched_old watched_now room
+    → contents ≡ now_contents → n ≤ length read_old → length read_new ≡ length read_old
+    → (told_in ≡ true → GaveFrom now_contents at read_old read_new n)
+    → Short told (text_under mid name (take n (read_new ++ tail))) now new why
+    → Ends {T = ℕ} told_in told printer name (drop from contents) [] old after new (Err (Over why))
+copy_over told_in told printer name contents now_contents from at len n old mid after now new seen_old seen_now watched_old watched_now room read_old read_new tail why c same few long gave short =
+    over why (c.bytes ++ take n (read_new ++ tail)) [] (λ is. (subst (λ bytes. IsFront bytes (drop from contents)) (sym (next_bytes contents read_old read_new tail c.bytes from at n c.past few long (subst (λ those. GaveFrom those at read_old read_new n) (sym same) (gave is)) (c.are is))) (front_taken_by ((at + n) - from) (drop from contents)), front_nil []))
+    (halts_short told printer name (c.bytes ++ take n (read_new ++ tail)) old new why
+    (subst (λ text. Short told text old new why) (ap (λ (p : PrinterState). text_under printer name c.bytes ++ text_under p name (take n (read_new ++ tail))) c.put.printer_is ∙ sym (under_append printer name c.bytes (take n (read_new ++ tail))))
+    (short_after told (text_under printer name c.bytes) (text_under mid name (take n (read_new ++ tail))) old now new why c.put.slots short)))
+
+-- all was copied
+pub copy_done : {told_in told : Bool} {printer : PrinterState} {name contents : List ℕ} {from at len : ℕ} {old : List Slot} {mid : PrinterState} {now : List Slot} {seen_old seen_now : List Snapshot} {watched_old watched_now : List Watched} {room : ℕ}
+    → Copying told_in told printer name contents from at len old mid now seen_old seen_now watched_old watched_now room → (told_in ≡ true → length contents ≤ at) → Ends {T = ℕ} told_in told printer name (drop from contents) [] old mid now (Ok len)
+copy_done {told_in} {told} {printer} {name} {contents} {from} {at} {len} {old} {mid} {now} c past =
+    whole len c.bytes [] (λ is. (c.are is ∙ take_all (at - from) (drop from contents) (let d : length (drop from contents) ≡ length contents - from = length-drop from contents in let p : length contents ≤ at = past is in omega (arith, d, p)), refl))
+    (gives_put told printer mid name c.bytes old now c.put)
+
+-- a read that gives nothing stands at the file's end
+pub nothing_left : (buffer : List ℕ) (room : ℕ) {told_in : Bool} {contents now_contents read_new : List ℕ} {at len n : ℕ} → contents ≡ now_contents → at < len → 0 < length buffer → room ≡ min (len - at) (length buffer) → n ≡ 0
+    → (told_in ≡ true → GaveFrom now_contents at (take room buffer) read_new n) → told_in ≡ true → length contents ≤ at
+nothing_left buffer room {told_in} {contents} {now_contents} {read_new} {at} {len} {n} same inner some is none gave t =
+    let few : length (take room buffer) ≡ min room (length buffer) = length-take room buffer in
+    let ended : drop at now_contents ≡ [] = ((gave t).ended none (omega (arith, few, is, inner, some))).0 in
+    let long : length (drop at now_contents) ≡ length now_contents - at = length-drop at now_contents in
+    let empty : length (drop at now_contents) ≡ 0 = ap length ended in
+    let size : length contents ≡ length now_contents = ap length same in
+    omega (arith, long, empty, size)

@@ -1,33 +1,45 @@
--- What a look gives for a name, from where the looks before left it.
-use Rattle.std.proofs.Common.{◌≡◌, ℕ, ◌==◌, Bool, true, false, List, [], ◌∷◌, ◌++◌, length, map, drop, Option, Some, None, refl, sym, ◌∙◌, ap, subst, append_assoc, if◌then◌else◌}
-use Rattle.std.proofs.lemmas.List.{map-append}
+-- A later look at a name, with what is told of it.
+use Rattle.follow_core.specs.Standing.{StandsAt}
+use Rattle.std.proofs.Common.{◌≡◌, ℕ, ◌==◌, Bool, true, false, not, ◌||◌, List, [], ◌∷◌, ◌++◌, length, Option, Some, None, refl, sym, ◌∙◌, ap, if◌then◌else◌, map, drop, subst, take, Ok, Err, inl, inr, ◌⊎◌}
 use Rattle.std.proofs.lemmas.Bool.{eqb-true}
+use Rattle.std.proofs.lemmas.List.{map-append}
 use Rattle.watch_core.specs.Snapshot.{Snapshot}
-use Rattle.follow_core.specs.Version.{Entry, version, gap, version_in, entries_open, entries_led, entries_of, entries_at_look, open_after_look, open_after}
+use Rattle.follow_core.specs.Version.{Entry, gap, version_in, entries_at_look, entries_led, entries_later, entries_of, entries_open, open_after, open_after_later, open_after_look}
+use Rattle.follow_core.specs.Gain.{file_of, last_from, last_of, seen_length, gains_later, gains_after}
+use Rattle.follow_core.specs.inner.Calls.{held_at, bytes_again, lines_again}
+use Rattle.follow_core.specs.Look.{Fate, Look, Ways, entries_in, fate_at, is_dropped, is_sound, snapshots, sound, unopened as not_opened, unread as not_read}
+use Rattle.std.proofs.Math.Seq.{drop-append_seam as drop_front}
 use Rattle.follow_core.specs.Run.{AreKept, name_text}
-use Rattle.follow_core.specs.Gain.{file_of, last_of, last_from, gains_later, gains_after}
-use Rattle.follow_core.specs.Notice.{notice_of, notices_of, notices_later, notices_between, is_missing}
-use Rattle.follow_core.specs.Look.{Ways, Look, sound, fate_at, is_dropped, snapshots, entries_in}
-use Rattle.follow_core.specs.Share.{Share, share_of, gain, told_at_look}
-use Rattle.follow_core.proofs.RunLemmas.{gain_is}
+use Rattle.follow_core.specs.Notice.{notice_of, notices_of, notices_later}
+use Rattle.follow_core.specs.Share.{Share, share_of, gain, told_at_look, IsFront}
+use Rattle.follow_core.proofs.RunLemmas.{gain_is, notices-append}
 use Rattle.follow_core.proofs.ShareLemmas.{entries-append}
+use Rattle.ports_core.specs.Slot.{Slot}
+use Rattle.ports_core.specs.Text.{message_of}
+use Rattle.ports_core.specs.Message.{SaysOn}
+use Rattle.ports_core.specs.declared.tool.Tool.TheVariants.{Tail}
+use Rattle.ports_core.specs.declared.fault.Fault.{Fault}
+use Rattle.ports_core.specs.declared.fault.Fault.TheVariants.{Open, Read}
+use Rattle.follow_core.specs.declared.visitor.Stop.TheVariants.{Broke, Over}
+use Rattle.follow_core.specs.declared.visitor.Came.TheVariants.{Through, Dropped}
+use Rattle.follow_core.specs.inner.Giving.{Ends, Gives, Halts, broke, over, whole, Shared, SharedShort, is_due}
+use Rattle.follow_core.specs.inner.Visits.{Stopped}
+use Rattle.follow_core.specs.Printing.{PrinterState}
+use Rattle.follow_core.proofs.FirstLemmas.{front_taken, told_after, Looked}
 
-drop_front : {X : Type 0} (front rest : List X) → drop (length front) (front ++ rest) ≡ rest
-drop_front [] rest = refl
-drop_front (x ∷ front) rest = drop_front front rest
+-- A name stands so before a later look: this file of it is open, and this much of that was seen. A file that is appended to keeps its
+-- bytes.
+pub record IsReady (ways : Ways) (looks : List Look) (snapshot : Snapshot) (name : List ℕ) (opened : Option ℕ) (position : ℕ) : Type 0 where
+  pub stands : StandsAt (last_of (entries_in ways name looks)) opened position
+  pub kept : AreKept (entries_in ways name (looks ++ record { snapshot = snapshot; fates = [] } ∷ []))
 
-pub notices-append : (last : Entry) (entries more : List Entry) → notices_later last (entries ++ more) ≡ notices_later last entries ++ notices_later (last_from last entries) more
-notices-append last [] more = refl
-notices-append last (entry ∷ entries) more = ap (λ x. notices_between last entry ++ x) (notices-append entry entries more) ∙ sym (append_assoc (notices_between last entry) (notices_later entry entries) _)
+-- what a look gives for a name, from where the looks before left it
 
 -- entries that are there, told apart from none
 pub record Some_entries (entries : List Entry) : Type 0 where
   pub first : Entry
   pub rest : List Entry
   pub are : entries ≡ first ∷ rest
-
-some_front : (entry : Entry) (entries more : List Entry) → entries ≡ entry ∷ [] → Some_entries (entries ++ more)
-some_front entry entries more is = record { first = entry; rest = more; are = ap (λ x. x ++ more) is }
 
 first_some : (snapshot : Snapshot) (led : Option ℕ) (more : List Entry) → Some_entries (entries_led snapshot None led ++ more)
 first_some snapshot None more = record { first = gap; rest = more; are = refl }
@@ -42,12 +54,6 @@ later_told entries more some = rw some.are (
 
 later_gain : (start : List ℕ → List ℕ) (entries more : List Entry) → Some_entries entries → gains_after start entries more ≡ gains_later (last_of entries) more
 later_gain start entries more some = rw some.are refl
-
-not_missing : (entries more : List Entry) → Some_entries entries → is_missing (entries ++ more) ≡ is_missing entries
-not_missing entries more some = rw some.are (by some.first) where
-  by : (entry : Entry) → is_missing ((entry ∷ some.rest) ++ more) ≡ is_missing (entry ∷ some.rest)
-  by (version v) = refl
-  by gap = refl
 
 pub entries_more : (ways : Ways) (name : List ℕ) (before : Look) (looks : List Look) (look : Look) → entries_in ways name ((before ∷ looks) ++ look ∷ []) ≡ entries_in ways name (before ∷ looks) ++ entries_at_look ways.by_name name (open_after ways.by_name name (snapshots (before ∷ looks))) look.snapshot
 entries_more ways name before looks look =
@@ -99,3 +105,163 @@ open_step true name opened snapshot last is = by opened (snapshot.leads name) wh
   by (Some other) (Some file) = same file other (file == other) refl
 open_step false name None snapshot last is = refl
 open_step false name (Some file) snapshot last is = refl
+
+-- the last entry of a name: the file that is open, and how much of it was seen
+
+last_from-append : (last : Entry) (entries more : List Entry) → last_from last (entries ++ more) ≡ last_from (last_from last entries) more
+last_from-append last [] more = refl
+last_from-append last (entry ∷ entries) more = last_from-append entry entries more
+
+last_more : (entries more : List Entry) → Some_entries entries → last_of (entries ++ more) ≡ last_from (last_of entries) more
+last_more entries more some = rw some.are (last_from-append some.first some.rest more)
+
+-- what a look leaves was seen whole
+seen_step : (by_name : Bool) (name : List ℕ) (opened : Option ℕ) (snapshot : Snapshot) (last : Entry) → seen_length (last_from last (entries_at_look by_name name opened snapshot)) ≡ length (held_at snapshot (open_after_look by_name name opened snapshot))
+seen_step true name opened snapshot last = by opened (snapshot.leads name) where
+  same : (file other : ℕ) → (test : Bool) → (file == other) ≡ test → seen_length (last_from (version_in snapshot other) (if test then [] else version_in snapshot file ∷ [])) ≡ length (snapshot.holds file)
+  same file other true is = ap (λ those. length (snapshot.holds those)) (sym (eqb-true file other is))
+  same file other false is = refl
+
+  by : (opened led : Option ℕ) → seen_length (last_from last (entries_open snapshot opened ++ entries_led snapshot opened led)) ≡ length (held_at snapshot led)
+  by None None = refl
+  by None (Some file) = refl
+  by (Some other) None = refl
+  by (Some other) (Some file) = same file other (file == other) refl
+seen_step false name None snapshot last = refl
+seen_step false name (Some file) snapshot last = refl
+
+-- the first look
+pub first_last : (ways : Ways) (name : List ℕ) (look : Look) → (file_of (last_of (entries_in ways name (look ∷ []))) ≡ look.snapshot.leads name) × (seen_length (last_of (entries_in ways name (look ∷ []))) ≡ length (held_at look.snapshot (look.snapshot.leads name)))
+first_last ways name look = by (look.snapshot.leads name) where
+  by : (led : Option ℕ) → (file_of (last_of (entries_led look.snapshot None led ++ [])) ≡ led) × (seen_length (last_of (entries_led look.snapshot None led ++ [])) ≡ length (held_at look.snapshot led))
+  by None = (refl, refl)
+  by (Some file) = (refl, refl)
+
+later_file : (by_name : Bool) (name : List ℕ) (opened : Option ℕ) (last : Entry) (snaps : List Snapshot) → opened ≡ file_of last → open_after_later by_name name opened snaps ≡ file_of (last_from last (entries_later by_name name opened snaps))
+later_file by_name name opened last [] is = is
+later_file by_name name opened last (snapshot ∷ snaps) is =
+    later_file by_name name (open_after_look by_name name opened snapshot) (last_from last (entries_at_look by_name name opened snapshot)) snaps (open_step by_name name opened snapshot last is)
+    ∙ ap file_of (sym (last_from-append last (entries_at_look by_name name opened snapshot) _))
+
+-- the open file is that of the last entry
+pub last_file : (ways : Ways) (name : List ℕ) (before : Look) (looks : List Look) → open_after ways.by_name name (snapshots (before ∷ looks)) ≡ file_of (last_of (entries_in ways name (before ∷ looks)))
+last_file ways name before looks = by (before.snapshot.leads name) where
+  by : (led : Option ℕ) → open_after_later ways.by_name name led (snapshots looks) ≡ file_of (last_of (entries_led before.snapshot None led ++ entries_later ways.by_name name led (snapshots looks)))
+  by None = later_file ways.by_name name None gap (snapshots looks) refl
+  by (Some file) = later_file ways.by_name name (Some file) (version_in before.snapshot file) (snapshots looks) refl
+
+-- one look more
+pub last_later : (ways : Ways) (name : List ℕ) (before : Look) (looks : List Look) (look : Look) (opened : Option ℕ) → opened ≡ file_of (last_of (entries_in ways name (before ∷ looks)))
+    → (file_of (last_of (entries_in ways name ((before ∷ looks) ++ look ∷ []))) ≡ open_after_look ways.by_name name opened look.snapshot)
+    × (seen_length (last_of (entries_in ways name ((before ∷ looks) ++ look ∷ []))) ≡ length (held_at look.snapshot (open_after_look ways.by_name name opened look.snapshot)))
+last_later ways name before looks look opened is =
+    let last = last_of (entries_in ways name (before ∷ looks)) in
+    let more : last_of (entries_in ways name ((before ∷ looks) ++ look ∷ [])) ≡ last_from last (entries_at_look ways.by_name name opened look.snapshot) =
+    ap last_of (entries_more ways name before looks look)
+    ∙ last_more (entries_in ways name (before ∷ looks)) _ (some_at ways.by_name name before.snapshot (snapshots looks))
+    ∙ ap (λ those. last_from last (entries_at_look ways.by_name name those look.snapshot)) (last_file ways name before looks ∙ sym is) in
+    (ap file_of more ∙ sym (open_step ways.by_name name opened look.snapshot last is), ap seen_length more ∙ seen_step ways.by_name name opened look.snapshot last)
+
+pub dropped_more : (place : ℕ) (looks : List Look) (look : Look) → is_dropped place (looks ++ look ∷ []) ≡ (is_dropped place looks || not (is_sound (fate_at place look)))
+dropped_more place [] look = by (not (is_sound (fate_at place look))) where
+  by : (a : Bool) → (a || false) ≡ a
+  by true = refl
+  by false = refl
+dropped_more place (first ∷ looks) look = ap (λ rest. not (is_sound (fate_at place first)) || rest) (dropped_more place looks look) ∙ by (not (is_sound (fate_at place first))) (is_dropped place looks) (not (is_sound (fate_at place look))) where
+  by : (a b c : Bool) → (a || (b || c)) ≡ ((a || b) || c)
+  by true b c = refl
+  by false b c = refl
+
+-- fates don't matter for what was seen
+pub same_entries : (ways : Ways) (name : List ℕ) (looks : List Look) (snapshot : Snapshot) (fates others : List Fate) → entries_in ways name (looks ++ record { snapshot = snapshot; fates = fates } ∷ []) ≡ entries_in ways name (looks ++ record { snapshot = snapshot; fates = others } ∷ [])
+same_entries ways name looks snapshot fates others =
+    ap (entries_of ways.by_name name) (map-append (λ (l : Look). l.snapshot) looks (record { snapshot = snapshot; fates = fates } ∷ []) ∙ sym (map-append (λ (l : Look). l.snapshot) looks (record { snapshot = snapshot; fates = others } ∷ [])))
+
+-- a later look at a name, with what is told of it
+
+if_out : (printer : PrinterState) (name : List ℕ) (test : Bool) → ◌≡◌ {A = PrinterState} (if test then record printer { last = Some name } else printer) (record printer { last = if test then Some name else printer.last })
+if_out printer name true = refl
+if_out printer name false = refl
+
+gives_shared : (told : Bool) (printer after : PrinterState) (name bytes : List ℕ) (lines : List (List ℕ)) (old new : List Slot) → Gives told printer name bytes lines old after new → Shared told printer (again_share name bytes lines) old after new
+gives_shared told printer after name bytes lines old new gives = record {
+  printer_is = gives.printer_is ∙ if_out printer name (is_due printer name bytes);
+  slots = gives.slots;
+}
+
+halts_shared : (told : Bool) (printer : PrinterState) (name bytes : List ℕ) (lines : List (List ℕ)) (old new : List Slot) (why : Fault) → Halts told printer name bytes lines old new why → SharedShort told printer (again_share name bytes lines) old new why
+halts_shared told printer name bytes lines old new why halts = record { slots = halts.slots }
+
+abbrev pub last_in : Ways → List ℕ → Look → List Look → Entry
+last_in ways name before looks = last_of (entries_in ways name (before ∷ looks))
+
+-- what is due at the look is what the definition gives
+due_again : (ways : Ways) (name : List ℕ) (before : Look) (looks : List Look) (snapshot : Snapshot) (fates : List Fate) (opened : Option ℕ) (position : ℕ) (by_name : Bool) → ways.by_name ≡ by_name → IsReady ways (before ∷ looks) snapshot name opened position
+    → (bytes_again by_name name (last_in ways name before looks) snapshot opened ≡ gain ways name (before ∷ looks) (record { snapshot = snapshot; fates = fates }))
+    × (lines_again by_name name (last_in ways name before looks) snapshot opened ≡ told_at_look ways name (before ∷ looks) (record { snapshot = snapshot; fates = fates }))
+due_again ways name before looks snapshot fates opened position by_name way ready =
+    let last = last_in ways name before looks in
+    let same : opened ≡ open_after ways.by_name name (snapshots (before ∷ looks)) = ready.stands.file ∙ sym (last_file ways name before looks) in (
+      ap (λ those. bytes_again those name last snapshot opened) (sym way) ∙ ap (bytes_again ways.by_name name last snapshot) same
+          ∙ sym (gain_more ways name before looks (record { snapshot = snapshot; fates = fates }) (subst AreKept (same_entries ways name (before ∷ looks) snapshot [] fates) ready.kept)),
+      ap (λ those. lines_again those name last snapshot opened) (sym way) ∙ ap (lines_again ways.by_name name last snapshot) same
+          ∙ sym (told_more ways name before looks (record { snapshot = snapshot; fates = fates })),
+    )
+
+pub again_whole : (told_in told : Bool) (ways : Ways) (before : Look) (looks : List Look) (snapshot : Snapshot) (name : List ℕ) (opened : Option ℕ) (position : ℕ) (by_name : Bool) (printer after : PrinterState) (old new : List Slot) (len : ℕ) → ways.by_name ≡ by_name → (told_in ≡ true → IsReady ways (before ∷ looks) snapshot name opened position)
+    → Ends {T = ℕ} told_in told printer name (bytes_again by_name name (last_in ways name before looks) snapshot opened) (lines_again by_name name (last_in ways name before looks) snapshot opened) old after new (Ok len)
+    → Looked told_in told ways (before ∷ looks) snapshot name printer old after new (Through len)
+again_whole told_in told ways before looks snapshot name opened position by_name printer after old new _ way ready (whole len bytes lines are gives) = record {
+  fate = sound;
+  share = again_share name bytes lines;
+  is_share = λ is fates.
+      let due = due_again ways name before looks snapshot fates opened position by_name way (ready is) in
+      ap (λ those. again_share name those lines) ((are is).0 ∙ due.0) ∙ ap (again_share name (gain ways name (before ∷ looks) (record { snapshot = snapshot; fates = fates }))) ((are is).1 ∙ due.1);
+  through = refl;
+  failed = refl;
+  shared = gives_shared told printer after name bytes lines old new gives;
+}
+
+-- a call on it failed: a beginning was given, and the message follows
+failed_share : (ways : Ways) (name bytes : List ℕ) (lines : List (List ℕ)) (before : Look) (looks : List Look) (look : Look) (line : List ℕ) → IsFront bytes (gain ways name (before ∷ looks) look) → IsFront lines (told_at_look ways name (before ∷ looks) look)
+    → ◌≡◌ {A = Share} (record { name = name; is_opened = false; bytes = bytes; messages = lines ++ line ∷ []; has_failed = true })
+    (record { name = name; is_opened = false; bytes = take (length bytes) (gain ways name (before ∷ looks) look); messages = take (length lines) (told_at_look ways name (before ∷ looks) look) ++ line ∷ []; has_failed = true })
+failed_share ways name bytes lines before looks look line front lines_front =
+    ap (λ those. record { name = name; is_opened = false; bytes = those; messages = lines ++ line ∷ []; has_failed = true }) (sym (front_taken bytes (gain ways name (before ∷ looks) look) front))
+    ∙ ap (λ those. record { name = name; is_opened = false; bytes = take (length bytes) (gain ways name (before ∷ looks) look); messages = those ++ line ∷ []; has_failed = true }) (sym (front_taken lines (told_at_look ways name (before ∷ looks) look) lines_front))
+
+pub again_broke : (told_in told : Bool) (ways : Ways) (before : Look) (looks : List Look) (snapshot : Snapshot) (place : ℕ) (name : List ℕ) (opened : Option ℕ) (position : ℕ) (by_name : Bool) (printer after : PrinterState) (old mid new : List Slot) (why : Fault) → ways.by_name ≡ by_name → (told_in ≡ true → IsReady ways (before ∷ looks) snapshot name opened position)
+    → (why ≡ Open place) ⊎ (why ≡ Read place)
+    → Ends {T = ℕ} told_in told printer name (bytes_again by_name name (last_in ways name before looks) snapshot opened) (lines_again by_name name (last_in ways name before looks) snapshot opened) old after mid (Err (Broke why))
+    → SaysOn told Tail (message_of Tail why name) mid new → Looked told_in told ways (before ∷ looks) snapshot name printer old after new Dropped
+again_broke told_in told ways before looks snapshot place name opened position by_name printer after old mid new _ way ready (inl unopen) (broke why bytes lines are gives) says = record {
+  fate = not_opened (length lines) (length bytes);
+  share = record (again_share name bytes lines) { messages = lines ++ message_of Tail (Open 0) name ∷ []; has_failed = true };
+  is_share = λ is fates.
+      let due = due_again ways name before looks snapshot fates opened position by_name way (ready is) in
+      failed_share ways name bytes lines before looks (record { snapshot = snapshot; fates = fates }) (message_of Tail (Open 0) name) (subst (IsFront bytes) due.0 (are is).0) (subst (IsFront lines) due.1 (are is).1);
+  through = refl;
+  failed = refl;
+  shared = told_after told printer after (again_share name bytes lines) (message_of Tail (Open 0) name) old mid new (gives_shared told printer after name bytes lines old mid gives) (name, inl refl) (subst (λ those. SaysOn told Tail (message_of Tail those name) mid new) unopen says);
+}
+again_broke told_in told ways before looks snapshot place name opened position by_name printer after old mid new _ way ready (inr read) (broke why bytes lines are gives) says = record {
+  fate = not_read (length lines) (length bytes);
+  share = record (again_share name bytes lines) { messages = lines ++ message_of Tail (Read 0) name ∷ []; has_failed = true };
+  is_share = λ is fates.
+      let due = due_again ways name before looks snapshot fates opened position by_name way (ready is) in
+      failed_share ways name bytes lines before looks (record { snapshot = snapshot; fates = fates }) (message_of Tail (Read 0) name) (subst (IsFront bytes) due.0 (are is).0) (subst (IsFront lines) due.1 (are is).1);
+  through = refl;
+  failed = refl;
+  shared = told_after told printer after (again_share name bytes lines) (message_of Tail (Read 0) name) old mid new (gives_shared told printer after name bytes lines old mid gives) (name, inr refl) (subst (λ those. SaysOn told Tail (message_of Tail those name) mid new) read says);
+}
+
+pub again_over : (told_in told : Bool) (ways : Ways) (before : Look) (looks : List Look) (snapshot : Snapshot) (name : List ℕ) (opened : Option ℕ) (position : ℕ) (by_name : Bool) (printer after : PrinterState) (old new : List Slot) (why : Fault) → ways.by_name ≡ by_name → (told_in ≡ true → IsReady ways (before ∷ looks) snapshot name opened position)
+    → Ends {T = ℕ} told_in told printer name (bytes_again by_name name (last_in ways name before looks) snapshot opened) (lines_again by_name name (last_in ways name before looks) snapshot opened) old after new (Err (Over why))
+    → Stopped told_in told ways (before ∷ looks) snapshot name printer old new why
+again_over told_in told ways before looks snapshot name opened position by_name printer after old new _ way ready (over why bytes lines are halts) = record {
+  share = again_share name bytes lines;
+  begins = λ is fates.
+      let due = due_again ways name before looks snapshot fates opened position by_name way (ready is) in
+      record { name = refl; opened = refl; bytes = subst (IsFront bytes) due.0 (are is).0; messages = subst (IsFront lines) due.1 (are is).1 };
+  short = halts_shared told printer name bytes lines old new why halts;
+}

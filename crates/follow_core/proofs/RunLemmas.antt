@@ -1,15 +1,13 @@
 -- The text of a name goes on by what each entry adds.
-use Rattle.std.proofs.Common.{◌≡◌, ℕ, Bool, true, false, List, [], ◌∷◌, ◌++◌, length, drop, refl, sym, ◌∙◌, ap, append_assoc, if◌then◌else◌}
+use Rattle.follow_core.specs.Notice.{notices_later, notices_between}
+use Rattle.std.proofs.Math.Seq.{drop-append_seam as drop_front}
+use Rattle.std.proofs.Common.{◌≡◌, ℕ, Bool, true, false, List, [], ◌∷◌, ◌++◌, length, drop, refl, sym, ◌∙◌, ap, append_assoc, if◌then◌else◌, Some, None}
 use Rattle.std.proofs.lemmas.List.{append-nil}
 use Rattle.std.specs.List.{onto_first}
 use Rattle.ports_core.specs.Part.{IsBeginning}
 use Rattle.follow_core.specs.Version.{Version, Entry, version, gap}
 use Rattle.follow_core.specs.Run.{goes_on, runs_of, last_contents, whole_text, begun_text, name_text, KeptFrom, AreKept}
 use Rattle.follow_core.specs.Gain.{gain_between, gains_later, started, last_from, gains_after}
-
-drop_front : (front rest : List ℕ) → drop (length front) (front ++ rest) ≡ rest
-drop_front [] rest = refl
-drop_front (byte ∷ front) rest = drop_front front rest
 
 -- the run that a version begins, and what comes after it
 record Begun (v : Version) (entries : List Entry) : Type 0 where
@@ -73,7 +71,7 @@ text_is_gains start (version v ∷ entries) all =
     ∙ append_assoc (start v.contents) b.more (whole_text b.others)
     ∙ ap (λ x. start v.contents ++ x) (sym b.gains)
 
-later-append : (last : Entry) (entries more : List Entry) → gains_later last (entries ++ more) ≡ gains_later last entries ++ gains_later (last_from last entries) more
+pub later-append : (last : Entry) (entries more : List Entry) → gains_later last (entries ++ more) ≡ gains_later last entries ++ gains_later (last_from last entries) more
 later-append last [] more = refl
 later-append last (entry ∷ entries) more = ap (λ x. gain_between last entry ++ x) (later-append entry entries more) ∙ sym (append_assoc (gain_between last entry) (gains_later entry entries) _)
 
@@ -98,3 +96,10 @@ text_goes_on start entries more all =
 -- and what a name gains is just that
 pub gain_is : (start : List ℕ → List ℕ) (entries more : List Entry) → AreKept (entries ++ more) → drop (length (name_text start entries)) (name_text start (entries ++ more)) ≡ gains_after start entries more
 gain_is start entries more all = ap (drop (length (name_text start entries))) (text_goes_on start entries more all) ∙ drop_front (name_text start entries) (gains_after start entries more)
+
+pub notices-append : (last : Entry) (entries more : List Entry) → notices_later last (entries ++ more) ≡ notices_later last entries ++ notices_later (last_from last entries) more
+notices-append last [] more = refl
+notices-append last (entry ∷ entries) more = ap (λ x. notices_between last entry ++ x) (notices-append entry entries more) ∙ sym (append_assoc (notices_between last entry) (notices_later entry entries) _)
+
+pub some_is : (a b : ℕ) → Some a ≡ Some b → a ≡ b
+some_is a b is = ap (λ o. elim o [ None ↦ a | Some x ↦ x ]) is

@@ -1,8 +1,12 @@
--- Where the last lines of a text begin, and those after the first n.
-use Rattle.std.proofs.Common.{◌≡◌, ℕ, ◌+◌, ◌-◌, ◌<◌, ◌≤◌, ◌==◌, zero, suc, Bool, true, false, List, [], ◌∷◌, ◌++◌, length, take, drop, refl, sym, ◌∙◌, ap, arith, length-append, if◌then◌else◌}
-use Rattle.std.proofs.Math.Seq.{take-add}
-use Rattle.std.proofs.lemmas.List.{drop_all, drop_at, drop-append-le, drop-drop, drop-take, length-drop, length-take, take-append-drop, take-append-le, take-take}
+-- Where the first look begins to write: blocks that are read, and the lines in them.
+use Rattle.std.proofs.Common.{◌≡◌, ℕ, ◌+◌, ◌-◌, ◌<◌, ◌≤◌, List, [], ◌++◌, length, take, drop, Bool, true, refl, sym, ◌∙◌, ap, subst, arith, ◌==◌, zero, suc, false, ◌∷◌, length-append, if◌then◌else◌}
+use Rattle.std.proofs.Math.Seq.{take-add, take-append-add}
+use Rattle.std.proofs.lemmas.List.{length-take, length-drop, append-nil, drop-drop, take-append-drop, take_all, take-take, drop_at, drop-append-le, drop-take, take-append-le}
+use Rattle.std.proofs.lemmas.Slice.{take-put_mid, take-put_mid_below}
 use Rattle.std.specs.Prelude.{min}
+use borrow.Rule.Slice.PartMut.{put_mid}
+use Rattle.watch_core.specs.Snapshot.{Snapshot, latest}
+use Rattle.watch_core.specs.Watched.{Watched, GaveFrom, open_contents, watched_at}
 use Rattle.std.specs.List.{onto_first}
 use Rattle.seg_core.specs.Line.{BeginsAt, EndsAt, FallsShort, after_lines, delimiters, ends_with, joined, last_lines, line_count, lines_of}
 use Rattle.seg_core.proofs.Delimiters.{delimiters-append}
@@ -12,6 +16,78 @@ use Rattle.seg_core.proofs.FirstLines.{EndsAt-enough, EndsAt-rest}
 use Rattle.seg_core.proofs.EndLines.{after_lines-append, after_lines-past}
 use Rattle.ends_core.specs.EndsLaws.{behind_of-append}
 use Rattle.seg_core.specs.declared.unit.Unit.TheVariants.{Lines}
+
+-- filling a block of a watched file, read by read
+
+-- what an open file holds, where nothing changed
+pub contents_same : (seen seen_old : List Snapshot) (names names_old : List Watched) (place : ℕ) → seen ≡ seen_old → names ≡ names_old → open_contents (latest seen) (watched_at names place) ≡ open_contents (latest seen_old) (watched_at names_old place)
+contents_same seen seen_old names names_old place saw same = ap (λ those. open_contents (latest those) (watched_at names place)) saw ∙ ap (λ those. open_contents (latest seen_old) (watched_at those place)) same
+
+-- so much of the block is filled with what the file has from a place on
+pub record Filling (told_in : Bool) (contents : List ℕ) (from filled : ℕ) (old now : List ℕ) (seen_old seen_now : List Snapshot) (watched_old watched_now : List Watched) : Type 0 where
+  pub are : told_in ≡ true → take filled now ≡ take filled (drop from contents)
+  pub within : filled ≤ length old
+  pub seen_same : seen_now ≡ seen_old
+  pub watched_same : watched_now ≡ watched_old
+
+-- the front of a block of which a part was overwritten
+front_of : (a n : ℕ) (xs ys : List ℕ) → a ≤ length xs → length ys ≡ length xs - a → n ≤ length ys → take (a + n) (put_mid a (length xs - a) xs ys) ≡ take a xs ++ take n ys
+front_of a n xs ys fits long few =
+    let full : take (a + length ys) (put_mid a (length xs - a) xs ys) ≡ take a xs ++ ys = take-put_mid a (length xs - a) xs ys (a + length ys) refl fits in
+    let size : length (take a xs) ≡ a = omega (arith, length-take a xs, fits) in
+    let count : length (take a xs) + n ≡ a + n = omega (arith, size) in
+    sym (take-take (a + n) (a + length ys) _ (omega (arith, few)))
+    ∙ ap (take (a + n)) full
+    ∙ ap (λ k. take k (take a xs ++ ys)) (sym count)
+    ∙ take-append-add (take a xs) ys n
+
+more_bytes : (contents read_old read_new now : List ℕ) (from filled n : ℕ) → filled ≤ length now → length read_new ≡ length now - filled → n ≤ length read_new → GaveFrom contents (from + filled) read_old read_new n
+    → take filled now ≡ take filled (drop from contents) → take (filled + n) (put_mid filled (length now - filled) now read_new) ≡ take (filled + n) (drop from contents)
+more_bytes contents read_old read_new now from filled n within long few gave are =
+    front_of filled n now read_new within long few
+    ∙ ap (λ front. front ++ take n read_new) are
+    ∙ ap (λ piece. take filled (drop from contents) ++ piece) (gave.front ∙ ap (take n) (sym (drop-drop filled from contents)))
+    ∙ sym (take-add filled n (drop from contents))
+
+-- the part of the block that is still to be filled
+room_of : (filled : ℕ) (now : List ℕ) → length (take (length now - filled) (drop filled now)) ≡ length now - filled
+room_of filled now = let size : length (take (length now - filled) (drop filled now)) ≡ min (length now - filled) (length (drop filled now)) = length-take (length now - filled) (drop filled now) in
+    let rest = length-drop filled now in omega (arith, size, rest)
+
+pub fill_more : (told_in : Bool) (contents now_contents : List ℕ) (from filled n : ℕ) (old now read_new : List ℕ) (seen_old seen_now seen_new : List Snapshot) (watched_old watched_now watched_new : List Watched)
+    → Filling told_in contents from filled old now seen_old seen_now watched_old watched_now
+    → now_contents ≡ contents → filled < length now → length now ≡ length old → length read_new ≡ length (take (length now - filled) (drop filled now)) → n ≤ length (take (length now - filled) (drop filled now))
+    → (told_in ≡ true → GaveFrom now_contents (from + filled) (take (length now - filled) (drop filled now)) read_new n) → seen_new ≡ seen_now → watched_new ≡ watched_now
+    → Filling told_in contents from (filled + n) old (put_mid filled (length now - filled) now read_new) seen_old seen_new watched_old watched_new
+fill_more told_in contents now_contents from filled n old now read_new seen_old seen_now seen_new watched_old watched_now watched_new f same less long wide few gave seen watched =
+    let room = room_of filled now in record {
+      are = λ is. more_bytes contents (take (length now - filled) (drop filled now)) read_new now from filled n (omega (arith, less)) (wide ∙ room) (omega (arith, few, wide)) (subst (λ those. GaveFrom those (from + filled) (take (length now - filled) (drop filled now)) read_new n) same (gave is)) (f.are is);
+      within = omega (arith, less, long, few, room);
+      seen_same = seen ∙ f.seen_same;
+      watched_same = watched ∙ f.watched_same;
+    }
+
+-- nothing stands after the first bytes, so that more are the same
+no_more : (filled size : ℕ) (x : List ℕ) → drop filled x ≡ [] → filled ≤ size → take filled x ≡ take size x
+no_more filled size x none few =
+    let all : take filled x ≡ x = sym (append-nil (take filled x)) ∙ ap (λ rest. take filled x ++ rest) (sym none) ∙ take-append-drop filled x in
+    let size_of : length (take filled x) ≡ min filled (length x) = length-take filled x in
+    let same : length (take filled x) ≡ length x = ap length all in
+    all ∙ sym (take_all size x (omega (arith, size_of, same, few)))
+
+-- a read that gives none stands at the file's end
+pub fill_ends : (told_in : Bool) (contents now_contents : List ℕ) (from filled : ℕ) (old now read_new : List ℕ) (seen_old seen_now : List Snapshot) (watched_old watched_now : List Watched)
+    → Filling told_in contents from filled old now seen_old seen_now watched_old watched_now
+    → now_contents ≡ contents → filled < length now → (told_in ≡ true → GaveFrom now_contents (from + filled) (take (length now - filled) (drop filled now)) read_new 0)
+    → told_in ≡ true → take filled (put_mid filled (length now - filled) now read_new) ≡ take (length old) (drop from contents)
+fill_ends told_in contents now_contents from filled old now read_new seen_old seen_now watched_old watched_now f same less gave is =
+    let room = room_of filled now in
+    let ended : drop (from + filled) now_contents ≡ [] = ((gave is).ended refl (omega (arith, room, less))).0 in
+    let none : drop filled (drop from contents) ≡ [] = drop-drop filled from contents ∙ ap (drop (from + filled)) (sym same) ∙ ended in
+    take-put_mid_below filled (length now - filled) now read_new filled (omega arith) (omega (arith, less))
+    ∙ f.are is ∙ no_more filled (length old) (drop from contents) none f.within
+
+-- where the last lines of a text begin, and those after the first n
 
 count_step : (is : Bool) (byte n : ℕ) (lines : List (List ℕ)) → length lines ≡ n + 1 → length (if is then (byte ∷ []) ∷ lines else onto_first byte lines) ≡ (if is then n + 1 else n) + 1
 count_step true byte n lines is = omega arith
@@ -85,12 +161,6 @@ block_then y from size = sym (take-append-drop size (drop from y)) ∙ ap (λ re
 abbrev pub IsWanted : ℕ → ℕ → ℕ → ℕ → List ℕ → Type 0
 IsWanted delim count wanted end x = count ≡ wanted + delimiters delim (drop end (but_one x))
 
-pub wanted_first : (delim count end : ℕ) (x : List ℕ) → end ≡ length x - 1 → IsWanted delim count count end x
-wanted_first delim count end x is =
-    let size : length (but_one x) ≡ min (length x - 1) (length x) = length-take (length x - 1) x in
-    let none : drop end (but_one x) ≡ [] = drop_all end (but_one x) (omega (arith, size, is)) in
-    let zero_more : delimiters delim (drop end (but_one x)) ≡ 0 = ap (delimiters delim) none in omega (arith, zero_more)
-
 -- so many in the block, so many fewer before it
 pub wanted_before : (delim count wanted end from size found : ℕ) (x block : List ℕ) → IsWanted delim count wanted end x → from + size ≡ end → end ≤ length x - 1 → block ≡ take size (drop from x) → FallsShort delim wanted block found
     → IsWanted delim count (wanted - found) from x
@@ -146,14 +216,6 @@ passed_by delim left at size found x block rest are short is =
     is ∙ ap (after_lines delim left) all ∙ behind_of-append delim Lines left block (drop (at + size) x)
     ∙ ap (λ none. none ++ after_lines delim (left - delimiters delim block) (drop (at + size) x)) (after_lines-past delim left block (omega (arith, counted, fewer)))
     ∙ ap (λ n. after_lines delim (left - n) (drop (at + size) x)) (sym counted)
-
-none_passed : (delim left : ℕ) → [] ≡ after_lines delim left []
-none_passed delim zero = refl
-none_passed delim (suc left) = refl
-
--- nothing is left to pass
-pub passed_all : (delim left at len : ℕ) (x : List ℕ) → len ≡ length x → len ≤ at → drop len x ≡ after_lines delim left (drop at x)
-passed_all delim left at len x is past = drop_all len x (omega (arith, is)) ∙ none_passed delim left ∙ ap (after_lines delim left) (sym (drop_all at x (omega (arith, is, past))))
 
 -- a block that was read into the front of the buffer
 pub block_read : (contents now_contents buffer new : List ℕ) (from size n most : ℕ) → size ≡ min most (length buffer) → n ≤ length (take size buffer) → length new ≡ length (take size buffer) → now_contents ≡ contents

@@ -7,19 +7,30 @@ use Rattle.follow_core.specs.Telling.{TellsAll}
 use Rattle.follow_core.specs.Followed.{any_failed, header_after, last_header_from, messages_of, share_text, text_from}
 use Rattle.follow_core.specs.Look.{Fate, Look, Ways, fate_at, is_dropped, sound}
 use Rattle.follow_core.specs.Share.{BeginsShare, Share, share_by, share_of, no_share, shares_at_look_from}
-use Rattle.follow_core.specs.inner.Looked.{Stopped}
+use Rattle.follow_core.specs.inner.Visits.{Stopped, KeepsOthers, StoppedAt, Visited, VisitedAll}
 use Rattle.follow_core.specs.Printing.{PrinterState, Short}
 use Rattle.follow_core.specs.Sharing.{AllShared, AllShort, Wrote, WroteShort}
 use Rattle.follow_core.specs.inner.Giving.{Shared, SharedShort}
 use Rattle.follow_core.specs.Standing.{AllKeep, AllStand, CanVisit, KeepsBytes, NameState, Stands, no_state, state_at, texts}
-use Rattle.follow_core.specs.inner.Visited.{KeepsOthers, StoppedAt, Visited, VisitedAll, VisitedUpTo}
-use Rattle.follow_core.proofs.TellingLemmas.{tells_after}
+use Rattle.follow_core.proofs.GiveLemmas.{tells_after, adds_both, adds-nil, short_after}
 use Rattle.ports_core.specs.declared.fault.Fault.{Fault}
 use Rattle.watch_core.specs.Snapshot.{Snapshot}
 use Rattle.watch_core.specs.Watched.{Watched, watched_at}
-use Rattle.follow_core.proofs.GiveLemmas.{adds_both, adds-nil}
-use Rattle.follow_core.proofs.PrintLemmas.{short_after}
 use Rattle.follow_core.proofs.ShareLemmas.{failed-append, last-append, messages-append, text-append}
+
+-- The same of the first names, whatever becomes of the others at that look; those stand as before it.
+pub record VisitedUpTo (told_in told : Bool) (ways : Ways) (looks : List Look) (snapshot : Snapshot) (place : ℕ) (names : List NameState) (printer : PrinterState) (old : List Slot) (after : PrinterState) (new : List Slot) (watched : List Watched) (names_now : List NameState) (failed : Bool) : Type 0 where
+  pub fates : List Fate
+  pub shares : List Share
+  pub count : length fates ≡ place
+  pub are : told_in ≡ true → (later : List Fate) → shares ≡ shares_at_look_from ways looks (record { snapshot = snapshot; fates = fates ++ later }) 0 (take place (texts names))
+  pub is_failed : any_failed shares ≡ failed
+  pub shared : AllShared told printer shares old after new
+  pub same : texts names_now ≡ texts names
+  pub done : (later : List Fate) (other : ℕ) → other < place
+      → Stands told_in ways (looks ++ record { snapshot = snapshot; fates = fates ++ later } ∷ []) other (state_at names_now other).text (watched_at watched other) (state_at names_now other).standing
+  pub rest : (other : ℕ) → place ≤ other → other < length names_now
+      → Stands told_in ways looks other (state_at names_now other).text (watched_at watched other) (state_at names_now other).standing
 
 pub wrote_both : (told : Bool) (text more : List ℕ) (lines further : List (List ℕ)) (old mid new : List Slot) → Wrote told text lines old mid → Wrote told more further mid new → Wrote told (text ++ more) (lines ++ further) old new
 wrote_both told text more lines further old mid new first second = λ output error others is. both output error others (first output error others is) where

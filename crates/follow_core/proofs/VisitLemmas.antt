@@ -12,24 +12,35 @@ use Rattle.follow_core.specs.declared.name.Standing.{Standing}
 use Rattle.follow_core.specs.declared.name.Standing.TheVariants.{New, Followed, Left}
 use Rattle.follow_core.specs.declared.visitor.Stop.{Stop}
 use Rattle.follow_core.specs.declared.visitor.Stop.TheVariants.{Broke, Over}
-use Rattle.follow_core.specs.inner.Calls.{Follows, held_at}
+use Rattle.follow_core.specs.inner.Calls.{Keeps, held_at}
 use Rattle.follow_core.specs.Gain.{file_of, gains_later, last_of}
 use Rattle.follow_core.specs.Notice.{notice_of, notices_later}
 use Rattle.follow_core.specs.Run.{AreKept}
 use Rattle.follow_core.specs.Look.{Fate, Look, Ways, entries_in, fate_at, is_dropped, is_sound, snapshots, sound}
-use Rattle.follow_core.specs.inner.Looked.{LooksFirst, TellsStop, IsLater, IsReady, IsThere, Leaves, Looked, Stopped, came_through, has_failed}
+use Rattle.follow_core.specs.inner.Visits.{TellsStop, Leaves, Stopped, has_failed, standing_after, KeepsOthers, Looks, Visited, Visits}
 use Rattle.follow_core.specs.Printing.{PrinterState}
 use Rattle.follow_core.specs.Share.{Share, no_share, share_by, share_of}
 use Rattle.follow_core.specs.Standing.{CanVisit, IsFollowed, IsLeft, IsMissed, KeepsBytes, NameState, Stands}
-use Rattle.follow_core.specs.inner.Standing.{standing_after}
 use Rattle.follow_core.specs.Version.{Entry, version, gap, entries_at_look, open_after, open_after_look}
-use Rattle.follow_core.specs.inner.Visited.{KeepsOthers, Looks, Visited, Visits}
-use Rattle.follow_core.proofs.ChangeLemmas.{contents_led, none_of, opened_there}
-use Rattle.follow_core.proofs.LaterLemmas.{again_share, later_share}
-use Rattle.follow_core.proofs.AgainLemmas.{LooksAgain}
-use Rattle.follow_core.proofs.MeetLemmas.{empty_shared, meets_broken, meets_stop}
-use Rattle.follow_core.proofs.RevisitLemmas.{again_broke, again_over, again_whole, last_in}
-use Rattle.follow_core.proofs.EntryLemmas.{dropped_more, first_last, last_file, last_later, same_entries}
+use Rattle.follow_core.proofs.CallLemmas.{contents_led, none_of, opened_there, opens_same, LooksAgain}
+use Rattle.follow_core.proofs.LaterLemmas.{again_share, later_share, again_broke, again_over, again_whole, last_in, dropped_more, first_last, last_file, last_later, same_entries, IsReady}
+use Rattle.ports_core.specs.Message.{SaysOn}
+use Rattle.ports_core.specs.Text.{message_of}
+use Rattle.ports_core.specs.declared.tool.Tool.TheVariants.{Tail}
+use Rattle.ports_core.specs.declared.fault.Fault.TheVariants.{Open}
+use Rattle.follow_core.proofs.FirstLemmas.{FirstCut, cut_over, cut_read, empty_shared, meets_nothing, meets_unopened, meets_unread, Looked, came_through}
+
+-- a name that came through its first look leads to a file
+abbrev pub IsThere : Bool → Option ℕ → Came → Type 0
+IsThere told led (Through len) = told ≡ true → is_some led ≡ true
+IsThere told led Missing = Unit {0}
+IsThere told led Dropped = Unit {0}
+
+-- a later look doesn't find a name missing: it tells that it became so
+abbrev pub IsLater : Came → Type 0
+IsLater (Through len) = Unit {0}
+IsLater Missing = ⊥
+IsLater Dropped = Unit {0}
 
 changed_elsewhere : {X : Type 0} (default : X) (place other : ℕ) (change : X → X) (xs : List X) → (other ≡ place → ⊥) → slice_index_or (changed_at place change xs) other default ≡ slice_index_or xs other default
 changed_elsewhere default place other change [] differs = refl
@@ -145,45 +156,57 @@ untold told snapshot led other place old new (Through len) (file, is, are) = (fi
 untold told snapshot led other place old new Missing (file, is, are) = (file, is, λ t. absurd (false≢true t))
 untold told snapshot led other place old new Dropped leaves = leaves
 
-pub first_looks : (told_in told : Bool) (ways : Ways) (snapshot : Snapshot) (place : ℕ) (name : List ℕ) (printer after : PrinterState) (slots slots_new : List Slot) (old new : List Watched) (came : Came)
+pub first_looks : {told_in told : Bool} {ways : Ways} {snapshot : Snapshot} {place : ℕ} {name : List ℕ} {printer after : PrinterState} {slots slots_new : List Slot} {old new : List Watched} {came : Came}
     → Looked told_in told ways [] snapshot name printer slots after slots_new came → Leaves told_in snapshot (snapshot.leads name) place old new came → IsThere told_in (snapshot.leads name) came
     → Looks told_in told ways snapshot place name New old printer slots new after slots_new (Ok came)
-first_looks told_in told ways snapshot place name printer after slots slots_new old new came looked leaves there = record {
+first_looks {told_in} {told} {ways} {snapshot} {place} {name} {printer} {after} {slots} {slots_new} {old} {new} {came} looked leaves there = record {
   visited = λ looks stands keeps. first_visited told_in told ways snapshot place name printer after slots slots_new old new came looks stands looked leaves there;
   stopped = tt;
   leaves = untold told_in snapshot (snapshot.leads name) (snapshot.leads name) place old new came leaves;
 }
 
 -- what the first look leaves open, where the name leads to a file and where it leads nowhere
-pub opened_leaves : (told : Bool) (snapshot now : Snapshot) (old mid new : List Watched) (place : ℕ) (name : List ℕ) (is_there : Bool) (len : ℕ) → now ≡ snapshot → IsTrue (is_watchable old place) → Reopens told snapshot old mid place is_there → is_there ≡ true → (watched_at old place).name ≡ name → new ≡ mid
+pub opened_leaves : {told : Bool} {snapshot now : Snapshot} {old mid new : List Watched} {place : ℕ} {name : List ℕ} {is_there : Bool} {len : ℕ} → now ≡ snapshot → IsTrue (is_watchable old place) → Reopens told snapshot old mid place is_there → is_there ≡ true → (watched_at old place).name ≡ name → new ≡ mid
     → (told ≡ true → len ≡ length (open_contents now (watched_at mid place))) → Leaves told snapshot (snapshot.leads name) place old new (Through len) × IsThere told (snapshot.leads name) (Through len)
-opened_leaves told snapshot now old mid new place name is_there len seen can reopens there named same long = (
+opened_leaves {told} {snapshot} {now} {old} {mid} {new} {place} {name} {is_there} {len} seen can reopens there named same long = (
   (reopens.file, same ∙ reopens.names, λ t. (reopens.leads t ∙ ap snapshot.leads named, long t ∙ ap length (contents_led told snapshot now old mid place name is_there seen can reopens named t))),
   λ t. ap is_some (sym (reopens.leads t ∙ ap snapshot.leads named)) ∙ reopens.found ∙ there,
 )
 
-pub missing_leaves : (told : Bool) (snapshot : Snapshot) (old new : List Watched) (place : ℕ) (name : List ℕ) (is_there : Bool) → Reopens told snapshot old new place is_there → is_there ≡ false → (watched_at old place).name ≡ name → Leaves told snapshot (snapshot.leads name) place old new Missing
-missing_leaves told snapshot old new place name is_there reopens gone named =
+missing_leaves : {told : Bool} {snapshot : Snapshot} {old new : List Watched} {place : ℕ} {name : List ℕ} {is_there : Bool} → Reopens told snapshot old new place is_there → is_there ≡ false → (watched_at old place).name ≡ name → Leaves told snapshot (snapshot.leads name) place old new Missing
+missing_leaves {told} {snapshot} {old} {new} {place} {name} {is_there} reopens gone named =
     (reopens.file, reopens.names, λ t. (reopens.leads t ∙ ap snapshot.leads named, sym (reopens.leads t ∙ ap snapshot.leads named) ∙ none_of reopens.file (reopens.found ∙ gone)))
 
-pub first_over : (told_in told : Bool) (ways : Ways) (snapshot : Snapshot) (place : ℕ) (name : List ℕ) (printer after : PrinterState) (slots slots_new : List Slot) (old new : List Watched) (why : Fault)
+pub first_over : {told_in told : Bool} {ways : Ways} {snapshot : Snapshot} {place : ℕ} {name : List ℕ} {printer after : PrinterState} {slots slots_new : List Slot} {old new : List Watched} {why : Fault}
     → Stopped told_in told ways [] snapshot name printer slots slots_new why → Looks told_in told ways snapshot place name New old printer slots new after slots_new (Err why)
-first_over told_in told ways snapshot place name printer after slots slots_new old new why stopped = record {
+first_over {told_in} {told} {ways} {snapshot} {place} {name} {printer} {after} {slots} {slots_new} {old} {new} {why} stopped = record {
   visited = tt;
   stopped = λ looks stands keeps. (ap (is_dropped place) stands.0, subst (λ those. Stopped told_in told ways those snapshot name printer slots slots_new why) (sym stands.0) stopped);
   leaves = tt;
 }
 
--- what stopped the first look is told, or ends following
-pub first_fails : (told_in told : Bool) (ways : Ways) (snapshot : Snapshot) (place : ℕ) (name : List ℕ) (printer after : PrinterState) (slots mid slots_new : List Slot) (old new : List Watched) (stop : Stop) (result : Result Came Fault)
-    → LooksFirst told_in told ways.start snapshot place name printer slots after mid (Err stop) → Follows {T = ℕ} told_in (snapshot.leads name) place old new (Err stop) → TellsStop told name mid slots_new stop result
-    → Looks told_in told ways snapshot place name New old printer slots new after slots_new result
-first_fails told_in told ways snapshot place name printer after slots mid slots_new old new (Broke why) result looks follows (is, says) =
-    subst (λ those. Looks told_in told ways snapshot place name New old printer slots new after slots_new those) (sym is)
-    (first_looks told_in told ways snapshot place name printer after slots slots_new old new Dropped (meets_broken told_in told ways snapshot place name printer after slots mid slots_new why looks says) (follows.0, follows.1) tt)
-first_fails told_in told ways snapshot place name printer after slots mid slots_new old new (Over why) result looks follows (is, same) =
-    subst (λ those. Looks told_in told ways snapshot place name New old printer slots new after slots_new those) (sym is)
-    (first_over told_in told ways snapshot place name printer after slots slots_new old new why (subst (λ those. Stopped told_in told ways [] snapshot name printer slots those why) (sym same) (meets_stop told_in told ways snapshot place name printer after slots mid why looks)))
+-- ways out of the first look
+
+pub first_missing : {told_in told : Bool} {ways : Ways} {snapshot : Snapshot} {place : ℕ} {name : List ℕ} {printer : PrinterState} {slots slots_new : List Slot} {old new : List Watched} {is_there : Bool} → Reopens told_in snapshot old new place is_there → is_there ≡ false → (watched_at old place).name ≡ name
+    → SaysOn told Tail (message_of Tail (Open place) name) slots slots_new → Looks told_in told ways snapshot place name New old printer slots new printer slots_new (Ok Missing)
+first_missing {told_in} {told} {ways} {snapshot} {place} {name} {printer} {slots} {slots_new} reopens gone named says =
+    let leaves = missing_leaves reopens gone named in
+    first_looks (meets_nothing told_in told ways snapshot place name printer slots slots_new (λ t. (leaves.2 t).1) says) leaves tt
+
+pub first_unopened : {told_in told : Bool} {ways : Ways} {snapshot : Snapshot} {place : ℕ} {name : List ℕ} {printer : PrinterState} {slots slots_new : List Slot} {old new : List Watched} {why : Fault} {result : Result Came Fault} → why ≡ Open place → new ≡ changed_at place breaks old
+    → TellsStop told name slots slots_new (Broke why) result → Looks told_in told ways snapshot place name New old printer slots new printer slots_new result
+first_unopened {told_in} {told} {ways} {snapshot} {place} {name} {printer} {slots} {slots_new} {old} {new} {why} {result} is broken (tells, says) =
+    subst (λ those. Looks told_in told ways snapshot place name New old printer slots new printer slots_new those) (sym tells)
+    (first_looks (meets_unopened told_in told ways snapshot place name printer slots slots_new (subst (λ those. SaysOn told Tail (message_of Tail those name) slots slots_new) is says)) ((watched_at old place).opened, broken ∙ ap (changed_at place breaks) (sym (opens_same old place))) tt)
+
+pub first_fails : {told_in told : Bool} {ways : Ways} {snapshot : Snapshot} {place : ℕ} {name : List ℕ} {printer after : PrinterState} {slots mid slots_new : List Slot} {old watched_mid new : List Watched} {is_there : Bool} (stop : Stop) {result : Result Came Fault} → Reopens told_in snapshot old watched_mid place is_there
+    → Keeps {T = ℕ} place watched_mid new (Err stop) → FirstCut told_in told ways snapshot name printer slots after mid stop → TellsStop told name mid slots_new stop result → Looks told_in told ways snapshot place name New old printer slots new after slots_new result
+first_fails {told_in} {told} {ways} {snapshot} {place} {name} {printer} {after} {slots} {mid} {slots_new} {old} {watched_mid} {new} _ {result} reopens keeps (cut_read why bytes lines are shared) (tells, says) =
+    subst (λ those. Looks told_in told ways snapshot place name New old printer slots new after slots_new those) (sym tells)
+    (first_looks (meets_unread told_in told ways snapshot place name printer after slots mid slots_new bytes lines are shared (subst (λ those. SaysOn told Tail (message_of Tail those name) mid slots_new) keeps.0 says)) (reopens.file, keeps.1 ∙ ap (changed_at place breaks) reopens.names) tt)
+first_fails {told_in} {told} {ways} {snapshot} {place} {name} {printer} {after} {slots} {mid} {slots_new} {old} {watched_mid} {new} _ {result} reopens keeps (cut_over why stopped) (tells, same) =
+    subst (λ those. Looks told_in told ways snapshot place name New old printer slots new after slots_new those) (sym tells)
+    (first_over (subst (λ those. Stopped told_in told ways [] snapshot name printer slots those why) (sym same) stopped))
 
 later_stands : (told : Bool) (ways : Ways) (before : Look) (looks : List Look) (snapshot : Snapshot) (place : ℕ) (name : List ℕ) (position : ℕ) (old new : List Watched) (came : Came) (look : Look) (fate : Fate) → look.snapshot ≡ snapshot → IsFollowed told ways (before ∷ looks) place name (watched_at old place) position
     → Leaves told snapshot (open_after_look ways.by_name name (watched_at old place).opened snapshot) place old new came → IsLater came → is_sound fate ≡ came_through came → fate_at place look ≡ fate
@@ -241,10 +264,10 @@ later_stopped told_in told ways snapshot place name position watched printer slo
 later_stopped told_in told ways snapshot place name position watched printer slots slots_new why (before ∷ looks) followed keeps stopped =
     (followed.kept, stopped before looks (λ t. record { stands = followed.stands t; kept = keeps t }))
 
-pub again_through : (told_in told : Bool) (ways : Ways) (snapshot : Snapshot) (place : ℕ) (name : List ℕ) (position : ℕ) (old new : List Watched) (printer after : PrinterState) (slots slots_new : List Slot) (len : ℕ)
+pub again_through : {told_in told : Bool} {ways : Ways} {snapshot : Snapshot} {place : ℕ} {name : List ℕ} {position : ℕ} {old new : List Watched} {printer after : PrinterState} {slots slots_new : List Slot} {len : ℕ}
     → LooksAgain told_in told ways.by_name snapshot place name position old printer slots new after slots_new (Ok len)
     → Looks told_in told ways snapshot place name (Followed position) old printer slots new after slots_new (Ok (Through len))
-again_through told_in told ways snapshot place name position old new printer after slots slots_new len again = record {
+again_through {told_in} {told} {ways} {snapshot} {place} {name} {position} {old} {new} {printer} {after} {slots} {slots_new} {len} again = record {
   visited = λ looks stands keeps. later_visited told_in told ways snapshot place name position printer after slots slots_new old new (Through len) looks stands keeps (λ before looks ready. (
     again_whole told_in told ways before looks snapshot name (watched_at old place).opened position ways.by_name printer after slots slots_new len refl ready (again.ends (last_in ways name before looks) (λ t. (ready t).stands)),
     (again.follows.0, again.follows.1, λ t. (again.follows.2 t, again.len t (last_in ways name before looks) (ready t).stands)),
@@ -254,10 +277,10 @@ again_through told_in told ways snapshot place name position old new printer aft
 }
 
 -- what stopped it is told, or ends following
-pub again_fails : (told_in told : Bool) (ways : Ways) (snapshot : Snapshot) (place : ℕ) (name : List ℕ) (position : ℕ) (old new : List Watched) (printer after : PrinterState) (slots mid slots_new : List Slot) (stop : Stop) (result : Result Came Fault)
+pub again_fails : {told_in told : Bool} {ways : Ways} {snapshot : Snapshot} {place : ℕ} {name : List ℕ} {position : ℕ} {old new : List Watched} {printer after : PrinterState} {slots mid slots_new : List Slot} (stop : Stop) (result : Result Came Fault)
     → LooksAgain told_in told ways.by_name snapshot place name position old printer slots new after mid (Err stop) → TellsStop told name mid slots_new stop result
     → Looks told_in told ways snapshot place name (Followed position) old printer slots new after slots_new result
-again_fails told_in told ways snapshot place name position old new printer after slots mid slots_new (Broke why) result again (is, says) =
+again_fails {told_in} {told} {ways} {snapshot} {place} {name} {position} {old} {new} {printer} {after} {slots} {mid} {slots_new} (Broke why) result again (is, says) =
     subst (λ those. Looks told_in told ways snapshot place name (Followed position) old printer slots new after slots_new those) (sym is) (record {
       visited = λ looks stands keeps. later_visited told_in told ways snapshot place name position printer after slots slots_new old new Dropped looks stands keeps (λ before looks ready. (
         again_broke told_in told ways before looks snapshot place name (watched_at old place).opened position ways.by_name printer after slots mid slots_new why refl ready again.follows.2 (again.ends (last_in ways name before looks) (λ t. (ready t).stands)) says,
@@ -266,7 +289,7 @@ again_fails told_in told ways snapshot place name position old new printer after
       stopped = tt;
       leaves = (again.follows.0, again.follows.1);
     })
-again_fails told_in told ways snapshot place name position old new printer after slots mid slots_new (Over why) result again (is, same) =
+again_fails {told_in} {told} {ways} {snapshot} {place} {name} {position} {old} {new} {printer} {after} {slots} {mid} {slots_new} (Over why) result again (is, same) =
     subst (λ those. Looks told_in told ways snapshot place name (Followed position) old printer slots new after slots_new those) (sym is) (record {
       visited = tt;
       stopped = λ looks stands keeps. later_stopped told_in told ways snapshot place name position (watched_at old place) printer slots slots_new why looks stands keeps (λ before looks ready.
@@ -283,11 +306,11 @@ pub can_later : (name : NameState) (watched : Watched) (position : ℕ) → name
 can_later name watched position followed can = subst (λ those. CanVisit (record { text = name.text; standing = those }) watched) followed can
 
 -- the name itself, after the look
-pub visit_made : (told_in told : Bool) (ways : Ways) (snapshot : Snapshot) (place : ℕ) (text : List ℕ) (standing : Standing) (old new : NameState) (watched watched_new : List Watched) (printer after : PrinterState) (slots slots_new : List Slot) (came : Came) (failed : Bool)
+pub visit_made : {told_in told : Bool} {ways : Ways} {snapshot : Snapshot} {place : ℕ} {text : List ℕ} {standing : Standing} {old new : NameState} {watched watched_new : List Watched} {printer after : PrinterState} {slots slots_new : List Slot} {came : Came} {failed : Bool}
     → text ≡ old.text → old.standing ≡ standing → (watched_at watched place).name ≡ old.text → (watched_at watched place).is_broken ≡ false → new ≡ record old { standing = standing_after ways.by_name came } → failed ≡ has_failed came
     → Looks told_in told ways snapshot place text standing watched printer slots watched_new after slots_new (Ok came)
     → Visits told_in told ways snapshot place old watched printer slots new watched_new after slots_new (Ok failed)
-visit_made told_in told ways snapshot place text standing old new watched watched_new printer after slots slots_new came failed same stood named unbroken is failed_is looks =
+visit_made {told_in} {told} {ways} {snapshot} {place} {text} {standing} {old} {new} {watched} {watched_new} {printer} {after} {slots} {slots_new} {came} {failed} same stood named unbroken is failed_is looks =
     subst (λ (those : NameState). Visits told_in told ways snapshot place old watched printer slots those watched_new after slots_new (Ok failed)) (sym is)
     (subst (λ those. Visits told_in told ways snapshot place old watched printer slots (record old { standing = standing_after ways.by_name came }) watched_new after slots_new (Ok those)) (sym failed_is) (record {
       visited = seen.visited;
@@ -300,11 +323,11 @@ visit_made told_in told ways snapshot place text standing old new watched watche
       seen = subst (λ those. Looks told_in told ways snapshot place old.text those watched printer slots watched_new after slots_new (Ok came)) (sym stood)
           (subst (λ those. Looks told_in told ways snapshot place those standing watched printer slots watched_new after slots_new (Ok came)) same looks)
 
-pub visit_over : (told_in told : Bool) (ways : Ways) (snapshot : Snapshot) (place : ℕ) (text : List ℕ) (standing : Standing) (old new : NameState) (watched watched_new : List Watched) (printer after : PrinterState) (slots slots_new : List Slot) (why : Fault)
+pub visit_over : {told_in told : Bool} {ways : Ways} {snapshot : Snapshot} {place : ℕ} {text : List ℕ} {standing : Standing} {old new : NameState} {watched watched_new : List Watched} {printer after : PrinterState} {slots slots_new : List Slot} {why : Fault}
     → text ≡ old.text → old.standing ≡ standing → new ≡ old
     → Looks told_in told ways snapshot place text standing watched printer slots watched_new after slots_new (Err why)
     → Visits told_in told ways snapshot place old watched printer slots new watched_new after slots_new (Err why)
-visit_over told_in told ways snapshot place text standing old new watched watched_new printer after slots slots_new why same stood is looks = record {
+visit_over {told_in} {told} {ways} {snapshot} {place} {text} {standing} {old} {new} {watched} {watched_new} {printer} {after} {slots} {slots_new} {why} same stood is looks = record {
   visited = tt;
   stopped = (subst (λ those. Looks told_in told ways snapshot place old.text those watched printer slots watched_new after slots_new (Err why)) (sym stood)
       (subst (λ those. Looks told_in told ways snapshot place those standing watched printer slots watched_new after slots_new (Err why)) same looks)).stopped;
@@ -373,9 +396,9 @@ left_visited told_in told ways snapshot place name printer slots watched standin
       stands = λ fates at. subst (λ those. Stands told_in ways (looks ++ record { snapshot = snapshot; fates = fates } ∷ []) place name watched those) (sym is) (still_left told_in ways looks (record { snapshot = snapshot; fates = fates }) place name watched at left);
     }
 
-pub visit_left : (told_in told : Bool) (ways : Ways) (snapshot : Snapshot) (place : ℕ) (name : NameState) (watched : List Watched) (printer : PrinterState) (slots : List Slot) → name.standing ≡ Left → CanVisit name (watched_at watched place)
+pub visit_left : {told_in told : Bool} {ways : Ways} {snapshot : Snapshot} {place : ℕ} {name : NameState} {watched : List Watched} {printer : PrinterState} {slots : List Slot} → name.standing ≡ Left → CanVisit name (watched_at watched place)
     → Visits told_in told ways snapshot place name watched printer slots name watched printer slots (Ok false)
-visit_left told_in told ways snapshot place name watched printer slots left can = record {
+visit_left {told_in} {told} {ways} {snapshot} {place} {name} {watched} {printer} {slots} left can = record {
   visited = λ looks stands keeps. left_visited told_in told ways snapshot place name.text printer slots (watched_at watched place) name.standing looks left stands keeps;
   stopped = tt;
   same = refl;

@@ -9,7 +9,7 @@ use Rattle.ports_core.specs.declared.tool.Tool.TheVariants.{Tail}
 use Rattle.watch_core.specs.Snapshot.{Snapshot}
 use Rattle.watch_core.specs.Watched.{Watched, watched_at}
 use Rattle.follow_core.specs.Followed.{Followed, made_of}
-use Rattle.follow_core.specs.FollowState.{FollowState, Halted, Holds, SawOrNot, is_alive}
+use Rattle.follow_core.specs.FollowState.{Halted, SawOrNot, is_alive}
 use Rattle.follow_core.specs.Look.{Look, Ways, is_dropped, snapshots}
 use Rattle.follow_core.specs.Run.{AreKept}
 use Rattle.follow_core.specs.Share.{Share, shares_of}

@@ -3,7 +3,7 @@
 use Rattle.std.specs.Prelude.{◌≡◌, ℕ, Bool, true, List, ◌∷◌, IsTrue}
 use Rattle.ports_core.specs.Slot.{Slot, adds, is_open, is_writable, slot_at, told_of}
 use Rattle.follow_core.specs.Telling.{TellsAll}
-use Rattle.follow_core.specs.Followed.{header_after, last_header_from, messages_of, share_text, text_from}
+use Rattle.follow_core.specs.Followed.{last_header_from, messages_of, text_from}
 use Rattle.follow_core.specs.Printing.{PrinterState, Short}
 use Rattle.follow_core.specs.Share.{Share}
 use Rattle.ports_core.specs.declared.fault.Fault.{Fault}

@@ -1,9 +1,7 @@
 -- How a name stands between two looks.
-use Rattle.std.specs.Prelude.{◌≡◌, ◌<◌, ℕ, Bool, true, false, ◌||◌, List, [], ◌∷◌, ◌++◌, Option, None, ◌⊎◌, length, map, slice_index_or, if◌then◌else◌}
+use Rattle.std.specs.Prelude.{◌≡◌, ◌<◌, ℕ, Bool, true, false, List, [], ◌∷◌, ◌++◌, Option, None, ◌⊎◌, length, map, slice_index_or}
 use Rattle.watch_core.specs.Snapshot.{Snapshot}
 use Rattle.watch_core.specs.Watched.{Watched, added, is_some, watched_at}
-use Rattle.follow_core.specs.declared.visitor.Came.{Came}
-use Rattle.follow_core.specs.declared.visitor.Came.TheVariants.{Through, Missing, Dropped}
 use Rattle.follow_core.specs.declared.name.Standing.{Standing}
 use Rattle.follow_core.specs.declared.name.Standing.TheVariants.{New, Followed, Left}
 use Rattle.follow_core.specs.Gain.{file_of, last_of, seen_length}

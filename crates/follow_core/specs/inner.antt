@@ -1,8 +1,4 @@
-pub mod Copying
 pub mod Giving
 pub mod Calls
-pub mod Standing
-pub mod Looked
-pub mod Visited
-pub mod Looking
-pub mod Ending
+pub mod Visits
+pub mod Looks

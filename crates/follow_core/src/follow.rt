@@ -2,8 +2,8 @@
 ghost use Rattle.std.specs.Prelude.{◌≡◌, ◌<◌, ◌∷◌, ◌++◌, [], ℕ, Bool, List, true, length, map, Err, IfOk, IfErr, OnOk};
 ghost use Rattle.ports_core.specs.Slot.{Slot};
 ghost use Rattle.watch_core.specs.Watched.{Watched};
-ghost use Rattle.follow_core.specs.Sharing.{CanPrint, HasError};
-ghost use Rattle.follow_core.specs.inner.Looking.{Begins, CanBegin, MakesLook};
+ghost use Rattle.follow_core.specs.Sharing.{HasError};
+ghost use Rattle.follow_core.specs.inner.Looks.{Begins, CanBegin, MakesLook};
 ghost use Rattle.follow_core.specs.FollowState.{CanLook, FollowState, Holds, LooksOn, SawOrNot, StopsOn, is_alive, opened_follow};
 ghost use Rattle.follow_core.specs.Look.{Look, Ways};
 

@@ -1,14 +1,12 @@
 //! Names that are followed.
-ghost use Rattle.std.specs.Prelude.{◌≡◌, ◌<◌, ◌≤◌, [], ℕ, List, length, map, string_bytes, IfOk, IfErr, OnOk};
+ghost use Rattle.std.specs.Prelude.{◌≡◌, ◌<◌, [], ℕ, List, length, map, string_bytes, IfOk, IfErr, OnOk};
 ghost use Rattle.watch_core.specs.Snapshot.{latest};
 ghost use Rattle.watch_core.specs.Watched.{added, watched_at};
 ghost use Rattle.follow_core.specs.Sharing.{CanPrint, HasError};
 ghost use Rattle.follow_core.specs.FollowState.{new_state};
 ghost use Rattle.follow_core.specs.Look.{Look};
-ghost use Rattle.follow_core.specs.inner.Looked.{has_failed};
+ghost use Rattle.follow_core.specs.inner.Visits.{has_failed, any_goes_on, goes_on_as, standing_after, StoppedAt, VisitedAll, Visits};
 ghost use Rattle.follow_core.specs.Standing.{AllKeep, AllStand, CanVisit, NameState, state_at, texts};
-ghost use Rattle.follow_core.specs.inner.Standing.{any_goes_on, goes_on_as, standing_after};
-ghost use Rattle.follow_core.specs.inner.Visited.{StoppedAt, VisitedAll, Visits};
 ghost use Rattle.follow_core.specs.Visited.{ways_of};
 
 use crate::start::Start;

@@ -1,20 +1,16 @@
 //! A look at one name: what came to its file is written, and what changed or failed is told.
-ghost use Rattle.std.specs.Prelude.{◌≡◌, ◌≤◌, ◌<◌, ◌^◌, ◌-◌, ◌∷◌, [], ℕ, List, Bool, true, false, length, take, drop, nat_lt, option_map, if◌then◌else◌, IsTrue, IfOk, IfErr, OnOk, Err};
+ghost use Rattle.std.specs.Prelude.{◌≡◌, ◌≤◌, ◌<◌, ◌-◌, ◌∷◌, [], ℕ, List, Bool, true, false, length, drop, nat_lt, option_map, if◌then◌else◌, IsTrue, IfOk, IfErr, OnOk, Err};
 ghost use Rattle.ends_core.specs.Ends.{tail_of};
-ghost use Rattle.ports_core.specs.Slot.{changed_at, is_writable};
+ghost use Rattle.ports_core.specs.Slot.{is_writable};
 ghost use Rattle.watch_core.specs.Snapshot.{latest};
-ghost use Rattle.watch_core.specs.Watched.{breaks, is_readable, is_watchable, open_contents, watched_at};
+ghost use Rattle.watch_core.specs.Watched.{is_readable, is_watchable, open_contents, watched_at};
 ghost use Rattle.follow_core.specs.declared.name.Standing.TheVariants.{New, Followed};
 ghost use Rattle.follow_core.specs.Notice.{notice_of};
 ghost use Rattle.follow_core.specs.Printing.{PrinterState, fresh_printer};
-ghost use Rattle.follow_core.specs.Version.{Entry, open_after_look};
-ghost use Rattle.follow_core.specs.Standing.{StandsAt};
-ghost use Rattle.follow_core.specs.inner.Calls.{bytes_open, lines_open, CanGoOn, Keeps, as_stop, lines_past, Follows, bytes_led, change_between, held_at, lines_led};
+ghost use Rattle.follow_core.specs.inner.Calls.{CanGoOn, Keeps, as_stop, change_between, lines_past, Catches, Leads};
 ghost use Rattle.follow_core.specs.Sharing.{CanPrint, HasError};
-ghost use Rattle.follow_core.specs.inner.Copying.{Copied, Stops};
 ghost use Rattle.follow_core.specs.inner.Giving.{Ends};
-ghost use Rattle.follow_core.specs.inner.Looked.{TellsStop};
-ghost use Rattle.follow_core.specs.inner.Visited.{Looks};
+ghost use Rattle.follow_core.specs.inner.Visits.{TellsStop, Looks};
 ghost use Rattle.follow_core.specs.Visited.{ways_of};
 
 use crate::notice::{Notice, notice_line};
@@ -151,7 +147,7 @@ impl Visitor {
             Ok(begin) => begin,
             Err(fault) => return Err(Stop::Broke(fault)),
         };
-        if let Err(stop) = copy(
+        copy(
             watch,
             place,
             name,
@@ -160,10 +156,7 @@ impl Visitor {
             &mut self.printer,
             &mut self.buffer,
             outs,
-        ) {
-            return Err(stop);
-        }
-        Ok(len)
+        )
     }
 
     /// Looks again at a name of whose open file `position` bytes were seen: writes what came to the file, and follows the name to where
@@ -220,10 +213,7 @@ impl Visitor {
         requires watchable { IsTrue (is_watchable (W.watched watch.old) place) }
         requires name { (watched_at (W.watched watch.old) place).name ≡ name.now }
         requires can { CanPrint (O.slots outs.old) }
-        ensures ends { let snapshot = latest (W.seen watch.old) in let opened = (watched_at (W.watched watch.old) place).opened in
-            Ends W.told O.told self.old name.now (bytes_led snapshot opened (snapshot.leads name.now)) (lines_led name.now snapshot opened (snapshot.leads name.now)) (O.slots outs.old) self.new (O.slots outs.new) result }
-        ensures len { IfOk result (λ len. W.told ≡ true → let snapshot = latest (W.seen watch.old) in position ≡ length (held_at snapshot (watched_at (W.watched watch.old) place).opened) → len ≡ length (held_at snapshot (snapshot.leads name.now))) }
-        ensures follows { Follows W.told ((latest (W.seen watch.old)).leads name.now) place (W.watched watch.old) (W.watched watch.new) result }
+        ensures leads { Leads W.told O.told (latest (W.seen watch.old)) place name.now position (W.watched watch.old) self.old (O.slots outs.old) (W.watched watch.new) self.new (O.slots outs.new) result }
         ensures can { CanGoOn result (O.slots outs.new) }
         ensures seen { W.seen watch.new ≡ W.seen watch.old }
         ensures shows { W.shows watch.new ≡ W.shows watch.old }
@@ -264,11 +254,7 @@ impl Visitor {
     ) -> Result<u64, Stop>
         requires watchable { IsTrue (is_watchable (W.watched watch.old) place) }
         requires can { CanPrint (O.slots outs.old) }
-        ensures ends { let snapshot = latest (W.seen watch.old) in let opened = (watched_at (W.watched watch.old) place).opened in
-            (last : Entry) → (W.told ≡ true → StandsAt last opened position) → Ends W.told O.told self.old name.now (bytes_open last snapshot opened) (lines_open name.now last snapshot opened) (O.slots outs.old) self.new (O.slots outs.new) result }
-        ensures len { let snapshot = latest (W.seen watch.old) in let opened = (watched_at (W.watched watch.old) place).opened in
-            IfOk result (λ len. W.told ≡ true → (last : Entry) → StandsAt last opened position → len ≡ length (held_at snapshot opened)) }
-        ensures keeps { Keeps place (W.watched watch.old) (W.watched watch.new) result }
+        ensures catches { Catches W.told O.told (latest (W.seen watch.old)) place name.now position (W.watched watch.old) self.old (O.slots outs.old) (W.watched watch.new) self.new (O.slots outs.new) result }
         ensures can { CanGoOn result (O.slots outs.new) }
         ensures seen { W.seen watch.new ≡ W.seen watch.old }
         ensures shows { W.shows watch.new ≡ W.shows watch.old }
@@ -284,7 +270,7 @@ impl Visitor {
             Ok(from) => from,
             Err(fault) => return Err(Stop::Over(fault)),
         };
-        if let Err(stop) = copy(
+        copy(
             watch,
             place,
             name,
@@ -293,10 +279,7 @@ impl Visitor {
             &mut self.printer,
             &mut self.buffer,
             outs,
-        ) {
-            return Err(stop);
-        }
-        Ok(len)
+        )
     }
 
     /// Tells that a call on a name failed, which is dropped then. A message that can't be written is passed over.
@@ -320,7 +303,7 @@ impl Visitor {
     }
 }
 
-/// Writes the open file's bytes from a place to another, or to where a read gives none, by way of the buffer.
+/// Writes the open file's bytes from a place to another, or to where a read gives none, by way of the buffer. Returns the other place.
 ///
 /// # Errors
 ///
@@ -334,16 +317,15 @@ fn copy<W: Watch, O: Outs>(
     printer: &mut Printer,
     buffer: &mut [u8],
     outs: &mut O,
-) -> Result<(), Stop>
+) -> Result<u64, Stop>
     requires readable { IsTrue (is_readable (W.watched watch.old) place) }
     requires writable { IsTrue (is_writable (O.slots outs.old) 0) }
     requires within { from ≤ len }
     requires room { 0 < length buffer.old }
     requires whole { W.told ≡ true → len ≡ length (open_contents (latest (W.seen watch.old)) (watched_at (W.watched watch.old) place)) }
-    ensures copied { OnOk result (Copied W.told O.told printer.old name.now (drop from (open_contents (latest (W.seen watch.old)) (watched_at (W.watched watch.old) place))) (O.slots outs.old) printer.new (O.slots outs.new)) }
-    ensures stops { IfErr result (Stops W.told O.told printer.old name.now (drop from (open_contents (latest (W.seen watch.old)) (watched_at (W.watched watch.old) place))) place (W.watched watch.old) (O.slots outs.old) printer.new (W.watched watch.new) (O.slots outs.new)) }
-    ensures same { OnOk result (W.watched watch.new ≡ W.watched watch.old) }
-    ensures writable { OnOk result (IsTrue (is_writable (O.slots outs.new) 0)) }
+    ensures ends { Ends {T = ℕ} W.told O.told printer.old name.now (drop from (open_contents (latest (W.seen watch.old)) (watched_at (W.watched watch.old) place))) [] (O.slots outs.old) printer.new (O.slots outs.new) result }
+    ensures len { IfOk result (λ n. n ≡ len) }
+    ensures keeps { Keeps place (W.watched watch.old) (W.watched watch.new) result }
     ensures seen { W.seen watch.new ≡ W.seen watch.old }
     ensures shows { W.shows watch.new ≡ W.shows watch.old }
 {
@@ -351,7 +333,7 @@ fn copy<W: Watch, O: Outs>(
     while at < len {
         let room = (len - at).min(buffer.len() as u64) as usize;
         match watch.read_at(place, at, &mut buffer[..room]) {
-            Ok(0) => return Ok(()),
+            Ok(0) => return Ok(len),
             Ok(n) => {
                 match printer.put(name, &buffer[..n], outs) {
                     Ok(()) => at += n as u64,
@@ -361,7 +343,7 @@ fn copy<W: Watch, O: Outs>(
             Err(fault) => return Err(Stop::Broke(fault)),
         }
     }
-    Ok(())
+    Ok(len)
 }
 
 /// The place from which a file of `len` bytes is to be written: the position, or 0 where the file is shorter than that. Then it is told

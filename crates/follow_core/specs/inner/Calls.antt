@@ -1,10 +1,9 @@
 -- What one call on a name owes, and what is due of it.
-use Rattle.std.specs.Prelude.{◌≡◌, ◌⊎◌, ℕ, nat_lt, Bool, true, List, [], ◌∷◌, length, drop, map, Option, Some, None, Result, Ok, Err, if◌then◌else◌}
+use Rattle.std.specs.Prelude.{◌≡◌, ◌⊎◌, ℕ, nat_lt, Bool, true, List, [], ◌∷◌, length, drop, map, Option, Some, None, Result, Ok, Err, if◌then◌else◌, IfOk}
 use Rattle.ports_core.specs.Slot.{Slot, changed_at}
 use Rattle.ports_core.specs.declared.fault.Fault.{Fault}
-use Rattle.ports_core.specs.declared.fault.Fault.TheVariants as fault
 use Rattle.watch_core.specs.Snapshot.{Snapshot}
-use Rattle.watch_core.specs.Watched.{Watched, breaks, is_some, opens}
+use Rattle.watch_core.specs.Watched.{Watched, breaks, is_some, opens, watched_at}
 use Rattle.follow_core.specs.declared.visitor.Stop.{Stop}
 use Rattle.follow_core.specs.declared.visitor.Stop.TheVariants.{Broke, Over}
 use Rattle.follow_core.specs.declared.notice.Notice.{Notice}
@@ -13,6 +12,10 @@ use Rattle.follow_core.specs.Gain.{gains_later}
 use Rattle.follow_core.specs.Notice.{notice_of, notices_later}
 use Rattle.follow_core.specs.Sharing.{CanPrint, HasError}
 use Rattle.follow_core.specs.Version.{Entry, gap, version_in, is_file, entries_at_look, entries_led, entries_open}
+use Rattle.follow_core.specs.Printing.{PrinterState}
+use Rattle.follow_core.specs.Standing.{StandsAt}
+use Rattle.follow_core.specs.inner.Giving.{Ends}
+use Rattle.ports_core.specs.declared.fault.Fault.TheVariants as fault
 
 -- how calls end
 
@@ -89,3 +92,20 @@ bytes_again by_name name last snapshot opened = gains_later last (entries_at_loo
 
 abbrev pub lines_again : Bool → List ℕ → Entry → Snapshot → Option ℕ → List (List ℕ)
 lines_again by_name name last snapshot opened = map (λ notice. notice_of notice name) (notices_later last (entries_at_look by_name name opened snapshot))
+
+-- what came to the open file of a name that stood at some entry was given, and how long it is
+pub record Catches (told_in told : Bool) (snapshot : Snapshot) (place : ℕ) (name : List ℕ) (position : ℕ)
+    (watched : List Watched) (printer : PrinterState) (slots : List Slot) (watched_new : List Watched) (after : PrinterState) (slots_new : List Slot)
+    (result : Result ℕ Stop) : Type 0 where
+  pub ends : (last : Entry) → (told_in ≡ true → StandsAt last (watched_at watched place).opened position)
+      → Ends {T = ℕ} told_in told printer name (bytes_open last snapshot (watched_at watched place).opened) (lines_open name last snapshot (watched_at watched place).opened) slots after slots_new result
+  pub len : IfOk result (λ len. told_in ≡ true → (last : Entry) → StandsAt last (watched_at watched place).opened position → len ≡ length (held_at snapshot (watched_at watched place).opened))
+  pub keeps : Keeps place watched watched_new result
+
+-- the name was followed to where it leads, and what is due of that was given
+pub record Leads (told_in told : Bool) (snapshot : Snapshot) (place : ℕ) (name : List ℕ) (position : ℕ)
+    (watched : List Watched) (printer : PrinterState) (slots : List Slot) (watched_new : List Watched) (after : PrinterState) (slots_new : List Slot)
+    (result : Result ℕ Stop) : Type 0 where
+  pub ends : Ends {T = ℕ} told_in told printer name (bytes_led snapshot (watched_at watched place).opened (snapshot.leads name)) (lines_led name snapshot (watched_at watched place).opened (snapshot.leads name)) slots after slots_new result
+  pub len : IfOk result (λ len. told_in ≡ true → position ≡ length (held_at snapshot (watched_at watched place).opened) → len ≡ length (held_at snapshot (snapshot.leads name)))
+  pub follows : Follows told_in (snapshot.leads name) place watched watched_new result

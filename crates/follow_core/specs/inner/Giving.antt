@@ -1,14 +1,38 @@
 -- What a look gives for one name, call by call: bytes on standard output, under headers, and lines on standard error.
-use Rattle.std.specs.Prelude.{◌≡◌, ℕ, Bool, true, Some, List, [], ◌∷◌, ◌++◌, Result, Ok, Err, if◌then◌else◌}
-use Rattle.ports_core.specs.Slot.{Slot, adds, told_of}
+use Rattle.std.specs.Prelude.{◌≡◌, ◌&&◌, not, ℕ, Bool, true, Some, List, [], ◌∷◌, ◌++◌, Result, Ok, Err, if◌then◌else◌}
+use Rattle.ports_core.specs.Slot.{Slot, adds, told_of, with_written}
 use Rattle.ports_core.specs.declared.fault.Fault.{Fault}
 use Rattle.follow_core.specs.declared.visitor.Stop.{Stop}
 use Rattle.follow_core.specs.declared.visitor.Stop.TheVariants.{Broke, Over}
-use Rattle.follow_core.specs.Followed.{header_after, share_text}
-use Rattle.follow_core.specs.Printing.{PrinterState, Short, header_under, printer_under, text_under}
+use Rattle.follow_core.specs.Followed.{header_after, is_empty, is_last, is_none, share_text}
+use Rattle.ports_core.specs.Text.{header_of}
+use Rattle.follow_core.specs.Printing.{PrinterState, Short}
 use Rattle.follow_core.specs.Share.{IsFront, Share}
 use Rattle.follow_core.specs.Sharing.{Wrote, WroteShort}
 use Rattle.follow_core.specs.Telling.{TellsAll}
+
+-- the header of a name
+abbrev pub header_under : PrinterState → List ℕ → List ℕ
+header_under printer name = header_of name (is_none printer.last)
+
+-- a header stands before these bytes
+abbrev pub is_due : PrinterState → List ℕ → List ℕ → Bool
+is_due printer name bytes = printer.headers && (not (is_empty bytes) && not (is_last name printer.last))
+
+abbrev pub front_under : PrinterState → List ℕ → List ℕ → List ℕ
+front_under printer name bytes = if is_due printer name bytes then header_under printer name else []
+
+-- the bytes with what stands before them
+abbrev pub text_under : PrinterState → List ℕ → List ℕ → List ℕ
+text_under printer name bytes = front_under printer name bytes ++ bytes
+
+abbrev pub printer_under : PrinterState → List ℕ → List ℕ → PrinterState
+printer_under printer name bytes = if is_due printer name bytes then record printer { last = Some name } else printer
+
+-- these bytes of a name were written, with a header where one was due
+pub record PutOut (told : Bool) (printer : PrinterState) (name bytes : List ℕ) (old : List Slot) (after : PrinterState) (new : List Slot) : Type 0 where
+  pub slots : new ≡ with_written 0 (told_of told (text_under printer name bytes)) old
+  pub printer_is : after ≡ printer_under printer name bytes
 
 -- standard output got these bytes of a name, after a header where one was due, and standard error these lines; no other output changed
 pub record Gives (told : Bool) (printer : PrinterState) (name bytes : List ℕ) (lines : List (List ℕ)) (old : List Slot) (after : PrinterState) (new : List Slot) : Type 0 where

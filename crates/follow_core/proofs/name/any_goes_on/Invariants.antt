@@ -1,5 +1,5 @@
 use Rattle.std.proofs.Common.{◌≡◌, length}
-use Rattle.follow_core.specs.inner.Standing.{any_goes_on}
+use Rattle.follow_core.specs.inner.Visits.{any_goes_on}
 use Rattle.follow_core.proofs.name.any_goes_on.Given as goal
 
 abbrev pub invariant-loop-left : goal.invariant-loop-left

@@ -1,10 +1,10 @@
 use Rattle.std.proofs.Common.{◌≡◌, ◌-◌, ◌<◌, ◌≤◌, ℕ, List, length}
+use Rattle.follow_core.proofs.VisitAllLemmas.{VisitedUpTo}
 use Rattle.watch_core.specs.Snapshot.{latest}
 use Rattle.watch_core.specs.Watched.{watched_at}
 use Rattle.follow_core.specs.Sharing.{CanPrint}
 use Rattle.follow_core.specs.Look.{Look}
 use Rattle.follow_core.specs.Standing.{AllKeep, AllStand, CanVisit, state_at, texts}
-use Rattle.follow_core.specs.inner.Visited.{VisitedUpTo}
 use Rattle.follow_core.specs.Visited.{ways_of}
 use Rattle.follow_core.proofs.name.visit_all.Given as goal
 

@@ -1,7 +1,7 @@
 use Rattle.std.proofs.Common.{◌∙◌, ◌+◌, ◌-◌, length, take, drop, ap, subst}
 use Rattle.watch_core.specs.Snapshot.{latest}
 use Rattle.watch_core.specs.Watched.{open_contents, watched_at, GaveFrom}
-use Rattle.follow_core.proofs.ReadLemmas.{fill_ends, fill_more}
+use Rattle.follow_core.proofs.StartLemmas.{fill_ends, fill_more}
 use Rattle.follow_core.proofs.start.read_block.Goals as goal
 
 pub returns-in-Ok-eq0-clause-bytes : goal.returns-in-Ok-eq0-clause-bytes

@@ -1,7 +1,7 @@
 use Rattle.std.proofs.Common.{subst, Ok, Err, List, [], ℕ}
 use Rattle.follow_core.specs.inner.Giving.{Ends}
 use Rattle.follow_core.specs.declared.visitor.Stop.TheVariants.{Over}
-use Rattle.follow_core.proofs.CatchLemmas.{ends_as, ends_so, goes_on_here, line_due}
+use Rattle.follow_core.proofs.CallLemmas.{ends_as, ends_so, goes_on_here, line_due}
 use Rattle.follow_core.proofs.visitor.begin_at.Goals as goal
 
 pub returns-then-len-position-clause-ends : goal.returns-then-len-position-clause-ends

@@ -1,7 +1,7 @@
 use Rattle.std.proofs.Common.{◌≡◌, ◌-◌, length}
 use Rattle.watch_core.specs.Snapshot.{latest}
 use Rattle.watch_core.specs.Watched.{open_contents, watched_at}
-use Rattle.follow_core.proofs.CopyLemmas.{Copying}
+use Rattle.follow_core.proofs.GiveLemmas.{Copying}
 use Rattle.follow_core.proofs.visitor.copy.Given as goal
 
 abbrev pub invariant-loop-at : goal.invariant-loop-at

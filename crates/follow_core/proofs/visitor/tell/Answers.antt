@@ -1,5 +1,5 @@
 use Rattle.std.proofs.Common.{◌∙◌}
-use Rattle.follow_core.proofs.CatchLemmas.{tells, untold}
+use Rattle.follow_core.proofs.CallLemmas.{tells, untold}
 use Rattle.follow_core.proofs.visitor.tell.Goals as goal
 
 pub returns-in-Ok-clause-ends : goal.returns-in-Ok-clause-ends

@@ -1,6 +1,6 @@
 use Rattle.std.proofs.Common.{◌∙◌, ap}
 use Rattle.follow_core.specs.FollowState.{FollowState}
-use Rattle.follow_core.specs.inner.Standing.{any_goes_on}
+use Rattle.follow_core.specs.inner.Visits.{any_goes_on}
 use Rattle.follow_core.proofs.FollowLemmas.{alive_is}
 use Rattle.follow_core.proofs.follow.Follow.alive.Goals as goal
 

@@ -1,7 +1,7 @@
 use Rattle.std.proofs.Common.{◌||◌, List, length, refl, sym, ◌∙◌, ap, subst, inr}
 use Rattle.std.proofs.lemmas.List.{with_items_is}
 use Rattle.std.specs.Vec.{with_items}
-use Rattle.watch_core.specs.Snapshot.{Snapshot, latest}
+use Rattle.watch_core.specs.Snapshot.{latest}
 use Rattle.watch_core.proofs.MemWatchLemmas.{latest-last}
 use Rattle.follow_core.specs.FollowState.{AllReady, FollowState, LooksOn, StopsOn}
 use Rattle.follow_core.specs.Standing.{NameState}
@@ -9,10 +9,10 @@ use Rattle.follow_core.proofs.FollowLemmas.{begun_looked, begun_stopped, halts_a
 use Rattle.follow_core.proofs.follow.Follow.make_look.Goals as goal
 
 pub returns-in-Err-clause-makes : goal.returns-in-Err-clause-makes
-returns-in-Err-clause-makes g c = makes_none g.W.Watch.told g.O.Outs.told _ _ _ _ _ _ _ _ _ c.in-Err.ensures.err c.begin.ensures.seen
+returns-in-Err-clause-makes g c = makes_none c.in-Err.ensures.err c.begin.ensures.seen
 
 pub returns-in-Err-turn-clause-makes : goal.returns-in-Err-turn-clause-makes
-returns-in-Err-turn-clause-makes g c = makes_none g.W.Watch.told g.O.Outs.told _ _ _ _ _ _ _ _ _ c.in-Err-turn.ensures.err.0 (c.in-Err-turn.ensures.err.1 ∙ c.begin.ensures.seen)
+returns-in-Err-turn-clause-makes g c = makes_none c.in-Err-turn.ensures.err.0 (c.in-Err-turn.ensures.err.1 ∙ c.begin.ensures.seen)
 
 pub returns-in-Ok-clause-makes : goal.returns-in-Ok-clause-makes
 returns-in-Ok-clause-makes g c =
@@ -31,7 +31,7 @@ returns-in-Ok-clause-makes g c =
     let names_are = with_items_is f.names c.visit_all.new.names (c.visit_all.auto.names ∙ c.deref_mut.ensures.len) in
     let seen_is = shown (g.W.Watch.shows c.begin.new.watch) (g.W.Watch.shows c.args.watch.now) (g.W.Watch.seen c.args.watch.now) seen (g.W.Watch.seen c.turn.new.self) c.begin.ensures.shows c.begin.ensures.seen c.in_default-turn.ensures.ok in
     record {
-      looked = begun_looked told_in told (g.W.Watch.shows c.args.watch.now (length (g.W.Watch.seen c.args.watch.now))) snapshot c.args.self.now c.begin.new.self new (g.W.Watch.watched c.args.watch.now) watched watched_new slots slots_new c.in_default.ensures.begins seen_is.0
+      looked = begun_looked c.in_default.ensures.begins seen_is.0
           (subst (λ (state : FollowState). LooksOn told_in told snapshot state watched slots new watched_new slots_new) c.self.view_is
           (look_made told_in told snapshot old new watched watched_new slots slots_new c.in-Ok.failed looking refl refl looking refl (c.in-Ok.ensures.count ∙ ap length c.turn.ensures.watched)
           (visits_at told_in told snapshot (latest (g.W.Watch.seen c.turn.new.self)) old new c.deref_mut.result.now c.visit_all.new.names watched (g.W.Watch.watched c.turn.new.self) watched_new slots slots_new c.in-Ok.failed
@@ -59,9 +59,9 @@ returns-in-Err-visit_all-clause-makes g c =
     let seen_is = shown (g.W.Watch.shows c.begin.new.watch) (g.W.Watch.shows c.args.watch.now) (g.W.Watch.seen c.args.watch.now) seen (g.W.Watch.seen c.turn.new.self) c.begin.ensures.shows c.begin.ensures.seen c.in_default-turn.ensures.ok in
     record {
       looked = tt;
-      stopped = begun_stopped told_in told (g.W.Watch.shows c.args.watch.now (length (g.W.Watch.seen c.args.watch.now))) snapshot c.args.self.now c.begin.new.self (g.W.Watch.watched c.args.watch.now) watched slots slots_new why c.in_default.ensures.begins seen_is.0
+      stopped = begun_stopped c.in_default.ensures.begins seen_is.0
           (subst (λ (state : FollowState). StopsOn told_in told snapshot state watched slots slots_new why) c.self.view_is
-          (look_stopped told_in told snapshot old watched slots slots_new why (ap (λ (state : FollowState). state.stage) c.self.view_is ∙ c.in_default.ensures.begins.stage)
+          (look_stopped (ap (λ (state : FollowState). state.stage) c.self.view_is ∙ c.in_default.ensures.begins.stage)
           (halts_at told_in told snapshot (latest (g.W.Watch.seen c.turn.new.self)) old c.deref_mut.result.now watched (g.W.Watch.watched c.turn.new.self) slots slots_new why
           c.deref_mut.ensures.value c.turn.ensures.watched (ap latest c.in_default-turn.ensures.ok ∙ latest-last seen snapshot) c.in-Err-visit_all.ensures.stopped)));
       seen_is = tt;

@@ -1,5 +1,4 @@
 use Rattle.std.proofs.Common.{◌≡◌, ◌∙◌, ap, refl, sym}
-use Rattle.watch_core.specs.Snapshot.{latest}
 use Rattle.watch_core.specs.Watched.{watched_at}
 use Rattle.follow_core.specs.declared.name.Standing.TheVariants.{New, Followed}
 use Rattle.follow_core.specs.Standing.{NameState}
@@ -9,70 +8,36 @@ use Rattle.follow_core.proofs.name.Name.visit.Goals as goal
 
 pub returns-in-Ok-clause-visits : goal.returns-in-Ok-clause-visits
 returns-in-Ok-clause-visits g c =
-    let told_in = g.W.Watch.told in
-    let told = g.O.Outs.told in
-    let ways = ways_of c.args.by_name c.args.start in
-    let snapshot = latest (g.W.Watch.seen c.args.watch.now) in
     let place = c.args.place in
     let old : NameState = c.args.self.now in
     let watched = g.W.Watch.watched c.args.watch.now in
-    let slots = g.O.Outs.slots c.args.outs.now in
     let stood : old.standing ≡ New = ap (λ (name : NameState). name.standing) (sym c.self.view_is) ∙ c.in-New.is in
     let can = can_first old (watched_at watched place) stood c.requires.ready in
-    visit_made told_in told ways snapshot place c.text.result.now New old c.leave.new.self watched (g.W.Watch.watched c.first.new.watch) c.args.visitor.now c.first.new.self slots (g.O.Outs.slots c.first.new.outs) c.in-Ok.came c.leave.result
-    c.text.ensures stood can.0 can.1 c.leave.ensures.state c.leave.ensures.failed (c.in-Ok.ensures.looks c.args.by_name)
+    visit_made c.text.ensures stood can.0 can.1 c.leave.ensures.state c.leave.ensures.failed (c.in-Ok.ensures.looks c.args.by_name)
 
 pub returns-in-Err-clause-visits : goal.returns-in-Err-clause-visits
 returns-in-Err-clause-visits g c =
-    let told_in = g.W.Watch.told in
-    let told = g.O.Outs.told in
-    let ways = ways_of c.args.by_name c.args.start in
-    let snapshot = latest (g.W.Watch.seen c.args.watch.now) in
-    let place = c.args.place in
     let old : NameState = c.args.self.now in
-    let watched = g.W.Watch.watched c.args.watch.now in
-    let slots = g.O.Outs.slots c.args.outs.now in
     let stood : old.standing ≡ New = ap (λ (name : NameState). name.standing) (sym c.self.view_is) ∙ c.in-New.is in
-    visit_over told_in told ways snapshot place c.text.result.now New old old watched (g.W.Watch.watched c.first.new.watch) c.args.visitor.now c.first.new.self slots (g.O.Outs.slots c.first.new.outs) c.in-Err.fault
-    c.text.ensures stood refl (c.in-Err.ensures.looks c.args.by_name)
+    visit_over c.text.ensures stood refl (c.in-Err.ensures.looks c.args.by_name)
 
 pub returns-in-Ok-again-clause-visits : goal.returns-in-Ok-again-clause-visits
 returns-in-Ok-again-clause-visits g c =
-    let told_in = g.W.Watch.told in
-    let told = g.O.Outs.told in
     let ways = ways_of c.args.by_name c.args.start in
-    let snapshot = latest (g.W.Watch.seen c.args.watch.now) in
     let place = c.args.place in
     let old : NameState = c.args.self.now in
     let watched = g.W.Watch.watched c.args.watch.now in
-    let slots = g.O.Outs.slots c.args.outs.now in
     let stood : old.standing ≡ Followed c.in-Followed.position = ap (λ (name : NameState). name.standing) (sym c.self.view_is) ∙ c.in-Followed.is in
     let can = can_later old (watched_at watched place) c.in-Followed.position stood c.requires.ready in
-    visit_made told_in told ways snapshot place c.text-in-Followed.result.now (Followed c.in-Followed.position) old c.leave-in-Ok-again.new.self watched (g.W.Watch.watched c.again.new.watch) c.args.visitor.now c.again.new.self slots (g.O.Outs.slots c.again.new.outs) c.in-Ok-again.came c.leave-in-Ok-again.result
-    c.text-in-Followed.ensures stood can.0 can.1 c.leave-in-Ok-again.ensures.state c.leave-in-Ok-again.ensures.failed (c.in-Ok-again.ensures.looks ways.start)
+    visit_made c.text-in-Followed.ensures stood can.0 can.1 c.leave-in-Ok-again.ensures.state c.leave-in-Ok-again.ensures.failed (c.in-Ok-again.ensures.looks ways.start)
 
 pub returns-in-Err-again-clause-visits : goal.returns-in-Err-again-clause-visits
 returns-in-Err-again-clause-visits g c =
-    let told_in = g.W.Watch.told in
-    let told = g.O.Outs.told in
     let ways = ways_of c.args.by_name c.args.start in
-    let snapshot = latest (g.W.Watch.seen c.args.watch.now) in
-    let place = c.args.place in
     let old : NameState = c.args.self.now in
-    let watched = g.W.Watch.watched c.args.watch.now in
-    let slots = g.O.Outs.slots c.args.outs.now in
     let stood : old.standing ≡ Followed c.in-Followed.position = ap (λ (name : NameState). name.standing) (sym c.self.view_is) ∙ c.in-Followed.is in
-    visit_over told_in told ways snapshot place c.text-in-Followed.result.now (Followed c.in-Followed.position) old old watched (g.W.Watch.watched c.again.new.watch) c.args.visitor.now c.again.new.self slots (g.O.Outs.slots c.again.new.outs) c.in-Err-again.fault
-    c.text-in-Followed.ensures stood refl (c.in-Err-again.ensures.looks ways.start)
+    visit_over c.text-in-Followed.ensures stood refl (c.in-Err-again.ensures.looks ways.start)
 
 pub returns-in-Left-clause-visits : goal.returns-in-Left-clause-visits
 returns-in-Left-clause-visits g c =
-    let told_in = g.W.Watch.told in
-    let told = g.O.Outs.told in
-    let ways = ways_of c.args.by_name c.args.start in
-    let snapshot = latest (g.W.Watch.seen c.args.watch.now) in
-    let place = c.args.place in
-    let old : NameState = c.args.self.now in
-    let watched = g.W.Watch.watched c.args.watch.now in
-    let slots = g.O.Outs.slots c.args.outs.now in
-    visit_left told_in told ways snapshot place old watched c.args.visitor.now slots (ap (λ (name : NameState). name.standing) (sym c.self.view_is) ∙ c.in-Left.is) c.requires.ready
+    visit_left (ap (λ (name : NameState). name.standing) (sym c.self.view_is) ∙ c.in-Left.is) c.requires.ready

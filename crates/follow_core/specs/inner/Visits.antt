@@ -1,22 +1,67 @@
--- What a look at one name after another leaves.
-use Rattle.std.specs.Prelude.{◌≡◌, ◌<◌, ◌≤◌, ℕ, Bool, true, false, List, [], ◌∷◌, ◌++◌, length, take, slice_index_or, Result, IfErr, IfOk, OnOk}
-use Rattle.ports_core.specs.Slot.{Slot}
+-- What a look at one name leaves, and at one name after another.
+use Rattle.std.specs.Prelude.{Bool, true, false, ◌||◌, List, [], ◌∷◌, if◌then◌else◌, ◌≡◌, ℕ, ◌++◌, Option, None, length, Result, Ok, Err, ◌<◌, take, slice_index_or, IfErr, IfOk, OnOk}
+use Rattle.follow_core.specs.declared.visitor.Came.{Came}
+use Rattle.follow_core.specs.declared.visitor.Came.TheVariants.{Through, Missing, Dropped}
+use Rattle.follow_core.specs.declared.name.Standing.{Standing}
+use Rattle.follow_core.specs.declared.name.Standing.TheVariants.{New, Followed, Left}
+use Rattle.follow_core.specs.Standing.{NameState, AllStand, CanVisit, KeepsBytes, Stands, texts}
+use Rattle.ports_core.specs.Slot.{Slot, changed_at}
+use Rattle.ports_core.specs.Message.{SaysOn}
+use Rattle.ports_core.specs.Text.{message_of}
+use Rattle.ports_core.specs.declared.tool.Tool.TheVariants.{Tail}
 use Rattle.ports_core.specs.declared.fault.Fault.{Fault}
 use Rattle.watch_core.specs.Snapshot.{Snapshot}
-use Rattle.watch_core.specs.Watched.{Watched, watched_at}
-use Rattle.follow_core.specs.declared.name.Standing.{Standing}
-use Rattle.follow_core.specs.declared.visitor.Came.{Came}
-use Rattle.follow_core.specs.declared.start.Start.{Start}
-use Rattle.follow_core.specs.Followed.{any_failed}
-use Rattle.follow_core.specs.Look.{Fate, Look, Ways, fate_at, is_dropped}
+use Rattle.watch_core.specs.Watched.{Watched, breaks, opens, watched_at}
+use Rattle.follow_core.specs.inner.Calls.{held_at}
+use Rattle.follow_core.specs.Share.{BeginsShare, Share, share_by, share_of, shares_at_look, shares_at_look_from}
+use Rattle.follow_core.specs.Look.{Fate, Look, Ways, sound, fate_at, is_dropped}
 use Rattle.follow_core.specs.Printing.{PrinterState}
-use Rattle.follow_core.specs.Share.{Share, share_of, shares_at_look, shares_at_look_from, BeginsShare}
+use Rattle.follow_core.specs.inner.Giving.{Shared, SharedShort}
+use Rattle.follow_core.specs.declared.visitor.Stop.{Stop}
+use Rattle.follow_core.specs.declared.visitor.Stop.TheVariants.{Broke, Over}
+use Rattle.follow_core.specs.Followed.{any_failed}
 use Rattle.follow_core.specs.Sharing.{AllShared, AllShort}
-use Rattle.follow_core.specs.inner.Giving.{Shared}
-use Rattle.follow_core.specs.inner.Looked.{Leaves, Stopped, has_failed}
-use Rattle.follow_core.specs.inner.Standing.{standing_after}
-use Rattle.follow_core.specs.Standing.{AllStand, CanVisit, KeepsBytes, NameState, Stands, state_at, texts}
-use Rattle.ends_core.specs.Ends.{tail_of}
+
+-- how it stands after a look that it came through so
+abbrev pub standing_after : (by_name : Bool) → Came → Standing
+standing_after by_name (Through len) = Followed len
+standing_after by_name Missing = if by_name then Followed 0 else Left
+standing_after by_name Dropped = Left
+
+-- a further look can give something of it
+abbrev pub goes_on_as : (by_name : Bool) → Standing → Bool
+goes_on_as by_name New = by_name
+goes_on_as by_name (Followed position) = true
+goes_on_as by_name Left = false
+
+-- of one of these names
+abbrev pub any_goes_on : (by_name : Bool) → List NameState → Bool
+any_goes_on by_name [] = false
+any_goes_on by_name (name ∷ names) = goes_on_as by_name name.standing || any_goes_on by_name names
+
+-- the name was missing, or a call on it failed
+abbrev pub has_failed : Came → Bool
+has_failed (Through len) = false
+has_failed Missing = true
+has_failed Dropped = true
+
+-- the look at the name was stopped: the outputs have a beginning of what it gives
+pub record Stopped (told_in told : Bool) (ways : Ways) (before : List Look) (snapshot : Snapshot) (name : List ℕ) (printer : PrinterState) (old new : List Slot) (why : Fault) : Type 0 where
+  pub share : Share
+  pub begins : told_in ≡ true → (fates : List Fate) → BeginsShare share (share_by ways name before (record { snapshot = snapshot; fates = fates }) sound)
+  pub short : SharedShort told printer share old new why
+
+-- Which file of the name is open after the look, where the name leads to this one, and how much of it was seen. No other name was
+-- changed.
+abbrev pub Leaves : Bool → Snapshot → Option ℕ → ℕ → List Watched → List Watched → Came → Type 0
+Leaves told snapshot led place old new (Through len) = (file : Option ℕ) × (new ≡ changed_at place (opens file) old) × (told ≡ true → (file ≡ led) × (len ≡ length (held_at snapshot led)))
+Leaves told snapshot led place old new Missing = (file : Option ℕ) × (new ≡ changed_at place (opens file) old) × (told ≡ true → (file ≡ led) × (led ≡ None))
+Leaves told snapshot led place old new Dropped = (file : Option ℕ) × (new ≡ changed_at place breaks (changed_at place (opens file) old))
+
+-- A call on the name failed, which was told, so that it is dropped; or following ends, and nothing more was told.
+abbrev pub TellsStop : Bool → List ℕ → List Slot → List Slot → Stop → Result Came Fault → Type 0
+TellsStop told name old new (Broke why) result = (result ≡ Ok Dropped) × SaysOn told Tail (message_of Tail why name) old new
+TellsStop told name old new (Over why) result = (result ≡ Err why) × (new ≡ old)
 
 -- no name but the one at this place was changed
 pub record KeepsOthers (place : ℕ) (old new : List Watched) : Type 0 where
@@ -59,20 +104,6 @@ pub record Visits (told_in told : Bool) (ways : Ways) (snapshot : Snapshot) (pla
   pub same : new.text ≡ old.text
   pub ready : OnOk result (CanVisit new (watched_at watched_new place))
   pub others : OnOk result (KeepsOthers place watched watched_new)
-
--- The same of the first names, whatever becomes of the others at that look; those stand as before it.
-pub record VisitedUpTo (told_in told : Bool) (ways : Ways) (looks : List Look) (snapshot : Snapshot) (place : ℕ) (names : List NameState) (printer : PrinterState) (old : List Slot) (after : PrinterState) (new : List Slot) (watched : List Watched) (names_now : List NameState) (failed : Bool) : Type 0 where
-  pub fates : List Fate
-  pub shares : List Share
-  pub count : length fates ≡ place
-  pub are : told_in ≡ true → (later : List Fate) → shares ≡ shares_at_look_from ways looks (record { snapshot = snapshot; fates = fates ++ later }) 0 (take place (texts names))
-  pub is_failed : any_failed shares ≡ failed
-  pub shared : AllShared told printer shares old after new
-  pub same : texts names_now ≡ texts names
-  pub done : (later : List Fate) (other : ℕ) → other < place
-      → Stands told_in ways (looks ++ record { snapshot = snapshot; fates = fates ++ later } ∷ []) other (state_at names_now other).text (watched_at watched other) (state_at names_now other).standing
-  pub rest : (other : ℕ) → place ≤ other → other < length names_now
-      → Stands told_in ways looks other (state_at names_now other).text (watched_at watched other) (state_at names_now other).standing
 
 -- the outputs have what the look gives for all names, and these stand as after it
 pub record VisitedAll (told_in told : Bool) (ways : Ways) (looks : List Look) (snapshot : Snapshot) (names : List NameState) (printer : PrinterState) (old : List Slot) (after : PrinterState) (new : List Slot) (watched : List Watched) (names_now : List NameState) (failed : Bool) : Type 0 where
