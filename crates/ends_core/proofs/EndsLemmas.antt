@@ -7,9 +7,8 @@ use Rattle.std.proofs.lemmas.List.Elements.{All-replicate}
 use Rattle.ports_core.specs.Slot.{Slot, is_writable, with_written, told_of}
 use Rattle.ports_core.specs.Source.{Source}
 use Rattle.ports_core.specs.Part.{only_out}
-use Rattle.ports_core.specs.Swept.{Swept}
 use Rattle.ports_core.specs.Work.{on_output}
-use Rattle.ports_core.specs.Engine.{Loads, TakesIn, PutsOut, CutsOff, Finishes, EndsShort, EndsWith, EndsThere, IsMet, Clears, OwnsNone}
+use Rattle.ports_core.specs.Engine.{Loads, TakesIn, PutsOut, CutsOff, Finishes, EndsShort, EndsWith, EndsThere, IsMet, OwnsNone}
 use Rattle.ports_core.specs.declared.fault.Fault.{Fault}
 use Rattle.ports_core.specs.declared.fault.Fault.TheVariants as fault
 use Rattle.seg_core.specs.declared.unit.Unit.{Unit as Counted}
@@ -44,20 +43,11 @@ on_means all_but_last delim unit n = refl
 on_means from_the_nth delim unit n = refl
 on_means the_last delim unit n = refl
 
-never_clears : (s : Stretch) (delim : ℕ) (unit : Counted) (n : ℕ) → (work_in s delim unit n).clears ≡ false
-never_clears the_first delim unit n = refl
-never_clears all_but_last delim unit n = refl
-never_clears from_the_nth delim unit n = refl
-never_clears the_last delim unit n = refl
-
 pub always_well : (s : Stretch) (delim : ℕ) (unit : Counted) (n : ℕ) (x : List ℕ) → (work_in s delim unit n).verdict x ≡ None
 always_well the_first delim unit n x = refl
 always_well all_but_last delim unit n x = refl
 always_well from_the_nth delim unit n x = refl
 always_well the_last delim unit n x = refl
-
-pub clears_none : (ends : Ends) (slots : List Slot) → Clears OwnsNone work ends slots slots
-clears_none ends slots first own = subst (λ clears. Swept clears first slots slots) (sym (never_clears (stretch_of ends) (delim_of ends) (unit_of ends) (count_of ends))) refl
 
 -- what is written with a piece is what the output gains by it
 went_out : (ends : Ends) (x piece : List ℕ) → Holds ends x → record ((work ends).settled x) { out = ((work ends).settled x).out ++ due ends piece } ≡ (work ends).settled (x ++ piece)

@@ -162,42 +162,13 @@ impl Stage for Ends {
 
     ghost Owns = { OwnsNone };
 
-    fn pass<O: Outs>(&mut self, piece: &[u8], outs: &mut O) -> Result<(), Fault> {
-        self.take(piece, outs)
-    }
-
-    fn load<I: Inputs>(&mut self, slot: usize, buffer: &mut [u8], inputs: &mut I) -> u64 {
-        self.load_last(slot, buffer, inputs)
-    }
-
-    fn finish<O: Outs>(&mut self, outs: &mut O) -> Result<(), Fault> {
-        self.end(outs)
-    }
-
-    /// It has no files to remove.
-    fn clear<O: Outs>(&mut self, outs: &mut O) {
-        let _ = outs;
-    }
-
-    fn is_done(&self) -> bool {
-        self.is_full()
-    }
-
-    fn waits(&self) -> u64 {
-        self.held()
-    }
-
-    ghost lawful = { lawful };
-}
-
-impl Ends {
     /// Takes in a piece, and writes to standard output what is decided now, of what waited and of the piece. What no
     /// longer has to wait, and isn't written, is dropped.
     ///
     /// # Errors
     ///
     /// `Write(0)` where standard output broke, `Memory` where there is no room for what waits.
-    fn take<O: Outs>(&mut self, piece: &[u8], outs: &mut O) -> Result<(), Fault>
+    fn pass<O: Outs>(&mut self, piece: &[u8], outs: &mut O) -> Result<(), Fault>
         requires fits { length (waiting_of self.old) + length piece.now < 2 ^ 64 }
         requires writable { IsTrue (is_writable (O.slots outs.old) 0) }
         ensures same { SameAsked self.old self.new }
@@ -218,7 +189,7 @@ impl Ends {
 
     /// Takes in all that an input has left before any piece, where the last are asked for, and returns how many bytes
     /// these are.
-    fn load_last<I: Inputs>(&mut self, slot: usize, buffer: &mut [u8], inputs: &mut I) -> u64
+    fn load<I: Inputs>(&mut self, slot: usize, buffer: &mut [u8], inputs: &mut I) -> u64
         requires room { 0 < length buffer.old }
         requires input { IsTrue (is_readable (I.sources inputs.old) slot) }
         requires none { waiting_of self.old ≡ [] }
@@ -242,7 +213,7 @@ impl Ends {
     /// # Errors
     ///
     /// `Write(0)` where standard output broke.
-    fn end<O: Outs>(&mut self, outs: &mut O) -> Result<(), Fault>
+    fn finish<O: Outs>(&mut self, outs: &mut O) -> Result<(), Fault>
         requires writable { IsTrue (is_writable (O.slots outs.old) 0) }
         ensures same { SameAsked self.old self.new }
         ensures bound { length (waiting_of self.new) ≤ length (waiting_of self.old) }
@@ -256,7 +227,12 @@ impl Ends {
         kept.write_front(all, outs)
     }
 
-    fn is_full(&self) -> bool
+    /// It has no files to remove.
+    fn clear<O: Outs>(&mut self, outs: &mut O) {
+        let _ = outs;
+    }
+
+    fn is_done(&self) -> bool
         ensures { result ≡ is_full self.now }
     {
         match self {
@@ -265,7 +241,7 @@ impl Ends {
         }
     }
 
-    fn held(&self) -> u64
+    fn waits(&self) -> u64
         ensures { result ≡ length (waiting_of self.now) }
     {
         match self {
@@ -273,4 +249,6 @@ impl Ends {
             Ends::ButLast(kept) | Ends::Last(kept) => kept.len(),
         }
     }
+
+    ghost lawful = { lawful };
 }

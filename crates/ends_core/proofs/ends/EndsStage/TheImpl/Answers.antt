@@ -1,0 +1,50 @@
+use Rattle.std.proofs.Common.{◌∙◌, ap, length, arith}
+use Rattle.ends_core.specs.Stage.{count_of, delim_of, due, due_at_end, stretch_of, unit_of}
+use Rattle.ends_core.proofs.StopLemmas.{writable_still}
+use Rattle.ends_core.proofs.EndsLemmas.{on_ok, on_ok_each, if_err, same_work, takes_in, puts_out, cuts_off, met, finishes, ends_short, end_met, loads, waits_within, full_is, done_is_exact}
+use Rattle.ends_core.proofs.ends.EndsStage.TheImpl.Goals as goal
+
+pub pass-tells : goal.pass-tells
+pass-tells g c =
+    let ends = c.args.self.now in
+    let piece = c.args.piece.now in record {
+      same = same_work ends c.new.self.now c.ensures.same;
+      size = c.ensures.bound;
+      holds = on_ok_each c.result (λ left waits full. takes_in ends c.new.self.now piece c.ensures.same left waits full) c.ensures.left c.ensures.waits c.ensures.full;
+      outputs = on_ok c.result (λ wrote. puts_out g.O.Outs.told ends piece _ _ wrote) c.ensures.out;
+      ready = on_ok c.result (λ wrote. writable_still g.O.Outs.told _ _ (due ends piece) c.requires.ready wrote) c.ensures.out;
+      owns = on_ok c.result (λ wrote first own. tt) c.ensures.out;
+      owned = if_err c.result (λ fault stops unjudged first own. tt) c.ensures.cut;
+      cut = if_err c.result (λ fault stops. cuts_off g.O.Outs.told _ ends piece _ _ fault stops) c.ensures.cut;
+      met = if_err c.result (λ fault stops. met g.O.Outs.told ends piece _ _ _ fault c.requires.ready stops) c.ensures.cut;
+    }
+
+pub finish-tells : goal.finish-tells
+finish-tells g c =
+    let ends = c.args.self.now in record {
+      same = same_work ends c.new.self.now c.ensures.same;
+      size = c.ensures.bound;
+      outputs = on_ok c.result (λ wrote. finishes g.O.Outs.told ends _ _ wrote) c.ensures.out;
+      writable = on_ok c.result (λ wrote output. writable_still g.O.Outs.told _ _ (due_at_end ends) c.requires.ready wrote) c.ensures.out;
+      owns = on_ok c.result (λ wrote first own. tt) c.ensures.out;
+      owned = if_err c.result (λ fault stops unjudged first own. tt) c.ensures.cut;
+      cut = if_err c.result (λ fault stops. ends_short g.O.Outs.told _ ends _ _ fault stops) c.ensures.cut;
+      met = if_err c.result (λ fault stops. end_met g.O.Outs.told ends _ _ _ fault c.requires.ready stops) c.ensures.cut;
+    }
+
+pub load-tells : goal.load-tells
+load-tells g c =
+    let ends = c.args.self.now in
+    let passes = c.ensures.passes in record {
+      same = same_work ends c.new.self.now c.ensures.same;
+      size = omega (arith, passes.long, ap length passes.keeps, waits_within (stretch_of ends) (delim_of ends) (unit_of ends) (count_of ends) passes.front);
+      loads = loads _ c.args.slot c.result ends c.new.self.now _ _ c.requires.fresh c.ensures.same c.ensures.left c.ensures.others passes c.ensures.full;
+      laid = c.ensures.laid;
+      bound = c.ensures.bound;
+    }
+
+pub is_done-tells : goal.is_done-tells
+is_done-tells c = record {
+  complete = λ x holds. c.ensures ∙ full_is c.args.self.now x holds;
+  exact = λ x holds. done_is_exact c.args.self.now x _ holds (c.ensures ∙ full_is c.args.self.now x holds);
+}
