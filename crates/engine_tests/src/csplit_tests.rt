@@ -12,7 +12,7 @@ use std::test::Fail;
 
 /// Which options are given beside the operands.
 #[derive(Clone, Copy)]
-enum Options {
+pub(crate) enum Options {
     Plain,
     Keep,
     Quiet,
@@ -338,7 +338,7 @@ fn holds_what_an_offset_may_take_back(rt: HostRuntime) -> Result<(), Fail> {
     Ok(())
 }
 
-fn style_of(alloc: Global, options: Options) -> Result<Style, AllocError> {
+pub(crate) fn style_of(alloc: Global, options: Options) -> Result<Style, AllocError> {
     Ok(Style {
         prefix: String::from_str(alloc, "xx")?,
         digits: 2,

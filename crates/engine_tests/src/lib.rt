@@ -18,6 +18,8 @@ mod ends_tests;
 #[cfg(test)]
 mod follow_tests;
 #[cfg(test)]
+mod growth_tests;
+#[cfg(test)]
 mod load_tests;
 #[cfg(test)]
 mod operand_tests;

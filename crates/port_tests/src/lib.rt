@@ -10,6 +10,8 @@ mod dir_watch_tests;
 #[cfg(test)]
 mod folder;
 #[cfg(test)]
+mod growth_tests;
+#[cfg(test)]
 mod memory_tests;
 #[cfg(test)]
 mod name_tests;

@@ -1,10 +1,11 @@
 //! What no clause says of files in memory: that calls succeed where there is memory, and that a failure comes where it is planned.
-ghost use Rattle.std.specs.Prelude.{◌≡◌, ◌∷◌, [], IsTrue, IfOk};
-ghost use Rattle.watch_core.specs.Watched.{added, is_watchable};
+ghost use Rattle.std.specs.Prelude.{◌≡◌, ◌∷◌, [], IsTrue, IfOk, OnOk};
+ghost use Rattle.watch_core.specs.Watched.{added, is_readable, is_watchable};
 
 use crate::compare::same;
 use ports_core::Fault;
 use std::alloc::Global;
+use std::process::Abort;
 use std::test::Fail;
 use watch_core::{Edit, MemWatch, Seen, Watch};
 
@@ -62,10 +63,73 @@ fn a_file_stays_open(rt: HostRuntime) -> Result<(), Fail> {
     Ok(())
 }
 
+/// A file is written.
+const WRITTEN: Looks = &[&[Edit::Replace("f", b"abc")]];
+
+/// A call on a watched name, each of which counts as one.
+#[derive(Clone, Copy, Debug, PartialEq, Eq)]
+enum Call {
+    Look,
+    Reopen,
+    Length,
+    Read,
+}
+
+const CALLS: &[Call] = &[Call::Look, Call::Reopen, Call::Length, Call::Read];
+
+/// How the failure of each call is told.
+fn failure_of(call: Call) -> Fault {
+    match call {
+        Call::Look | Call::Reopen => Fault::Open(0),
+        Call::Length | Call::Read => Fault::Read(0),
+    }
+}
+
+/// Makes a call on the name, whose file holds three bytes.
+fn ask(rt: &impl Abort, watch: &mut MemWatch, call: Call) -> Result<(), Fault>
+    requires { IsTrue (is_readable watch.old.watched 0) }
+    ensures { OnOk result (IsTrue (is_readable watch.new.watched 0)) }
+{
+    match call {
+        Call::Look => same(rt, &watch.look(0)?, &Some(Seen { id: 0, len: 3 })),
+        Call::Reopen => reopen(rt, watch)?,
+        Call::Length => same(rt, &watch.open_len(0)?, &3),
+        Call::Read => same(rt, &watch.read_at(0, 1, &mut [0; 9])?, &2),
+    }
+    Ok(())
+}
+
+/// Opens the file that the name leads to.
+fn reopen(rt: &impl Abort, watch: &mut MemWatch) -> Result<(), Fault>
+    requires { IsTrue (is_watchable watch.old.watched 0) }
+    ensures { OnOk result (IsTrue (is_readable watch.new.watched 0)) }
+{
+    let is_there = watch.reopen(0)?;
+    assert!(rt; is_there);
+    Ok(())
+}
+
+/// Makes all calls in their order, of which the one with this number is to fail, and returns the number of the one that did.
+fn first_failure(rt: &impl Abort, alloc: Global, failing: u64) -> Result<usize, Fault> {
+    let mut watch = watch_at(alloc, WRITTEN, 1)?;
+    reopen(rt, &mut watch)?;
+    watch.fail_at(failing);
+    let mut done = 0usize;
+    for call in CALLS {
+        if let Err(fault) = ask(rt, &mut watch, *call) {
+            same(rt, &fault, &failure_of(*call));
+            return Ok(done);
+        }
+        done = done.saturating_add(1);
+    }
+    Ok(done)
+}
+
 #[test]
-fn a_call_fails(rt: HostRuntime) -> Result<(), Fail> {
-    let mut watch = watch_at(rt.alloc(), &[], 1)?;
-    watch.fail_at(1);
-    same(&rt, &watch.look(0), &Err(Fault::Open(0)));
+fn each_call_fails_in_its_turn(rt: HostRuntime) -> Result<(), Fail> {
+    for failing in 1..=5 {
+        let done = first_failure(&rt, rt.alloc(), failing)?;
+        same(&rt, &(done as u64), &(failing - 1));
+    }
     Ok(())
 }

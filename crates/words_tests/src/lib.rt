@@ -4,6 +4,8 @@
 #[cfg(test)]
 mod csplit_tests;
 #[cfg(test)]
+mod growth_tests;
+#[cfg(test)]
 mod refused;
 #[cfg(test)]
 mod spelling_tests;

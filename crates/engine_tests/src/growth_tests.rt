@@ -1,0 +1,472 @@
+//! Engines of which `tests/refusals` refuses each growth of memory in turn. Without a refusal both tests of a pair pass; where one
+//! growth is refused, the test `NAME` fails, and `NAME_or_are_refused` passes: the call says so, what was written is a beginning, the
+//! engine is over from then on, and the outputs stay. What `before_NAME` and `after_NAME` do takes as many growths, so that the calls
+//! of the second take none.
+ghost use Rattle.std.specs.Prelude.{◌≡◌, ◌≤◌, false, length, IfOk, IsTrue, OnOk};
+ghost use Rattle.follow_core.specs.FollowState.{CanLook};
+ghost use Rattle.ports_core.specs.Slot.{is_writable};
+ghost use Rattle.split_core.specs.Ways.{Ready};
+
+use crate::csplit_tests::{Options, open as open_csplitter, style_of};
+use crate::play::{close, feed, feed_all};
+use csplit_core::{OperandFaultKind, read_operands};
+use ends_core::{Head, Tail, Unit};
+use follow_core::{Follow, Notice, Start, notice_line};
+use ports_core::{Alphabet, Engine, Fault, MemOut, Mode, Names, Outs};
+use split_core::{Cut, Splitter};
+use std::alloc::Global;
+use std::process::Abort;
+use std::test::Fail;
+use tee_core::Tee;
+use watch_core::{Edit, MemWatch};
+
+/// An engine, as it is opened.
+#[derive(Clone, Copy, Debug)]
+enum Job<'a> {
+    Head(bool, Unit, u64),
+    Tail(bool, Unit, u64),
+    Split(Cut),
+    Csplit(&'a [&'a str]),
+}
+
+/// An engine, the pieces that it is fed before it is closed, and what is on standard output then and in the files.
+type Row<'a> = (Job<'a>, &'a [&'a [u8]], &'a [u8], &'a [&'a [u8]]);
+
+const ROWS: &[Row<'static>] = &[
+    (
+        Job::Head(false, Unit::Lines, 2),
+        &[b"a\n", b"b\nc"],
+        b"a\nb\n",
+        &[],
+    ),
+    (
+        Job::Head(true, Unit::Lines, 2),
+        &[b"a\nb", b"\nc", b"\nd"],
+        b"a\nb\n",
+        &[],
+    ),
+    (
+        Job::Head(true, Unit::Bytes, 3),
+        &[b"ab", b"cde"],
+        b"ab",
+        &[],
+    ),
+    (
+        Job::Tail(false, Unit::Lines, 2),
+        &[b"a\nb", b"\nc"],
+        b"b\nc",
+        &[],
+    ),
+    (
+        Job::Tail(false, Unit::Bytes, 2),
+        &[b"ab", b"cde"],
+        b"de",
+        &[],
+    ),
+    (
+        Job::Tail(true, Unit::Lines, 2),
+        &[b"a\nb", b"\nc"],
+        b"b\nc",
+        &[],
+    ),
+    (
+        Job::Split(Cut::Lines(1)),
+        &[b"a\nb", b"\n"],
+        b"",
+        &[b"a\n", b"b\n"],
+    ),
+    (
+        Job::Split(Cut::Bytes(2)),
+        &[b"a", b"bc"],
+        b"",
+        &[b"ab", b"c"],
+    ),
+    (
+        Job::Split(Cut::LineBytes(4)),
+        &[b"a\nb", b"c"],
+        b"",
+        &[b"a\n", b"bc"],
+    ),
+    (
+        Job::Split(Cut::Round(2)),
+        &[b"a\nb", b"\nc"],
+        b"",
+        &[b"a\nc", b"b\n"],
+    ),
+    (
+        Job::Csplit(&["/c/-1", "/d/"]),
+        &[b"a\nb", b"\nc\n", b"d"],
+        b"2\n4\n1\n",
+        &[b"a\n", b"b\nc\n", b"d"],
+    ),
+];
+
+/// No growth is the test's own.
+#[test]
+fn nothing() {}
+
+#[test]
+fn engines_write_their_rows(rt: HostRuntime) -> Result<(), Fail> {
+    for row in ROWS {
+        plays(&rt, rt.alloc(), row)?;
+    }
+    Ok(())
+}
+
+#[test]
+fn engines_write_their_rows_or_are_refused(rt: HostRuntime) {
+    for row in ROWS {
+        if let Err(fault) = plays(&rt, rt.alloc(), row) {
+            let is_refusal = matches!(fault, Fault::Memory | Fault::Write(_) | Fault::Open(_));
+            assert!(rt; is_refusal, "of {:?}: {fault:?}", row.0);
+        }
+    }
+}
+
+/// Opens an engine, feeds it and closes it, and checks what was written.
+fn plays(rt: &impl Abort, alloc: Global, row: &Row<'_>) -> Result<(), Fault> {
+    let mut outs = MemOut::new(alloc)?;
+    let ended = ends(rt, alloc, row, &mut outs);
+    let is_whole = ended.is_ok();
+    assert!(rt;
+        has_written(&outs, row.2, row.3, is_whole),
+        "of {:?}",
+        row.0
+    );
+    ended
+}
+
+fn ends(rt: &impl Abort, alloc: Global, row: &Row<'_>, outs: &mut MemOut) -> Result<(), Fault>
+    requires streams { 2 ≤ length outs.old }
+    requires output { IsTrue (is_writable outs.old 0) }
+{
+    let (job, pieces, _, _) = *row;
+    match job {
+        Job::Head(but_last, unit, count) => {
+            let mut engine = Head::open(alloc, unit, but_last, count, b'\n')?;
+            goes(rt, &mut engine, outs, pieces)
+        }
+        Job::Tail(from_nth, unit, count) => {
+            let mut engine = Tail::open(alloc, unit, from_nth, count, b'\n')?;
+            goes(rt, &mut engine, outs, pieces)
+        }
+        Job::Split(cut) => {
+            let mut engine = open_splitter(alloc, cut, outs)?;
+            goes(rt, &mut engine, outs, pieces)
+        }
+        Job::Csplit(words) => cuts(rt, alloc, words, outs, pieces),
+    }
+}
+
+fn open_splitter(alloc: Global, cut: Cut, outs: &mut MemOut) -> Result<Splitter, Fault>
+    requires { 2 ≤ length outs.old }
+    ensures { IfOk result (λ splitter. Ready splitter.stage outs.new) }
+{
+    let names = Names::new(alloc, "x", Alphabet::Letters, 2, true, "")?;
+    match cut {
+        Cut::Lines(count) => Splitter::open(
+            alloc,
+            Cut::Lines(count.max(1)),
+            names,
+            false,
+            b'\n',
+            outs,
+        ),
+        Cut::Bytes(count) => Splitter::open(
+            alloc,
+            Cut::Bytes(count.max(1)),
+            names,
+            false,
+            b'\n',
+            outs,
+        ),
+        Cut::LineBytes(count) => {
+            Splitter::open(
+                alloc,
+                Cut::LineBytes(count.max(1)),
+                names,
+                false,
+                b'\n',
+                outs,
+            )
+        }
+        Cut::Round(count) => Splitter::open(
+            alloc,
+            Cut::Round(count.max(1)),
+            names,
+            false,
+            b'\n',
+            outs,
+        ),
+    }
+}
+
+fn cuts(
+    rt: &impl Abort,
+    alloc: Global,
+    words: &[&str],
+    outs: &mut MemOut,
+    pieces: &[&[u8]],
+) -> Result<(), Fault>
+    requires streams { 2 ≤ length outs.old }
+    requires output { IsTrue (is_writable outs.old 0) }
+{
+    let style = style_of(alloc, Options::Keep)?;
+    match read_operands(alloc, words) {
+        Ok(operands) => {
+            let mut engine = open_csplitter(alloc, style, &operands, outs)?;
+            goes(rt, &mut engine, outs, pieces)
+        }
+        Err(refused) => {
+            assert!(rt; refused.kind == OperandFaultKind::Memory);
+            Err(Fault::Memory)
+        }
+    }
+}
+
+/// Feeds an engine and closes it. After a fault it is over, and the outputs stay.
+fn goes<E: Engine>(
+    rt: &impl Abort,
+    engine: &mut E,
+    outs: &mut MemOut,
+    pieces: &[&[u8]],
+) -> Result<(), Fault>
+    requires { E.is_over engine.old ≡ false → E.Ready engine.old outs.old }
+{
+    if let Err(fault) = feed_all(engine, outs, pieces) {
+        stays_over(rt, engine, outs);
+        return Err(fault);
+    }
+    if let Err(fault) = close(engine, outs) {
+        stays_over(rt, engine, outs);
+        return Err(fault);
+    }
+    Ok(())
+}
+
+fn stays_over<E: Engine>(rt: &impl Abort, engine: &mut E, outs: &mut MemOut)
+    requires { E.is_over engine.old ≡ false → E.Ready engine.old outs.old }
+{
+    let before = sizes(outs);
+    assert_eq!(rt; feed(engine, outs, b"x\ny\n"), Err(Fault::Failed));
+    assert_eq!(rt; close(engine, outs), Err(Fault::Failed));
+    assert!(rt; sizes(outs) == before);
+}
+
+/// How much each of the first outputs holds.
+fn sizes(outs: &MemOut) -> [usize; 4] {
+    [
+        outs.bytes(0).len(),
+        outs.bytes(2).len(),
+        outs.bytes(3).len(),
+        outs.bytes(4).len(),
+    ]
+}
+
+/// Whether standard output and the files have these bytes, or beginnings of them.
+fn has_written(outs: &MemOut, output: &[u8], files: &[&[u8]], is_whole: bool) -> bool {
+    let mut is_so = agrees(outs.bytes(0), output, is_whole);
+    let mut slot = 2usize;
+    for file in files {
+        is_so = is_so && agrees(outs.bytes(slot), file, is_whole);
+        slot = slot.saturating_add(1);
+    }
+    is_so && outs.name(slot).is_empty()
+}
+
+fn agrees(found: &[u8], wanted: &[u8], is_whole: bool) -> bool {
+    if is_whole {
+        found == wanted
+    } else {
+        wanted.starts_with(found)
+    }
+}
+
+/// A call that takes memory by itself.
+#[derive(Clone, Copy, Debug)]
+enum Call {
+    Operands,
+    Notice,
+    Tee,
+    Follow,
+    Look,
+}
+
+const CALLS: &[Call] = &[
+    Call::Operands,
+    Call::Notice,
+    Call::Tee,
+    Call::Follow,
+    Call::Look,
+];
+
+#[test]
+fn calls_succeed(rt: HostRuntime) -> Result<(), Fail> {
+    for call in CALLS {
+        makes(&rt, rt.alloc(), *call)?;
+    }
+    Ok(())
+}
+
+#[test]
+fn calls_succeed_or_are_refused(rt: HostRuntime) -> Result<(), Fail> {
+    for call in CALLS {
+        if let Err(fault) = makes(&rt, rt.alloc(), *call) {
+            let is_refusal = matches!(fault, Fault::Memory | Fault::Write(0) | Fault::Open(_));
+            assert!(rt; is_refusal, "at {call:?}: {fault:?}");
+            makes(&rt, rt.alloc(), *call)?;
+        }
+    }
+    Ok(())
+}
+
+fn makes(rt: &impl Abort, alloc: Global, call: Call) -> Result<(), Fault> {
+    match call {
+        Call::Operands => read(rt, alloc),
+        Call::Notice => notice_line(alloc, Notice::Replaced, "f").map(|_| ()),
+        Call::Tee => tee(alloc),
+        Call::Follow => Follow::open(alloc, &["f", "g"], START, true, true).map(|_| ()),
+        Call::Look => looks(rt, alloc),
+    }
+}
+
+fn read(rt: &impl Abort, alloc: Global) -> Result<(), Fault> {
+    match read_operands(alloc, &["/a*b/+1", "{2}", "%c%", "7"]) {
+        Ok(_) => Ok(()),
+        Err(refused) => {
+            assert!(rt; refused.kind == OperandFaultKind::Memory);
+            Err(Fault::Memory)
+        }
+    }
+}
+
+/// A file that finds no memory is broken.
+fn tee(alloc: Global) -> Result<(), Fault> {
+    let mut outs = MemOut::new(alloc)?;
+    let _ = Tee::open(alloc, &["s", "t"], Mode::Fresh, &mut outs)?;
+    for slot in [2, 3] {
+        if outs.broken(slot) {
+            return Err(Fault::Open(slot));
+        }
+    }
+    Ok(())
+}
+
+const START: Start = Start {
+    unit: Unit::Lines,
+    from_nth: false,
+    count: 1,
+    delim: b'\n',
+};
+
+/// Two looks, of which the second tells that a file was replaced.
+fn looks(rt: &impl Abort, alloc: Global) -> Result<(), Fault> {
+    let mut watch = MemWatch::new(alloc)?;
+    watch.then(&[Edit::Replace("f", b"a\n")])?;
+    watch.then(&[Edit::Replace("f", b"b\n")])?;
+    let mut outs = MemOut::new(alloc)?;
+    let mut follow = Follow::open(alloc, &["f"], START, true, true)?;
+    look(rt, &mut follow, &mut watch, &mut outs, b"==> f <==\na\n")?;
+    look(rt, &mut follow, &mut watch, &mut outs, b"==> f <==\na\nb\n")?;
+    is_told(&outs)
+}
+
+/// Makes a look, after which standard output has these bytes, or a beginning of them.
+fn look(
+    rt: &impl Abort,
+    follow: &mut Follow,
+    watch: &mut MemWatch,
+    outs: &mut MemOut,
+    wanted: &[u8],
+) -> Result<(), Fault>
+    requires { CanLook follow.old watch.old.watched outs.old }
+    ensures { OnOk result (CanLook follow.new watch.new.watched outs.new) }
+{
+    let looked = follow.look(watch, outs);
+    assert!(rt; agrees(outs.bytes(0), wanted, looked.is_ok()));
+    assert_eq!(rt; follow.failed(), looked.is_err());
+    looked
+}
+
+/// A line that standard error found no memory for is passed over.
+fn is_told(outs: &MemOut) -> Result<(), Fault> {
+    if outs.broken(1) {
+        return Err(Fault::Memory);
+    }
+    Ok(())
+}
+
+/// A tail or a head whose window of bytes is full takes a further piece without memory, or isn't fed one.
+fn fill<E: Engine>(
+    rt: &impl Abort,
+    engine: &mut E,
+    outs: &mut MemOut,
+    first: &[u8],
+    more: &[u8],
+) -> Result<(), Fault>
+    requires { E.is_over engine.old ≡ false → E.Ready engine.old outs.old }
+{
+    feed(engine, outs, first)?;
+    if !more.is_empty() {
+        assert_eq!(rt; feed(engine, outs, more), Ok(()));
+    }
+    Ok(())
+}
+
+fn fill_tail(rt: &impl Abort, alloc: Global, more: &[u8]) -> Result<(), Fault> {
+    let mut outs = MemOut::new(alloc)?;
+    let mut tail = Tail::open(alloc, Unit::Bytes, false, 2, b'\n')?;
+    fill(rt, &mut tail, &mut outs, b"ab", more)?;
+    assert_eq!(rt; tail.held(), 2);
+    Ok(())
+}
+
+#[test]
+fn before_a_full_tail_is_fed(rt: HostRuntime) -> Result<(), Fail> {
+    Ok(fill_tail(&rt, rt.alloc(), b"")?)
+}
+
+#[test]
+fn after_a_full_tail_is_fed(rt: HostRuntime) -> Result<(), Fail> {
+    Ok(fill_tail(&rt, rt.alloc(), b"cde")?)
+}
+
+/// What a file or standard output takes in memory was asked for with the first piece.
+fn copy(rt: &impl Abort, alloc: Global, more: &[u8]) -> Result<(), Fault> {
+    let mut outs = MemOut::new(alloc)?;
+    let mut tee = Tee::open(alloc, &["s"], Mode::Fresh, &mut outs)?;
+    assert_eq!(rt; tee.feed(b"abcde", &mut outs), 0);
+    assert_eq!(rt; tee.feed(more, &mut outs), 0);
+    assert!(rt; outs.bytes(0).ends_with(more) && outs.bytes(2).ends_with(more));
+    Ok(())
+}
+
+#[test]
+fn before_a_tee_is_fed(rt: HostRuntime) -> Result<(), Fail> {
+    Ok(copy(&rt, rt.alloc(), b"")?)
+}
+
+#[test]
+fn after_a_tee_is_fed(rt: HostRuntime) -> Result<(), Fail> {
+    Ok(copy(&rt, rt.alloc(), b"f")?)
+}
+
+/// The same of a head from the front and of a tail from the nth on, which hold nothing.
+fn pass(rt: &impl Abort, alloc: Global, more: &[u8]) -> Result<(), Fault> {
+    let mut outs = MemOut::new(alloc)?;
+    let mut head = Head::open(alloc, Unit::Bytes, false, 9, b'\n')?;
+    fill(rt, &mut head, &mut outs, b"abcde", more)?;
+    let mut others = MemOut::new(alloc)?;
+    let mut tail = Tail::open(alloc, Unit::Lines, true, 2, b'\n')?;
+    fill(rt, &mut tail, &mut others, b"a\nbcde", more)
+}
+
+#[test]
+fn before_what_holds_nothing_is_fed(rt: HostRuntime) -> Result<(), Fail> {
+    Ok(pass(&rt, rt.alloc(), b"")?)
+}
+
+#[test]
+fn after_what_holds_nothing_is_fed(rt: HostRuntime) -> Result<(), Fail> {
+    Ok(pass(&rt, rt.alloc(), b"f")?)
+}

@@ -1,0 +1,44 @@
+//! Words of which `tests/refusals` refuses each growth of memory in turn. Where one is refused, `words_are_read` fails, and
+//! `words_are_read_or_are_refused` passes: that is told, and the same words read again have their settings.
+use ports_core::Fault;
+use std::alloc::Global;
+use std::test::Fail;
+use words_core::read_words;
+
+const WORDS: &[&[&str]] = &[
+    &["head", "-qn", "1", "f", "g"],
+    &["tail", "-F", "--looks=2", "f"],
+    &["split", "-t", ",", "-n", "r/3", "f", "p"],
+    &["csplit", "-f", "p", "-", "/a*b/+1", "{2}", "7"],
+    &["tee", "-a", "s", "t"],
+];
+
+/// No growth is the test's own.
+#[test]
+fn nothing() {}
+
+#[test]
+fn words_are_read(rt: HostRuntime) -> Result<(), Fail> {
+    for words in WORDS {
+        reads(rt.alloc(), words)?;
+    }
+    Ok(())
+}
+
+#[test]
+fn words_are_read_or_are_refused(rt: HostRuntime) -> Result<(), Fail> {
+    for words in WORDS {
+        if let Err(fault) = reads(rt.alloc(), words) {
+            assert_eq!(rt; fault, Fault::Memory);
+            reads(rt.alloc(), words)?;
+        }
+    }
+    Ok(())
+}
+
+fn reads(alloc: Global, words: &[&str]) -> Result<(), Fault> {
+    match read_words(alloc, words) {
+        Ok(_) => Ok(()),
+        Err(fault) => Err(fault),
+    }
+}
