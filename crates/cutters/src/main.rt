@@ -43,17 +43,22 @@ fn run_args(
     requires inputs { IsFresh inputs.old }
     requires outputs { outs.old ≡ streams }
 {
-    match args
-        .iter()
-        .map(|word| word.as_str())
-        .collect::<Vec<&str>>(alloc)
-    {
+    match words_of(alloc, args) {
         Ok(words) => {
             let mut watch = DirWatch::new(rt, alloc);
             run_words(alloc, &words, inputs, &mut watch, outs)
         }
         Err(AllocError) => refuse(alloc, outs),
     }
+}
+
+/// The words as texts. Room for all is asked for once: collecting them would ask for less where that is refused.
+fn words_of<'a>(alloc: Global, args: &'a [String]) -> Result<Vec<&'a str>, AllocError> {
+    let mut words = Vec::with_capacity(alloc, args.len())?;
+    for arg in args {
+        words.push(arg.as_str())?;
+    }
+    Ok(words)
 }
 
 /// Says that there is no memory for the words, and returns the status.
