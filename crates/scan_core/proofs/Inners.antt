@@ -211,14 +211,22 @@ walk_next code table line place state next steps d' noted d w h b e k f =
     let one : suc place ≡ place + 1 = omega arith in
     (w.0, w.1, subst (λ p. Walked code w.0 line p next (steps + noted.positions)) one (walked_more code w.0 table line place state next steps (steps + noted.positions) w.1 w.2 h b r k (ap (λ p. steps + p) n.positions)))
 
-pub walk_stops : (code : List Node) (table : Table) (line : List ℕ) (place state next steps d' : ℕ) → WalkedOf code table line place state steps → place < length line → slice_index line place < 256
-    → next ≡ get_or table.rows.items (state * 256 + slice_index line place) d' → next ≡ 65535 → IsOutcome code line (record { found = true; steps = steps })
-walk_stops code table line place state next steps d' w h b e k =
+-- one place more
+pub walk_one : (code : List Node) (table : Table) (line : List ℕ) (place state steps : ℕ) (noted d : State) → WalkedOf code table line place state steps → noted ≡ get_or table.states.items state d
+    → steps + noted.positions ≤ (place + 1) * (weight code + 1)
+walk_one code table line place state steps noted d w f =
+    let n = noted_read table code w.0 state noted d w.1 w.2.known f in
+    let m = positions_most code (set_at w.0 state) in
+    steps_more place steps noted.positions (weight code + 1) w.2.bound (let p = n.positions in omega (arith, m, p))
+
+pub walk_stops : (code : List Node) (table : Table) (line : List ℕ) (place state next steps d' : ℕ) (noted d : State) → WalkedOf code table line place state steps → place < length line → slice_index line place < 256
+    → next ≡ get_or table.rows.items (state * 256 + slice_index line place) d' → next ≡ 65535 → noted ≡ get_or table.states.items state d → IsOutcome code line (record { found = true; steps = steps + noted.positions })
+walk_stops code table line place state next steps d' noted d w h b e k f =
     let r = entry_read table code w.0 state (slice_index line place) next d' w.1 w.2.known b e in
     record {
       exact = (λ t. walked_stops code w.0 table line place state steps w.1 w.2 h b (sym r ∙ k), λ t. refl);
       counted = λ f. absurd (false≢true (sym f));
-      bound = walked_bound code w.0 line place state steps w.2;
+      bound = steps_wider (place + 1) (length line + 1) (steps + noted.positions) (weight code + 1) (walk_one code table line place state steps noted d w f) (omega (arith, h));
     }
 
 pub walk_ends : (code : List Node) (table : Table) (line : List ℕ) (place state steps : ℕ) (noted d : State) → WalkedOf code table line place state steps → place ≡ length line → 0 < length line → noted ≡ get_or table.states.items state d

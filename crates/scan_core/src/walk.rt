@@ -75,13 +75,13 @@ pub fn walk(table: &Table, nodes: &[Node], line: &[u8]) -> Option<Outcome>
         place = end;
         if place < line.len() {
             let next = table.rows[state * 256 + line[place] as usize];
+            steps += table.states[state].positions as u128;
             if next == STOP {
                 return Some(Outcome { found: true, steps });
             }
             if next == UNKNOWN {
                 return None;
             }
-            steps += table.states[state].positions as u128;
             state = next as usize;
             place += 1;
         }

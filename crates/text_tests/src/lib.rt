@@ -8,6 +8,8 @@ mod digit_tests;
 #[cfg(test)]
 mod grep_tests;
 #[cfg(test)]
+mod growth_tests;
+#[cfg(test)]
 mod line_back_tests;
 #[cfg(test)]
 mod line_tests;

@@ -35,6 +35,42 @@ fn steps_are_counted(rt: HostRuntime) {
     }
 }
 
+/// A pattern, a line that matches, and the steps of all places before the one at which its end is first entered: at least these are
+/// taken. The second line is longer than what is gone over at once. The pattern with `.` has a table of too many sets for words, and
+/// the last one has none.
+const FOUND: [(&[u8], &[u8], u128); 8] = [
+    (b"a", b"bbba", 4),
+    (b"a", b"bbbabbbbbbbbbbbbbbbbbbb", 4),
+    (b"a*b", b"aacb", 12),
+    (b"\\(ab\\)\\{2\\}", b"abaabab", 15),
+    (b"a.\\{4\\}c", b"aaaaaaaac", 39),
+    (b"a\\{0,1\\}b", b"ccb", 9),
+    (b"^a", b"a", 2),
+    (b"a\\{0,100\\}\\{0,100\\}b", b"cb", 602),
+];
+
+/// Where the line matches, steps were taken too, by each way to match: the table kept as words, the table, and the sets.
+#[test]
+fn steps_are_counted_where_the_line_matches(rt: HostRuntime) {
+    for (pattern, line, least) in &FOUND {
+        let (found, steps) = search(&rt, rt.alloc(), pattern, line);
+        assert!(rt; found, "{pattern:?} in {line:?}");
+        assert!(rt; steps >= *least, "{pattern:?} in {line:?}: {steps}");
+        let by_sets = steps_by_sets(&rt, rt.alloc(), pattern, line);
+        assert!(rt;
+            by_sets >= *least,
+            "{pattern:?} in {line:?}, by sets: {by_sets}"
+        );
+    }
+}
+
+fn steps_by_sets(rt: &impl Abort, alloc: Global, pattern: &[u8], line: &[u8]) -> u128 {
+    let bre = read(rt, alloc, pattern);
+    let size = 2 * bre.positions() as usize / 64 + 1;
+    let mut words = vec![in alloc; 0u64; size].expect(rt, "there is memory");
+    bre.search(line, &mut words).steps
+}
+
 #[test]
 fn no_search_no_steps(rt: HostRuntime) {
     let bre = read(&rt, rt.alloc(), b"a");
@@ -132,7 +168,7 @@ fn a_group_that_stands_no_time(rt: HostRuntime) {
 }
 
 /// Patterns that read, of each form.
-const PATTERNS: [&[u8]; 48] = [
+const PATTERNS: [&[u8]; 50] = [
     b"a",
     b"a*ab",
     b"a*b",
@@ -181,6 +217,8 @@ const PATTERNS: [&[u8]; 48] = [
     b"\\(a\\{0,40\\}b*\\)\\{2\\}c",
     b"\\(a*b\\)\\{40\\}*c$",
     b"\\(a*^*b\\{0,70\\}\\)*c",
+    b"[[:digit:]]\\{2\\}",
+    b"a\\{255\\}\\{255\\}",
 ];
 
 /// The line of a number: up to four bytes of four.

@@ -12,7 +12,7 @@ use std::process::Abort;
 const LETTERS: &[u8; 26] = b"abcdefghijklmnopqrstuvwxyz";
 
 // Drops what is over at the front, and puts a piece into the window.
-fn keep_lines(window: &mut LineWindow, piece: &[u8]) -> Result<(), Fault>
+pub(crate) fn keep_lines(window: &mut LineWindow, piece: &[u8]) -> Result<(), Fault>
     ensures { OnOk result (window.new.held ≡ last_lines window.old.delim window.old.most (window.old.held ++ piece.now)) }
 {
     let over = window.over(piece);
@@ -27,7 +27,7 @@ fn keep_lines(window: &mut LineWindow, piece: &[u8]) -> Result<(), Fault>
     }
 }
 
-fn keep_bytes(window: &mut ByteWindow, piece: &[u8]) -> Result<(), Fault>
+pub(crate) fn keep_bytes(window: &mut ByteWindow, piece: &[u8]) -> Result<(), Fault>
     ensures { OnOk result (window.new.held ≡ drop ((length window.old.held + length piece.now) - window.old.most) (window.old.held ++ piece.now)) }
 {
     let over = window.over(piece.len() as u64);

@@ -1,5 +1,5 @@
 use Rattle.std.proofs.Common.{rules, ◌<◌, ◌+◌, ℕ, length, slice_index, arith}
-use Rattle.scan_core.proofs.Inners.{walk_run, walk_next, walk_stops, walk_ends, walk_fits, bound_fits}
+use Rattle.scan_core.proofs.Inners.{walk_run, walk_next, walk_one, walk_stops, walk_ends, walk_fits, bound_fits}
 use Rattle.scan_core.proofs.walk.walk.Goals as goal
 
 pub overflow_add-steps : goal.overflow_add-steps
@@ -15,17 +15,15 @@ returns-then-next c =
     let b : (k : ℕ) → k < length c.args.line.now → slice_index c.args.line.now k < 256 = λ k h. search (rules, c.type_inv.line) in
     let w = walk_run c.args.nodes.now c.args.table.now c.args.line.now c.loop-place.place c.stretch_end-end.result c.loop-place.state c.loop-place.steps c.positions_of_places-steps.result c.index.result.now _ c.loop-place.invariant
     c.stretch_end-end.ensures.low c.stretch_end-end.ensures.high b c.stretch_end-end.ensures.stays c.index.ensures c.positions_of_places-steps.ensures in
-    record { exact = walk_stops c.args.nodes.now c.args.table.now c.args.line.now c.stretch_end-end.result c.loop-place.state c.index-next.result.now _ _ w c.if-place-line.true (b c.stretch_end-end.result c.if-place-line.true) c.index-next.ensures c.if-next.true }
+    record { exact = walk_stops c.args.nodes.now c.args.table.now c.args.line.now c.stretch_end-end.result c.loop-place.state c.index-next.result.now _ _ c.index-then-place-line.result.now _ w c.if-place-line.true (b c.stretch_end-end.result c.if-place-line.true) c.index-next.ensures c.if-next.true c.index-then-place-line.ensures }
 
 pub overflow_add-steps-then-place-line : goal.overflow_add-steps-then-place-line
 overflow_add-steps-then-place-line c =
     let b : (k : ℕ) → k < length c.args.line.now → slice_index c.args.line.now k < 256 = λ k h. search (rules, c.type_inv.line) in
     let w = walk_run c.args.nodes.now c.args.table.now c.args.line.now c.loop-place.place c.stretch_end-end.result c.loop-place.state c.loop-place.steps c.positions_of_places-steps.result c.index.result.now _ c.loop-place.invariant
     c.stretch_end-end.ensures.low c.stretch_end-end.ensures.high b c.stretch_end-end.ensures.stays c.index.ensures c.positions_of_places-steps.ensures in
-    let small : c.index-next.result.now < 65534 = search (rules, c.if-next.false, c.if-next-2.false) in
-    let v = walk_next c.args.nodes.now c.args.table.now c.args.line.now c.stretch_end-end.result c.loop-place.state c.index-next.result.now _ _ c.index-then-place-line.result.now _ w c.if-place-line.true (b c.stretch_end-end.result c.if-place-line.true)
-    c.index-next.ensures small c.index-then-place-line.ensures in
-    let f = bound_fits c.args.nodes.now (c.stretch_end-end.result + 1) _ v.1.few v.2.bound (omega (arith)) in
+    let v = walk_one c.args.nodes.now c.args.table.now c.args.line.now c.stretch_end-end.result c.loop-place.state _ c.index-then-place-line.result.now _ w c.index-then-place-line.ensures in
+    let f = bound_fits c.args.nodes.now (c.stretch_end-end.result + 1) _ w.1.few v (omega (arith)) in
     search (rules, f)
 
 pub loop-place-preserved-then-place-line : goal.loop-place-preserved-then-place-line
