@@ -12,7 +12,7 @@ use crate::play::{close, feed, feed_all};
 use csplit_core::{OperandFaultKind, read_operands};
 use ends_core::{Head, Tail, Unit};
 use follow_core::{Follow, Notice, Start, notice_line};
-use ports_core::{Alphabet, Engine, Fault, MemOut, Mode, Names, Outs};
+use ports_core::{Alphabet, Fault, Guarded, MemOut, Mode, Names, Outs, Stage};
 use split_core::{Cut, Splitter};
 use std::alloc::Global;
 use std::process::Abort;
@@ -158,7 +158,7 @@ fn ends(rt: &impl Abort, alloc: Global, row: &Row<'_>, outs: &mut MemOut) -> Res
     }
 }
 
-fn open_splitter(alloc: Global, cut: Cut, outs: &mut MemOut) -> Result<Splitter, Fault>
+fn open_splitter(alloc: Global, cut: Cut, outs: &mut MemOut) -> Result<Guarded<Splitter>, Fault>
     requires { 2 ≤ length outs.old }
     ensures { IfOk result (λ splitter. Ready splitter.stage outs.new) }
 {
@@ -225,13 +225,13 @@ fn cuts(
 }
 
 /// Feeds an engine and closes it. After a fault it is over, and the outputs stay.
-fn goes<E: Engine>(
+fn goes<S: Stage>(
     rt: &impl Abort,
-    engine: &mut E,
+    engine: &mut Guarded<S>,
     outs: &mut MemOut,
     pieces: &[&[u8]],
 ) -> Result<(), Fault>
-    requires { E.is_over engine.old ≡ false → E.Ready engine.old outs.old }
+    requires { engine.old.is_over ≡ false → S.Ready engine.old.stage outs.old }
 {
     if let Err(fault) = feed_all(engine, outs, pieces) {
         stays_over(rt, engine, outs);
@@ -244,8 +244,8 @@ fn goes<E: Engine>(
     Ok(())
 }
 
-fn stays_over<E: Engine>(rt: &impl Abort, engine: &mut E, outs: &mut MemOut)
-    requires { E.is_over engine.old ≡ false → E.Ready engine.old outs.old }
+fn stays_over<S: Stage>(rt: &impl Abort, engine: &mut Guarded<S>, outs: &mut MemOut)
+    requires { engine.old.is_over ≡ false → S.Ready engine.old.stage outs.old }
 {
     let before = sizes(outs);
     assert_eq!(rt; feed(engine, outs, b"x\ny\n"), Err(Fault::Failed));
@@ -397,14 +397,14 @@ fn is_told(outs: &MemOut) -> Result<(), Fault> {
 }
 
 /// A tail or a head whose window of bytes is full takes a further piece without memory, or isn't fed one.
-fn fill<E: Engine>(
+fn fill<S: Stage>(
     rt: &impl Abort,
-    engine: &mut E,
+    engine: &mut Guarded<S>,
     outs: &mut MemOut,
     first: &[u8],
     more: &[u8],
 ) -> Result<(), Fault>
-    requires { E.is_over engine.old ≡ false → E.Ready engine.old outs.old }
+    requires { engine.old.is_over ≡ false → S.Ready engine.old.stage outs.old }
 {
     feed(engine, outs, first)?;
     if !more.is_empty() {
