@@ -1,26 +1,11 @@
-# What tests/split and tests/csplit share. Each sets `tool` and `here`, and reads this file. Then it stands in a folder of its
-# own that is removed again, `program` is built, and `faults.so` is there, as a C compiler makes it.
-set -u
-work=$(mktemp -d)
-trap 'rm -rf "$work"' EXIT
-cd "$work" || exit 1
-passed=0
-failed=0
-. "$here/faults.sh"
-"$here/../build" cutters || { echo "0 passed, 1 failed"; exit 1; }
+# What tests/split and tests/csplit share beside the harness. Each sets `tool` and `here`, and reads this file.
+. "$here/harness.sh"
+made cutters
 program=$here/../crates/cutters/out/cutters
 : >printed
 
-# judge NAME CONDITION..: counts whether this holds, and says what failed.
-judge() {
-    local name=$1
-    shift
-    if "$@"; then
-        passed=$((passed + 1))
-    else
-        failed=$((failed + 1))
-        echo "failed: $name: status $status, said: $(head -n 2 err); $(head -n 3 differs 2>/dev/null)"
-    fi
+found() {
+    echo "status $status, said: $(head -n 2 err); $(head -n 3 differs 2>/dev/null)"
 }
 
 # is_left WANTED-STATUS WANTED-MESSAGES: whether the command just run left this in `status` and `err`, in `out` what is in
@@ -29,9 +14,9 @@ is_left() {
     [ "$status" = "$1" ] && [ "$(cat err)" = "$2" ] && cmp -s out printed && diff -r wanted made >differs
 }
 
-# row NAME WANTED-STATUS WANTED-MESSAGES: checks what the command just run left.
-row() {
-    judge "$1" is_left "$2" "$3"
+# leaves NAME WANTED-STATUS WANTED-MESSAGES: checks what the command just run left.
+leaves() {
+    count "$1" is_left "$2" "$3"
 }
 
 # fresh: empties both folders. Nothing is to be printed.
@@ -57,7 +42,7 @@ try() {
     local name=$1 wanted=$2 messages=$3
     shift 3
     cut_up "$@"
-    row "$name" "$wanted" "$messages"
+    leaves "$name" "$wanted" "$messages"
 }
 
 # same WORD..: the program must do what the system's tool does for these words.
@@ -92,15 +77,8 @@ disturbs() {
         rm -rf made met; mkdir made
         LD_PRELOAD=$work/faults.so FAULT=$kind FAULT_AT=$at FAULT_MET=$work/met cut_up "$@"
         [ -e met ] || break
-        judge "$kind $at of $*" is_sound "$messages" "$leaves"
+        count "$kind $at of $*" is_sound "$messages" "$leaves"
         at=$((at + 1))
     done
-    row "$kind of $*, no call left to disturb" 0 ''
+    leaves "$kind of $*, no call left to disturb" 0 ''
 }
-
-# end: the last line, and the status.
-end() {
-    echo "$passed passed, $failed failed"
-    [ "$failed" = 0 ]
-}
-

@@ -1,0 +1,54 @@
+# What the scripts of this folder share. Each sets `here` and reads this file. Then it stands in a folder of its own, which is
+# removed again, and `faults.so`, which makes calls fail, is there, as a C compiler makes it of faults.c.
+set -u
+work=$(mktemp -d)
+trap 'kill $(jobs -p) 2>/dev/null; rm -rf "$work"' EXIT
+cd "$work" || exit 1
+passed=0
+failed=0
+
+# give_up WHY: nothing can be tested, which is a failure.
+give_up() {
+    echo "failed: $1"
+    echo '0 passed, 1 failed'
+    exit 1
+}
+
+# made CRATE [tests]: the crate's program, or that of its tests, is built.
+made() {
+    "$here/../build" "$@" || give_up "$* is not built"
+}
+
+# count NAME TEST..: counts whether the test holds, and says so where not, with what `found` tells of the last command.
+count() {
+    local name=$1
+    shift
+    if "$@"; then
+        passed=$((passed + 1))
+    else
+        failed=$((failed + 1))
+        echo "failed: $name: $(found)"
+    fi
+}
+
+found() {
+    echo "status ${status-}, said: $(head -n 2 err 2>/dev/null)"
+}
+
+# row NAME WANTED-STATUS WANTED-OUTPUT-FILE WANTED-MESSAGES: what the command just run left in `status`, `out` and `err`.
+row() {
+    count "$1" is_run "$2" "$3" "$4"
+}
+
+is_run() {
+    [ "$status" = "$1" ] && cmp -s out "$2" && [ "$(cat err)" = "$3" ]
+}
+
+# end: the last line, and the status.
+end() {
+    echo "$passed passed, $failed failed"
+    [ "$failed" = 0 ]
+}
+
+command -v cc >/dev/null || give_up 'there is no C compiler (cc), which the tests of calls that fail need'
+cc -shared -fPIC -O1 -o faults.so "$here/faults.c" -ldl 2>cc.log || give_up "$(cat cc.log)"
