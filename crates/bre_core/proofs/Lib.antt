@@ -18,3 +18,4 @@ pub mod SoFar
 pub mod Spelled
 pub mod Tokens
 pub mod Trees
+pub mod Flat

@@ -22,16 +22,19 @@ abbrev mutual
   -- whether a pattern matches the stretch from one place to another
   pub matches : Pattern → List ℕ → ℕ → ℕ → Bool
   matches nothing line from to = from == to
-  matches (append pattern item) line from to = any_below (suc to) (λ middle. matches pattern line from middle && matches_item item line middle to)
+  matches (append pattern item) line from to =
+      any_below (suc to) (λ middle. matches pattern line from middle && matches_item item line middle to)
 
   -- parts beyond the least number and the stretch's length have an empty one among them
   pub matches_item : Item → List ℕ → ℕ → ℕ → Bool
-  matches_item (set bytes) line from to = (to == from + 1) && (nat_lt from (length line) && has bytes (slice_index line from))
+  matches_item (set bytes) line from to =
+      (to == from + 1) && (nat_lt from (length line) && has bytes (slice_index line from))
   matches_item front line from to = (from == 0) && (to == 0)
   matches_item end line from to = (from == length line) && (to == length line)
   matches_item (group pattern) line from to = matches pattern line from to
   matches_item (repeat item low high) line from to =
-      any_below (suc (low + to)) (λ count. nat_le low count && (is_at_most high count && has_parts (matches_item item line) count from to))
+      any_below (suc (low + to)) (λ count. nat_le low count
+          && (is_at_most high count && has_parts (matches_item item line) count from to))
 
 -- whether some stretch of the line matches
 abbrev pub contains : Pattern → List ℕ → Bool

@@ -17,8 +17,8 @@ pub record IsNumber (digits : List ℕ) (number : ℕ) : Type 0 where
   pub value : number ≡ fold (λ value digit. 10 * value + (digit - 48)) 0 digits
   pub within : number ≤ 255
 
--- What stands between `\{` and `\}`: a number; a number and a comma; or two numbers and a comma between them, the first not above
--- the second. The least count of repetitions and the greatest, if there is one.
+-- What stands between `\{` and `\}`: a number; a number and a comma; or two numbers and a comma between them, the first
+-- not above the second. The least count of repetitions and the greatest, if there is one.
 pub data AreBounds : List ℕ → ℕ → Option ℕ → Type 0 where
   exactly : (digits : List ℕ) (number : ℕ) → IsNumber digits number → AreBounds digits number (Some number)
   at_least : (digits : List ℕ) (low : ℕ) → IsNumber digits low → AreBounds (digits ++ codes ",") low None
@@ -96,16 +96,17 @@ abbrev pub is_opening : Spelling → List ℕ → Bool
 is_opening (plain byte) text = byte == 91 && (begins_with 46 text || begins_with 61 text || begins_with 58 text)
 is_opening (symbol byte) text = false
 
--- A part before this text is read as what it is. After a single byte no `-` follows that would make a range. The ends of a range are
--- in order, and the second isn't a plain `]`, which would close the list.
+-- A part before this text is read as what it is. After a single byte no `-` follows that would make a range. The ends
+-- of a range are in order, and the second isn't a plain `]`, which would close the list.
 abbrev pub IsItself : Part → List ℕ → Type 0
 IsItself (single spelling) text = (is_opening spelling text ≡ false) × (is_dash_inside text ≡ false)
-IsItself (range low high) text = (byte_of low ≤ byte_of high) × (is_opening high text ≡ false) × (begins_with 93 (byte_before high text) ≡ false)
+IsItself (range low high) text = (byte_of low ≤ byte_of high) × (is_opening high text ≡ false)
+    × (begins_with 93 (byte_before high text) ≡ false)
 IsItself (equivalents byte) text = Unit {0}
 IsItself (class name) text = Unit {0}
 
--- A part may begin like this text: in the first place any text will do; in a later one the text begins neither with `]`, nor with a
--- `-` that isn't directly before the closing `]`.
+-- A part may begin like this text: in the first place any text will do; in a later one the text begins neither with
+-- `]`, nor with a `-` that isn't directly before the closing `]`.
 abbrev pub MayBegin : Bool → List ℕ → Type 0
 MayBegin true text = Unit {0}
 MayBegin false text = (begins_with 93 text ≡ false) × (is_dash_inside text ≡ false)
@@ -113,9 +114,11 @@ MayBegin false text = (begins_with 93 text ≡ false) × (is_dash_inside text �
 -- Each part stands where it may. `first` says that the first of them stands in the list's first place.
 abbrev pub Stand : Bool → List Part → List ℕ → Type 0
 Stand first [] text = Unit {0}
-Stand first (part ∷ parts) text = MayBegin first (parts_before (part ∷ parts) text) × IsItself part (parts_before parts text) × Stand false parts text
+Stand first (part ∷ parts) text = MayBegin first (parts_before (part ∷ parts) text)
+    × IsItself part (parts_before parts text) × Stand false parts text
 
--- a list that follows the rules: at least one part, each where it may stand, and a `^` at the front only for the complement
+-- a list that follows the rules: at least one part, each where it may stand, and a `^` at the front only for the
+-- complement
 pub record IsBracketList (complemented : Bool) (parts : List Part) (rest : List ℕ) : Type 0 where
   pub some : parts ≢ []
   pub stand : Stand true parts (codes "]" ++ rest)

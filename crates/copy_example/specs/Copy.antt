@@ -12,13 +12,14 @@ use Rattle.run_core.specs.Task.{Task}
 
 -- these bytes on standard output, and a file of these, which is open or closed
 abbrev pub copied : List ℕ → List ℕ → State → Part
-copied out bytes state = record { out = out; files = record { name = codes "copy"; mode = Fresh; bytes = bytes; state = state; is_broken = false } ∷ [] }
+copied out bytes state = record { out = out;
+    files = record { name = codes "copy"; mode = Fresh; bytes = bytes; state = state; is_broken = false } ∷ [] }
 
 abbrev pub has_newline : List ℕ → Bool
 has_newline x = list_any (λ byte. byte == 10) x
 
--- What came in is in the file; at the end that is closed, and standard output has the line. An input without a newline ends the work with a
--- fault. After that, as after any other fault, the file is removed unless it is kept.
+-- What came in is in the file; at the end that is closed, and standard output has the line. An input without a newline
+-- ends the work with a fault. After that, as after any other fault, the file is removed unless it is kept.
 abbrev pub copy_work : Bool → Work
 copy_work keep = record {
   settled = λ x. copied [] x Open;

@@ -3,11 +3,11 @@ use Rattle.std.proofs.Common.{◌≡◌, ℕ, suc, ◌+◌, ◌-◌, ◌≤◌, 
 use Rattle.std.proofs.Math.Seq.{get_or-append_seam}
 use Rattle.csplit_core.specs.Operand.{Target, Number, Search, Operand, Line, unmarked, is_match}
 use Rattle.csplit_core.specs.Plan.{State, search_line, MatchesNone, Misses, state_after, step_of, Runs, is_used_up, misses, is_above, is_below, cuts}
-use Rattle.csplit_core.specs.Progress.{AreSeen, MissesNow, Turns, Advances}
+use Rattle.csplit_core.specs.inner.Progress.{AreSeen, MissesNow, Turns, Advances}
 use Rattle.csplit_core.specs.declared.progress.Turn.{Turn}
 use Rattle.csplit_core.specs.declared.progress.Turn.TheVariants as turn_is
-use Rattle.csplit_core.specs.MatchLaws.{search_some, match_still}
-use Rattle.csplit_core.specs.SectionLaws.{front_of}
+use Rattle.csplit_core.specs.laws.MatchLaws.{search_some, match_still}
+use Rattle.csplit_core.specs.laws.SectionLaws.{front_of}
 
 pub advances : (suppress : Bool) (lines : List Line) (total : ℕ) (state : State) (turn : Turn) → length lines ≡ total → Turns suppress lines total state turn → Advances suppress lines state turn
 advances suppress lines total state turn_is.UsedUp count none = record { ending = _; runs = is_used_up state none; aims = tt }

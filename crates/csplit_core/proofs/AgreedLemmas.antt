@@ -8,8 +8,9 @@ use Rattle.csplit_core.specs.Planned.{plan}
 use Rattle.csplit_core.specs.Section.{Section, section, section_of, lines_between, is_last_kept, whole_end, settled_end, sections_by, whole_sections}
 use Rattle.csplit_core.specs.Agreed.{kept_lines, whole_outputs, settled_outputs, IsFront, AreFronts, output_at, IsAgreed}
 use Rattle.csplit_core.proofs.TurnedLemmas.{search_within, search_at_start, matching_line, Turned, too_low, turns, turned}
-use Rattle.csplit_core.specs.PlanLaws.{goes_on, plan_runs, plan_once}
-use Rattle.csplit_core.specs.SectionLaws.{between_still, EndsAs, ends_as, are_within, closed_still, Grow, plan_grows, whole_covers}
+use Rattle.csplit_core.specs.laws.PlanLaws.{goes_on, plan_runs, plan_once}
+use Rattle.csplit_core.specs.laws.SectionLaws.{between_still, ends_as, are_within, closed_still, plan_grows, whole_covers}
+use Rattle.csplit_core.specs.inner.SectionLaws.{EndsAs, Grow}
 
 -- Outputs
 

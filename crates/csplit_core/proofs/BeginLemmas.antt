@@ -7,9 +7,11 @@ use Rattle.ports_core.specs.declared.fault.Fault.{Fault}
 use Rattle.ports_core.specs.declared.slot.Mode.TheVariants.{Fresh}
 use Rattle.ports_core.specs.declared.slot.State.TheVariants as state
 use Rattle.csplit_core.specs.Output.{Style, Contents, is_empty, makes_file, file_at, files_of, size_lines, part_by}
-use Rattle.csplit_core.specs.Draft.{Draft, draft_part, last_contents, with_bytes, AreClosed}
-use Rattle.csplit_core.specs.Writer.{WriterState, Writes, Pauses, OwnsFiles, IsReady, IsOpenAt, Moves, Halts, Went, Stopped, Goes, Begun, BegunNot, size_of}
-use Rattle.csplit_core.specs.WriterSteps.{MakesNone, Made, Makes, Appends, Started, StartedNot, next_name, begun_after}
+use Rattle.csplit_core.specs.Draft.{Draft, draft_part, last_contents, AreClosed}
+use Rattle.csplit_core.specs.inner.Draft.{with_bytes}
+use Rattle.csplit_core.specs.Writer.{WriterState, Writes, OwnsFiles, IsReady, IsOpenAt, size_of}
+use Rattle.csplit_core.specs.inner.Writer.{Pauses, Moves, Halts, Went, Stopped, Goes, Begun, BegunNot}
+use Rattle.csplit_core.specs.inner.WriterSteps.{MakesNone, Made, Makes, Appends, Started, StartedNot, next_name, begun_after}
 use Rattle.csplit_core.specs.declared.section_writer.Current.{Current}
 use Rattle.csplit_core.specs.declared.section_writer.Current.TheVariants.{Skipped, Unmade, File}
 use Rattle.csplit_core.proofs.WriterLemmas.{moves_again, moves_as, moves_same, halts_after, halts_as, breaks_later, owns_again}

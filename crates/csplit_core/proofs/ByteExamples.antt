@@ -10,7 +10,8 @@ use Rattle.ports_core.specs.declared.slot.State.{State}
 use Rattle.ports_core.specs.declared.slot.State.TheVariants as state
 use Rattle.csplit_core.specs.Operand.{Minus, Search, Count, Operand}
 use Rattle.csplit_core.specs.Output.{Style}
-use Rattle.csplit_core.specs.Csplit.{settled_by, whole_by, waiting}
+use Rattle.csplit_core.specs.Csplit.{settled_by, whole_by}
+use Rattle.csplit_core.specs.inner.Csplit.{waiting}
 
 abbrev style : Style
 style = record { prefix = 120 ∷ 120 ∷ []; digits = 2; keep = false; quiet = false; elide = false; suppress = false }

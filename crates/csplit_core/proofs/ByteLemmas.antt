@@ -9,7 +9,7 @@ use Rattle.seg_core.proofs.LastLines.{first_lines-whole}
 use Rattle.seg_core.proofs.LineCounts.{line_count-open, ends_with-append, ends_with-some}
 use Rattle.seg_core.proofs.LinesOf.{AreLines-lines_of, lines_of-joined}
 use Rattle.csplit_core.specs.Input.{newline, marked, all_lines, complete_lines, open_line}
-use Rattle.csplit_core.specs.Cutter.{IsWhole, IsLine}
+use Rattle.csplit_core.specs.inner.Cutter.{IsWhole, IsLine}
 use Rattle.csplit_core.specs.CsplitState.{whole_lines}
 use Rattle.csplit_core.proofs.LineLemmas.{whole-append}
 

@@ -10,20 +10,24 @@ use Rattle.ports_core.specs.declared.fault.Fault.TheVariants.{Memory}
 use Rattle.ports_core.proofs.PartLemmas.{part_trans}
 use Rattle.ports_core.proofs.SlotSteps.{keeps_again}
 use Rattle.csplit_core.specs.Csplit.{settled_of}
-use Rattle.csplit_core.specs.Draft.{Draft, draft_part, with_bytes, with_section}
+use Rattle.csplit_core.specs.Draft.{Draft, draft_part}
+use Rattle.csplit_core.specs.inner.Draft.{with_bytes, with_section}
 use Rattle.csplit_core.specs.Input.{newline, all_lines}
 use Rattle.csplit_core.specs.Operand.{Operand, Line, is_kept}
 use Rattle.csplit_core.specs.Output.{Style, contents_of, part_by, part_of}
 use Rattle.csplit_core.specs.Plan.{State, start, Step, Ending, search_line, line_after, state_after, step_of, Runs, is_used_up, misses, is_above, is_below, cuts}
 use Rattle.csplit_core.specs.Planned.{Plan, plan_within}
-use Rattle.csplit_core.specs.PlanLaws.{needed, plan_once, runs}
-use Rattle.csplit_core.specs.Progress.{GoesPast}
+use Rattle.csplit_core.specs.inner.PlanLaws.{needed}
+use Rattle.csplit_core.specs.laws.PlanLaws.{plan_once, runs}
+use Rattle.csplit_core.specs.inner.Progress.{GoesPast}
 use Rattle.csplit_core.specs.Section.{Section, section, section_of, lines_between, bytes_of, is_last_kept, settled_end, settled_sections}
-use Rattle.csplit_core.specs.SectionLaws.{part_grows, ends_as}
-use Rattle.csplit_core.specs.Writer.{WriterState, Writes, IsReady, KeepsFiles, Halts, Went, Stopped, Goes, size_of}
-use Rattle.csplit_core.specs.Writer.{Moves as Gets}
+use Rattle.csplit_core.specs.laws.SectionLaws.{part_grows, ends_as}
+use Rattle.csplit_core.specs.Writer.{WriterState, Writes, IsReady, size_of}
+use Rattle.csplit_core.specs.inner.Writer.{KeepsFiles, Halts, Went, Stopped, Goes}
+use Rattle.csplit_core.specs.inner.Writer.{Moves as Gets}
 use Rattle.csplit_core.specs.declared.line_cutter.Cut.{Cut}
-use Rattle.csplit_core.specs.Cutter.{CutterState, suppress_in, state_in, kept_by, text_from, Leads, draft_by, settled_part, IsFit, IsAt, part_at, search_after, CutsNow, PassesOn, IsAfter, CutAt, CutNot, WillCut}
+use Rattle.csplit_core.specs.Cutter.{CutterState, suppress_in, state_in, kept_by, text_from, Leads, draft_by, IsFit, IsAt}
+use Rattle.csplit_core.specs.inner.Cutter.{settled_part, part_at, search_after, CutsNow, PassesOn, IsAfter, CutAt, CutNot, WillCut}
 use Rattle.csplit_core.proofs.HoldLemmas.{memory_halts}
 use Rattle.csplit_core.proofs.LastSectionLemmas.{after_within}
 use Rattle.csplit_core.proofs.LineLemmas.{bytes_between, first_further, from_further}

@@ -8,10 +8,12 @@ use Rattle.ports_core.specs.Slot.{Slot}
 use Rattle.ports_core.specs.declared.fault.Fault.{Fault}
 use Rattle.ports_core.specs.declared.fault.Fault.TheVariants.{Memory}
 use Rattle.ports_core.proofs.PartLemmas.{part_trans}
-use Rattle.csplit_core.specs.Draft.{draft_part, with_bytes}
+use Rattle.csplit_core.specs.Draft.{draft_part}
+use Rattle.csplit_core.specs.inner.Draft.{with_bytes}
 use Rattle.csplit_core.specs.Input.{newline, all_lines}
 use Rattle.csplit_core.specs.declared.line_cutter.Cut.{Cut}
-use Rattle.csplit_core.specs.Cutter.{CutterState, state_in, kept_by, draft_by, settled_part, IsFit, IsAt, CutsNow, CutAllNot, CutsAll, WillCut}
+use Rattle.csplit_core.specs.Cutter.{CutterState, state_in, kept_by, draft_by, IsFit, IsAt}
+use Rattle.csplit_core.specs.inner.Cutter.{settled_part, CutsNow, CutAllNot, CutsAll, WillCut}
 use Rattle.csplit_core.proofs.CutLemmas.{before_begins}
 use Rattle.csplit_core.proofs.HoldLemmas.{memory_halts}
 use Rattle.csplit_core.proofs.SpreadLemmas.{alike, at_alike}

@@ -2,15 +2,17 @@
 use Rattle.std.proofs.Common.{◌≡◌, ◌⊎◌, inl, inr, ℕ, ◌+◌, ◌-◌, ◌<◌, ◌≤◌, ◌^◌, List, [], ◌++◌, sym, ◌∙◌, ap, subst, arith}
 use Rattle.std.proofs.lemmas.List.{append-nil}
 use Rattle.seg_core.specs.Line.{line_count, first_lines, after_lines}
-use Rattle.csplit_core.specs.Draft.{Draft, draft_part, with_bytes}
+use Rattle.csplit_core.specs.Draft.{Draft, draft_part}
+use Rattle.csplit_core.specs.inner.Draft.{with_bytes}
 use Rattle.csplit_core.specs.Input.{newline, all_lines}
 use Rattle.csplit_core.specs.Output.{Style}
 use Rattle.csplit_core.specs.Plan.{start, Runs}
-use Rattle.csplit_core.specs.PlanLaws.{goes_on}
+use Rattle.csplit_core.specs.laws.PlanLaws.{goes_on}
 use Rattle.csplit_core.specs.Section.{most_waiting}
 use Rattle.csplit_core.specs.declared.progress.Turn.{Turn}
 use Rattle.csplit_core.specs.Writer.{WriterState, Writes}
-use Rattle.csplit_core.specs.Cutter.{CutterState, suppress_in, state_in, kept_by, text_from, draft_by, settled_draft, settled_part, IsFit, IsWhole, IsAt, part_at, EndsNow, IsLive, IsPast, Arrives}
+use Rattle.csplit_core.specs.Cutter.{CutterState, suppress_in, state_in, kept_by, text_from, draft_by, settled_draft, IsFit, IsAt, EndsNow, IsLive, IsPast}
+use Rattle.csplit_core.specs.inner.Cutter.{settled_part, IsWhole, part_at, Arrives}
 use Rattle.csplit_core.proofs.MoveLemmas.{few_repetitions}
 use Rattle.csplit_core.proofs.LineLemmas.{all_lines-append, count-append, count_from, first_still, rest_more, from_further, first_further}
 use Rattle.csplit_core.proofs.SettledLemmas.{settled_draft_is, settled_part_is, settled_count, ended_still}

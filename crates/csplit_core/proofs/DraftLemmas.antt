@@ -2,12 +2,14 @@
 use Rattle.std.proofs.Common.{◌≡◌, ℕ, ◌+◌, suc, Bool, true, false, cond, not, ◌&&◌, List, [], ◌∷◌, ◌++◌, length, decimal, sym, ◌∙◌, ap, subst, arith, length-append}
 use Rattle.std.proofs.lemmas.List.{append-nil}
 use Rattle.ports_core.specs.Name.{numbered_name}
-use Rattle.ports_core.specs.Part.{File, Part, Begins, AllClosed, IsBeginning}
+use Rattle.ports_core.specs.Part.{File, Part, Begins, IsBeginning}
+use Rattle.ports_core.specs.inner.Part.{AllClosed}
 use Rattle.ports_core.specs.declared.slot.State.TheVariants as state
 use Rattle.csplit_core.specs.Input.{newline}
 use Rattle.csplit_core.specs.Output.{Style, Contents, makes_file, file_at, files_of, size_line, size_lines, part_by}
-use Rattle.csplit_core.specs.Draft.{Draft, draft_part, ended_part, last_contents, AreClosed}
-use Rattle.csplit_core.specs.SectionLaws.{size_lines-append}
+use Rattle.csplit_core.specs.Draft.{Draft, draft_part, last_contents, AreClosed}
+use Rattle.csplit_core.specs.inner.Draft.{ended_part}
+use Rattle.csplit_core.specs.laws.SectionLaws.{size_lines-append}
 use Rattle.csplit_core.proofs.OutputSteps.{file_of, with_last, more_files}
 
 -- the files of sections, and then of those after them

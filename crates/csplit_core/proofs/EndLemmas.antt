@@ -1,7 +1,8 @@
 -- A section ends, and the next begins.
 use Rattle.std.proofs.Common.{◌≡◌, ℕ, ◌≤◌, Bool, true, false, List, [], ◌∷◌, ◌++◌, length, decimal, Result, Ok, Err, OnOk, IfErr, refl, sym, ◌∙◌, ap, subst, arith}
 use Rattle.std.proofs.lemmas.List.{append-nil}
-use Rattle.ports_core.specs.Part.{File, Begins, AllClosed}
+use Rattle.ports_core.specs.Part.{File, Begins}
+use Rattle.ports_core.specs.inner.Part.{AllClosed}
 use Rattle.ports_core.specs.Slot.{Slot, changed_at, closes, told_of, with_written, with_broken}
 use Rattle.ports_core.specs.Swept.{AreMade, SweptFrom}
 use Rattle.ports_core.specs.declared.fault.Fault.{Fault}
@@ -9,14 +10,16 @@ use Rattle.ports_core.specs.declared.fault.Fault.TheVariants as fault
 use Rattle.ports_core.specs.declared.slot.State.TheVariants as state
 use Rattle.csplit_core.specs.Input.{newline}
 use Rattle.csplit_core.specs.Output.{Style, makes_file, files_of, size_line, size_lines}
-use Rattle.csplit_core.specs.Draft.{Draft, draft_part, ended_part, last_contents, with_section}
-use Rattle.csplit_core.specs.Writer.{WriterState, Writes, Pauses, IsReady, Went, Stopped, Goes, Ended, EndedNot, Ends}
-use Rattle.csplit_core.specs.WriterSteps.{Started, StartedNot, Starts}
+use Rattle.csplit_core.specs.Draft.{Draft, draft_part, last_contents}
+use Rattle.csplit_core.specs.inner.Draft.{ended_part, with_section}
+use Rattle.csplit_core.specs.Writer.{WriterState, Writes, IsReady}
+use Rattle.csplit_core.specs.inner.Writer.{Pauses, Went, Stopped, Goes, Ended, EndedNot, Ends}
+use Rattle.csplit_core.specs.inner.WriterSteps.{Started, StartedNot, Starts}
 use Rattle.csplit_core.specs.declared.section_writer.Current.TheVariants.{Skipped, Unmade, File as Filed}
 use Rattle.csplit_core.proofs.WriterLemmas.{moves_again, moves_as, moves_same, halts_after, halts_as, halts_wider, end_begins, breaks_later, owns_again}
 use Rattle.csplit_core.proofs.OutputSteps.{file_of, with_last, line_begins, close_begins, close_moves, line_moves, close_halts, line_halts}
 use Rattle.ports_core.proofs.SlotSteps.{made_again, made_write, made_close, made_break, keeps_same, keeps_write, keeps_close, written_writable, writable_elsewhere, made_short, keeps_again, swept_none}
-use Rattle.ports_core.specs.Write.{WritesShort}
+use Rattle.ports_core.specs.inner.Write.{WritesShort}
 use Rattle.csplit_core.proofs.DraftLemmas.{name_after, part_none, open_part, closed_part, line_told, line_untold, count_made, count_none, closed_files, all_closed, more_begins}
 use Rattle.csplit_core.proofs.OwnLemmas.{ready_could, two_slots, at_file, owned_same, line_breaks, close_breaks}
 use Rattle.csplit_core.proofs.PutLemmas.{now_file, now_skipped, now_unmade, skips_file, elides_file}

@@ -10,19 +10,22 @@ use Rattle.ports_core.specs.Slot.{Slot}
 use Rattle.ports_core.specs.declared.fault.Fault.{Fault}
 use Rattle.ports_core.proofs.SlotSteps.{keeps_again}
 use Rattle.csplit_core.specs.Csplit.{whole_of}
-use Rattle.csplit_core.specs.Draft.{Draft, draft_part, ended_part, with_bytes}
+use Rattle.csplit_core.specs.Draft.{Draft, draft_part}
+use Rattle.csplit_core.specs.inner.Draft.{ended_part, with_bytes}
 use Rattle.csplit_core.specs.Input.{newline, all_lines}
 use Rattle.csplit_core.specs.Operand.{Operand, Line}
 use Rattle.csplit_core.specs.Output.{Style, contents_of, part_by}
 use Rattle.csplit_core.specs.Plan.{State, start, Step, Ending, used_up, missed, above, below, Runs}
 use Rattle.csplit_core.specs.Planned.{Plan, plan}
-use Rattle.csplit_core.specs.PlanLaws.{plan_once}
+use Rattle.csplit_core.specs.laws.PlanLaws.{plan_once}
 use Rattle.csplit_core.specs.Progress.{AimsAt}
 use Rattle.csplit_core.specs.Section.{section, section_of, lines_between, is_last_kept, settled_end, whole_end, is_final, bytes_of}
-use Rattle.csplit_core.specs.SectionLaws.{ends_as}
+use Rattle.csplit_core.specs.laws.SectionLaws.{ends_as}
 use Rattle.csplit_core.specs.declared.progress.Turn.TheVariants.{Below}
-use Rattle.csplit_core.specs.Writer.{WriterState, Writes, Moves, Halts, Breaks, Went, Stopped, Ended, EndedNot, Ends}
-use Rattle.csplit_core.specs.Cutter.{CutterState, suppress_in, state_in, kept_by, text_from, draft_by, settled_draft, settled_part, whole_part, IsFit, IsLive, IsPast, Stands, IsJudged, EndedAll, EndedNone, EndsAll}
+use Rattle.csplit_core.specs.Writer.{WriterState, Writes, Breaks}
+use Rattle.csplit_core.specs.inner.Writer.{Moves, Halts, Went, Stopped, Ended, EndedNot, Ends}
+use Rattle.csplit_core.specs.Cutter.{CutterState, suppress_in, state_in, kept_by, text_from, draft_by, settled_draft, IsFit, IsLive, IsPast, Stands}
+use Rattle.csplit_core.specs.inner.Cutter.{settled_part, whole_part, IsJudged, EndedAll, EndedNone, EndsAll}
 use Rattle.csplit_core.proofs.LineLemmas.{length-all_lines, bytes_between, count_from, from_further}
 use Rattle.csplit_core.proofs.SettledLemmas.{last_kept, settled_part_is}
 use Rattle.csplit_core.proofs.CutterLemmas.{runs_to, live_part}

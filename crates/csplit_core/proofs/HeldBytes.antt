@@ -3,12 +3,12 @@ use Rattle.std.proofs.Common.{◌≡◌, inl, inr, ℕ, ◌+◌, ◌-◌, ◌<�
 use Rattle.std.proofs.Math.Nat.{min-eq_left}
 use Rattle.seg_core.specs.Line.{after_lines, first_lines}
 use Rattle.seg_core.proofs.FirstLines.{first_lines_then_rest}
-use Rattle.csplit_core.specs.Csplit.{waiting, waiting_of}
+use Rattle.csplit_core.specs.inner.Csplit.{waiting, waiting_of}
 use Rattle.csplit_core.specs.CsplitState.{CsplitState, Holds, whole_lines}
 use Rattle.csplit_core.specs.Cutter.{CutterState, suppress_in, state_in, text_from, IsLive, IsPast, Stands}
 use Rattle.csplit_core.specs.Input.{newline, all_lines, open_line}
 use Rattle.csplit_core.specs.Planned.{Plan, plan}
-use Rattle.csplit_core.specs.PlanLaws.{plan_once}
+use Rattle.csplit_core.specs.laws.PlanLaws.{plan_once}
 use Rattle.csplit_core.specs.Section.{bytes_of, is_final, waiting_lines}
 use Rattle.csplit_core.proofs.ByteLemmas.{all_complete, lines_then_open}
 use Rattle.csplit_core.proofs.CutterLemmas.{runs_to}

@@ -5,18 +5,21 @@ use Rattle.seg_core.specs.Line.{line_count, first_lines, after_lines, but_last_l
 use Rattle.seg_core.specs.Window.{Window, without_first}
 use Rattle.ports_core.specs.Slot.{Slot}
 use Rattle.ports_core.specs.declared.fault.Fault.{Fault}
-use Rattle.csplit_core.specs.Draft.{Draft, draft_part, with_bytes}
+use Rattle.csplit_core.specs.Draft.{Draft, draft_part}
+use Rattle.csplit_core.specs.inner.Draft.{with_bytes}
 use Rattle.csplit_core.specs.Input.{newline, all_lines}
 use Rattle.csplit_core.specs.Output.{Style}
 use Rattle.csplit_core.specs.Plan.{Runs}
 use Rattle.csplit_core.specs.Planned.{Plan}
-use Rattle.csplit_core.specs.PlanLaws.{plan_once}
+use Rattle.csplit_core.specs.laws.PlanLaws.{plan_once}
 use Rattle.csplit_core.specs.Progress.{AimsAt}
 use Rattle.csplit_core.specs.Section.{is_final, most_waiting}
-use Rattle.csplit_core.specs.SectionLaws.{ends_as}
+use Rattle.csplit_core.specs.laws.SectionLaws.{ends_as}
 use Rattle.csplit_core.specs.declared.progress.Turn.TheVariants.{Below}
-use Rattle.csplit_core.specs.Writer.{WriterState, Writes, IsReady, Went, Stopped, Goes, size_of}
-use Rattle.csplit_core.specs.Cutter.{CutterState, suppress_in, state_in, kept_by, text_from, draft_by, settled_draft, settled_part, IsFit, IsAt, part_at, EndsNow, IsLive, IsPast, Arrives, Held, HeldNot, Holds}
+use Rattle.csplit_core.specs.Writer.{WriterState, Writes, IsReady, size_of}
+use Rattle.csplit_core.specs.inner.Writer.{Went, Stopped, Goes}
+use Rattle.csplit_core.specs.Cutter.{CutterState, suppress_in, state_in, kept_by, text_from, draft_by, settled_draft, IsFit, IsAt, EndsNow, IsLive, IsPast}
+use Rattle.csplit_core.specs.inner.Cutter.{settled_part, part_at, Arrives, Held, HeldNot, Holds}
 use Rattle.csplit_core.proofs.LineLemmas.{count_from, first_further}
 use Rattle.csplit_core.proofs.SettledLemmas.{settled_draft_is, settled_part_is, settled_count, final_count, most_is, aims_live, aims_past}
 use Rattle.csplit_core.proofs.CutterLemmas.{runs_to, at_held, taken_all}

@@ -10,13 +10,16 @@ use Rattle.seg_core.proofs.FirstLines.{first_lines-is_take}
 use Rattle.seg_core.proofs.Carried.{left_behind, left_alone, but_last_lines-last, over-le-length}
 use Rattle.ports_core.specs.Slot.{Slot}
 use Rattle.ports_core.proofs.SlotSteps.{keeps_again}
-use Rattle.ports_core.specs.Part.{Part, InTurn}
+use Rattle.ports_core.specs.Part.{Part}
+use Rattle.ports_core.specs.inner.Part.{InTurn}
 use Rattle.ports_core.specs.declared.fault.Fault.{Fault}
 use Rattle.ports_core.specs.declared.fault.Fault.TheVariants.{Memory}
 use Rattle.ports_core.proofs.PartLemmas.{part_begins_itself, turn_last, turn_next}
 use Rattle.csplit_core.specs.Output.{Style, makes_file, files_of}
-use Rattle.csplit_core.specs.Draft.{Draft, draft_part, last_contents, with_bytes, AreClosed}
-use Rattle.csplit_core.specs.Writer.{WriterState, Writes, IsReady, Moves, Halts, Went, Stopped, Goes, size_of}
+use Rattle.csplit_core.specs.Draft.{Draft, draft_part, last_contents, AreClosed}
+use Rattle.csplit_core.specs.inner.Draft.{with_bytes}
+use Rattle.csplit_core.specs.Writer.{WriterState, Writes, IsReady, size_of}
+use Rattle.csplit_core.specs.inner.Writer.{Moves, Halts, Went, Stopped, Goes}
 use Rattle.csplit_core.proofs.WriterLemmas.{moves_again, halts_after, halts_wider, bytes_begin, breaks_later, owns_again, moves_same, moves_as, halts_as}
 use Rattle.csplit_core.proofs.DraftLemmas.{open_part, part_none, closed_files}
 

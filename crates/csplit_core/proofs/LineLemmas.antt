@@ -11,7 +11,8 @@ use Rattle.seg_core.proofs.EndLines.{after_lines-past, after_lines-append}
 use Rattle.seg_core.proofs.Carried.{lines_of-after_lines}
 use Rattle.csplit_core.specs.Section.{lines_between, bytes_of}
 use Rattle.csplit_core.specs.Input.{newline, marked, all_lines}
-use Rattle.csplit_core.specs.Cutter.{IsWhole, IsLine, text_from}
+use Rattle.csplit_core.specs.inner.Cutter.{IsWhole, IsLine}
+use Rattle.csplit_core.specs.Cutter.{text_from}
 
 -- the lines of complete lines and of what follows them
 pub lines-append : (x t : List ℕ) → IsWhole x → lines_of newline (x ++ t) ≡ lines_of newline x ++ lines_of newline t

@@ -5,7 +5,7 @@ use Rattle.ports_core.specs.declared.fault.Fault.{Fault}
 use Rattle.ports_core.specs.declared.fault.Fault.TheVariants.{Memory}
 use Rattle.csplit_core.specs.Output.{Style}
 use Rattle.csplit_core.specs.Writer.{WriterState}
-use Rattle.csplit_core.specs.WriterSteps.{MakesNone, unnamed, failed}
+use Rattle.csplit_core.specs.inner.WriterSteps.{MakesNone, unnamed, failed}
 use Rattle.csplit_core.specs.declared.section_writer.Current.{Current}
 
 pub not_named : (slots : List Slot) (name : List ℕ) (fault : Fault) → fault ≡ Memory → MakesNone slots name slots fault

@@ -4,15 +4,17 @@ use Rattle.std.specs.Prelude.{min}
 use Rattle.bre_core.specs.Pattern.{Pattern}
 use Rattle.csplit_core.specs.Operand.{Offset, Target, Number, Search, Operand, has_more, moved}
 use Rattle.csplit_core.specs.Plan.{State, search_line, line_after, operands_after, repetition_after, state_after}
-use Rattle.csplit_core.specs.Progress.{state_of, FallsAt, MovesOn}
+use Rattle.csplit_core.specs.Progress.{state_of}
+use Rattle.csplit_core.specs.inner.Progress.{FallsAt, MovesOn}
 use Rattle.csplit_core.specs.Measure.{Moves, IsRepeatedBy, IsRepeated, Fits}
 use Rattle.csplit_core.specs.declared.progress.Progress.{Progress}
 use Rattle.csplit_core.specs.declared.progress.Turn.{Turn}
 use Rattle.csplit_core.specs.declared.progress.Turn.TheVariants.{UsedUp, Missed, Above, Below, Cuts}
-use Rattle.csplit_core.specs.MatchLaws.{search_past}
-use Rattle.csplit_core.specs.PlanLaws.{line_some, needed, fewer_moves}
+use Rattle.csplit_core.specs.laws.MatchLaws.{search_past}
+use Rattle.csplit_core.specs.laws.PlanLaws.{line_some, fewer_moves}
+use Rattle.csplit_core.specs.inner.PlanLaws.{needed}
 use Rattle.csplit_core.proofs.LastSectionLemmas.{after_within}
-use Rattle.csplit_core.specs.SectionLaws.{front_of}
+use Rattle.csplit_core.specs.laws.SectionLaws.{front_of}
 use Rattle.csplit_core.proofs.TurnLemmas.{capped, left_is}
 
 pub moves_number : (operands rest : List Operand) (operand : Operand) (total : ℕ) (progress : Progress) (number most : ℕ) → progress.done < length operands → drop progress.done operands ≡ operand ∷ rest → operand.target ≡ Number number

@@ -9,20 +9,24 @@ use Rattle.ports_core.specs.declared.fault.Fault.{Fault}
 use Rattle.ports_core.specs.declared.fault.Fault.TheVariants.{Memory}
 use Rattle.ports_core.proofs.PartLemmas.{part_begins_itself}
 use Rattle.csplit_core.specs.Csplit.{settled_of}
-use Rattle.csplit_core.specs.Draft.{draft_part, first_draft}
+use Rattle.csplit_core.specs.Draft.{draft_part}
+use Rattle.csplit_core.specs.inner.Draft.{first_draft}
 use Rattle.csplit_core.specs.Input.{newline}
 use Rattle.csplit_core.specs.Operand.{Operand, Line}
 use Rattle.csplit_core.specs.Output.{Style}
 use Rattle.csplit_core.specs.Plan.{State, start, Step, Ending, used_up, missed, above, below, Runs, is_used_up, misses, is_above, is_below, cuts}
 use Rattle.csplit_core.specs.Planned.{Plan, plan}
-use Rattle.csplit_core.specs.PlanLaws.{plan_runs, plan_once}
-use Rattle.csplit_core.specs.Progress.{state_of, AreSeen, Turns, MovesOn, AimsAt, EndsHere}
+use Rattle.csplit_core.specs.laws.PlanLaws.{plan_runs, plan_once}
+use Rattle.csplit_core.specs.Progress.{state_of, AimsAt, EndsHere}
+use Rattle.csplit_core.specs.inner.Progress.{AreSeen, Turns, MovesOn}
 use Rattle.csplit_core.specs.Section.{settled_end, is_final, most_waiting}
 use Rattle.csplit_core.specs.declared.progress.Progress.{Progress}
 use Rattle.csplit_core.specs.declared.progress.Turn.{Turn}
 use Rattle.csplit_core.specs.declared.progress.Turn.TheVariants.{UsedUp, Missed, Above, Below, Cuts}
-use Rattle.csplit_core.specs.Writer.{WriterState, Writes, Halts, Begun, BegunNot, size_of}
-use Rattle.csplit_core.specs.Cutter.{CutterState, most_next, pattern_next, kept_next, next_of, most_by, pattern_by, kept_by, settled_draft, IsFit, Stands, IsNoCut, Opened, OpenedNot}
+use Rattle.csplit_core.specs.Writer.{WriterState, Writes, size_of}
+use Rattle.csplit_core.specs.inner.Writer.{Halts, Begun, BegunNot}
+use Rattle.csplit_core.specs.Cutter.{CutterState, most_next, pattern_next, kept_next, next_of, most_by, pattern_by, kept_by, settled_draft, IsFit, Stands}
+use Rattle.csplit_core.specs.inner.Cutter.{IsNoCut, Opened, OpenedNot}
 use Rattle.csplit_core.proofs.AdvanceLemmas.{advances}
 use Rattle.csplit_core.proofs.MoveLemmas.{repeated_anew}
 use Rattle.csplit_core.proofs.SettledLemmas.{settled_draft_is, settled_part_is}

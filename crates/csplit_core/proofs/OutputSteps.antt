@@ -2,7 +2,8 @@
 -- them in between.
 use Rattle.std.proofs.Common.{◌≡◌, ℕ, ◌+◌, ◌<◌, suc, Bool, false, List, [], ◌∷◌, ◌++◌, length, take, inl, inr, refl, sym, ◌∙◌, arith, length-append}
 use Rattle.ports_core.specs.Slot.{Slot, broke, numberless, opened, changed_at, adds, closes, with_written, with_broken, told_of}
-use Rattle.ports_core.specs.Part.{File, Part, OutputsAt, Begins, FilesBegin, IsNext, Marks, IsAt, AllClosed, InTurn}
+use Rattle.ports_core.specs.Part.{File, Part, OutputsAt, Begins, FilesBegin, IsNext, Marks, IsAt}
+use Rattle.ports_core.specs.inner.Part.{AllClosed, InTurn}
 use Rattle.ports_core.specs.declared.fault.Fault.{Fault}
 use Rattle.ports_core.specs.declared.fault.Fault.TheVariants as fault
 use Rattle.ports_core.specs.declared.slot.Mode.TheVariants.{Fresh}
@@ -11,10 +12,10 @@ use Rattle.ports_core.specs.declared.slot.State.TheVariants as state
 use Rattle.ports_core.proofs.SlotLemmas.{length-changed_at}
 use Rattle.ports_core.proofs.FileLemmas.{gets, ended, file_more, last_changes, write_makes, close_makes}
 use Rattle.ports_core.proofs.PartLemmas.{begins_itself, begins_more, take_begins_behind, files_begin_themselves, part_begins_itself, out_more, outputs_count, turn_last, turn_next}
-use Rattle.ports_core.specs.Write.{WritesShort}
-use Rattle.csplit_core.specs.Writer.{Moves, Halts}
-use Rattle.csplit_core.specs.WriterSteps.{MakesNone, unnamed, failed}
-use Rattle.ports_core.specs.Write as short
+use Rattle.ports_core.specs.inner.Write.{WritesShort}
+use Rattle.csplit_core.specs.inner.Writer.{Moves, Halts}
+use Rattle.csplit_core.specs.inner.WriterSteps.{MakesNone, unnamed, failed}
+use Rattle.ports_core.specs.inner.Write as short
 use Rattle.csplit_core.proofs.WriterLemmas.{halts_after}
 
 -- a file with this name

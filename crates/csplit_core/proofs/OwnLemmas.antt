@@ -7,13 +7,14 @@ use Rattle.ports_core.specs.declared.fault.Fault.{Fault}
 use Rattle.ports_core.specs.declared.fault.Fault.TheVariants as fault
 use Rattle.ports_core.specs.declared.slot.Mode.TheVariants.{Fresh}
 use Rattle.csplit_core.specs.Output.{Style}
-use Rattle.csplit_core.specs.Writer.{WriterState, IsReady, IsOpenAt, KeepsFiles, Breaks, could_open}
-use Rattle.csplit_core.specs.WriterSteps.{MakesNone, unnamed, failed, Made, next_name}
-use Rattle.ports_core.specs.Write as short
+use Rattle.csplit_core.specs.Writer.{WriterState, IsReady, IsOpenAt, Breaks, could_open}
+use Rattle.csplit_core.specs.inner.Writer.{KeepsFiles}
+use Rattle.csplit_core.specs.inner.WriterSteps.{MakesNone, unnamed, failed, Made, next_name}
+use Rattle.ports_core.specs.inner.Write as short
 use Rattle.csplit_core.specs.declared.section_writer.Current.{Current}
 use Rattle.csplit_core.specs.declared.section_writer.Current.TheVariants.{Skipped, Unmade, File, Unopened}
 use Rattle.ports_core.proofs.SlotSteps.{KeepsMade, none_past, none_opened, file_before, at_end, open_rose, write_rose, close_rose}
-use Rattle.ports_core.specs.Write.{WritesShort}
+use Rattle.ports_core.specs.inner.Write.{WritesShort}
 
 pub could_so : (current : Current) (slots : List Slot) → IsOpenAt current slots → could_open current ≡ true
 could_so Skipped slots at = refl

@@ -13,7 +13,8 @@ use Rattle.seg_core.proofs.Delimiters.{delimiters-le-length}
 use Rattle.seg_core.proofs.EndLines.{line_count_near}
 use Rattle.seg_core.proofs.FirstLines.{EndsAt-enough, lines_of-first_lines}
 use Rattle.seg_core.proofs.LineCounts.{line_count-open, line_count-le-length}
-use Rattle.csplit_core.specs.Cutter.{CutterState, suppress_in, state_in, pattern_in, pattern_by, AimHolds, IsFit, IsSound, IsWhole, IsLine, IsFound, PassesOver}
+use Rattle.csplit_core.specs.Cutter.{CutterState, suppress_in, state_in, pattern_in, pattern_by, AimHolds, IsFit, IsSound}
+use Rattle.csplit_core.specs.inner.Cutter.{IsWhole, IsLine, IsFound, PassesOver}
 use Rattle.csplit_core.specs.Input.{newline, without_newline, is_match_of, marked, all_lines}
 use Rattle.csplit_core.specs.Measure.{Moves, IsRepeatedBy, IsRepeated, Fits}
 use Rattle.csplit_core.specs.Operand.{Target, Number, Search, Operand, Line, unmarked}
@@ -21,8 +22,8 @@ use Rattle.csplit_core.specs.Plan.{State, Step, Ending, used_up, missed, above, 
 use Rattle.csplit_core.specs.Progress.{AimsAt, WillMove}
 use Rattle.csplit_core.specs.declared.progress.Turn.{Turn}
 use Rattle.csplit_core.specs.declared.progress.Turn.TheVariants.{UsedUp, Missed, Above, Below, Cuts}
-use Rattle.csplit_core.specs.MatchLaws.{search_some, match_still}
-use Rattle.csplit_core.specs.PlanLaws.{cuts_still}
+use Rattle.csplit_core.specs.laws.MatchLaws.{search_some, match_still}
+use Rattle.csplit_core.specs.laws.PlanLaws.{cuts_still}
 use Rattle.csplit_core.proofs.LineLemmas.{all_lines-append, all_lines-line, count-append, count-line, length-all_lines, whole_count, whole-append}
 
 -- What stays so of a state when more lines come

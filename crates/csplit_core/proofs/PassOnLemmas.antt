@@ -5,12 +5,13 @@ use Rattle.csplit_core.specs.Input.{newline}
 use Rattle.csplit_core.specs.Measure.{Fits}
 use Rattle.csplit_core.specs.Operand.{Operand}
 use Rattle.csplit_core.specs.Plan.{state_after}
-use Rattle.csplit_core.specs.PlanLaws.{needed}
+use Rattle.csplit_core.specs.inner.PlanLaws.{needed}
 use Rattle.csplit_core.specs.Progress.{state_of}
 use Rattle.csplit_core.specs.declared.line_cutter.Cut.{Cut}
 use Rattle.csplit_core.specs.declared.progress.Progress.{Progress}
 use Rattle.csplit_core.specs.declared.progress.Turn.TheVariants.{Cuts}
-use Rattle.csplit_core.specs.Cutter.{CutterState, state_in, next_of, most_by, pattern_by, IsFit, WillCut}
+use Rattle.csplit_core.specs.Cutter.{CutterState, state_in, next_of, most_by, pattern_by, IsFit}
+use Rattle.csplit_core.specs.inner.Cutter.{WillCut}
 use Rattle.csplit_core.proofs.MoveLemmas.{passed}
 use Rattle.csplit_core.proofs.TurnLemmas.{left_is, none_left}
 

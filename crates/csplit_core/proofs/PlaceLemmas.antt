@@ -9,8 +9,9 @@ use Rattle.csplit_core.specs.Plan.{State, start, Step, Ending, used_up, missed, 
 use Rattle.csplit_core.specs.Planned.{Plan, plan}
 use Rattle.csplit_core.specs.Section.{whole_end, settled_end, is_final}
 use Rattle.csplit_core.specs.Place.{Place, in_section, left_out, nowhere, place_from, place_of, WaitsAt, IsUndecided}
-use Rattle.csplit_core.specs.PlanLaws.{line_some, cuts_still, plan_runs, plan_once, goes_on}
-use Rattle.csplit_core.specs.SectionLaws.{EndsAs, ends_as, are_within, plan_goes_on, missed_cut, front_of, none_there, cut_once, cuts_or_misses}
+use Rattle.csplit_core.specs.laws.PlanLaws.{line_some, cuts_still, plan_runs, plan_once, goes_on}
+use Rattle.csplit_core.specs.inner.SectionLaws.{EndsAs}
+use Rattle.csplit_core.specs.laws.SectionLaws.{ends_as, are_within, plan_goes_on, missed_cut, front_of, none_there, cut_once, cuts_or_misses}
 use Rattle.csplit_core.proofs.TurnedLemmas.{search_within, search_at_start, matching_line, Turned, too_low, turns, turned}
 
 lt_false : (a b : ℕ) → b ≤ a → nat_lt a b ≡ false

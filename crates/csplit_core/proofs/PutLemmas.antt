@@ -5,10 +5,12 @@ use Rattle.ports_core.specs.Part.{Part}
 use Rattle.ports_core.specs.Slot.{Slot, opened, is_writable}
 use Rattle.ports_core.specs.declared.fault.Fault.{Fault}
 use Rattle.csplit_core.specs.Output.{Style, Contents, is_empty, makes_file, files_of, size_lines}
-use Rattle.csplit_core.specs.Draft.{Draft, draft_part, last_contents, with_bytes}
-use Rattle.csplit_core.specs.SectionLaws.{made_more}
-use Rattle.csplit_core.specs.Writer.{WriterState, Writes, IsCurrent, IsReady, Went, Goes}
-use Rattle.csplit_core.specs.WriterSteps.{Appends}
+use Rattle.csplit_core.specs.Draft.{Draft, draft_part, last_contents}
+use Rattle.csplit_core.specs.inner.Draft.{with_bytes}
+use Rattle.csplit_core.specs.laws.SectionLaws.{made_more}
+use Rattle.csplit_core.specs.Writer.{WriterState, Writes, IsCurrent, IsReady}
+use Rattle.csplit_core.specs.inner.Writer.{Went, Goes}
+use Rattle.csplit_core.specs.inner.WriterSteps.{Appends}
 use Rattle.csplit_core.specs.declared.section_writer.Current.TheVariants.{Skipped, Unmade, File}
 use Rattle.csplit_core.proofs.WriterLemmas.{moves_as, moves_same, halts_as}
 use Rattle.csplit_core.proofs.OutputSteps.{write_moves, write_halts}

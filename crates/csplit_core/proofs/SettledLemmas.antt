@@ -14,9 +14,11 @@ use Rattle.csplit_core.specs.Section.{section, section_of, lines_between, is_las
 use Rattle.csplit_core.specs.Progress.{AimsAt}
 use Rattle.csplit_core.specs.declared.progress.Turn.{Turn}
 use Rattle.csplit_core.specs.declared.progress.Turn.TheVariants.{UsedUp, Missed, Above, Below, Cuts}
-use Rattle.csplit_core.specs.PlanLaws.{plan_once}
-use Rattle.csplit_core.specs.SectionLaws.{EndsAs, ends_as, closed_still, are_within}
-use Rattle.csplit_core.specs.Cutter.{kept_by, most_by, text_from, draft_by, settled_draft, IsWhole}
+use Rattle.csplit_core.specs.laws.PlanLaws.{plan_once}
+use Rattle.csplit_core.specs.inner.SectionLaws.{EndsAs}
+use Rattle.csplit_core.specs.laws.SectionLaws.{ends_as, closed_still, are_within}
+use Rattle.csplit_core.specs.Cutter.{kept_by, most_by, text_from, draft_by, settled_draft}
+use Rattle.csplit_core.specs.inner.Cutter.{IsWhole}
 use Rattle.csplit_core.proofs.LineLemmas.{all_lines-append, bytes_between, length-all_lines}
 
 -- the last section is kept as the next operand says

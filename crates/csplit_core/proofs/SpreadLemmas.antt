@@ -2,18 +2,21 @@
 use Rattle.std.proofs.Common.{◌≡◌, inl, ℕ, ◌+◌, ◌<◌, ◌≤◌, Bool, Result, Ok, Err, Some, None, List, [], ◌++◌, length, refl, sym, ◌∙◌, ap, subst, arith}
 use Rattle.seg_core.specs.Window.{Window}
 use Rattle.ports_core.specs.Part.{Part}
-use Rattle.ports_core.specs.Slot.{Slot, KeepsBroken}
+use Rattle.ports_core.specs.Slot.{Slot}
+use Rattle.ports_core.specs.inner.Slot.{KeepsBroken}
 use Rattle.ports_core.specs.declared.fault.Fault.{Fault}
 use Rattle.ports_core.proofs.PartLemmas.{part_trans}
 use Rattle.ports_core.proofs.SlotSteps.{keeps_again}
 use Rattle.csplit_core.specs.Input.{all_lines}
 use Rattle.csplit_core.specs.Output.{Style}
-use Rattle.csplit_core.specs.PlanLaws.{needed}
-use Rattle.csplit_core.specs.Writer.{WriterState, IsReady, KeepsFiles, Halts, size_of}
-use Rattle.csplit_core.specs.Writer.{Moves as Gets}
+use Rattle.csplit_core.specs.inner.PlanLaws.{needed}
+use Rattle.csplit_core.specs.Writer.{WriterState, IsReady, size_of}
+use Rattle.csplit_core.specs.inner.Writer.{KeepsFiles, Halts}
+use Rattle.csplit_core.specs.inner.Writer.{Moves as Gets}
 use Rattle.csplit_core.specs.declared.line_cutter.Cut.{Cut}
 use Rattle.csplit_core.specs.declared.progress.Turn.{Turn}
-use Rattle.csplit_core.specs.Cutter.{CutterState, state_in, settled_part, AimHolds, IsFit, IsSound, IsSame, IsAt, part_at, EndsNow, Arrives, Held, HeldNot, Holds, Tries, CutsNow, IsAfter, CutAt, CutNot, CutAll, CutAllNot, CutsAll, WillCut}
+use Rattle.csplit_core.specs.Cutter.{CutterState, state_in, AimHolds, IsFit, IsSound, IsAt, EndsNow}
+use Rattle.csplit_core.specs.inner.Cutter.{settled_part, IsSame, part_at, Arrives, Held, HeldNot, Holds, Tries, CutsNow, IsAfter, CutAt, CutNot, CutAll, CutAllNot, CutsAll, WillCut}
 use Rattle.csplit_core.proofs.WriterLemmas.{moves_again, moves_as, halts_after, halts_as, breaks_later, owns_again}
 
 -- What is said of the sections and of where the run stands doesn't depend on the aim or the lines that wait.

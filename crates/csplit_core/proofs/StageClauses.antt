@@ -14,10 +14,12 @@ use Rattle.csplit_core.specs.Input.{open_line, all_lines}
 use Rattle.csplit_core.specs.Output.{Style}
 use Rattle.csplit_core.specs.Operand.{Operand}
 use Rattle.csplit_core.specs.Planned.{plan}
-use Rattle.csplit_core.specs.Cutter.{CutterState, IsSame, Stands, settled_part, suppress_in, whole_part}
+use Rattle.csplit_core.specs.Cutter.{CutterState, Stands, suppress_in}
+use Rattle.csplit_core.specs.inner.Cutter.{IsSame, settled_part, whole_part}
 use Rattle.csplit_core.specs.Writer.{Breaks}
 use Rattle.csplit_core.specs.declared.progress.Turn.TheVariants.{Below}
-use Rattle.csplit_core.specs.CsplitState.{BegunNot, CsplitState, Closed, ClosedNot, Holds, Judges, Owns, Passed, Passes, whole_lines, work}
+use Rattle.csplit_core.specs.inner.CsplitState.{BegunNot, Closed, ClosedNot, Judges, Passed, Passes}
+use Rattle.csplit_core.specs.CsplitState.{CsplitState, Holds, Owns, whole_lines, work}
 use Rattle.csplit_core.proofs.ByteLemmas.{all_complete, lines_whole, lines_more, lines_then_open, open_more}
 use Rattle.csplit_core.proofs.StageLemmas.{is_past, past_end, past_settled, past_verdict, past_whole}
 use Rattle.csplit_core.proofs.StageSteps.{below_or_not}

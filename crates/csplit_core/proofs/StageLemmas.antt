@@ -15,13 +15,17 @@ use Rattle.csplit_core.specs.Operand.{Operand, Line}
 use Rattle.csplit_core.specs.Output.{Style, contents_of, part_of}
 use Rattle.csplit_core.specs.Plan.{start, Step, Ending, used_up, missed, above, below}
 use Rattle.csplit_core.specs.Planned.{Plan, plan}
-use Rattle.csplit_core.specs.PlanLaws.{plan_runs}
+use Rattle.csplit_core.specs.laws.PlanLaws.{plan_runs}
 use Rattle.csplit_core.specs.Section.{section, section_of, lines_between, is_last_kept, whole_end, is_final, whole_sections}
-use Rattle.csplit_core.specs.SectionLaws.{AreWithin, are_within, closed_still, grows, ends_with}
-use Rattle.csplit_core.specs.Writer.{IsReady, Moves, Halts}
+use Rattle.csplit_core.specs.inner.SectionLaws.{AreWithin}
+use Rattle.csplit_core.specs.laws.SectionLaws.{are_within, closed_still, grows, ends_with}
+use Rattle.csplit_core.specs.Writer.{IsReady}
+use Rattle.csplit_core.specs.inner.Writer.{Moves, Halts}
 use Rattle.csplit_core.specs.declared.progress.Turn.TheVariants.{Below}
-use Rattle.csplit_core.specs.Cutter.{CutterState, EndedAll, EndedNone, IsPast, IsSame, IsSound, IsWhole, Stands, Took, TookNot, kept_by, load, settled_draft, settled_part, suppress_in, draft_by, whole_part}
-use Rattle.csplit_core.specs.CsplitState.{CsplitState, Closed, ClosedNot}
+use Rattle.csplit_core.specs.Cutter.{CutterState, IsPast, IsSound, Stands, kept_by, load, settled_draft, suppress_in, draft_by}
+use Rattle.csplit_core.specs.inner.Cutter.{EndedAll, EndedNone, IsSame, IsWhole, Took, TookNot, settled_part, whole_part}
+use Rattle.csplit_core.specs.CsplitState.{CsplitState}
+use Rattle.csplit_core.specs.inner.CsplitState.{Closed, ClosedNot}
 use Rattle.csplit_core.proofs.HoldLemmas.{memory_halts}
 use Rattle.csplit_core.proofs.LineLemmas.{all_lines-append, whole-append}
 use Rattle.csplit_core.proofs.SettledLemmas.{settled_draft_is, settled_part_is, final_count, ended_still, aims_past}

@@ -8,8 +8,10 @@ use Rattle.ports_core.specs.declared.fault.Fault.{Fault}
 use Rattle.ports_core.specs.declared.fault.Fault.TheVariants.{Memory}
 use Rattle.ports_core.proofs.PartLemmas.{take_all}
 use Rattle.csplit_core.specs.Input.{newline}
-use Rattle.csplit_core.specs.Cutter.{CutterState, EndsAll, IsLine, IsSound, IsWhole, Took, TookNot, Takes, load}
-use Rattle.csplit_core.specs.CsplitState.{CsplitState, Closes, Passed, Passes, whole_lines}
+use Rattle.csplit_core.specs.Cutter.{CutterState, IsSound, load}
+use Rattle.csplit_core.specs.inner.Cutter.{EndsAll, IsLine, IsWhole, Took, TookNot, Takes}
+use Rattle.csplit_core.specs.CsplitState.{CsplitState, whole_lines}
+use Rattle.csplit_core.specs.inner.CsplitState.{Closes, Passed, Passes}
 use Rattle.csplit_core.specs.Writer.{IsReady}
 use Rattle.csplit_core.specs.declared.progress.Turn.{Turn}
 use Rattle.csplit_core.specs.declared.progress.Turn.TheVariants.{UsedUp, Missed, Above, Below, Cuts}

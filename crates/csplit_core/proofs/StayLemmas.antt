@@ -8,8 +8,8 @@ use Rattle.std.proofs.Math.Seq.{get_or-append_right}
 use Rattle.csplit_core.specs.Operand.{Target, Number, Search, Operand, Line, unmarked, is_match}
 use Rattle.csplit_core.specs.Plan.{State, start, Step, Ending, used_up, missed, above, below, search_line, IsFirst, MatchesNone, Misses, line_after, state_after, Runs, is_used_up, misses, is_above, is_below, cuts}
 use Rattle.csplit_core.specs.Planned.{plan}
-use Rattle.csplit_core.specs.MatchLaws.{search_some, match_still}
-use Rattle.csplit_core.specs.PlanLaws.{cuts_still, goes_on, plan_runs, plan_once}
+use Rattle.csplit_core.specs.laws.MatchLaws.{search_some, match_still}
+use Rattle.csplit_core.specs.laws.PlanLaws.{cuts_still, goes_on, plan_runs, plan_once}
 
 -- the plan goes on, from where it stands
 pub plan_more : (suppress : Bool) (operands : List Operand) (a b : List Line) (more : List Step) (end : State) (how : Ending) → Runs suppress (a ++ b) (plan suppress operands a).last more end how

@@ -12,10 +12,11 @@ use Rattle.ports_core.specs.declared.fault.Fault.{Fault}
 use Rattle.ports_core.proofs.SlotSteps.{keeps_again}
 use Rattle.csplit_core.specs.Input.{newline, all_lines}
 use Rattle.csplit_core.specs.Output.{Style}
-use Rattle.csplit_core.specs.SectionLaws.{grows}
+use Rattle.csplit_core.specs.laws.SectionLaws.{grows}
 use Rattle.csplit_core.specs.declared.progress.Turn.TheVariants.{Below}
 use Rattle.csplit_core.specs.Writer.{IsReady}
-use Rattle.csplit_core.specs.Cutter.{CutterState, load, settled_part, IsFit, IsSound, IsSame, IsWhole, IsLine, IsLive, EndsNow, Held, HeldNot, Holds, PassesOver, Took, TookNot, Takes}
+use Rattle.csplit_core.specs.Cutter.{CutterState, load, IsFit, IsSound, IsLive, EndsNow}
+use Rattle.csplit_core.specs.inner.Cutter.{settled_part, IsSame, IsWhole, IsLine, Held, HeldNot, Holds, PassesOver, Took, TookNot, Takes}
 use Rattle.csplit_core.proofs.LineLemmas.{all_lines-append, whole-append}
 use Rattle.csplit_core.proofs.TakeLemmas.{took_held, took_not_held}
 use Rattle.csplit_core.proofs.WriterLemmas.{moves_again, moves_as, moves_same, halts_after, halts_wider, halts_as, breaks_later, owns_again}

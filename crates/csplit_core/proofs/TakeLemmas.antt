@@ -13,16 +13,20 @@ use Rattle.csplit_core.specs.Plan.{State, start, Step, Ending, used_up, missed, 
 use Rattle.csplit_core.specs.Draft.{draft_part}
 use Rattle.csplit_core.specs.Output.{contents_of}
 use Rattle.csplit_core.specs.Planned.{Plan, plan, plan_within}
-use Rattle.csplit_core.specs.PlanLaws.{cuts_still, needed, runs, line_some, plan_runs}
+use Rattle.csplit_core.specs.laws.PlanLaws.{cuts_still, runs, line_some, plan_runs}
+use Rattle.csplit_core.specs.inner.PlanLaws.{needed}
 use Rattle.seg_core.proofs.EndLines.{line_count-grows}
-use Rattle.csplit_core.specs.Progress.{GoesPast, AimsAt}
+use Rattle.csplit_core.specs.inner.Progress.{GoesPast}
+use Rattle.csplit_core.specs.Progress.{AimsAt}
 use Rattle.csplit_core.specs.Section.{section_of, lines_between, bytes_of, is_last_kept, is_final, most_waiting, settled_end}
-use Rattle.csplit_core.specs.SectionLaws.{EndsAs, ends_as, front_of, none_there, missed_cut, cut_once, are_within, closed_still}
+use Rattle.csplit_core.specs.inner.SectionLaws.{EndsAs}
+use Rattle.csplit_core.specs.laws.SectionLaws.{ends_as, front_of, none_there, missed_cut, cut_once, are_within, closed_still}
 use Rattle.csplit_core.specs.Writer.{Writes, IsReady, size_of}
 use Rattle.csplit_core.specs.declared.line_cutter.Cut.{Cut}
 use Rattle.csplit_core.specs.declared.progress.Turn.{Turn}
 use Rattle.csplit_core.specs.declared.progress.Turn.TheVariants.{Below}
-use Rattle.csplit_core.specs.Cutter.{CutterState, suppress_in, state_in, settled_part, settled_draft, draft_by, AimHolds, IsFit, IsSound, IsWhole, IsLine, IsLive, IsPast, Stands, EndsNow, Arrives, Held, HeldNot, Holds, CutsNow, CutAll, CutAllNot, CutsAll, WillCut, TriesNext, search_after, Took, TookNot, Takes}
+use Rattle.csplit_core.specs.Cutter.{CutterState, suppress_in, state_in, settled_draft, draft_by, AimHolds, IsFit, IsSound, IsLive, IsPast, Stands, EndsNow}
+use Rattle.csplit_core.specs.inner.Cutter.{settled_part, IsWhole, IsLine, Arrives, Held, HeldNot, Holds, CutsNow, CutAll, CutAllNot, CutsAll, WillCut, TriesNext, search_after, Took, TookNot, Takes}
 use Rattle.csplit_core.proofs.CutterLemmas.{runs_to, at_more, part_more, live_part}
 use Rattle.csplit_core.proofs.LineLemmas.{all_lines-append, all_lines-line, length-all_lines, count-line, count_from, whole_count, whole_from}
 use Rattle.csplit_core.proofs.SettledLemmas.{settled_count, settled_part_is, most_is, aims_past}

@@ -6,17 +6,20 @@ use Rattle.std.proofs.Math.Nat.{le-max_left}
 use Rattle.std.proofs.Math.Seq.{get_or-append_seam}
 use Rattle.bre_core.specs.Search.{contains}
 use Rattle.csplit_core.specs.Input.{without_newline, marked, all_lines, is_match_of}
-use Rattle.csplit_core.specs.MatchLaws.{search_past, search_some, match_still}
+use Rattle.csplit_core.specs.laws.MatchLaws.{search_past, search_some, match_still}
 use Rattle.csplit_core.specs.Operand.{Target, Number, Search, Operand, Line, unmarked, is_match}
 use Rattle.csplit_core.specs.Plan.{State, start, Ending, used_up, missed, above, below, search_line, line_after, CutsAt, Misses, Runs, cuts}
-use Rattle.csplit_core.specs.PlanLaws.{cuts_still}
-use Rattle.csplit_core.specs.Progress.{AreSeen, Turns, MovesOn, AimsAt, EndsHere, GoesPast, Advances}
-use Rattle.csplit_core.specs.SectionLaws.{EndsAs, ends_as, front_of}
+use Rattle.csplit_core.specs.laws.PlanLaws.{cuts_still}
+use Rattle.csplit_core.specs.inner.Progress.{AreSeen, Turns, MovesOn, GoesPast, Advances}
+use Rattle.csplit_core.specs.Progress.{AimsAt, EndsHere}
+use Rattle.csplit_core.specs.inner.SectionLaws.{EndsAs}
+use Rattle.csplit_core.specs.laws.SectionLaws.{ends_as, front_of}
 use Rattle.csplit_core.specs.declared.line_cutter.Cut.{Cut}
 use Rattle.csplit_core.specs.declared.progress.Progress.{Progress}
 use Rattle.csplit_core.specs.declared.progress.Turn.{Turn}
 use Rattle.csplit_core.specs.declared.progress.Turn.TheVariants.{UsedUp, Missed, Above, Below, Cuts}
-use Rattle.csplit_core.specs.Cutter.{CutterState, suppress_in, state_in, pattern_in, pattern_by, AimHolds, IsFit, IsWhole, IsLine, IsLive, EndsNow, Looked, IsFound, IsNoCut, search_after, StaysNear, Tries, TriesNext}
+use Rattle.csplit_core.specs.Cutter.{CutterState, suppress_in, state_in, pattern_in, pattern_by, AimHolds, IsFit, IsLive, EndsNow}
+use Rattle.csplit_core.specs.inner.Cutter.{IsWhole, IsLine, Looked, IsFound, IsNoCut, search_after, StaysNear, Tries, TriesNext}
 use Rattle.csplit_core.proofs.AdvanceLemmas.{advances}
 use Rattle.csplit_core.proofs.CutterLemmas.{runs_to}
 use Rattle.csplit_core.proofs.LineLemmas.{all_lines-line, length-all_lines, count-line}

@@ -7,7 +7,8 @@ use Rattle.std.proofs.lemmas.List.{drop_more, drop_all}
 use Rattle.bre_core.specs.Pattern.{Pattern}
 use Rattle.csplit_core.specs.Operand.{Offset, Number, Search, Operand, Line, is_match, moved, has_more}
 use Rattle.csplit_core.specs.Plan.{State, search_line, CutsAt, Misses, line_after, operands_after, repetition_after, state_after}
-use Rattle.csplit_core.specs.Progress.{state_of, AreSeen, MissesNow, Turns, FallsAt}
+use Rattle.csplit_core.specs.Progress.{state_of}
+use Rattle.csplit_core.specs.inner.Progress.{AreSeen, MissesNow, Turns, FallsAt}
 use Rattle.csplit_core.specs.declared.progress.Turn.{Turn}
 use Rattle.csplit_core.specs.declared.progress.Turn.TheVariants.{UsedUp, Missed, Above, Below, Cuts}
 use Rattle.csplit_core.proofs.StayLemmas.{looks_last, looks_past}

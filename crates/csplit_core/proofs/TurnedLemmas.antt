@@ -6,8 +6,9 @@ use Rattle.std.proofs.Math.Seq.{get_or-append_seam}
 use Rattle.bre_core.specs.Pattern.{Pattern}
 use Rattle.csplit_core.specs.Operand.{Minus, Target, Number, Search, Operand, Line, unmarked}
 use Rattle.csplit_core.specs.Plan.{State, start, Step, Ending, below, search_line, IsFirst, MatchesNone, CutsAt, line_after, state_after, step_of, Runs, is_used_up, misses, is_above, is_below, cuts}
-use Rattle.csplit_core.specs.MatchLaws.{search_some, match_still}
-use Rattle.csplit_core.specs.PlanLaws.{line_some, needed, runs}
+use Rattle.csplit_core.specs.laws.MatchLaws.{search_some, match_still}
+use Rattle.csplit_core.specs.laws.PlanLaws.{line_some, runs}
+use Rattle.csplit_core.specs.inner.PlanLaws.{needed}
 
 -- a search never begins further than one past the lines that are there
 search_by : (total : ℕ) (state : State) (first : Bool) → state.current ≤ total → state.matched ≤ total → cond first 1 (suc (max state.current state.matched)) ≤ suc total

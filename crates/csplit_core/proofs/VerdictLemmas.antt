@@ -8,11 +8,12 @@ use Rattle.csplit_core.specs.Input.{all_lines}
 use Rattle.csplit_core.specs.Operand.{Operand, Line}
 use Rattle.csplit_core.specs.Plan.{State, start, Step, Ending, used_up, missed, above, below, state_after, Runs, is_used_up, misses, is_above, is_below, cuts}
 use Rattle.csplit_core.specs.Planned.{plan}
-use Rattle.csplit_core.specs.PlanLaws.{plan_runs}
+use Rattle.csplit_core.specs.laws.PlanLaws.{plan_runs}
 use Rattle.csplit_core.specs.Progress.{AimsAt}
-use Rattle.csplit_core.specs.SectionLaws.{front_of}
+use Rattle.csplit_core.specs.laws.SectionLaws.{front_of}
 use Rattle.csplit_core.specs.declared.progress.Turn.TheVariants.{Missed, Above, Below}
-use Rattle.csplit_core.specs.Cutter.{CutterState, suppress_in, state_in, IsJudged}
+use Rattle.csplit_core.specs.Cutter.{CutterState, suppress_in, state_in}
+use Rattle.csplit_core.specs.inner.Cutter.{IsJudged}
 use Rattle.csplit_core.proofs.TurnLemmas.{left_is}
 
 -- the ending is that of the next operand, which was performed as often

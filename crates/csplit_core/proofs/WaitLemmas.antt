@@ -4,8 +4,8 @@ use Rattle.csplit_core.specs.Operand.{Operand, Line, most_held}
 use Rattle.csplit_core.specs.Plan.{start, Ending, used_up, missed, above, below}
 use Rattle.csplit_core.specs.Planned.{Plan, plan}
 use Rattle.csplit_core.specs.Section.{waiting_lines, most_waiting}
-use Rattle.csplit_core.specs.PlanLaws.{plan_runs}
-use Rattle.csplit_core.specs.SectionLaws.{are_within}
+use Rattle.csplit_core.specs.laws.PlanLaws.{plan_runs}
+use Rattle.csplit_core.specs.laws.SectionLaws.{are_within}
 
 left_over : (lines : List Line) (current past : ℕ) → 1 ≤ current → length (drop (past - current) (drop (current - 1) lines)) ≤ suc (length lines) - past
 left_over lines current past some =

@@ -6,9 +6,9 @@ use Rattle.seg_core.proofs.Carried.{lines_of-after_lines}
 use Rattle.csplit_core.specs.Input.{newline, marked, all_lines}
 use Rattle.csplit_core.specs.Plan.{start}
 use Rattle.csplit_core.specs.Planned.{Plan, plan}
-use Rattle.csplit_core.specs.PlanLaws.{plan_once}
+use Rattle.csplit_core.specs.laws.PlanLaws.{plan_once}
 use Rattle.csplit_core.specs.Section.{bytes_of, settled_end, most_waiting, waiting_lines}
-use Rattle.csplit_core.specs.SectionLaws.{are_within}
+use Rattle.csplit_core.specs.laws.SectionLaws.{are_within}
 use Rattle.csplit_core.specs.Cutter.{CutterState, IsLive, state_in, suppress_in, text_from}
 use Rattle.csplit_core.proofs.CutterLemmas.{runs_to}
 use Rattle.csplit_core.proofs.LineLemmas.{bytes_marked, from_further, length-all_lines}

@@ -7,8 +7,8 @@ use Rattle.csplit_core.specs.Operand.{Operand, Line}
 use Rattle.csplit_core.specs.Plan.{State, start, Step, Ending, used_up, missed, above, below, state_after, Runs, is_used_up, misses, is_above, is_below, cuts}
 use Rattle.csplit_core.specs.Planned.{plan}
 use Rattle.csplit_core.specs.Section.{Section, section, section_of, lines_between, is_last_kept, whole_end, settled_end, whole_sections, settled_sections, is_final, waiting_lines, lines_in}
-use Rattle.csplit_core.specs.PlanLaws.{plan_runs}
-use Rattle.csplit_core.specs.SectionLaws.{are_within}
+use Rattle.csplit_core.specs.laws.PlanLaws.{plan_runs}
+use Rattle.csplit_core.specs.laws.SectionLaws.{are_within}
 
 lines_in-append : (a b : List Section) → lines_in (a ++ b) ≡ lines_in a ++ lines_in b
 lines_in-append [] b = refl

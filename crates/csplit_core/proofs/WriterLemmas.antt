@@ -1,16 +1,20 @@
 -- Lemmas on the writer of sections.
 use Rattle.std.proofs.Common.{◌≡◌, ℕ, Bool, true, false, List, [], ◌∷◌, refl, sym, subst, append_assoc}
 use Rattle.std.proofs.lemmas.List.{append-nil}
-use Rattle.ports_core.specs.Slot.{Slot, KeepsBroken}
-use Rattle.ports_core.specs.Part.{Part, OutputsAt, StoppedInTurn, Begins}
+use Rattle.ports_core.specs.Slot.{Slot}
+use Rattle.ports_core.specs.inner.Slot.{KeepsBroken}
+use Rattle.ports_core.specs.Part.{Part, OutputsAt, Begins}
+use Rattle.ports_core.specs.inner.Part.{StoppedInTurn}
 use Rattle.ports_core.specs.declared.fault.Fault.{Fault}
 use Rattle.ports_core.specs.declared.fault.Fault.TheVariants.{Memory, Write, Read, Open, Suffixes, NoMatch, Range, Usage, Failed, TooLong}
 use Rattle.ports_core.proofs.PartLemmas.{part_begins_itself, turn_between}
 use Rattle.ports_core.proofs.SlotSteps.{rose_later}
 use Rattle.csplit_core.specs.Output.{Style, part_by}
-use Rattle.csplit_core.specs.Draft.{Draft, draft_part, ended_part, last_contents, with_bytes, with_section}
-use Rattle.csplit_core.specs.SectionLaws.{part_grows}
-use Rattle.csplit_core.specs.Writer.{WriterState, Moves, Halts, KeepsFiles, Breaks}
+use Rattle.csplit_core.specs.Draft.{Draft, draft_part, last_contents}
+use Rattle.csplit_core.specs.inner.Draft.{ended_part, with_bytes, with_section}
+use Rattle.csplit_core.specs.laws.SectionLaws.{part_grows}
+use Rattle.csplit_core.specs.Writer.{WriterState, Breaks}
+use Rattle.csplit_core.specs.inner.Writer.{Moves, Halts, KeepsFiles}
 
 -- From one state of the outputs to another
 

@@ -1,5 +1,5 @@
--- What all continuations agree on. Lines bear marks, one for each operand: those of the lines that came in are given, and the lines that
--- follow may have any.
+-- What all continuations agree on. Lines bear marks, one for each operand: those of the lines that came in are given,
+-- and the lines that follow may have any.
 use Rattle.std.specs.Prelude.{◌≡◌, ◌<◌, ◌≤◌, ℕ, Bool, List, [], ◌∷◌, ◌++◌, length, get_or, if◌then◌else◌}
 use Rattle.csplit_core.specs.Operand.{Operand, Line}
 use Rattle.csplit_core.specs.Planned.{plan}
@@ -38,4 +38,5 @@ pub record IsAgreed (outputs : List Line → List (List Line)) (x : List Line) (
   pub fewest : (y : List Line) × (length (outputs (x ++ y)) ≡ length agreed)
   -- at each place two continuations have no more in common
   pub longest : (place : ℕ) → place < length agreed → (y : List Line) × (z : List Line)
-      × ((front : List Line) → IsFront front (output_at (outputs (x ++ y)) place) → IsFront front (output_at (outputs (x ++ z)) place) → length front ≤ length (output_at agreed place))
+      × ((front : List Line) → IsFront front (output_at (outputs (x ++ y)) place)
+          → IsFront front (output_at (outputs (x ++ z)) place) → length front ≤ length (output_at agreed place))

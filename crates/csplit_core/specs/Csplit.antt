@@ -1,15 +1,15 @@
 -- What `csplit` makes of an input (POSIX.1-2017, XCU csplit).
-use Rattle.std.specs.Prelude.{ℕ, Bool, true, false, not, ◌&&◌, List, [], ◌++◌, Option, Some, None, if◌then◌else◌}
+use Rattle.std.specs.Prelude.{ℕ, Bool, true, false, not, ◌&&◌, List, Option, Some, None, if◌then◌else◌}
 use Rattle.ports_core.specs.Part.{Part}
 use Rattle.ports_core.specs.Work.{Work, Means}
 use Rattle.ports_core.specs.declared.fault.Fault.{Fault}
 use Rattle.ports_core.specs.declared.fault.Fault.TheVariants.{NoMatch, Range}
 use Rattle.csplit_core.specs.Operand.{Operand, Line, is_endless, is_number}
 use Rattle.csplit_core.specs.Plan.{Ending, used_up, missed, above, below}
-use Rattle.csplit_core.specs.Planned.{Plan, plan}
-use Rattle.csplit_core.specs.Section.{bytes_of, is_final, waiting_lines, settled_sections, whole_sections}
+use Rattle.csplit_core.specs.Planned.{plan}
+use Rattle.csplit_core.specs.Section.{settled_sections, whole_sections}
 use Rattle.csplit_core.specs.Output.{Style, part_of}
-use Rattle.csplit_core.specs.Input.{all_lines, complete_lines, open_line}
+use Rattle.csplit_core.specs.Input.{all_lines, complete_lines}
 
 -- what is written of complete lines, where more may follow, and of all lines
 abbrev pub settled_of : Style → List Operand → List Line → Part
@@ -24,26 +24,22 @@ settled_by style operands x = settled_of style operands (complete_lines x)
 abbrev pub whole_by : Style → List Operand → List ℕ → Part
 whole_by style operands x = whole_of style operands (all_lines x)
 
--- The fault with which the plan ends, where it ends with one. An operand that is repeated without end ends well where its pattern matches no line
--- any more, or where its line number is above the last line.
+-- The fault with which the plan ends, where it ends with one. An operand that is repeated without end ends well where
+-- its pattern matches no line any more, or where its line number is above the last line.
 abbrev pub verdict_of : Ending → Option Fault
 verdict_of used_up = None
-verdict_of (missed operand repetition) = if is_endless operand.times then None else Some (NoMatch operand.index repetition)
-verdict_of (above operand repetition matched cut) = if is_endless operand.times && is_number operand.target then None else Some (Range operand.index repetition)
+verdict_of (missed operand repetition) = if is_endless operand.times then None
+    else Some (NoMatch operand.index repetition)
+verdict_of (above operand repetition matched cut) = if is_endless operand.times && is_number operand.target then None
+    else Some (Range operand.index repetition)
 verdict_of (below operand repetition) = Some (Range operand.index repetition)
 
 abbrev pub verdict_by : Bool → List Operand → List ℕ → Option Fault
 verdict_by suppress operands x = verdict_of (plan suppress operands (all_lines x)).ending
 
--- the bytes that wait: the lines that do, and the line that lacks its newline; none once later input goes nowhere
-abbrev pub waiting_of : List Line → Plan → List ℕ → List ℕ
-waiting_of lines plan rest = if is_final plan.ending then [] else bytes_of (waiting_lines lines plan) ++ rest
-
-abbrev pub waiting : Style → List Operand → List ℕ → List ℕ
-waiting style operands x = waiting_of (complete_lines x) (plan style.suppress operands (complete_lines x)) (open_line x)
-
--- It writes sizes to standard output unless they are not wanted. As it takes in a piece it may open files, and may want memory for their
--- names and for bytes that wait. So it may at the end: a last line that lacks its newline is one more line then, and may end several sections.
+-- It writes sizes to standard output unless they are not wanted. As it takes in a piece it may open files, and may want
+-- memory for their names and for bytes that wait. So it may at the end: a last line that lacks its newline is one more
+-- line then, and may end several sections.
 abbrev pub csplit_means : Style → Means
 csplit_means style = record {
   output = not style.quiet;

@@ -1,4 +1,5 @@
--- The lines of an input as operands see them. A line ends with a newline, byte 10, which isn't part of what a pattern is matched with.
+-- The lines of an input as operands see them. A line ends with a newline, byte 10, which isn't part of what a pattern
+-- is matched with.
 use Rattle.std.specs.Prelude.{ℕ, ◌==◌, Bool, false, List, [], ◌∷◌, map, take, if◌then◌else◌}
 use Rattle.seg_core.specs.Line.{lines_of, delimiters, after_lines}
 use Rattle.bre_core.specs.Search.{contains}

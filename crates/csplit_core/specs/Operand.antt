@@ -1,5 +1,5 @@
--- What is asked of `csplit`: its operands, and the lines as the operands see them (POSIX.1-2017, XCU csplit). A pattern is seen as
--- its tree.
+-- What is asked of `csplit`: its operands, and the lines as the operands see them (POSIX.1-2017, XCU csplit). A pattern
+-- is seen as its tree.
 use Rattle.std.specs.Prelude.{ℕ, ◌+◌, ◌-◌, Bool, true, false, List, [], nat_lt, get_or}
 pub use Rattle.operand_core.specs.declared.operand.Offset.{Offset}
 pub use Rattle.operand_core.specs.declared.operand.Offset.TheVariants.{Plus, Minus}

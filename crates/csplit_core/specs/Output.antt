@@ -1,5 +1,5 @@
--- What `csplit` writes of sections: a file for each that is kept, and its size on standard output (POSIX.1-2017, XCU csplit; `elide` is
--- GNU's).
+-- What `csplit` writes of sections: a file for each that is kept, and its size on standard output (POSIX.1-2017, XCU
+-- csplit; `elide` is GNU's).
 use Rattle.std.specs.Prelude.{ℕ, ◌+◌, Bool, true, false, not, ◌&&◌, List, [], ◌∷◌, ◌++◌, length, map, decimal, if◌then◌else◌}
 use Rattle.ports_core.specs.Name.{numbered_name}
 use Rattle.ports_core.specs.Part.{File, Part}
@@ -18,7 +18,8 @@ pub record Contents : Type 0 where
   pub bytes : List ℕ
 
 abbrev pub contents_of : Section → Contents
-contents_of section = record { is_kept = section.is_kept; is_closed = section.is_closed; bytes = bytes_of section.lines }
+contents_of section = record { is_kept = section.is_kept; is_closed = section.is_closed;
+    bytes = bytes_of section.lines }
 
 abbrev pub is_empty : List ℕ → Bool
 is_empty [] = true
@@ -39,11 +40,13 @@ file_at style place contents = record {
 -- the files of the sections that make one, numbered from a place on
 abbrev pub files_of : Style → ℕ → List Contents → List File
 files_of style place [] = []
-files_of style place (contents ∷ rest) = if makes_file style contents then file_at style place contents ∷ files_of style (place + 1) rest else files_of style place rest
+files_of style place (contents ∷ rest) = if makes_file style contents
+    then file_at style place contents ∷ files_of style (place + 1) rest else files_of style place rest
 
 -- the size of a file, in bytes, once all of it came in
 abbrev pub size_line : Style → Contents → List ℕ
-size_line style contents = if makes_file style contents && (contents.is_closed && not style.quiet) then decimal (length contents.bytes) ++ newline ∷ [] else []
+size_line style contents = if makes_file style contents && (contents.is_closed && not style.quiet)
+    then decimal (length contents.bytes) ++ newline ∷ [] else []
 
 abbrev pub size_lines : Style → List Contents → List ℕ
 size_lines style [] = []

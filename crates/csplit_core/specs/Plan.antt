@@ -1,6 +1,6 @@
--- Where `csplit` cuts (POSIX.1-2017, XCU csplit). Lines are numbered from 1. There is a current line, at first line 1. A step is one
--- performance of an operand: it finds the line of a cut, and the lines from the current one to before the cut are its section. With
--- `suppress` the line at the cut belongs to no section.
+-- Where `csplit` cuts (POSIX.1-2017, XCU csplit). Lines are numbered from 1. There is a current line, at first line 1.
+-- A step is one performance of an operand: it finds the line of a cut, and the lines from the current one to before the
+-- cut are its section. With `suppress` the line at the cut belongs to no section.
 use Rattle.std.specs.Prelude.{◌≡◌, ℕ, ◌+◌, ◌-◌, ◌*◌, ◌<◌, ◌≤◌, suc, max, eqb, ◌&&◌, Bool, true, false, List, [], ◌∷◌, length, if◌then◌else◌}
 use Rattle.csplit_core.specs.Operand.{Target, Number, Search, Operand, Line, is_match, moved, has_more}
 
@@ -31,20 +31,21 @@ pub record Step : Type 0 where
 -- how the steps end
 pub data Ending : Type 0 where
   -- no operand is left
-  used_up : Ending
+  pub used_up : Ending
   -- the pattern of this operand, at this repetition, matches no line from its search line on
-  missed : Operand → ℕ → Ending
+  pub missed : Operand → ℕ → Ending
   -- the cut is above the last line
-  above : Operand → ℕ → (matched cut : ℕ) → Ending
+  pub above : Operand → ℕ → (matched cut : ℕ) → Ending
   -- the cut is below the current line
-  below : Operand → ℕ → Ending
+  pub below : Operand → ℕ → Ending
 
--- The line at which a search begins. It is line 1 where the current line is 1 and no pattern was performed. Else it is one past the
--- current line, or one past the line that was matched last, whichever is greater. With `suppress` the line at the last cut, which is
--- the one before the current line, stands in the current line's place.
+-- The line at which a search begins. It is line 1 where the current line is 1 and no pattern was performed. Else it is
+-- one past the current line, or one past the line that was matched last, whichever is greater. With `suppress` the line
+-- at the last cut, which is the one before the current line, stands in the current line's place.
 abbrev pub search_line : Bool → State → ℕ
 search_line true state = suc (max (state.current - 1) state.matched)
-search_line false state = if eqb state.current 1 && eqb state.matched 0 then 1 else suc (max state.current state.matched)
+search_line false state = if eqb state.current 1 && eqb state.matched 0 then 1
+    else suc (max state.current state.matched)
 
 -- the first match, from a line on
 pub record IsFirst (operand : Operand) (lines : List Line) (from line : ℕ) : Type 0 where
@@ -57,24 +58,27 @@ pub record IsFirst (operand : Operand) (lines : List Line) (from line : ℕ) : T
 abbrev pub MatchesNone : Operand → List Line → ℕ → Type 0
 MatchesNone operand lines from = (line : ℕ) → from ≤ line → line ≤ length lines → is_match operand lines line ≡ false
 
--- The operand cuts at a line, and then this line is the last that was matched. A line number cuts at its multiples, one after another; a
--- pattern at an offset from the first match.
+-- The operand cuts at a line, and then this line is the last that was matched. A line number cuts at its multiples, one
+-- after another; a pattern at an offset from the first match.
 abbrev pub CutsAt : Bool → List Line → State → Operand → Target → (matched cut : ℕ) → Type 0
-CutsAt suppress lines state operand (Number n) matched cut = (matched ≡ state.matched) × (cut ≡ n * (state.repetition + 1))
+CutsAt suppress lines state operand (Number n) matched cut = (matched ≡ state.matched)
+    × (cut ≡ n * (state.repetition + 1))
 CutsAt suppress lines state operand (Search pattern kept offset) matched cut =
     IsFirst operand lines (search_line suppress state) matched × (cut ≡ moved offset matched)
 
 -- the operand is a pattern, and no line matches it
 abbrev pub Misses : Bool → List Line → State → Operand → Target → Type 0
 Misses suppress lines state operand (Number n) = ⊥
-Misses suppress lines state operand (Search pattern kept offset) = MatchesNone operand lines (search_line suppress state)
+Misses suppress lines state operand (Search pattern kept offset) =
+    MatchesNone operand lines (search_line suppress state)
 
 -- the current line after a cut
 abbrev pub line_after : Bool → ℕ → ℕ
 line_after true cut = suc cut
 line_after false cut = cut
 
--- the operands that are left after a step of the first one, which is performed again or not, and how often the first of them was performed
+-- the operands that are left after a step of the first one, which is performed again or not, and how often the first of
+-- them was performed
 abbrev pub operands_after : Bool → Operand → List Operand → List Operand
 operands_after true operand operands = operand ∷ operands
 operands_after false operand operands = operands
@@ -93,22 +97,26 @@ state_after suppress operand operands repetition matched cut = record {
 }
 
 abbrev pub step_of : State → Operand → (matched cut : ℕ) → Step
-step_of state operand matched cut = record { operand = operand; repetition = state.repetition; current = state.current; matched = matched; cut = cut }
+step_of state operand matched cut = record { operand = operand; repetition = state.repetition; current = state.current;
+    matched = matched; cut = cut }
 
--- The plan from a state on: each operand cuts in its turn, and as often as it is to be performed, until one can't. Then it says where the
--- run stands, and why it ends there.
+-- The plan from a state on: each operand cuts in its turn, and as often as it is to be performed, until one can't. Then
+-- it says where the run stands, and why it ends there.
 pub data Runs (suppress : Bool) (lines : List Line) : State → List Step → State → Ending → Type 0 where
-  is_used_up : (state : State) → state.operands ≡ [] → Runs suppress lines state [] state used_up
-  misses : (state : State) (operand : Operand) (operands : List Operand) → state.operands ≡ operand ∷ operands
+  pub is_used_up : (state : State) → state.operands ≡ [] → Runs suppress lines state [] state used_up
+  pub misses : (state : State) (operand : Operand) (operands : List Operand) → state.operands ≡ operand ∷ operands
       → Misses suppress lines state operand operand.target
       → Runs suppress lines state [] state (missed operand state.repetition)
-  is_above : (state : State) (operand : Operand) (operands : List Operand) (matched cut : ℕ) → state.operands ≡ operand ∷ operands
+  pub is_above : (state : State) (operand : Operand) (operands : List Operand) (matched cut : ℕ)
+      → state.operands ≡ operand ∷ operands
       → CutsAt suppress lines state operand operand.target matched cut → length lines < cut
       → Runs suppress lines state [] state (above operand state.repetition matched cut)
-  is_below : (state : State) (operand : Operand) (operands : List Operand) (matched cut : ℕ) → state.operands ≡ operand ∷ operands
+  pub is_below : (state : State) (operand : Operand) (operands : List Operand) (matched cut : ℕ)
+      → state.operands ≡ operand ∷ operands
       → CutsAt suppress lines state operand operand.target matched cut → cut ≤ length lines → cut < state.current
       → Runs suppress lines state [] state (below operand state.repetition)
-  cuts : (state : State) (operand : Operand) (operands : List Operand) (matched cut : ℕ) (steps : List Step) (last : State) (ending : Ending)
+  pub cuts : (state : State) (operand : Operand) (operands : List Operand) (matched cut : ℕ) (steps : List Step)
+      (last : State) (ending : Ending)
       → state.operands ≡ operand ∷ operands
       → CutsAt suppress lines state operand operand.target matched cut → state.current ≤ cut → cut ≤ length lines
       → Runs suppress lines (state_after suppress operand operands state.repetition matched cut) steps last ending

@@ -12,7 +12,8 @@ pub record Plan : Type 0 where
 -- the first match among lines of which the first one has this number
 abbrev pub first_among : Operand → ℕ → List Line → Option ℕ
 first_among operand number [] = None
-first_among operand number (line ∷ lines) = if line.marks operand then Some number else first_among operand (suc number) lines
+first_among operand number (line ∷ lines) = if line.marks operand then Some number
+    else first_among operand (suc number) lines
 
 -- the first match, from a line on
 abbrev pub first_match : Operand → List Line → ℕ → Option ℕ
@@ -20,8 +21,8 @@ first_match operand lines from = first_among operand from (drop (from - 1) lines
 
 -- what the next operand does: the run ends, or it makes a step and stands elsewhere
 pub data Turn : Type 0 where
-  ends : Ending → Turn
-  goes : Step → State → Turn
+  pub ends : Ending → Turn
+  pub goes : Step → State → Turn
 
 -- the turn of an operand whose cut is known, where there are `total` lines
 abbrev pub turn_at : Bool → (total : ℕ) → State → Operand → List Operand → (matched cut : ℕ) → Turn
@@ -32,12 +33,15 @@ turn_at suppress total state operand operands matched cut =
 
 abbrev pub turn_from : Bool → (total : ℕ) → State → Operand → List Operand → Offset → Option ℕ → Turn
 turn_from suppress total state operand operands offset None = ends (missed operand state.repetition)
-turn_from suppress total state operand operands offset (Some line) = turn_at suppress total state operand operands line (moved offset line)
+turn_from suppress total state operand operands offset (Some line) =
+    turn_at suppress total state operand operands line (moved offset line)
 
 abbrev pub turn_to : Bool → List Line → State → Operand → List Operand → Target → Turn
-turn_to suppress lines state operand operands (Number n) = turn_at suppress (length lines) state operand operands state.matched (n * (state.repetition + 1))
+turn_to suppress lines state operand operands (Number n) =
+    turn_at suppress (length lines) state operand operands state.matched (n * (state.repetition + 1))
 turn_to suppress lines state operand operands (Search pattern kept offset) =
-    turn_from suppress (length lines) state operand operands offset (first_match operand lines (search_line suppress state))
+    turn_from suppress (length lines) state operand operands offset
+        (first_match operand lines (search_line suppress state))
 
 abbrev pub turn_of : Bool → List Line → State → List Operand → Turn
 turn_of suppress lines state [] = ends used_up
@@ -60,6 +64,7 @@ plan_within (suc bound) suppress lines state = elim (turn suppress lines state) 
   | goes step next ↦ with_step step (plan_within bound suppress lines next)
 ]
 
--- The plan of these operands over these lines. An operand is performed at most once for each line and once more, so the bound is never met.
+-- The plan of these operands over these lines. An operand is performed at most once for each line and once more, so the
+-- bound is never met.
 abbrev pub plan : Bool → List Operand → List Line → Plan
 plan suppress operands lines = plan_within (length operands * (length lines + 1)) suppress lines (start operands)

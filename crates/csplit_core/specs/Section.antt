@@ -29,16 +29,17 @@ is_last_kept (missed operand repetition) = is_kept operand.target
 is_last_kept (above operand repetition matched cut) = is_kept operand.target
 is_last_kept (below operand repetition) = is_kept operand.target
 
--- The line before which the last section ends, where the input ends after `total` lines: it has all lines that are left, and none where
--- the cut is below the current line.
+-- The line before which the last section ends, where the input ends after `total` lines: it has all lines that are
+-- left, and none where the cut is below the current line.
 abbrev pub whole_end : (total : ℕ) → Ending → ℕ
 whole_end total used_up = suc total
 whole_end total (missed operand repetition) = suc total
 whole_end total (above operand repetition matched cut) = suc total
 whole_end total (below operand repetition) = 0
 
--- The line before which its settled lines end, whatever follows the `total` lines that came in. Where no line matched yet, the last ones are
--- not settled, as many as the offset goes back. Where the cut is known to be above the last line, all of them are.
+-- The line before which its settled lines end, whatever follows the `total` lines that came in. Where no line matched
+-- yet, the last ones are not settled, as many as the offset goes back. Where the cut is known to be above the last
+-- line, all of them are.
 abbrev pub settled_end : (total : ℕ) → Ending → ℕ
 settled_end total used_up = suc total
 settled_end total (missed operand repetition) = suc total - most_held operand.target
@@ -48,7 +49,8 @@ settled_end total (below operand repetition) = 0
 -- the sections of the steps, and the last section, which ends where this says
 abbrev pub sections_by : Bool → (ℕ → Ending → ℕ) → List Line → Plan → List Section
 sections_by closed end_of lines plan = map (section_of lines) plan.steps
-    ++ section (is_last_kept plan.ending) closed (lines_between plan.last.current (end_of (length lines) plan.ending) lines) ∷ []
+    ++ section (is_last_kept plan.ending) closed
+        (lines_between plan.last.current (end_of (length lines) plan.ending) lines) ∷ []
 
 -- where the input ends after these lines
 abbrev pub whole_sections : List Line → Plan → List Section
@@ -67,7 +69,8 @@ is_final (below operand repetition) = true
 
 -- the complete lines that wait: those after what is settled of the last section
 abbrev pub waiting_lines : List Line → Plan → List Line
-waiting_lines lines plan = if is_final plan.ending then [] else drop (settled_end (length lines) plan.ending - plan.last.current) (drop (plan.last.current - 1) lines)
+waiting_lines lines plan = if is_final plan.ending then []
+    else drop (settled_end (length lines) plan.ending - plan.last.current) (drop (plan.last.current - 1) lines)
 
 -- how many complete lines may wait
 abbrev pub most_waiting : Ending → ℕ

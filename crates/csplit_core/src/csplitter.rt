@@ -6,11 +6,14 @@ ghost use Rattle.ports_core.specs.Guard.{HoldsIn};
 ghost use Rattle.ports_core.specs.Part.{OutputsAt, StoppedBetween, nothing};
 ghost use Rattle.ports_core.specs.Slot.{Slot, is_writable};
 ghost use Rattle.ports_core.specs.Swept.{AreMade};
-ghost use Rattle.csplit_core.specs.Csplit.{csplit_work, settled_by, waiting};
-ghost use Rattle.csplit_core.specs.CsplitState.{Begins, Closes, Holds, IsReady, Judges, Owns, Passes, work};
-ghost use Rattle.csplit_core.specs.Cutter.{IsLine, IsSound, Takes, load};
+ghost use Rattle.csplit_core.specs.Csplit.{csplit_work, settled_by};
+ghost use Rattle.csplit_core.specs.inner.Csplit.{waiting};
+ghost use Rattle.csplit_core.specs.inner.CsplitState.{Begins, Closes, Judges, Passes};
+ghost use Rattle.csplit_core.specs.CsplitState.{Holds, IsReady, Owns, work};
+ghost use Rattle.csplit_core.specs.inner.Cutter.{IsLine, Takes};
+ghost use Rattle.csplit_core.specs.Cutter.{IsSound, load};
 ghost use Rattle.csplit_core.specs.Input.{newline};
-ghost use Rattle.csplit_core.specs.InputLaws.{lawful};
+ghost use Rattle.csplit_core.specs.laws.InputLaws.{lawful};
 ghost use Rattle.csplit_core.specs.Writer.{Breaks, IsReady as CanWrite};
 ghost use Rattle.csplit_core.specs.declared.progress.Turn.TheVariants as turn_is;
 

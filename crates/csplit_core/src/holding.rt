@@ -2,8 +2,9 @@
 ghost use Rattle.std.specs.Prelude.{◌≡◌, ◌+◌, ◌<◌, ◌≤◌, ◌^◌, ◌++◌, [], length, take, IfOk, IfErr, OnOk};
 ghost use Rattle.seg_core.specs.Line.{but_last_lines, last_lines};
 ghost use Rattle.seg_core.specs.Window.{without_first};
-ghost use Rattle.csplit_core.specs.Draft.{with_bytes};
-ghost use Rattle.csplit_core.specs.Writer.{Goes, IsReady, size_of};
+ghost use Rattle.csplit_core.specs.inner.Draft.{with_bytes};
+ghost use Rattle.csplit_core.specs.inner.Writer.{Goes};
+ghost use Rattle.csplit_core.specs.Writer.{IsReady, size_of};
 
 use crate::section_writer::SectionWriter;
 use ports_core::{Fault, Outs};

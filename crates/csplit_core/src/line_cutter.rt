@@ -7,12 +7,13 @@ ghost use Rattle.csplit_core.specs.Csplit.{verdict_of};
 ghost use Rattle.csplit_core.specs.Plan.{above, missed};
 ghost use Rattle.csplit_core.specs.Planned.{plan};
 ghost use Rattle.ports_core.specs.Swept.{SweptFrom};
-ghost use Rattle.csplit_core.specs.Cutter.{AimHolds, CutAt, CutNot, CutsAll, EndsAll, IsJudged, Opens, Holds, IsFit, IsFound, IsLine, IsNoCut, IsSound, IsWhole, PassesOn, PassesOver, Stretches, Takes, Tries, TriesNext, WillCut, load, most_by, pattern_by, state_in, suppress_in};
+ghost use Rattle.csplit_core.specs.Cutter.{AimHolds, IsFit, IsSound, load, most_by, pattern_by, state_in, suppress_in};
+ghost use Rattle.csplit_core.specs.inner.Cutter.{CutAt, CutNot, CutsAll, EndsAll, IsJudged, Opens, Holds, IsFound, IsLine, IsNoCut, IsWhole, PassesOn, PassesOver, Stretches, Takes, Tries, TriesNext, WillCut};
 ghost use Rattle.csplit_core.specs.Input.{all_lines, newline};
 ghost use Rattle.csplit_core.specs.Measure.{Fits};
 ghost use Rattle.csplit_core.specs.Operand.{Line};
-ghost use Rattle.csplit_core.specs.PlanLaws.{needed};
-ghost use Rattle.csplit_core.specs.Progress.{AreSeen, MovesOn, Turns};
+ghost use Rattle.csplit_core.specs.inner.PlanLaws.{needed};
+ghost use Rattle.csplit_core.specs.inner.Progress.{AreSeen, MovesOn, Turns};
 ghost use Rattle.csplit_core.specs.Writer.{IsReady, OwnsFiles, size_of};
 ghost use Rattle.csplit_core.specs.declared.progress.Turn.TheVariants as turn_is;
 

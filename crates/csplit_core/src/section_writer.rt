@@ -2,11 +2,12 @@
 ghost use Rattle.std.specs.Prelude.{◌≡◌, ◌+◌, ◌<◌, ◌≤◌, ◌^◌, ◌++◌, ◌∷◌, [], ℕ, length, decimal, IsTrue, IfErr, OnOk};
 ghost use Rattle.ports_core.specs.Slot.{is_writable, told_of, with_written};
 ghost use Rattle.ports_core.specs.Swept.{SweptFrom};
-ghost use Rattle.ports_core.specs.Write.{WritesShort};
-ghost use Rattle.csplit_core.specs.Draft.{with_bytes, with_section};
+ghost use Rattle.ports_core.specs.inner.Write.{WritesShort};
+ghost use Rattle.csplit_core.specs.inner.Draft.{with_bytes, with_section};
 ghost use Rattle.csplit_core.specs.Input.{newline};
-ghost use Rattle.csplit_core.specs.Writer.{Begins, Ends, Goes, IsReady, OwnsFiles, size_of};
-ghost use Rattle.csplit_core.specs.WriterSteps.{Appends, Makes, Starts};
+ghost use Rattle.csplit_core.specs.inner.Writer.{Begins, Ends, Goes};
+ghost use Rattle.csplit_core.specs.Writer.{IsReady, OwnsFiles, size_of};
+ghost use Rattle.csplit_core.specs.inner.WriterSteps.{Appends, Makes, Starts};
 ghost use Rattle.csplit_core.specs.declared.section_writer.Current.TheVariants.{File};
 
 use crate::Style;

@@ -13,11 +13,12 @@ use Rattle.ports_core.proofs.AgreedLemmas.{none_comes, one_comes, copies_come, o
 use Rattle.seg_core.specs.declared.unit.Unit.{Unit as Counted}
 use Rattle.seg_core.specs.declared.unit.Unit.TheVariants.{Lines, Bytes}
 use Rattle.ends_core.specs.Ends.{size, measure, first_of, last_of, but_last_of, tail_of}
-use Rattle.ends_core.specs.EndsLaws.{measure-append, measure-delimiters, first_of-append, first_of-short, first_of-full, first_then_behind, ends_together, but_last_of-append, last_is_drop, last_is_small}
+use Rattle.ends_core.specs.laws.EndsLaws.{measure-append, first_of-append, first_of-short, first_of-full, first_then_behind, ends_together, but_last_of-append}
+use Rattle.ends_core.proofs.EndsLaws.{measure-delimiters, last_is_drop, last_is_small}
 use Rattle.ends_core.specs.Head.{head_work, head_waiting}
 use Rattle.ends_core.specs.Tail.{tail_work, tail_waiting}
 use Rattle.ends_core.specs.Place.{head_spots, skipped, tail_spots}
-use Rattle.ends_core.specs.WorkLaws as law
+use Rattle.ends_core.specs.laws.WorkLaws as law
 
 -- Some continuations
 

@@ -8,7 +8,8 @@ use Rattle.ports_core.specs.Slot.{Slot, is_writable, with_written, told_of}
 use Rattle.ports_core.specs.Source.{Source}
 use Rattle.ports_core.specs.Part.{only_out}
 use Rattle.ports_core.specs.Work.{on_output}
-use Rattle.ports_core.specs.Engine.{Loads, TakesIn, PutsOut, CutsOff, Finishes, EndsShort, EndsWith, EndsThere, IsMet, OwnsNone}
+use Rattle.ports_core.specs.Engine.{Loads, TakesIn, PutsOut, CutsOff, Finishes, EndsShort, EndsWith, EndsThere, IsMet}
+use Rattle.ports_core.specs.inner.Engine.{OwnsNone}
 use Rattle.ports_core.specs.declared.fault.Fault.{Fault}
 use Rattle.ports_core.specs.declared.fault.Fault.TheVariants as fault
 use Rattle.seg_core.specs.declared.unit.Unit.{Unit as Counted}
@@ -17,13 +18,16 @@ use Rattle.ends_core.specs.declared.ends.Ends.{Ends}
 use Rattle.ends_core.specs.declared.ends.Ends.TheVariants.{First, ButLast, FromNth, Last}
 use Rattle.ends_core.specs.declared.kept.Kept.{Kept}
 use Rattle.ends_core.specs.Ends.{measure, first_of, behind_of, last_of, but_last_of}
-use Rattle.ends_core.specs.Head.{head_work, IsDone}
-use Rattle.ends_core.specs.Stage.{Stretch, the_first, all_but_last, from_the_nth, the_last, is_last, keeps, work_in, waiting_in, front_in, stretch_of, delim_of, unit_of, count_of, left_of, waiting_of, waiting, due, due_at_end, left_waiting, is_done, is_full, may_lack, work, FullLacksNone, Holds, SameAsked}
+use Rattle.ends_core.specs.Head.{head_work}
+use Rattle.ends_core.specs.inner.Head.{IsDone}
+use Rattle.ends_core.specs.Stage.{Stretch, the_first, all_but_last, from_the_nth, the_last, keeps, work_in, waiting_in, front_in, stretch_of, delim_of, unit_of, count_of, left_of, waiting_of, waiting, may_lack, work, Holds}
+use Rattle.ends_core.specs.inner.Stage.{is_last, due, due_at_end, left_waiting, is_done, is_full, FullLacksNone, SameAsked}
 use Rattle.ends_core.specs.Kept.{most_of, may_lack_of, delim_of as kept_delim, unit_of as kept_unit}
-use Rattle.ends_core.specs.Load.{Passes}
-use Rattle.ends_core.specs.Stops.{Stops}
-use Rattle.ends_core.specs.WorkLaws.{full_head}
-use Rattle.ends_core.specs.EndsLaws.{ends_together, measure-append, measure-delimiters, first_of-append, first_of-short, first_of-more, behind_of-append, last_of-append, but_last_of-append, but_last_grows}
+use Rattle.ends_core.specs.inner.Load.{Passes}
+use Rattle.ends_core.specs.inner.Stops.{Stops}
+use Rattle.ends_core.specs.laws.WorkLaws.{full_head}
+use Rattle.ends_core.specs.laws.EndsLaws.{ends_together, measure-append, first_of-append, first_of-short, behind_of-append, last_of-append, but_last_of-append}
+use Rattle.ends_core.proofs.EndsLaws.{measure-delimiters, first_of-more, but_last_grows}
 use Rattle.ends_core.proofs.StopLemmas as stop
 use Rattle.ends_core.proofs.KeptLemmas.{full_once}
 use Rattle.ends_core.proofs.LoadLemmas.{last_none}

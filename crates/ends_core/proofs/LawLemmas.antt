@@ -3,7 +3,7 @@ use Rattle.std.proofs.Common.{◌≡◌, ℕ, List, ◌++◌, ◌∙◌, ap}
 use Rattle.ports_core.specs.Guard.{GuardState, HoldsIn}
 use Rattle.ends_core.specs.declared.ends.Ends.{Ends}
 use Rattle.ends_core.specs.Ends.{last_of}
-use Rattle.ends_core.specs.EndsLaws.{ends_together}
+use Rattle.ends_core.specs.laws.EndsLaws.{ends_together}
 use Rattle.ends_core.specs.Stage.{Holds, all_but_last, count_of, delim_of, stretch_of, the_last, unit_of, waiting_in, waiting_of, work, work_in}
 
 module _ (engine : GuardState Ends) (x : List ℕ) (holds : HoldsIn Holds engine x) where

@@ -15,8 +15,8 @@ use Rattle.ports_core.proofs.LoadLemmas.{none_passed, passed_at}
 use Rattle.seg_core.specs.declared.unit.Unit.{Unit as Counted}
 use Rattle.seg_core.specs.declared.unit.Unit.TheVariants.{Lines, Bytes}
 use Rattle.ends_core.specs.Ends.{size, measure, behind_of, last_of}
-use Rattle.ends_core.specs.EndsLaws.{behind_of-append}
-use Rattle.ends_core.specs.Load.{HasSeen, Passes}
+use Rattle.ends_core.specs.laws.EndsLaws.{behind_of-append}
+use Rattle.ends_core.specs.inner.Load.{HasSeen, Passes}
 
 size-append : (delim : ℕ) (unit : Counted) (n : ℕ) (x y : List ℕ) → n < size delim unit y → size delim unit (x ++ y) ≡ measure delim unit x + size delim unit y
 size-append delim Lines n x [] many = absurd (omega (arith, many))

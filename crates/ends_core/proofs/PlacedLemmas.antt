@@ -8,7 +8,7 @@ use Rattle.ports_core.specs.Agreed.{Spot, spot, spots_from, output_at, GoesTo, A
 use Rattle.ports_core.proofs.AgreedLemmas.{spot_in, spot_past}
 use Rattle.seg_core.specs.declared.unit.Unit.{Unit as Counted}
 use Rattle.ends_core.specs.Ends.{behind_of, last_of, head_of, tail_of}
-use Rattle.ends_core.specs.EndsLaws.{first_then_behind, ends_together}
+use Rattle.ends_core.specs.laws.EndsLaws.{first_then_behind, ends_together}
 use Rattle.ends_core.specs.Head.{head_work}
 use Rattle.ends_core.specs.Tail.{tail_work}
 use Rattle.ends_core.specs.Place.{head_spots, skipped, tail_spots}

@@ -14,7 +14,7 @@ use Rattle.ports_core.specs.declared.fault.Fault.TheVariants as fault
 use Rattle.ports_core.proofs.WriteLemmas.{told_of-append, told_of-nil, with_written-append, writable-written}
 use Rattle.ports_core.proofs.SlotLemmas.{with_written-nil}
 use Rattle.ports_core.proofs.PartLemmas.{out_more, out_cut, begins_more, part_begins_itself, files_begin_themselves, still_in_order, broken_at, sound_at}
-use Rattle.ends_core.specs.Stops.{Stops, broke, no_room}
+use Rattle.ends_core.specs.inner.Stops.{Stops, broke, no_room}
 
 pub nothing_written : (told : Bool) (slots : List Slot) → with_written 0 (told_of told []) slots ≡ slots
 nothing_written told slots = ap (λ bytes. with_written 0 bytes slots) (told_of-nil told) ∙ with_written-nil 0 slots

@@ -1,13 +1,13 @@
 -- The first part of an input, as an engine writes it: POSIX.1-2017, XCU head; the option -c is GNU's.
-use Rattle.std.specs.Prelude.{◌≡◌, ℕ, ◌++◌, ◌&&◌, not, nat_le, Bool, false, List, [], if◌then◌else◌}
-use Rattle.seg_core.specs.Line.{AreBytes}
+use Rattle.std.specs.Prelude.{ℕ, ◌&&◌, not, nat_le, Bool, false, List, [], if◌then◌else◌}
 use Rattle.ports_core.specs.Part.{only_out}
 use Rattle.seg_core.specs.declared.unit.Unit.{Unit as Counted}
 use Rattle.ports_core.specs.Work.{Work, on_output, always_well}
 use Rattle.ends_core.specs.Ends.{measure, last_of, head_of}
 
--- What a head makes of its input: what belongs to the head whatever may still come is written at once, and nothing at the
--- end. Of the first n it is complete once n came in. It takes memory where all but the last are asked for, since those wait.
+-- What a head makes of its input: what belongs to the head whatever may still come is written at once, and nothing at
+-- the end. Of the first n it is complete once n came in. It takes memory where all but the last are asked for, since
+-- those wait.
 abbrev pub head_work : ℕ → Counted → Bool → ℕ → Work
 head_work delim unit but_last n = record {
   settled = λ x. only_out (head_of delim unit but_last n x);
@@ -18,10 +18,7 @@ head_work delim unit but_last n = record {
   means = on_output but_last;
 }
 
--- what came in and isn't written yet, since what follows decides it: the last lines or bytes, where all but them are asked for
+-- what came in and isn't written yet, since what follows decides it: the last lines or bytes, where all but them are
+-- asked for
 abbrev pub head_waiting : ℕ → Counted → Bool → ℕ → List ℕ → List ℕ
 head_waiting delim unit but_last n x = if but_last then last_of delim unit n x else []
-
--- whatever comes after x, the head of it is that of x
-abbrev pub IsDone : ℕ → Counted → Bool → ℕ → List ℕ → Type 0
-IsDone delim unit but_last n x = (y : List ℕ) → AreBytes y → head_of delim unit but_last n (x ++ y) ≡ head_of delim unit but_last n x

@@ -1,5 +1,5 @@
 -- The one stage of `head` and `tail`, as contracts see it.
-use Rattle.std.specs.Prelude.{◌≡◌, ℕ, ◌==◌, ◌-◌, ◌<◌, ◌≤◌, Bool, true, false, List, [], ◌++◌, length}
+use Rattle.std.specs.Prelude.{◌≡◌, ℕ, ◌-◌, ◌<◌, ◌≤◌, Bool, true, false, List, [], length}
 use Rattle.ports_core.specs.Work.{Work}
 use Rattle.ports_core.specs.Slot.{Slot}
 use Rattle.ports_core.specs.Engine.{IsCaused, IsMet, EndsWith}
@@ -9,23 +9,17 @@ use Rattle.seg_core.specs.declared.unit.Unit.{Unit as Counted}
 use Rattle.seg_core.specs.declared.unit.Unit.TheVariants.{Bytes}
 use Rattle.ends_core.specs.declared.ends.Ends.{Ends}
 use Rattle.ends_core.specs.declared.ends.Ends.TheVariants.{First, ButLast, FromNth, Last}
-use Rattle.ends_core.specs.Ends.{measure, first_of, behind_of, last_of, but_last_of}
-use Rattle.ends_core.specs.Head.{head_work, head_waiting, IsDone}
+use Rattle.ends_core.specs.Ends.{measure}
+use Rattle.ends_core.specs.Head.{head_work, head_waiting}
 use Rattle.ends_core.specs.Tail.{tail_work, tail_waiting}
 use Rattle.ends_core.specs.Kept.{held_of, most_of, may_lack_of, delim_of as kept_delim, unit_of as kept_unit}
 
 -- which part of an input is written
 pub data Stretch : Type 0 where
-  the_first : Stretch
-  all_but_last : Stretch
-  from_the_nth : Stretch
-  the_last : Stretch
-
-abbrev pub is_last : Stretch → Bool
-is_last the_first = false
-is_last all_but_last = false
-is_last from_the_nth = false
-is_last the_last = true
+  pub the_first : Stretch
+  pub all_but_last : Stretch
+  pub from_the_nth : Stretch
+  pub the_last : Stretch
 
 -- the last are kept
 abbrev pub keeps : Stretch → Bool
@@ -47,13 +41,6 @@ waiting_in the_first delim unit n x = head_waiting delim unit false n x
 waiting_in all_but_last delim unit n x = head_waiting delim unit true n x
 waiting_in from_the_nth delim unit n x = tail_waiting delim unit true n x
 waiting_in the_last delim unit n x = tail_waiting delim unit false n x
-
--- whatever comes after x, a head stays; a tail is never done
-abbrev pub done_in : Stretch → ℕ → Counted → ℕ → List ℕ → Type 0
-done_in the_first delim unit n x = IsDone delim unit false n x
-done_in all_but_last delim unit n x = IsDone delim unit true n x
-done_in from_the_nth delim unit n x = ⊥
-done_in the_last delim unit n x = ⊥
 
 -- how many of the front are written, or passed over
 abbrev pub front_in : Stretch → ℕ → ℕ
@@ -115,14 +102,12 @@ work ends = work_in (stretch_of ends) (delim_of ends) (unit_of ends) (count_of e
 abbrev pub waiting : Ends → List ℕ → List ℕ
 waiting ends x = waiting_in (stretch_of ends) (delim_of ends) (unit_of ends) (count_of ends) x
 
-abbrev pub is_done : Ends → List ℕ → Type 0
-is_done ends x = done_in (stretch_of ends) (delim_of ends) (unit_of ends) (count_of ends) x
-
 -- it can have been fed x
 pub record Holds (ends : Ends) (x : List ℕ) : Type 0 where
   -- the delimiter is a byte
   pub byte : delim_of ends < 256
-  pub left : keeps (stretch_of ends) ≡ false → left_of ends ≡ front_in (stretch_of ends) (count_of ends) - measure (delim_of ends) (unit_of ends) x
+  pub left : keeps (stretch_of ends) ≡ false
+      → left_of ends ≡ front_in (stretch_of ends) (count_of ends) - measure (delim_of ends) (unit_of ends) x
   pub waits : waiting_of ends ≡ waiting ends x
   -- where nothing waits no memory can be wanting, nor once as many bytes came in as wait
   pub none : keeps (stretch_of ends) ≡ false → may_lack ends ≡ false
@@ -131,44 +116,6 @@ pub record Holds (ends : Ends) (x : List ℕ) : Type 0 where
 -- what is known of a fault of `feed`, by its clause `refused`
 abbrev pub IsRefused : GuardState Ends → List ℕ → List Slot → List Slot → Fault → Type 0
 IsRefused engine piece old new fault =
-    IsCaused (IsMet (work engine.stage).means (work engine.stage).means.feeding (may_lack engine.stage ≡ true) (EndsWith Holds work engine.stage piece) old new)
+    IsCaused (IsMet (work engine.stage).means (work engine.stage).means.feeding (may_lack engine.stage ≡ true)
+        (EndsWith Holds work engine.stage piece) old new)
     engine.is_over engine.fed (length piece) old new fault
-
--- if bytes are kept and as many wait as are to be kept, no memory can be wanting
-abbrev pub FullLacksNone : Ends → Type 0
-FullLacksNone ends = unit_of ends ≡ Bytes → count_of ends ≤ length (waiting_of ends) → may_lack ends ≡ false
-
--- what is written with a piece
-abbrev pub due : Ends → List ℕ → List ℕ
-due (First count front) piece = first_of front.delim front.unit front.left piece
-due (ButLast kept) piece = but_last_of (kept_delim kept) (kept_unit kept) (most_of kept) (held_of kept ++ piece)
-due (FromNth count front) piece = behind_of front.delim front.unit front.left piece
-due (Last kept) piece = []
-
--- what waits after the piece
-abbrev pub left_waiting : Ends → List ℕ → List ℕ
-left_waiting (First count front) piece = []
-left_waiting (ButLast kept) piece = last_of (kept_delim kept) (kept_unit kept) (most_of kept) (held_of kept ++ piece)
-left_waiting (FromNth count front) piece = []
-left_waiting (Last kept) piece = last_of (kept_delim kept) (kept_unit kept) (most_of kept) (held_of kept ++ piece)
-
--- what is written at the end
-abbrev pub due_at_end : Ends → List ℕ
-due_at_end (First count front) = []
-due_at_end (ButLast kept) = []
-due_at_end (FromNth count front) = []
-due_at_end (Last kept) = held_of kept
-
--- nothing more is to come
-abbrev pub is_full : Ends → Bool
-is_full (First count front) = front.left == 0
-is_full (ButLast kept) = false
-is_full (FromNth count front) = false
-is_full (Last kept) = false
-
--- both were asked for the same
-pub record SameAsked (old new : Ends) : Type 0 where
-  pub stretch : stretch_of new ≡ stretch_of old
-  pub delim : delim_of new ≡ delim_of old
-  pub unit : unit_of new ≡ unit_of old
-  pub count : count_of new ≡ count_of old

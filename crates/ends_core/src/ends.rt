@@ -2,15 +2,16 @@
 ghost use Rattle.std.specs.Prelude.{◌≡◌, ◌+◌, ◌-◌, ◌^◌, ◌<◌, ◌≤◌, ℕ, List, [], true, false, if◌then◌else◌, length, IsTrue, IfOk, IfErr, OnOk};
 ghost use Rattle.ports_core.specs.Slot.{is_writable, with_written, told_of};
 ghost use Rattle.ports_core.specs.Source.{is_readable};
-ghost use Rattle.ports_core.specs.Engine.{OwnsNone};
+ghost use Rattle.ports_core.specs.inner.Engine.{OwnsNone};
 ghost use Rattle.ports_core.specs.Guard.{HoldsIn};
 ghost use Rattle.ends_core.specs.Ends.{measure};
 ghost use Rattle.ends_core.specs.Head.{head_work};
 ghost use Rattle.ends_core.specs.Tail.{tail_work};
-ghost use Rattle.ends_core.specs.Stage.{FullLacksNone, Holds, SameAsked, all_but_last, count_of, delim_of, due, due_at_end, from_the_nth, is_done, is_full, is_last, left_of, left_waiting, may_lack, stretch_of, the_first, the_last, unit_of, waiting, waiting_of, work};
-ghost use Rattle.ends_core.specs.WorkLaws.{lawful};
-ghost use Rattle.ends_core.specs.Load.{Passes};
-ghost use Rattle.ends_core.specs.Stops.{Stops};
+ghost use Rattle.ends_core.specs.inner.Stage.{FullLacksNone, SameAsked, due, due_at_end, is_done, is_full, is_last, left_waiting};
+ghost use Rattle.ends_core.specs.Stage.{Holds, all_but_last, count_of, delim_of, from_the_nth, left_of, may_lack, stretch_of, the_first, the_last, unit_of, waiting, waiting_of, work};
+ghost use Rattle.ends_core.specs.laws.WorkLaws.{lawful};
+ghost use Rattle.ends_core.specs.inner.Load.{Passes};
+ghost use Rattle.ends_core.specs.inner.Stops.{Stops};
 
 use crate::Unit;
 use crate::front::{Front, pass_behind, pass_front};

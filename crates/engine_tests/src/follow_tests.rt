@@ -4,7 +4,7 @@ ghost use Rattle.watch_core.specs.Edits.{append, truncate, replace, remove, edit
 ghost use Rattle.follow_core.specs.Followed.{followed};
 ghost use Rattle.ends_core.specs.Ends.{tail_of};
 ghost use Rattle.follow_core.specs.Look.{unopened};
-ghost use Rattle.follow_core.specs.Placing.{looks_after};
+ghost use Rattle.follow_core.specs.inner.Placing.{looks_after};
 
 use ends_core::Unit;
 

@@ -14,7 +14,7 @@ use Rattle.seg_core.proofs.LineCounts.{ends_with-append, ends_with-some}
 use Rattle.seg_core.proofs.LinesOf.{joined-lines_of, lines_of-append}
 use Rattle.seg_core.proofs.FirstLines.{EndsAt-enough, EndsAt-rest}
 use Rattle.seg_core.proofs.EndLines.{after_lines-append, after_lines-past}
-use Rattle.ends_core.specs.EndsLaws.{behind_of-append}
+use Rattle.ends_core.specs.laws.EndsLaws.{behind_of-append}
 use Rattle.seg_core.specs.declared.unit.Unit.TheVariants.{Lines}
 
 -- filling a block of a watched file, read by read

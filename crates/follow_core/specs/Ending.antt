@@ -23,23 +23,27 @@ seen_first shows (suc n) = seen_first shows n ++ shows n ∷ []
 
 -- a file that is appended to keeps its bytes, in the first n looks
 abbrev pub KeptIn : Bool → Bool → (ℕ → Snapshot) → ℕ → List (List ℕ) → Type 0
-KeptIn told by_name shows count names = told ≡ true → (n place : ℕ) → n ≤ count → place < length names → AreKept (entries_of by_name (slice_index_or names place []) (seen_first shows n))
+KeptIn told by_name shows count names = told ≡ true → (n place : ℕ) → n ≤ count → place < length names
+    → AreKept (entries_of by_name (slice_index_or names place []) (seen_first shows n))
 
 -- it does in the looks that were made, and in the one after them, where that was still asked for
 abbrev pub KeptSoLong : Bool → Bool → (ℕ → Snapshot) → ℕ → List Snapshot → List (List ℕ) → Type 0
 KeptSoLong told by_name shows count seen names = KeptIn told by_name shows (min count (suc (length seen))) names
 
 -- these looks were made, one after another, and after each but the last a further look could give something
-pub record Made (told_in : Bool) (ways : Ways) (names : List (List ℕ)) (shows : ℕ → Snapshot) (looks : List Look) : Type 0 where
+pub record Made (told_in : Bool) (ways : Ways) (names : List (List ℕ)) (shows : ℕ → Snapshot)
+    (looks : List Look) : Type 0 where
   pub saw : snapshots looks ≡ seen_first shows (length looks)
   pub alive : told_in ≡ true → (n : ℕ) → 0 < n → n < length looks → is_alive ways names (take n looks) ≡ true
 
 -- all names are watched once a look was made, and one for which a call failed in these is broken
 abbrev pub AreBroken : List Look → List (List ℕ) → List Watched → Type 0
-AreBroken looks names watched = (0 < length looks → length watched ≡ length names) × ((place : ℕ) → place < length names → is_dropped place looks ≡ true → (watched_at watched place).is_broken ≡ true)
+AreBroken looks names watched = (0 < length looks → length watched ≡ length names)
+    × ((place : ℕ) → place < length names → is_dropped place looks ≡ true → (watched_at watched place).is_broken ≡ true)
 
 -- The look after these was stopped by a fault, and no other was made.
-pub record StoppedIn (told_in told : Bool) (ways : Ways) (headers : Bool) (names : List (List ℕ)) (count : ℕ) (shows : ℕ → Snapshot) (first : List Slot) (seen : List Snapshot) (slots : List Slot) (why : Fault) : Type 0 where
+pub record StoppedIn (told_in told : Bool) (ways : Ways) (headers : Bool) (names : List (List ℕ)) (count : ℕ)
+    (shows : ℕ → Snapshot) (first : List Slot) (seen : List Snapshot) (slots : List Slot) (why : Fault) : Type 0 where
   pub looks : List Look
   pub saw : SawOrNot (snapshots looks) (shows (length looks)) seen
   pub made : Made told_in ways names shows looks
@@ -52,11 +56,14 @@ pub record Leaves (told : Bool) (followed : Followed) (first new : List Slot) (s
   pub wrote : Wrote told followed.out followed.messages first new
   pub status_is : status ≡ (if followed.has_failed then 1 else 0)
 
--- A run ended so: these looks and no others were made, as many as were asked for, or those after which nothing more can come, and the
--- outputs have exactly what they give; or a look was stopped, and the outputs have all of the looks before it, a beginning of it, and
--- the message; or there was no memory to begin, and no look was made.
-pub data FollowEndsAs (told_in told : Bool) (ways : Ways) (headers : Bool) (names : List (List ℕ)) (count : ℕ) (shows : ℕ → Snapshot) (first : List Slot) (seen : List Snapshot) (watched : List Watched) (new : List Slot) (status : ℕ) : Type 0 where
-  looked : (looks : List Look) (shares : List Share) → seen ≡ snapshots looks → AreBroken looks names watched → Made told_in ways names shows looks → length looks ≤ count
+-- A run ended so: these looks and no others were made, as many as were asked for, or those after which nothing more can
+-- come, and the outputs have exactly what they give; or a look was stopped, and the outputs have all of the looks
+-- before it, a beginning of it, and the message; or there was no memory to begin, and no look was made.
+pub data FollowEndsAs (told_in told : Bool) (ways : Ways) (headers : Bool) (names : List (List ℕ)) (count : ℕ)
+    (shows : ℕ → Snapshot) (first : List Slot) (seen : List Snapshot) (watched : List Watched) (new : List Slot)
+    (status : ℕ) : Type 0 where
+  looked : (looks : List Look) (shares : List Share) → seen ≡ snapshots looks → AreBroken looks names watched
+      → Made told_in ways names shows looks → length looks ≤ count
       → (length looks < count → (0 < length looks) × (told_in ≡ true → is_alive ways names looks ≡ false))
       → (told_in ≡ true → shares ≡ shares_of ways names looks) → Leaves told (made_of headers shares) first new status
       → FollowEndsAs told_in told ways headers names count shows first seen watched new status

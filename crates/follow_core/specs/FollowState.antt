@@ -31,7 +31,9 @@ new_state name = record { text = name; standing = New }
 
 -- these names are to be followed; no look was made yet
 abbrev pub opened_follow : Bool → Start → Bool → List (List ℕ) → FollowState
-opened_follow by_name start headers names = record { by_name = by_name; start = start; names = map new_state names; printer = fresh_printer headers; stage = Fresh; has_failed = false }
+opened_follow by_name start headers names =
+    record { by_name = by_name; start = start; names = map new_state names; printer = fresh_printer headers;
+    stage = Fresh; has_failed = false }
 
 -- each name can be looked at
 abbrev pub AllReady : List NameState → List Watched → Type 0
@@ -48,12 +50,14 @@ CanLook follow watched slots = elim follow.stage [
 -- before the first look the names are new; then each is watched, and they stand as after these looks
 abbrev pub StandsIn : Bool → Ways → List Look → List NameState → List Watched → Stage → Type 0
 StandsIn told ways looks names watched Fresh = (looks ≡ []) × (names ≡ map new_state (texts names))
-StandsIn told ways looks names watched Looking = AllStand told ways looks names watched × (length watched ≡ length names)
+StandsIn told ways looks names watched Looking = AllStand told ways looks names watched
+    × (length watched ≡ length names)
 StandsIn told ways looks names watched Over = ⊥
 
--- These looks at these names were made, from the outputs as they were at first: they have exactly what the looks give. Where the files
--- don't tell their bytes, they have something.
-pub record Holds (told_in told : Bool) (ways : Ways) (headers : Bool) (names : List (List ℕ)) (looks : List Look) (first : List Slot) (follow : FollowState) (watched : List Watched) (slots : List Slot) : Type 0 where
+-- These looks at these names were made, from the outputs as they were at first: they have exactly what the looks give.
+-- Where the files don't tell their bytes, they have something.
+pub record Holds (told_in told : Bool) (ways : Ways) (headers : Bool) (names : List (List ℕ)) (looks : List Look)
+    (first : List Slot) (follow : FollowState) (watched : List Watched) (slots : List Slot) : Type 0 where
   pub asked : ways ≡ ways_of follow.by_name follow.start
   pub same : texts follow.names ≡ names
   pub stand : StandsIn told_in ways looks follow.names watched follow.stage
@@ -63,15 +67,20 @@ pub record Holds (told_in told : Bool) (ways : Ways) (headers : Bool) (names : L
   pub failed : any_failed shares ≡ follow.has_failed
 
 -- what a look that was stopped gave: nothing; or all of the names before one, and of that a beginning
-pub data Begun (told_in : Bool) (ways : Ways) (names : List (List ℕ)) (looks : List Look) (snapshot : Snapshot) : List Share → Type 0 where
+pub data Begun (told_in : Bool) (ways : Ways) (names : List (List ℕ)) (looks : List Look) (snapshot : Snapshot) : List
+    Share → Type 0 where
   nothing : Begun told_in ways names looks snapshot []
   up_to : (fates : List Fate) (place : ℕ) (shares : List Share) (share : Share) → place < length names
-      → (told_in ≡ true → shares ≡ shares_at_look_from ways looks (record { snapshot = snapshot; fates = fates }) 0 (take place names))
-      → (told_in ≡ true → BeginsShare share (share_of ways looks (record { snapshot = snapshot; fates = fates }) place (slice_index_or names place [])))
+      → (told_in ≡ true → shares ≡ shares_at_look_from ways looks (record { snapshot = snapshot; fates = fates }) 0
+          (take place names))
+      → (told_in ≡ true → BeginsShare share
+          (share_of ways looks (record { snapshot = snapshot; fates = fates }) place (slice_index_or names place [])))
       → Begun told_in ways names looks snapshot (shares ++ share ∷ [])
 
--- Following ended in the look after these: the outputs had all that these give, and got a beginning of what that one gives.
-pub record Halted (told_in told : Bool) (ways : Ways) (headers : Bool) (names : List (List ℕ)) (looks : List Look) (snapshot : Snapshot) (first slots : List Slot) (why : Fault) : Type 0 where
+-- Following ended in the look after these: the outputs had all that these give, and got a beginning of what that one
+-- gives.
+pub record Halted (told_in told : Bool) (ways : Ways) (headers : Bool) (names : List (List ℕ)) (looks : List Look)
+    (snapshot : Snapshot) (first slots : List Slot) (why : Fault) : Type 0 where
   pub shares : List Share
   pub are : told_in ≡ true → shares ≡ shares_of ways names looks
   pub printer : PrinterState
@@ -86,25 +95,32 @@ abbrev pub SawOrNot : List Snapshot → Snapshot → List Snapshot → Type 0
 SawOrNot seen snapshot seen_new = (seen_new ≡ seen) ⊎ (seen_new ≡ seen ++ snapshot ∷ [])
 
 -- whatever looks were made before, one more was made, which saw this
-abbrev pub LooksOn : (told_in told : Bool) → Snapshot → FollowState → List Watched → List Slot → FollowState → List Watched → List Slot → Type 0
-LooksOn told_in told snapshot old watched slots new watched_new slots_new = (ways : Ways) (headers : Bool) (names : List (List ℕ)) (looks : List Look) (first : List Slot)
+abbrev pub LooksOn : (told_in told : Bool) → Snapshot → FollowState → List Watched → List Slot → FollowState
+    → List Watched → List Slot → Type 0
+LooksOn told_in told snapshot old watched slots new watched_new slots_new =
+    (ways : Ways) (headers : Bool) (names : List (List ℕ)) (looks : List Look) (first : List Slot)
     → Holds told_in told ways headers names looks first old watched slots → AllKeep told_in ways looks snapshot names
-    → (fates : List Fate) × Holds told_in told ways headers names (looks ++ record { snapshot = snapshot; fates = fates } ∷ []) first new watched_new slots_new
+    → (fates : List Fate) × Holds told_in told ways headers names
+        (looks ++ record { snapshot = snapshot; fates = fates } ∷ []) first new watched_new slots_new
 
 -- whatever looks were made before, the next one was stopped
-abbrev pub StopsOn : (told_in told : Bool) → Snapshot → FollowState → List Watched → List Slot → List Slot → Fault → Type 0
-StopsOn told_in told snapshot old watched slots slots_new why = (ways : Ways) (headers : Bool) (names : List (List ℕ)) (looks : List Look) (first : List Slot)
+abbrev pub StopsOn : (told_in told : Bool) → Snapshot → FollowState → List Watched → List Slot → List Slot → Fault
+    → Type 0
+StopsOn told_in told snapshot old watched slots slots_new why =
+    (ways : Ways) (headers : Bool) (names : List (List ℕ)) (looks : List Look) (first : List Slot)
     → Holds told_in told ways headers names looks first old watched slots → AllKeep told_in ways looks snapshot names
     → Halted told_in told ways headers names looks snapshot first slots_new why
 
 -- the name at this place goes on: it wasn't dropped, and it is followed by name or a file of it is open
 abbrev pub goes_on_at : Ways → List Look → ℕ → List ℕ → Bool
-goes_on_at ways looks place name = not (is_dropped place looks) && (ways.by_name || is_some (open_after ways.by_name name (snapshots looks)))
+goes_on_at ways looks place name = not (is_dropped place looks)
+    && (ways.by_name || is_some (open_after ways.by_name name (snapshots looks)))
 
 -- one of the names from this place on does
 abbrev pub is_alive_from : Ways → List Look → ℕ → List (List ℕ) → Bool
 is_alive_from ways looks place [] = false
-is_alive_from ways looks place (name ∷ names) = goes_on_at ways looks place name || is_alive_from ways looks (1 + place) names
+is_alive_from ways looks place (name ∷ names) =
+    goes_on_at ways looks place name || is_alive_from ways looks (1 + place) names
 
 -- a further look can give something
 abbrev pub is_alive : Ways → List (List ℕ) → List Look → Bool

@@ -17,13 +17,15 @@ abbrev pub is_none : Option (List ℕ) → Bool
 is_none None = true
 is_none (Some last) = false
 
--- Where headers are written: at the first look each file that was opened has one; later one stands before text that isn't empty, unless
--- the last header was of that name.
+-- Where headers are written: at the first look each file that was opened has one; later one stands before text that
+-- isn't empty, unless the last header was of that name.
 abbrev pub has_header : Bool → Option (List ℕ) → Share → Bool
-has_header headers last share = headers && (share.is_opened || (not (is_empty share.bytes) && not (is_last share.name last)))
+has_header headers last share = headers
+    && (share.is_opened || (not (is_empty share.bytes) && not (is_last share.name last)))
 
 abbrev pub share_text : Bool → Option (List ℕ) → Share → List ℕ
-share_text headers last share = (if has_header headers last share then header_of share.name (is_none last) else []) ++ share.bytes
+share_text headers last share = (if has_header headers last share then header_of share.name (is_none last) else [])
+    ++ share.bytes
 
 -- whose the last header is after that
 abbrev pub header_after : Bool → Option (List ℕ) → Share → Option (List ℕ)
@@ -32,7 +34,8 @@ header_after headers last share = if has_header headers last share then Some sha
 -- the text of shares, where the last header before them was of this name
 abbrev pub text_from : Bool → Option (List ℕ) → List Share → List ℕ
 text_from headers last [] = []
-text_from headers last (share ∷ shares) = share_text headers last share ++ text_from headers (header_after headers last share) shares
+text_from headers last (share ∷ shares) =
+    share_text headers last share ++ text_from headers (header_after headers last share) shares
 
 abbrev pub last_header_from : Bool → Option (List ℕ) → List Share → Option (List ℕ)
 last_header_from headers last [] = last
@@ -56,7 +59,8 @@ pub record Followed : Type 0 where
   pub has_failed : Bool
 
 abbrev pub made_of : Bool → List Share → Followed
-made_of headers shares = record { out = text_from headers None shares; messages = messages_of shares; has_failed = any_failed shares }
+made_of headers shares = record { out = text_from headers None shares; messages = messages_of shares;
+    has_failed = any_failed shares }
 
 -- what following these names through these looks writes and says
 abbrev pub followed : Ways → Bool → List (List ℕ) → List Look → Followed

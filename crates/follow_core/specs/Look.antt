@@ -6,7 +6,8 @@ use Rattle.follow_core.specs.Version.{Entry, entries_of}
 -- how a name came through a look
 pub data Fate : Type 0 where
   sound : Fate
-  -- A call that looks or opens failed. Of the messages and bytes that the look gives for the name, this number of each was given before that.
+  -- A call that looks or opens failed. Of the messages and bytes that the look gives for the name, this number of each
+  -- was given before that.
   unopened : ℕ → ℕ → Fate
   -- a call that reads the open file, or asks how long it is, failed; the same
   unread : ℕ → ℕ → Fate
@@ -37,7 +38,8 @@ abbrev pub is_first : List Look → Bool
 is_first [] = true
 is_first (look ∷ looks) = false
 
--- how the names are followed: by name, or by the file that was opened; and what is written of a file when it is opened first
+-- how the names are followed: by name, or by the file that was opened; and what is written of a file when it is opened
+-- first
 pub record Ways : Type 0 where
   pub by_name : Bool
   pub start : List ℕ → List ℕ

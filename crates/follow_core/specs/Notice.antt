@@ -21,9 +21,11 @@ line_of words name = tool_name Tail ++ codes ": " ++ in_quotes name ++ codes ": 
 abbrev pub notice_of : Notice → List ℕ → List ℕ
 notice_of notice name = line_of (notice_words notice) name
 
--- What is told between two neighbours: nothing within a run and between gaps; where another run follows, whether it is of the same file.
+-- What is told between two neighbours: nothing within a run and between gaps; where another run follows, whether it is
+-- of the same file.
 abbrev pub notices_between : Entry → Entry → List Notice
-notices_between (version v) (version w) = if goes_on v w then [] else (if v.file == w.file then Truncated else Replaced) ∷ []
+notices_between (version v) (version w) = if goes_on v w then []
+    else (if v.file == w.file then Truncated else Replaced) ∷ []
 notices_between (version v) gap = Inaccessible ∷ []
 notices_between gap (version w) = Appeared ∷ []
 notices_between gap gap = []

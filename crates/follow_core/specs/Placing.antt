@@ -1,13 +1,8 @@
 -- Looks that are placed among edits.
-use Rattle.std.specs.Prelude.{◌≡◌, ℕ, Bool, false, List, [], ◌∷◌, ◌++◌, map, bytes_eq}
+use Rattle.std.specs.Prelude.{◌≡◌, ℕ, Bool, false, List, [], ◌∷◌, ◌++◌, bytes_eq}
 use Rattle.watch_core.specs.Edits.{Edit, append, truncate, replace, remove, snapshots_of}
 use Rattle.follow_core.specs.Version.{Entry, entries_of}
 use Rattle.follow_core.specs.Run.{name_text, AreKept}
-use Rattle.follow_core.specs.Look.{Look}
-
--- a look after each of these lists of edits, through which all names come
-abbrev pub looks_after : List (List Edit) → List Look
-looks_after looks = map (λ snapshot. record { snapshot = snapshot; fates = [] }) (snapshots_of looks)
 
 -- the edits before all looks, where each list of them is followed by a look
 abbrev pub all_edits : List (List Edit) → List Edit
@@ -22,8 +17,8 @@ IsUncut name (truncate other n ∷ edits) = (bytes_eq name other ≡ false) × I
 IsUncut name (replace other bytes ∷ edits) = IsUncut name edits
 IsUncut name (remove other ∷ edits) = IsUncut name edits
 
--- One look after these edits sees all that they do: a truncation, a replacement or a removal is the last of them, and no file is
--- truncated that was appended to among them.
+-- One look after these edits sees all that they do: a truncation, a replacement or a removal is the last of them, and
+-- no file is truncated that was appended to among them.
 abbrev pub AreSeen : List Edit → Type 0
 AreSeen [] = Unit {0}
 AreSeen (edit ∷ []) = Unit {0}

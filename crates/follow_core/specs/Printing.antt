@@ -17,4 +17,5 @@ fresh_printer headers = record { headers = headers; last = None }
 -- a beginning of the text was written before standard output broke, or before memory was wanting
 pub data Short (told : Bool) (text : List ℕ) (old new : List Slot) : Fault → Type 0 where
   broke : (n : ℕ) → BrokeAfter told old new 0 text n → Short told text old new (fault.Write 0)
-  no_room : (n : ℕ) → n ≤ length text → new ≡ with_written 0 (told_of told (take n text)) old → Short told text old new fault.Memory
+  no_room : (n : ℕ) → n ≤ length text → new ≡ with_written 0 (told_of told (take n text)) old
+      → Short told text old new fault.Memory

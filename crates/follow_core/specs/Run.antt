@@ -34,13 +34,15 @@ abbrev pub whole_text : List (List Version) → List ℕ
 whole_text [] = []
 whole_text (run ∷ runs) = last_contents run ++ whole_text runs
 
--- of the first run the start part of its first contents and what came after these, and of each other run its last contents
+-- of the first run the start part of its first contents and what came after these, and of each other run its last
+-- contents
 abbrev pub begun_text : (List ℕ → List ℕ) → List (List Version) → List ℕ
 begun_text start [] = []
-begun_text start (run ∷ runs) = start (first_contents run) ++ drop (length (first_contents run)) (last_contents run) ++ whole_text runs
+begun_text start (run ∷ runs) = start (first_contents run) ++ drop (length (first_contents run)) (last_contents run)
+    ++ whole_text runs
 
--- The text of a name: of a run that begins at the first look the start part and what came later, and any other run whole. The start
--- part is what the tool gives of a file that is not followed.
+-- The text of a name: of a run that begins at the first look the start part and what came later, and any other run
+-- whole. The start part is what the tool gives of a file that is not followed.
 abbrev pub name_text : (List ℕ → List ℕ) → List Entry → List ℕ
 name_text start [] = []
 name_text start (gap ∷ entries) = whole_text (runs_of entries)

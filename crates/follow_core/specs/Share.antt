@@ -18,12 +18,15 @@ pub record Share : Type 0 where
 -- what the name's text gains by one more look
 abbrev pub gain : Ways → List ℕ → List Look → Look → List ℕ
 gain ways name before look =
-    drop (length (name_text ways.start (entries_in ways name before))) (name_text ways.start (entries_in ways name (before ++ look ∷ [])))
+    drop (length (name_text ways.start (entries_in ways name before)))
+        (name_text ways.start (entries_in ways name (before ++ look ∷ [])))
 
 -- what is told of the name at that look
 abbrev pub told_at_look : Ways → List ℕ → List Look → Look → List (List ℕ)
 told_at_look ways name before look =
-    map (λ notice. notice_of notice name) (drop (length (notices_of (entries_in ways name before))) (notices_of (entries_in ways name (before ++ look ∷ []))))
+    map (λ notice. notice_of notice name)
+        (drop (length (notices_of (entries_in ways name before)))
+        (notices_of (entries_in ways name (before ++ look ∷ []))))
 
 -- a name that was dropped gives nothing
 abbrev pub no_share : List ℕ → Share
@@ -31,12 +34,14 @@ no_share name = record { name = name; is_opened = false; bytes = []; messages = 
 
 -- one that leads nowhere at the first look is told as one that can't be opened
 abbrev pub missing_share : List ℕ → Share
-missing_share name = record { name = name; is_opened = false; bytes = []; messages = message_of Tail (Open 0) name ∷ []; has_failed = true }
+missing_share name = record { name = name; is_opened = false; bytes = []; messages = message_of Tail (Open 0) name ∷ [];
+    has_failed = true }
 
 abbrev pub share_by : Ways → List ℕ → List Look → Look → Fate → Share
 share_by ways name before look sound =
     if is_first before && is_missing (entries_in ways name (before ++ look ∷ [])) then missing_share name
-    else record { name = name; is_opened = is_first before; bytes = gain ways name before look; messages = told_at_look ways name before look; has_failed = false }
+    else record { name = name; is_opened = is_first before; bytes = gain ways name before look;
+        messages = told_at_look ways name before look; has_failed = false }
 share_by ways name before look (unopened notices bytes) = record {
   name = name;
   is_opened = false;
@@ -54,11 +59,13 @@ share_by ways name before look (unread notices bytes) = record {
 
 -- what a look after these gives for the name at this place
 abbrev pub share_of : Ways → List Look → Look → ℕ → List ℕ → Share
-share_of ways before look place name = if is_dropped place before then no_share name else share_by ways name before look (fate_at place look)
+share_of ways before look place name = if is_dropped place before then no_share name
+    else share_by ways name before look (fate_at place look)
 
 abbrev pub shares_at_look_from : Ways → List Look → Look → ℕ → List (List ℕ) → List Share
 shares_at_look_from ways before look place [] = []
-shares_at_look_from ways before look place (name ∷ names) = share_of ways before look place name ∷ shares_at_look_from ways before look (place + 1) names
+shares_at_look_from ways before look place (name ∷ names) =
+    share_of ways before look place name ∷ shares_at_look_from ways before look (place + 1) names
 
 -- what a look after these gives, for the names in order
 abbrev pub shares_at_look : Ways → List (List ℕ) → List Look → Look → List Share
@@ -66,7 +73,8 @@ shares_at_look ways names before look = shares_at_look_from ways before look 0 n
 
 abbrev pub shares_from : Ways → List (List ℕ) → List Look → List Look → List Share
 shares_from ways names before [] = []
-shares_from ways names before (look ∷ looks) = shares_at_look ways names before look ++ shares_from ways names (before ++ look ∷ []) looks
+shares_from ways names before (look ∷ looks) =
+    shares_at_look ways names before look ++ shares_from ways names (before ++ look ∷ []) looks
 
 -- what all looks give, look by look and at each for the names in order
 abbrev pub shares_of : Ways → List (List ℕ) → List Look → List Share

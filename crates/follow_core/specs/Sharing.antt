@@ -1,5 +1,5 @@
--- How what a look gives for a name comes to the outputs: text to standard output, under a header where one is due, and lines to
--- standard error.
+-- How what a look gives for a name comes to the outputs: text to standard output, under a header where one is due, and
+-- lines to standard error.
 use Rattle.std.specs.Prelude.{◌≡◌, ℕ, Bool, true, List, ◌∷◌, IsTrue}
 use Rattle.ports_core.specs.Slot.{Slot, adds, is_open, is_writable, slot_at, told_of}
 use Rattle.follow_core.specs.Telling.{TellsAll}
@@ -11,20 +11,24 @@ use Rattle.ports_core.specs.declared.fault.Fault.{Fault}
 -- this text came to standard output, and these lines to standard error; no other output changed
 abbrev pub Wrote : Bool → List ℕ → List (List ℕ) → List Slot → List Slot → Type 0
 Wrote told text lines old new = (output error : Slot) (others : List Slot) → old ≡ output ∷ error ∷ others
-    → (error_after : Slot) × TellsAll told lines error error_after × (new ≡ adds (told_of told text) output ∷ error_after ∷ others)
+    → (error_after : Slot) × TellsAll told lines error error_after
+        × (new ≡ adds (told_of told text) output ∷ error_after ∷ others)
 
 -- these lines did, and a beginning of the text, before standard output broke or memory was wanting
 abbrev pub WroteShort : Bool → List ℕ → List (List ℕ) → List Slot → List Slot → Fault → Type 0
 WroteShort told text lines old new fault = (output error : Slot) (others : List Slot) → old ≡ output ∷ error ∷ others
-    → (error_after : Slot) × TellsAll told lines error error_after × Short told text (output ∷ error_after ∷ others) new fault
+    → (error_after : Slot) × TellsAll told lines error error_after
+        × Short told text (output ∷ error_after ∷ others) new fault
 
 -- all shares came there, one after another
-pub record AllShared (told : Bool) (printer : PrinterState) (shares : List Share) (old : List Slot) (after : PrinterState) (new : List Slot) : Type 0 where
+pub record AllShared (told : Bool) (printer : PrinterState) (shares : List Share) (old : List Slot)
+    (after : PrinterState) (new : List Slot) : Type 0 where
   pub printer_is : after ≡ record printer { last = last_header_from printer.headers printer.last shares }
   pub slots : Wrote told (text_from printer.headers printer.last shares) (messages_of shares) old new
 
 -- a beginning of them did
-pub record AllShort (told : Bool) (printer : PrinterState) (shares : List Share) (old new : List Slot) (fault : Fault) : Type 0 where
+pub record AllShort (told : Bool) (printer : PrinterState) (shares : List Share) (old new : List Slot)
+    (fault : Fault) : Type 0 where
   pub slots : WroteShort told (text_from printer.headers printer.last shares) (messages_of shares) old new fault
 
 -- standard error is open, broken or not

@@ -37,7 +37,8 @@ pub record StandsAt (last : Entry) (opened : Option ℕ) (position : ℕ) : Type
   pub seen : position ≡ seen_length last
 
 -- It is looked at again: its open file is that of the last entry, and this much of it was seen.
-pub record IsFollowed (told : Bool) (ways : Ways) (looks : List Look) (place : ℕ) (name : List ℕ) (watched : Watched) (position : ℕ) : Type 0 where
+pub record IsFollowed (told : Bool) (ways : Ways) (looks : List Look) (place : ℕ) (name : List ℕ) (watched : Watched)
+    (position : ℕ) : Type 0 where
   pub named : watched.name ≡ name
   pub unbroken : watched.is_broken ≡ false
   pub kept : is_dropped place looks ≡ false
@@ -52,7 +53,8 @@ pub record IsMissed (told : Bool) (ways : Ways) (looks : List Look) (place : ℕ
   pub unopened : told ≡ true → open_after ways.by_name name (snapshots looks) ≡ None
 
 -- It is looked at no more: a call on it failed, so that it is broken, or it was missing.
-pub record IsLeft (told : Bool) (ways : Ways) (looks : List Look) (place : ℕ) (name : List ℕ) (watched : Watched) : Type 0 where
+pub record IsLeft (told : Bool) (ways : Ways) (looks : List Look) (place : ℕ) (name : List ℕ)
+    (watched : Watched) : Type 0 where
   pub begun : is_first looks ≡ false
   pub why : ((is_dropped place looks ≡ true) × (watched.is_broken ≡ true)) ⊎ IsMissed told ways looks place name
 
@@ -64,12 +66,15 @@ Stands told ways looks place name watched Left = IsLeft told ways looks place na
 -- all names stand so, each at its place
 abbrev pub AllStand : Bool → Ways → List Look → List NameState → List Watched → Type 0
 AllStand told ways looks names watched = (place : ℕ) → place < length names
-    → Stands told ways looks place (state_at names place).text (watched_at watched place) (state_at names place).standing
+    → Stands told ways looks place (state_at names place).text (watched_at watched place)
+        (state_at names place).standing
 
 -- a file that is appended to keeps its bytes, in these looks and one more
 abbrev pub KeepsBytes : Bool → Ways → List Look → Snapshot → List ℕ → Type 0
-KeepsBytes told ways looks snapshot name = told ≡ true → AreKept (entries_in ways name (looks ++ record { snapshot = snapshot; fates = [] } ∷ []))
+KeepsBytes told ways looks snapshot name = told ≡ true
+    → AreKept (entries_in ways name (looks ++ record { snapshot = snapshot; fates = [] } ∷ []))
 
 -- that is so of all these names
 abbrev pub AllKeep : Bool → Ways → List Look → Snapshot → List (List ℕ) → Type 0
-AllKeep told ways looks snapshot names = (place : ℕ) → place < length names → KeepsBytes told ways looks snapshot (slice_index_or names place [])
+AllKeep told ways looks snapshot names = (place : ℕ) → place < length names
+    → KeepsBytes told ways looks snapshot (slice_index_or names place [])

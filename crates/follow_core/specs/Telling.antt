@@ -10,8 +10,8 @@ use Rattle.ports_core.specs.declared.fault.Fault.TheVariants.{Memory, Open, Read
 abbrev pub IsFailure : List ℕ → Type 0
 IsFailure line = (name : List ℕ) × ((line ≡ message_of Tail (Open 0) name) ⊎ (line ≡ message_of Tail (Read 0) name))
 
--- An output got a line. Where memory for the message of a failure is exhausted, the line that says so stands in its place; a notice has
--- no other in its place.
+-- An output got a line. Where memory for the message of a failure is exhausted, the line that says so stands in its
+-- place; a notice has no other in its place.
 pub record Tells (told : Bool) (line : List ℕ) (old new : Slot) : Type 0 where
   pub said : List ℕ
   pub is : (said ≡ line) ⊎ (IsFailure line × (said ≡ message_of Tail Memory []))

@@ -35,7 +35,8 @@ gap_if_none (Some file) = []
 
 -- what a look adds where this file was open: a name is followed by itself, or else by the file that was opened
 abbrev pub entries_at_look : Bool → List ℕ → Option ℕ → Snapshot → List Entry
-entries_at_look true name opened snapshot = entries_open snapshot opened ++ entries_led snapshot opened (snapshot.leads name)
+entries_at_look true name opened snapshot =
+    entries_open snapshot opened ++ entries_led snapshot opened (snapshot.leads name)
 entries_at_look false name opened snapshot = entries_open snapshot opened ++ gap_if_none opened
 
 -- the file that is open after that look
@@ -46,16 +47,19 @@ open_after_look false name opened snapshot = opened
 abbrev pub entries_later : Bool → List ℕ → Option ℕ → List Snapshot → List Entry
 entries_later by_name name opened [] = []
 entries_later by_name name opened (snapshot ∷ snapshots) =
-    entries_at_look by_name name opened snapshot ++ entries_later by_name name (open_after_look by_name name opened snapshot) snapshots
+    entries_at_look by_name name opened snapshot
+        ++ entries_later by_name name (open_after_look by_name name opened snapshot) snapshots
 
 -- The first look opens the file that the name leads to, if there is one.
 abbrev pub entries_of : Bool → List ℕ → List Snapshot → List Entry
 entries_of by_name name [] = []
-entries_of by_name name (first ∷ later) = entries_led first None (first.leads name) ++ entries_later by_name name (first.leads name) later
+entries_of by_name name (first ∷ later) =
+    entries_led first None (first.leads name) ++ entries_later by_name name (first.leads name) later
 
 abbrev pub open_after_later : Bool → List ℕ → Option ℕ → List Snapshot → Option ℕ
 open_after_later by_name name opened [] = opened
-open_after_later by_name name opened (snapshot ∷ snapshots) = open_after_later by_name name (open_after_look by_name name opened snapshot) snapshots
+open_after_later by_name name opened (snapshot ∷ snapshots) =
+    open_after_later by_name name (open_after_look by_name name opened snapshot) snapshots
 
 -- the file of a name that is open after these looks
 abbrev pub open_after : Bool → List ℕ → List Snapshot → Option ℕ

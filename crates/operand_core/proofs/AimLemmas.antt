@@ -10,9 +10,10 @@ use Rattle.bre_core.specs.declared.fault.BreFault.{BreFault}
 use Rattle.bre_core.specs.declared.fault.BreFault.TheVariants.{Empty, BackReference, Escape, OpenGroup, CloseGroup, Interval, Bracket, Range, Class, TooLarge, Memory}
 use Rattle.operand_core.specs.Operand.{Offset, Target, Number, Search, Times}
 use Rattle.operand_core.specs.Word.{number, spelling}
-use Rattle.operand_core.specs.Seen.{seen}
+use Rattle.operand_core.specs.inner.Seen.{seen}
 use Rattle.operand_core.specs.Reading.{line, match, Aimed, aims, fails, aim_of}
-use Rattle.operand_core.specs.Aiming.{refusal_of, IsAimed, is_target, is_wrong, is_refused, no_memory}
+use Rattle.operand_core.specs.Aiming.{refusal_of}
+use Rattle.operand_core.specs.inner.Aiming.{IsAimed, is_target, is_wrong, is_refused, no_memory}
 use Rattle.operand_core.specs.declared.word.Word.{Word}
 use Rattle.operand_core.specs.declared.word.Word.TheVariants as word_is
 use Rattle.operand_core.specs.declared.operand_fault.OperandFaultKind.{OperandFaultKind}

@@ -7,8 +7,8 @@ use Rattle.operand_core.specs.Operand.{Target, Number, Search, Times, Count, Ope
 use Rattle.operand_core.specs.Word.{spelling}
 use Rattle.operand_core.specs.Reading.{Aim, line, match, Spelled, Aimed, aims, fails, aim_of, least_after, times_by, Words, no_more, failed, with_operand, words_from, words_of, IsTarget, IsRead, AreRead, Asks, HasRefused, IsFault}
 use Rattle.operand_core.specs.Reading as reading
-use Rattle.operand_core.specs.Aiming.{IsAimed, is_target, is_wrong, is_refused, no_memory}
-use Rattle.operand_core.specs.Repeating.{least_by, SayTimes, no_word, again, other}
+use Rattle.operand_core.specs.inner.Aiming.{IsAimed, is_target, is_wrong, is_refused, no_memory}
+use Rattle.operand_core.specs.inner.Repeating.{least_by, SayTimes, no_word, again, other}
 use Rattle.operand_core.specs.declared.operand_fault.OperandFaultKind.{OperandFaultKind}
 use Rattle.operand_core.specs.declared.operand_fault.OperandFaultKind.TheVariants as kind
 

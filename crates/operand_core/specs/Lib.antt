@@ -2,7 +2,6 @@ pub mod Operand
 pub mod Style
 pub mod Fault
 pub mod Word
-pub mod Seen
 pub mod Reading
-pub mod Repeating
 pub mod Aiming
+pub mod inner

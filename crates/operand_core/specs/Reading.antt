@@ -22,11 +22,11 @@ pub record Spelled : Type 0 where
   pub times : Times
 
 pub data Aimed : Type 0 where
-  aims : Aim → Aimed
-  fails : OperandFaultKind → Aimed
+  pub aims : Aim → Aimed
+  pub fails : OperandFaultKind → Aimed
 
--- What a word aims at that no repetition before it takes in. `least` is the nearest line number before it, 0 where there is none. Only a
--- pattern between `/` and `/` is kept.
+-- What a word aims at that no repetition before it takes in. `least` is the nearest line number before it, 0 where
+-- there is none. Only a pattern between `/` and `/` is kept.
 abbrev pub aim_of : (least : ℕ) → Spelling → Aimed
 aim_of least (number n) = if nat_lt n least then fails kind.LineOrder else aims (line n)
 aim_of least (search delimiter text offset) = aims (match (delimiter == 47) (unescaped delimiter text) offset)
@@ -57,7 +57,8 @@ abbrev pub failed : OperandFaultKind → ℕ → Words
 failed what index = record { operands = []; fault = Some (record { kind = what; index = index }) }
 
 abbrev pub with_operand : ℕ → Aim → Times → Words → Words
-with_operand index aim times words = record { operands = record { index = index; aim = aim; times = times } ∷ words.operands; fault = words.fault }
+with_operand index aim times words = record {
+    operands = record { index = index; aim = aim; times = times } ∷ words.operands; fault = words.fault }
 
 -- What words ask for, of which the first has this index. A repetition belongs to the operand directly before it.
 abbrev pub words_from : (index least : ℕ) → List (List ℕ) → Words
@@ -78,7 +79,8 @@ abbrev pub words_of : List (List ℕ) → Words
 words_of [] = failed kind.Missing 0
 words_of (word ∷ words) = words_from 0 0 (word ∷ words)
 
--- The text is read as this pattern: it has this tree, with at most 255 groups open at once and at most 65,535 positions.
+-- The text is read as this pattern: it has this tree, with at most 255 groups open at once and at most 65,535
+-- positions.
 pub record IsPattern (text : List ℕ) (pattern : Pattern) : Type 0 where
   pub reads : Reads text pattern
   pub groups : depth_of pattern ≤ 255
@@ -94,7 +96,8 @@ abbrev pub IsTarget : Aim → Target → Type 0
 IsTarget (line n) (Number m) = m ≡ n
 IsTarget (line n) (Search pattern kept offset) = ⊥
 IsTarget (match is_kept text offset) (Number m) = ⊥
-IsTarget (match is_kept text offset) (Search pattern kept moved) = IsPattern text pattern × (kept ≡ is_kept) × (moved ≡ offset)
+IsTarget (match is_kept text offset) (Search pattern kept moved) = IsPattern text pattern × (kept ≡ is_kept)
+    × (moved ≡ offset)
 
 -- the pattern of an operand is read, and all else is as it was spelled
 pub record IsRead (spelled : Spelled) (operand : Operand) : Type 0 where
@@ -117,10 +120,11 @@ abbrev pub HasRefused : Aim → BreFault → Type 0
 HasRefused (line n) fault = ⊥
 HasRefused (match is_kept text offset) fault = IsRefused text fault
 
--- The first fault of the words, in their order: a word is wrong and all patterns before it are read, or a pattern is refused and those before it
--- are read. Want of memory may come at any word.
+-- The first fault of the words, in their order: a word is wrong and all patterns before it are read, or a pattern is
+-- refused and those before it are read. Want of memory may come at any word.
 pub data IsFault (words : List (List ℕ)) : OperandFault → Type 0 where
-  is_wrong : (fault : OperandFault) (read : List Operand) → (words_of words).fault ≡ Some fault → AreRead (words_of words).operands read → IsFault words fault
+  is_wrong : (fault : OperandFault) (read : List Operand) → (words_of words).fault ≡ Some fault
+      → AreRead (words_of words).operands read → IsFault words fault
   is_refused : (fault : BreFault) (front : List Spelled) (refused : Spelled) (rest : List Spelled) (read : List Operand)
       → (words_of words).operands ≡ front ++ refused ∷ rest → AreRead front read → HasRefused refused.aim fault
       → IsFault words (record { kind = kind.Bre fault; index = refused.index })

@@ -1,5 +1,5 @@
--- What one word of `csplit`'s operands spells (POSIX.1-2017, XCU csplit, OPERANDS; `{*}` is GNU's). A pattern is a text still. The bytes that
--- have a meaning: 37 `%`, 42 `*`, 43 `+`, 45 `-`, 47 `/`, 92 `\`, 123 `{`, 125 `}`.
+-- What one word of `csplit`'s operands spells (POSIX.1-2017, XCU csplit, OPERANDS; `{*}` is GNU's). A pattern is a text
+-- still. The bytes that have a meaning: 37 `%`, 42 `*`, 43 `+`, 45 `-`, 47 `/`, 92 `\`, 123 `{`, 125 `}`.
 use Rattle.std.specs.Prelude.{ℕ, ◌==◌, ◌&&◌, suc, Bool, false, not, List, [], ◌∷◌, codes, take, drop, Option, Some, None, Ok, Err, option_map, if◌then◌else◌}
 use Rattle.std.specs.Str.{bytes_eq}
 use Rattle.seg_core.specs.Count.{digits_of}
@@ -9,13 +9,13 @@ use Rattle.operand_core.specs.declared.operand_fault.OperandFaultKind.TheVariant
 
 pub data Spelling : Type 0 where
   -- a line number
-  number : ℕ → Spelling
+  pub number : ℕ → Spelling
   -- a delimiter, the text between it and the closing one as it stands, and the offset
-  search : (delimiter : ℕ) (text : List ℕ) → Offset → Spelling
+  pub search : (delimiter : ℕ) (text : List ℕ) → Offset → Spelling
   -- how often an operand is performed again
-  again : Times → Spelling
+  pub again : Times → Spelling
   -- it is none of these
-  wrong : OperandFaultKind → Spelling
+  pub wrong : OperandFaultKind → Spelling
 
 -- one or more digits, at most 2^63-1
 abbrev pub number_of : List ℕ → Option ℕ
@@ -32,8 +32,8 @@ numbered (Some n) = line_number n
 abbrev pub is_escape : (escaped : Bool) (byte : ℕ) → Bool
 is_escape escaped byte = byte == 92 && not escaped
 
--- The place of the closing delimiter: the last delimiter that isn't preceded by an odd number of backslashes. `escaped` says whether an
--- odd number of them stands directly before the text.
+-- The place of the closing delimiter: the last delimiter that isn't preceded by an odd number of backslashes. `escaped`
+-- says whether an odd number of them stands directly before the text.
 abbrev pub closing : (delimiter : ℕ) (escaped : Bool) → List ℕ → Option ℕ
 closing delimiter escaped [] = None
 closing delimiter escaped (byte ∷ text) = elim (closing delimiter (is_escape escaped byte) text) [
@@ -41,12 +41,14 @@ closing delimiter escaped (byte ∷ text) = elim (closing delimiter (is_escape e
   | None ↦ if byte == delimiter && not escaped then Some 0 else None
 ]
 
--- The text of the pattern: read from left to right, a `\` and the delimiter become the delimiter, and a `\` and any other byte stay.
+-- The text of the pattern: read from left to right, a `\` and the delimiter become the delimiter, and a `\` and any
+-- other byte stay.
 abbrev pub unescaped : ℕ → List ℕ → List ℕ
 unescaped delimiter [] = []
 unescaped delimiter (byte ∷ []) = byte ∷ []
 unescaped delimiter (byte ∷ next ∷ text) =
-    if byte == 92 then (if next == delimiter then delimiter ∷ unescaped delimiter text else byte ∷ next ∷ unescaped delimiter text)
+    if byte == 92 then (if next == delimiter then delimiter ∷ unescaped delimiter text
+        else byte ∷ next ∷ unescaped delimiter text)
     else byte ∷ unescaped delimiter (next ∷ text)
 
 -- nothing, or digits with a sign or without one

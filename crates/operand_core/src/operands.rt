@@ -1,7 +1,7 @@
 //! Reading a list of operands (POSIX.1-2017, XCU csplit, OPERANDS; `{*}` is GNU's).
 ghost use Rattle.std.specs.Prelude.{◌≡◌, ◌≤◌, ◌∷◌, ◌++◌, [], map, length, IfOk, IfErr, OnOk};
 ghost use Rattle.operand_core.specs.Reading.{Asks, IsFault, times_by};
-ghost use Rattle.operand_core.specs.Repeating.{SayTimes, least_by};
+ghost use Rattle.operand_core.specs.inner.Repeating.{SayTimes, least_by};
 ghost use Rattle.operand_core.specs.Word.{spelling};
 
 use crate::target::read_target;

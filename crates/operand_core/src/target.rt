@@ -1,6 +1,7 @@
 //! Where an operand cuts, from the word that says it.
 ghost use Rattle.std.specs.Prelude.{◌≡◌, ◌<◌, ◌++◌, IfOk, length};
-ghost use Rattle.operand_core.specs.Aiming.{IsAimed, refusal_of};
+ghost use Rattle.operand_core.specs.inner.Aiming.{IsAimed};
+ghost use Rattle.operand_core.specs.Aiming.{refusal_of};
 ghost use Rattle.operand_core.specs.Reading.{aim_of};
 ghost use Rattle.operand_core.specs.Word.{search, spelling, unescaped};
 ghost use Rattle.operand_core.specs.Word.{number as line_number};

@@ -2,9 +2,11 @@
 use Rattle.std.proofs.Common.{◌≡◌, ℕ, ◌+◌, ◌<◌, ◌≤◌, zero, suc, not, ◌&&◌, List, [], ◌∷◌, ◌++◌, length, take, Bool, true, false, IsTrue, refl, sym, ◌∙◌, ap, arith, length-append}
 use Rattle.std.proofs.lemmas.Bool.{false≢true}
 use Rattle.std.proofs.lemmas.List.{get_or_past, get_or_append_left}
-use Rattle.ports_core.specs.Slot.{Slot, Rose, KeepsBroken, is_open, has_file, can_write, no_slot, slot_at, changed_at, opened, unopened, adds, closes, breaks, with_written, with_broken, told_of, is_writable}
+use Rattle.ports_core.specs.Slot.{Slot, Rose, is_open, has_file, can_write, no_slot, slot_at, changed_at, opened, unopened, adds, closes, breaks, with_written, with_broken, told_of, is_writable}
+use Rattle.ports_core.specs.inner.Slot.{KeepsBroken}
 use Rattle.ports_core.specs.Swept.{Swept, none}
-use Rattle.ports_core.specs.Write.{BrokeAfter, WritesShort, broke}
+use Rattle.ports_core.specs.Write.{BrokeAfter}
+use Rattle.ports_core.specs.inner.Write.{WritesShort, broke}
 use Rattle.ports_core.specs.declared.fault.Fault.{Fault}
 use Rattle.ports_core.specs.declared.slot.Mode.{Mode}
 use Rattle.ports_core.specs.declared.slot.State.{State}

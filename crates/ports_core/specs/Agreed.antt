@@ -1,5 +1,5 @@
--- What all continuations of an input agree on, and on which of its bytes they don't. A continuation is what may still come: any bytes,
--- perhaps none.
+-- What all continuations of an input agree on, and on which of its bytes they don't. A continuation is what may still
+-- come: any bytes, perhaps none.
 use Rattle.std.specs.Prelude.{◌≡◌, ◌≢◌, ◌⊎◌, ℕ, ◌+◌, ◌-◌, ◌<◌, ◌≤◌, nat_lt, List, [], ◌∷◌, ◌++◌, All, get_or, length, map, if◌then◌else◌}
 use Rattle.ports_core.specs.Part.{File, Part, IsBeginning, Begins}
 use Rattle.ports_core.specs.Work.{Work}
@@ -27,7 +27,8 @@ pub record IsAgreed (work : Work) (x : List ℕ) (agreed : Part) : Type 0 where
   pub fewest : (y : List ℕ) × CanCome y × (length (outputs_of (work.whole (x ++ y))) ≡ length (outputs_of agreed))
   -- at each place two continuations have no more in common
   pub longest : (place : ℕ) → place < length (outputs_of agreed) → (y : List ℕ) × (z : List ℕ) × CanCome y × CanCome z
-      × ((bytes : List ℕ) → IsBeginning bytes (output_at (work.whole (x ++ y)) place) → IsBeginning bytes (output_at (work.whole (x ++ z)) place) → length bytes ≤ length (output_at agreed place))
+      × ((bytes : List ℕ) → IsBeginning bytes (output_at (work.whole (x ++ y)) place)
+          → IsBeginning bytes (output_at (work.whole (x ++ z)) place) → length bytes ≤ length (output_at agreed place))
 
 -- where a byte goes: to the output at this place, after this many bytes of it
 pub record Spot : Type 0 where
@@ -37,21 +38,24 @@ pub record Spot : Type 0 where
 abbrev pub spot : ℕ → ℕ → Spot
 spot place offset = record { place = place; offset = offset }
 
--- Where the outputs from a place on are, one after another, the bytes of an input: the spot of byte i, counted from 0. A byte that
--- they lack has none.
+-- Where the outputs from a place on are, one after another, the bytes of an input: the spot of byte i, counted from 0.
+-- A byte that they lack has none.
 abbrev pub spots_from : ℕ → List (List ℕ) → ℕ → List Spot
 spots_from place [] i = []
-spots_from place (bytes ∷ outputs) i = if nat_lt i (length bytes) then spot place i ∷ [] else spots_from (place + 1) outputs (i - length bytes)
+spots_from place (bytes ∷ outputs) i = if nat_lt i (length bytes) then spot place i ∷ []
+    else spots_from (place + 1) outputs (i - length bytes)
 
--- The waiting bytes are the last of x, and exactly those on which continuations differ. `spots_of x i` says where byte i goes where
--- the input is x: to a spot, to several, or nowhere.
+-- The waiting bytes are the last of x, and exactly those on which continuations differ. `spots_of x i` says where byte
+-- i goes where the input is x: to a spot, to several, or nowhere.
 pub record IsUndecided (spots_of : List ℕ → ℕ → List Spot) (x waiting : List ℕ) : Type 0 where
   pub before : List ℕ
   pub are_last : x ≡ before ++ waiting
   -- two continuations put a byte that waits to different spots, or one of them puts it nowhere
-  pub differ : (i : ℕ) → length before ≤ i → i < length x → (y : List ℕ) × (z : List ℕ) × CanCome y × CanCome z × (spots_of (x ++ y) i ≢ spots_of (x ++ z) i)
+  pub differ : (i : ℕ) → length before ≤ i → i < length x → (y : List ℕ) × (z : List ℕ) × CanCome y × CanCome z
+      × (spots_of (x ++ y) i ≢ spots_of (x ++ z) i)
   -- any other byte goes to the same spots, or nowhere, in all of them
-  pub decided : (i : ℕ) → i < length before → (y z : List ℕ) → CanCome y → CanCome z → spots_of (x ++ y) i ≡ spots_of (x ++ z) i
+  pub decided : (i : ℕ) → i < length before → (y z : List ℕ) → CanCome y → CanCome z
+      → spots_of (x ++ y) i ≡ spots_of (x ++ z) i
 
 -- the byte that goes to these spots goes to this one
 abbrev pub GoesTo : Spot → List Spot → Type 0
@@ -62,8 +66,10 @@ GoesTo at (one ∷ spots) = (at ≡ one) ⊎ GoesTo at spots
 pub record ArePlaced (work : Work) (spots_of : List ℕ → ℕ → List Spot) : Type 0 where
   -- a byte that goes to a spot stands there
   pub stands : (x : List ℕ) (i : ℕ) (at : Spot) → i < length x → GoesTo at (spots_of x i)
-      → (at.offset < length (output_at (work.whole x) at.place)) × (get_or (output_at (work.whole x) at.place) at.offset 0 ≡ get_or x i 0)
+      → (at.offset < length (output_at (work.whole x) at.place))
+          × (get_or (output_at (work.whole x) at.place) at.offset 0 ≡ get_or x i 0)
   -- one goes to each spot of the outputs
-  pub filled : (x : List ℕ) (at : Spot) → at.offset < length (output_at (work.whole x) at.place) → (i : ℕ) × (i < length x) × GoesTo at (spots_of x i)
+  pub filled : (x : List ℕ) (at : Spot) → at.offset < length (output_at (work.whole x) at.place) → (i : ℕ)
+      × (i < length x) × GoesTo at (spots_of x i)
   -- and no two go to the same
   pub apart : (x : List ℕ) (i j : ℕ) (at : Spot) → GoesTo at (spots_of x i) → GoesTo at (spots_of x j) → i ≡ j

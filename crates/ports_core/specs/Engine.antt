@@ -14,19 +14,19 @@ use Rattle.ports_core.specs.declared.fault.Fault.TheVariants as fault_is
 abbrev pub TakesIn : {E : Type 0} → (E → List ℕ → Type 0) → List ℕ → E → E → Type 0
 TakesIn Holds piece old new = (x : List ℕ) → Holds old x → Holds new (x ++ piece)
 
--- what an engine that opens no file owns: nothing is asked of the slots
-abbrev pub OwnsNone : {E : Type 0} → E → ℕ → List Slot → Type 0
-OwnsNone engine first slots = Unit {0}
-
--- The outputs are at some part of what the engine makes of x, from the state `before` on, and those opened since are its own.
-pub record StandsAt {E : Type 0} (Holds : E → List ℕ → Type 0) (Owns : E → ℕ → List Slot → Type 0) (engine : E) (told : Bool) (before : List Slot) (x : List ℕ) (part : Part) (now : List Slot) : Type 0 where
+-- The outputs are at some part of what the engine makes of x, from the state `before` on, and those opened since are
+-- its own.
+pub record StandsAt {E : Type 0} (Holds : E → List ℕ → Type 0) (Owns : E → ℕ → List Slot → Type 0) (engine : E)
+    (told : Bool) (before : List Slot) (x : List ℕ) (part : Part) (now : List Slot) : Type 0 where
   pub holds : Holds engine x
   pub owns : Owns engine (length before) now
   pub outputs : OutputsAt told before part now
 
 -- if the outputs had what was settled before the piece, they have what is settled with it
-abbrev pub PutsOut : {E : Type 0} → (E → List ℕ → Type 0) → (E → ℕ → List Slot → Type 0) → (E → Work) → E → List ℕ → Bool → List Slot → List Slot → Type 0
-PutsOut Holds Owns work engine piece told old new = (before : List Slot) (x : List ℕ) → StandsAt Holds Owns engine told before x ((work engine).settled x) old
+abbrev pub PutsOut : {E : Type 0} → (E → List ℕ → Type 0) → (E → ℕ → List Slot → Type 0) → (E → Work) → E → List ℕ
+    → Bool → List Slot → List Slot → Type 0
+PutsOut Holds Owns work engine piece told old new = (before : List Slot) (x : List ℕ)
+    → StandsAt Holds Owns engine told before x ((work engine).settled x) old
     → OutputsAt told before ((work engine).settled (x ++ piece)) new
 
 -- a fault with which a tool's work itself ends
@@ -42,21 +42,28 @@ is_verdict (Usage kind word) = false
 is_verdict Failed = false
 is_verdict TooLong = false
 
--- How a fault leaves the outputs: it stopped them between two parts; or they reached all of the second, since the work ends with
--- this fault, and then files may have been removed.
-pub data Ended (told : Bool) (before : List Slot) (low high : Part) (clears : Bool) (fault : Fault) (now : List Slot) : Type 0 where
-  cut : is_verdict fault ≡ false → StoppedBetween told before low high fault now → Ended told before low high clears fault now
-  judged : is_verdict fault ≡ true → (reached : List Slot) → OutputsAt told before high reached → Swept clears (length before) reached now → Ended told before low high clears fault now
+-- How a fault leaves the outputs: it stopped them between two parts; or they reached all of the second, since the work
+-- ends with this fault, and then files may have been removed.
+pub data Ended (told : Bool) (before : List Slot) (low high : Part) (clears : Bool) (fault : Fault)
+    (now : List Slot) : Type 0 where
+  cut : is_verdict fault ≡ false → StoppedBetween told before low high fault now
+      → Ended told before low high clears fault now
+  judged : is_verdict fault ≡ true → (reached : List Slot) → OutputsAt told before high reached
+      → Swept clears (length before) reached now → Ended told before low high clears fault now
 
 -- how a fault leaves the outputs within an input
-abbrev pub CutsOff : {E : Type 0} → (E → List ℕ → Type 0) → (E → ℕ → List Slot → Type 0) → (E → Work) → E → List ℕ → Bool → List Slot → List Slot → Fault → Type 0
-CutsOff Holds Owns work engine piece told old new fault = (before : List Slot) (x : List ℕ) → StandsAt Holds Owns engine told before x ((work engine).settled x) old
+abbrev pub CutsOff : {E : Type 0} → (E → List ℕ → Type 0) → (E → ℕ → List Slot → Type 0) → (E → Work) → E → List ℕ
+    → Bool → List Slot → List Slot → Fault → Type 0
+CutsOff Holds Owns work engine piece told old new fault = (before : List Slot) (x : List ℕ)
+    → StandsAt Holds Owns engine told before x ((work engine).settled x) old
     → Ended told before ((work engine).settled x) ((work engine).settled (x ++ piece)) (work engine).clears fault new
 
--- The causes of a fault that meets an engine which isn't over: `Lacks` where it may want memory, `Ends` where its work ends so.
+-- The causes of a fault that meets an engine which isn't over: `Lacks` where it may want memory, `Ends` where its work
+-- ends so.
 abbrev pub IsMet : Means → Needs → Type 0 → (Fault → Type 0) → List Slot → List Slot → Fault → Type 0
 IsMet means needs Lacks Ends old new Memory = (needs.memory ≡ true) × Lacks
-IsMet means needs Lacks Ends old new (Write slot) = (slot ≡ 0 → means.output ≡ true) × (means.files ≡ false → slot ≡ 0) × Rose slot old new
+IsMet means needs Lacks Ends old new (Write slot) = (slot ≡ 0 → means.output ≡ true) × (means.files ≡ false → slot ≡ 0)
+    × Rose slot old new
 IsMet means needs Lacks Ends old new (Open slot) = (means.files ≡ true) × (needs.files ≡ true) × Rose slot old new
 IsMet means needs Lacks Ends old new Suffixes = Ends Suffixes
 IsMet means needs Lacks Ends old new (NoMatch operand repetition) = Ends (NoMatch operand repetition)
@@ -81,13 +88,17 @@ pub data IsCaused (Met : Fault → Type 0) (is_over : Bool) (fed size : ℕ) (ol
   met : (fault : Fault) → is_over ≡ false → Met fault → IsCaused Met is_over fed size old new fault
 
 -- at the end the outputs have the whole part, where they had what was settled, and the work ends well
-abbrev pub Finishes : {E : Type 0} → (E → List ℕ → Type 0) → (E → ℕ → List Slot → Type 0) → (E → Work) → E → Bool → List Slot → List Slot → Type 0
-Finishes Holds Owns work engine told old new = (before : List Slot) (x : List ℕ) → StandsAt Holds Owns engine told before x ((work engine).settled x) old
+abbrev pub Finishes : {E : Type 0} → (E → List ℕ → Type 0) → (E → ℕ → List Slot → Type 0) → (E → Work) → E → Bool
+    → List Slot → List Slot → Type 0
+Finishes Holds Owns work engine told old new = (before : List Slot) (x : List ℕ)
+    → StandsAt Holds Owns engine told before x ((work engine).settled x) old
     → ((work engine).verdict x ≡ None) × OutputsAt told before ((work engine).whole x) new
 
 -- how a fault leaves the outputs at the end
-abbrev pub EndsShort : {E : Type 0} → (E → List ℕ → Type 0) → (E → ℕ → List Slot → Type 0) → (E → Work) → E → Bool → List Slot → List Slot → Fault → Type 0
-EndsShort Holds Owns work engine told old new fault = (before : List Slot) (x : List ℕ) → StandsAt Holds Owns engine told before x ((work engine).settled x) old
+abbrev pub EndsShort : {E : Type 0} → (E → List ℕ → Type 0) → (E → ℕ → List Slot → Type 0) → (E → Work) → E → Bool
+    → List Slot → List Slot → Fault → Type 0
+EndsShort Holds Owns work engine told old new fault = (before : List Slot) (x : List ℕ)
+    → StandsAt Holds Owns engine told before x ((work engine).settled x) old
     → Ended told before ((work engine).settled x) ((work engine).whole x) (work engine).clears fault new
 
 -- the slots from this place on are the engine's own, before and after
@@ -98,9 +109,11 @@ KeepsOwn Owns old new before after = (first : ℕ) → Owns old first before →
 abbrev pub Clears : {E : Type 0} → (E → ℕ → List Slot → Type 0) → (E → Work) → E → List Slot → List Slot → Type 0
 Clears Owns work engine old new = (first : ℕ) → Owns engine first old → Swept (work engine).clears first old new
 
--- An engine that was fed nothing took in the first `count` bytes of what an input has left, which were passed over there and not
--- read. It is as if it had been fed them: nothing is settled with them, and its output isn't complete.
-pub record Loads {E : Type 0} (Holds : E → List ℕ → Type 0) (Ready : E → List Slot → Type 0) (Owns : E → ℕ → List Slot → Type 0) (work : E → Work) (told : Bool) (slot count : ℕ) (before after : E) (old new : List Source) : Type 0 where
+-- An engine that was fed nothing took in the first `count` bytes of what an input has left, which were passed over
+-- there and not read. It is as if it had been fed them: nothing is settled with them, and its output isn't complete.
+pub record Loads {E : Type 0} (Holds : E → List ℕ → Type 0) (Ready : E → List Slot → Type 0)
+    (Owns : E → ℕ → List Slot → Type 0) (work : E → Work) (told : Bool) (slot count : ℕ) (before after : E)
+    (old new : List Source) : Type 0 where
   pub front : List ℕ
   pub long : count ≡ length front
   pub there : told ≡ true → (source_at old slot).left.bytes ≡ front ++ (source_at new slot).left.bytes

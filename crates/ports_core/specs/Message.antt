@@ -9,7 +9,8 @@ use Rattle.ports_core.specs.declared.fault.Fault.TheVariants.{Memory, Write, Ope
 -- an output got the text, or a beginning of it and broke; one that was broken is passed over
 pub data Prints (told : Bool) (text : List ℕ) (old new : Slot) : Type 0 where
   whole : old.is_broken ≡ false → new ≡ adds (told_of told text) old → Prints told text old new
-  cut : old.is_broken ≡ false → (n : ℕ) → n < length text → new ≡ breaks (adds (told_of told (take n text)) old) → Prints told text old new
+  cut : old.is_broken ≡ false → (n : ℕ) → n < length text → new ≡ breaks (adds (told_of told (take n text)) old)
+      → Prints told text old new
   passed : old.is_broken ≡ true → new ≡ old → Prints told text old new
 
 -- standard error, the slot after standard output, got the text in that way, and no other output changed

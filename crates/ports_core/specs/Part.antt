@@ -1,5 +1,5 @@
 -- What a tool has written at some moment: bytes on standard output, and files in the order in which they were opened.
-use Rattle.std.specs.Prelude.{◌≡◌, ℕ, ◌+◌, ◌<◌, ◌≤◌, suc, Bool, List, [], ◌∷◌, ◌++◌, ◌⊎◌, length, map, take, drop}
+use Rattle.std.specs.Prelude.{◌≡◌, ℕ, ◌+◌, ◌<◌, suc, Bool, List, [], ◌∷◌, ◌++◌, ◌⊎◌, length, map, take, drop}
 use Rattle.ports_core.specs.Slot.{Slot, with_written, with_broken, unopened, told_of}
 use Rattle.ports_core.specs.declared.slot.Mode.{Mode}
 use Rattle.ports_core.specs.declared.slot.State.{State}
@@ -26,7 +26,8 @@ abbrev pub only_out : List ℕ → Part
 only_out bytes = record { out = bytes; files = [] }
 
 abbrev pub file_of : Slot → File
-file_of slot = record { name = slot.name; mode = slot.mode; bytes = slot.written; state = slot.state; is_broken = slot.is_broken }
+file_of slot = record { name = slot.name; mode = slot.mode; bytes = slot.written; state = slot.state;
+    is_broken = slot.is_broken }
 
 abbrev pub told_file : Bool → File → File
 told_file told file = record file { bytes = told_of told file.bytes }
@@ -43,12 +44,14 @@ pub record OutputsAt (told : Bool) (before : List Slot) (part : Part) (now : Lis
 abbrev pub IsBeginning : List ℕ → List ℕ → Type 0
 IsBeginning bytes whole = (rest : List ℕ) × (whole ≡ bytes ++ rest)
 
--- Each file begins the one at its place, and there may be more of these. One that is open may be closed by then, and any other
--- is as it was; it is broken just where that one is.
+-- Each file begins the one at its place, and there may be more of these. One that is open may be closed by then, and
+-- any other is as it was; it is broken just where that one is.
 abbrev pub FilesBegin : List File → List File → Type 0
 FilesBegin [] wholes = Unit {0}
 FilesBegin (file ∷ files) [] = ⊥
-FilesBegin (file ∷ files) (whole ∷ wholes) = (file.name ≡ whole.name) × (file.mode ≡ whole.mode) × (file.is_broken ≡ whole.is_broken) × ((file.state ≡ state.Open) ⊎ (file ≡ whole)) × IsBeginning file.bytes whole.bytes × FilesBegin files wholes
+FilesBegin (file ∷ files) (whole ∷ wholes) = (file.name ≡ whole.name) × (file.mode ≡ whole.mode)
+    × (file.is_broken ≡ whole.is_broken) × ((file.state ≡ state.Open) ⊎ (file ≡ whole))
+    × IsBeginning file.bytes whole.bytes × FilesBegin files wholes
 
 pub record Begins (low high : Part) : Type 0 where
   pub out : IsBeginning low.out high.out
@@ -63,11 +66,13 @@ pub record IsNext (part whole : Part) (name : List ℕ) : Type 0 where
   pub place : length front ≡ length part.files
   pub name_is : file.name ≡ name
 
--- What a fault leaves in the slots by itself. A file that could not be opened was due, and its slot has its name, or none where
--- there was no memory to keep it.
+-- What a fault leaves in the slots by itself. A file that could not be opened was due, and its slot has its name, or
+-- none where there was no memory to keep it.
 abbrev pub Marks : (List ℕ → Type 0) → Fault → List Slot → List Slot → Type 0
 Marks IsDue (Write slot) before after = (slot < length before) × (after ≡ with_broken slot before)
-Marks IsDue (Open slot) before after = (slot ≡ length before) × ((name : List ℕ) × (kept : List ℕ) × IsDue name × ((kept ≡ name) ⊎ (kept ≡ [])) × (after ≡ before ++ unopened kept ∷ []))
+Marks IsDue (Open slot) before after = (slot ≡ length before)
+    × ((name : List ℕ) × (kept : List ℕ) × IsDue name × ((kept ≡ name) ⊎ (kept ≡ []))
+    × (after ≡ before ++ unopened kept ∷ []))
 Marks IsDue Memory before after = after ≡ before
 Marks IsDue (Read slot) before after = after ≡ before
 Marks IsDue Suffixes before after = after ≡ before
@@ -77,8 +82,8 @@ Marks IsDue (Usage kind word) before after = after ≡ before
 Marks IsDue Failed before after = after ≡ before
 Marks IsDue TooLong before after = after ≡ before
 
--- Where a fault comes from, of a tool whose files are the slots from `first` on: a write fault from standard output or from the
--- file at this place, an open fault from the next file, when there are `count`.
+-- Where a fault comes from, of a tool whose files are the slots from `first` on: a write fault from standard output or
+-- from the file at this place, an open fault from the next file, when there are `count`.
 abbrev pub IsAt : Fault → ℕ → ℕ → ℕ → Type 0
 IsAt (Write slot) first place count = (slot ≡ 0) ⊎ (slot ≡ first + place)
 IsAt (Open slot) first place count = place ≡ count
@@ -91,42 +96,21 @@ IsAt (Usage kind word) first place count = Unit {0}
 IsAt Failed first place count = Unit {0}
 IsAt TooLong first place count = Unit {0}
 
--- The files were reached in their order: those before this place are as they were to become, and those after it as they were.
+-- The files were reached in their order: those before this place are as they were to become, and those after it as they
+-- were.
 pub record InOrder (low part high : List File) (place : ℕ) : Type 0 where
   pub done : take place part ≡ take place high
   pub untouched : drop (suc place) part ≡ drop (suc place) low
 
--- A fault stopped the outputs at some part between two, at one of its files, and left its mark. So a file is closed before the
--- next is opened, and nothing is written to a file after one that broke.
-pub record StoppedBetween (told : Bool) (before : List Slot) (low high : Part) (fault : Fault) (now : List Slot) : Type 0 where
+-- A fault stopped the outputs at some part between two, at one of its files, and left its mark. So a file is closed
+-- before the next is opened, and nothing is written to a file after one that broke.
+pub record StoppedBetween (told : Bool) (before : List Slot) (low high : Part) (fault : Fault)
+    (now : List Slot) : Type 0 where
   pub part : Part
   pub above : Begins low part
   pub below : Begins part high
   pub place : ℕ
   pub order : InOrder low.files part.files high.files place
-  pub reached : List Slot
-  pub outputs : OutputsAt told before part reached
-  pub marks : Marks (IsNext part high) fault reached now
-  pub from : IsAt fault (length before) place (length part.files)
-
-abbrev pub AllClosed : List File → Type 0
-AllClosed [] = Unit {0}
-AllClosed (file ∷ files) = (file.state ≡ state.Closed) × AllClosed files
-
--- the files were reached one after another: those before this place are closed, and after it there is none
-pub record InTurn (part : List File) (place : ℕ) : Type 0 where
-  pub closed : AllClosed (take place part)
-  pub within : place ≤ length part
-  pub last : length part ≤ suc place
-
--- The same of a tool that closes each file before it opens the next. It says no more of the two parts than that they begin one
--- another, so that steps compose.
-pub record StoppedInTurn (told : Bool) (before : List Slot) (low high : Part) (fault : Fault) (now : List Slot) : Type 0 where
-  pub part : Part
-  pub above : Begins low part
-  pub below : Begins part high
-  pub place : ℕ
-  pub turn : InTurn part.files place
   pub reached : List Slot
   pub outputs : OutputsAt told before part reached
   pub marks : Marks (IsNext part high) fault reached now

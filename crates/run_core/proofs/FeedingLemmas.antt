@@ -18,7 +18,8 @@ use Rattle.ports_core.proofs.LoadLemmas.{changed_there}
 use Rattle.run_core.specs.declared.feeding.Fed.{Fed}
 use Rattle.run_core.specs.declared.feeding.Fed.TheVariants.{Whole, Enough, Broken}
 use Rattle.run_core.specs.Input.{empty}
-use Rattle.run_core.specs.Feeding.{BreaksOnly, Stops, HasAll, to_end, enough, call_of, feeds, closes, FedAs, whole, had_enough, broke_off, judged, stopped, OfContent, KeepsOthers, IsNeeded, ReadsFor, EndsSo, finished, fell_short}
+use Rattle.run_core.specs.Feeding.{BreaksOnly, Stops, HasAll, to_end, enough, call_of, feeds, closes, FedAs, whole, had_enough, broke_off, judged, stopped, OfContent, KeepsOthers, IsNeeded, ReadsFor}
+use Rattle.run_core.specs.inner.Feeding.{EndsSo, finished, fell_short}
 
 -- what was read of the input with this number so far, and what is left of it
 pub record HasRead (content : Content) (x : List ℕ) (slot : ℕ) (sources : List Source) : Type 0 where

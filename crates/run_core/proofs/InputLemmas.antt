@@ -24,7 +24,8 @@ use Rattle.run_core.specs.Feeding.{is_enough, Step, Stops, opens, BreaksOnly, Fe
 use Rattle.run_core.specs.Input.{empty}
 use Rattle.run_core.specs.Reading.{IsDone, Leaves}
 use Rattle.run_core.specs.RunEnds.{standard_output, streams_with, unheaded, heading, calling, step_after}
-use Rattle.run_core.specs.RunSteps.{HeaderFails, no_room, broke, TookInput, took, cut_off, OfSource, Opens, OpensShort, KeepsOther}
+use Rattle.run_core.specs.inner.RunSteps.{HeaderFails, no_room, broke, TookInput, took, cut_off, OfSource, KeepsOther}
+use Rattle.run_core.specs.RunSteps.{Opens, OpensShort}
 use Rattle.run_core.specs.Task.{Task, Outcome, after_part, header_text, verdict_messages, is_given, of_content}
 use Rattle.run_core.proofs.ReadingLemmas.{left_of}
 use Rattle.run_core.proofs.JoinedLemmas.{after_assoc, out_on, at_after, stop_after, none_to_sweep}

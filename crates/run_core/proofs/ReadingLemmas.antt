@@ -8,8 +8,9 @@ use Rattle.ports_core.specs.Source as from
 use Rattle.ports_core.specs.declared.fault.Fault.{Fault}
 use Rattle.run_core.specs.Feeding.{BreaksOnly, KeepsOthers, OfContent, ReadsFor}
 use Rattle.run_core.specs.Input.{Input, World, IsFor, is_dash, input_of, inputs_from, next_slot, empty}
-use Rattle.run_core.specs.Reading.{AreDone, AreUntouched, AsksAtMost, IsDone, IsLeft, IsUntouched, Leaves, TakesOne, count_after}
-use Rattle.run_core.specs.RunSteps.{KeepsOther, OfSource, standard_source}
+use Rattle.run_core.specs.Reading.{AreDone, AreUntouched, AsksAtMost, IsDone, IsLeft, IsUntouched, Leaves, count_after}
+use Rattle.run_core.specs.inner.Reading.{TakesOne}
+use Rattle.run_core.specs.inner.RunSteps.{KeepsOther, OfSource, standard_source}
 use Rattle.ports_core.proofs.SourceLemmas.{readable_within}
 use Rattle.run_core.proofs.FeedingLemmas.{reads_none, sound_at}
 

@@ -11,7 +11,7 @@ use Rattle.ports_core.specs.declared.fault.Fault.{Fault}
 use Rattle.ports_core.proofs.MessageLemmas.{says_more, all_said_state}
 use Rattle.run_core.specs.Input.{Input, World}
 use Rattle.run_core.specs.RunEnds.{standard_output, standard_error, EndsAs, as_defined, stopped, no_room, RunsOver}
-use Rattle.run_core.specs.RunSteps.{TookAll, all, stopped_at, not_begun}
+use Rattle.run_core.specs.inner.RunSteps.{TookAll, all, stopped_at, not_begun}
 use Rattle.run_core.specs.Task.{Task, made_by}
 use Rattle.run_core.proofs.StopLemmas.{error_open, stop_error, stop_swept, message_some}
 

@@ -5,8 +5,7 @@ use Rattle.ports_core.specs.Source.{Content, Source, source_at}
 use Rattle.ports_core.specs.Part.{Part, OutputsAt, StoppedBetween, nothing}
 use Rattle.ports_core.specs.Swept.{Swept}
 use Rattle.ports_core.specs.Work.{Work, Needs, Judges}
-use Rattle.ports_core.specs.Guard.{GuardState}
-use Rattle.ports_core.specs.Engine.{Finishes, EndsShort, EndsThere, IsCaused, IsMet, is_verdict}
+use Rattle.ports_core.specs.Engine.{is_verdict}
 use Rattle.ports_core.specs.declared.fault.Fault.{Fault}
 use Rattle.run_core.specs.declared.feeding.Fed.{Fed}
 use Rattle.run_core.specs.declared.feeding.Fed.TheVariants.{Whole, Enough, Broken}
@@ -20,7 +19,8 @@ is_enough work content = not content.breaks_off || work.is_complete content.byte
 abbrev pub made_of : Work → Content → Part
 made_of work content = if is_enough work content then work.whole content.bytes else work.settled content.bytes
 
--- One step of a run at an input: what was written before it and what with it, what it may use for that, and what of the input came in.
+-- One step of a run at an input: what was written before it and what with it, what it may use for that, and what of the
+-- input came in.
 pub record Step : Type 0 where
   pub low : Part
   pub high : Part
@@ -31,11 +31,12 @@ pub record Step : Type 0 where
   pub needs : Needs
   pub read : List ℕ
 
--- What stops a step, where the outputs are left so: no memory, an output broke, a file could not be opened, more input than any tool
--- takes; each only where the step can meet it.
+-- What stops a step, where the outputs are left so: no memory, an output broke, a file could not be opened, more input
+-- than any tool takes; each only where the step can meet it.
 abbrev pub Stops : Step → List Slot → Fault → Type 0
 Stops step now Memory = step.needs.memory ≡ true
-Stops step now (Write slot) = (slot ≡ 0 → step.output ≡ true) × (step.files ≡ false → slot ≡ 0) × ((slot_at now slot).is_broken ≡ true)
+Stops step now (Write slot) = (slot ≡ 0 → step.output ≡ true) × (step.files ≡ false → slot ≡ 0)
+    × ((slot_at now slot).is_broken ≡ true)
 Stops step now (Open slot) = (step.files ≡ true) × (step.needs.files ≡ true)
 Stops step now TooLong = 2 ^ 63 ≤ length step.read
 Stops step now (Read slot) = ⊥
@@ -50,31 +51,52 @@ pub data HasAll (work : Work) (content : Content) (x : List ℕ) : Type 0 where
   to_end : content.breaks_off ≡ false → content.bytes ≡ x → HasAll work content x
   enough : (rest : List ℕ) → content.bytes ≡ x ++ rest → work.is_complete x ≡ true → HasAll work content x
 
--- What was read of an input was needed: the last piece has at most `most` bytes, and the output of those before it was not
--- complete.
+-- What was read of an input was needed: the last piece has at most `most` bytes, and the output of those before it was
+-- not complete.
 abbrev pub IsNeeded : (List ℕ → Bool) → ℕ → List ℕ → Type 0
-IsNeeded is_complete most x = (x ≡ []) ⊎ ((before : List ℕ) × (piece : List ℕ) × (x ≡ before ++ piece) × (length piece ≤ most) × (is_complete before ≡ false))
+IsNeeded is_complete most x = (x ≡ [])
+    ⊎ ((before : List ℕ) × (piece : List ℕ) × (x ≡ before ++ piece) × (length piece ≤ most)
+    × (is_complete before ≡ false))
 
 -- a call of an engine, which may need this
 abbrev pub call_of : Work → Needs → List ℕ → Part → Part → Step
-call_of work needs read low high = record { low = low; high = high; output = work.means.output; files = work.means.files; needs = needs; read = read }
+call_of work needs read low high = record { low = low; high = high; output = work.means.output;
+    files = work.means.files; needs = needs; read = read }
 
--- One call of an engine over this input, fed by pieces of at most `most` bytes: it is opened, takes a piece, or is closed.
+-- One call of an engine over this input, fed by pieces of at most `most` bytes: it is opened, takes a piece, or is
+-- closed.
 pub data IsCall (work : Work) (opening : Needs) (most : ℕ) (content : Content) : Step → Type 0 where
   opens : IsCall work opening most content (call_of work opening [] nothing (work.settled []))
-  feeds : (x piece rest : List ℕ) → content.bytes ≡ (x ++ piece) ++ rest → length piece ≤ most → work.is_complete x ≡ false
-      → IsCall work opening most content (call_of work work.means.feeding (x ++ piece) (work.settled x) (work.settled (x ++ piece)))
-  closes : (x : List ℕ) → HasAll work content x → IsNeeded work.is_complete most x → IsCall work opening most content (call_of work work.means.closing x (work.settled x) (work.whole x))
+  feeds : (x piece rest : List ℕ) → content.bytes ≡ (x ++ piece) ++ rest → length piece ≤ most
+      → work.is_complete x ≡ false
+      → IsCall work opening most content (call_of work work.means.feeding (x ++ piece) (work.settled x)
+          (work.settled (x ++ piece)))
+  closes : (x : List ℕ) → HasAll work content x → IsNeeded work.is_complete most x
+      → IsCall work opening most content (call_of work work.means.closing x (work.settled x) (work.whole x))
 
--- How feeding an input by pieces of at most `most` bytes ends, from the outputs as they were before: it ended, or nothing more could
--- follow; or it broke off before that, and the files go if the work clears them; or the work itself ends with a fault, and the files
--- go likewise; or a fault stopped one call, no byte was taken after it (`WasRead` says which were), and then the files go.
-pub data FedAs (told : Bool) (before : List Slot) (work : Work) (opening : Needs) (most : ℕ) (content : Content) (WasRead : List ℕ → Type 0) (new : List Slot) : Result Fed Fault → Type 0 where
-  whole : content.breaks_off ≡ false → work.is_complete content.bytes ≡ false → work.verdict content.bytes ≡ None → OutputsAt told before (work.whole content.bytes) new → FedAs told before work opening most content WasRead new (Ok Whole)
-  had_enough : work.is_complete content.bytes ≡ true → work.verdict content.bytes ≡ None → OutputsAt told before (work.whole content.bytes) new → FedAs told before work opening most content WasRead new (Ok Enough)
-  broke_off : content.breaks_off ≡ true → work.is_complete content.bytes ≡ false → (reached : List Slot) → OutputsAt told before (work.settled content.bytes) reached → Swept work.clears (length before) reached new → FedAs told before work opening most content WasRead new (Ok Broken)
-  judged : (fault : Fault) → is_verdict fault ≡ true → is_enough work content ≡ true → Judges work content.bytes fault → (reached : List Slot) → OutputsAt told before (work.whole content.bytes) reached → Swept work.clears (length before) reached new → FedAs told before work opening most content WasRead new (Err fault)
-  stopped : (fault : Fault) → is_verdict fault ≡ false → (call : Step) → IsCall work opening most content call → WasRead call.read → (reached : List Slot) → Stops call reached fault → StoppedBetween told before call.low call.high fault reached → Swept work.clears (length before) reached new → FedAs told before work opening most content WasRead new (Err fault)
+-- How feeding an input by pieces of at most `most` bytes ends, from the outputs as they were before: it ended, or
+-- nothing more could follow; or it broke off before that, and the files go if the work clears them; or the work itself
+-- ends with a fault, and the files go likewise; or a fault stopped one call, no byte was taken after it (`WasRead` says
+-- which were), and then the files go.
+pub data FedAs (told : Bool) (before : List Slot) (work : Work) (opening : Needs) (most : ℕ) (content : Content)
+    (WasRead : List ℕ → Type 0) (new : List Slot) : Result Fed Fault → Type 0 where
+  whole : content.breaks_off ≡ false → work.is_complete content.bytes ≡ false → work.verdict content.bytes ≡ None
+      → OutputsAt told before (work.whole content.bytes) new
+      → FedAs told before work opening most content WasRead new (Ok Whole)
+  had_enough : work.is_complete content.bytes ≡ true → work.verdict content.bytes ≡ None
+      → OutputsAt told before (work.whole content.bytes) new
+      → FedAs told before work opening most content WasRead new (Ok Enough)
+  broke_off : content.breaks_off ≡ true → work.is_complete content.bytes ≡ false → (reached : List Slot)
+      → OutputsAt told before (work.settled content.bytes) reached → Swept work.clears (length before) reached new
+      → FedAs told before work opening most content WasRead new (Ok Broken)
+  judged : (fault : Fault) → is_verdict fault ≡ true → is_enough work content ≡ true → Judges work content.bytes fault
+      → (reached : List Slot) → OutputsAt told before (work.whole content.bytes) reached
+      → Swept work.clears (length before) reached new
+      → FedAs told before work opening most content WasRead new (Err fault)
+  pub stopped : (fault : Fault) → is_verdict fault ≡ false → (call : Step) → IsCall work opening most content call
+      → WasRead call.read → (reached : List Slot) → Stops call reached fault
+      → StoppedBetween told before call.low call.high fault reached → Swept work.clears (length before) reached new
+      → FedAs told before work opening most content WasRead new (Err fault)
 
 -- an input that tells its bytes had this content; of others it is known no further than their reads gave it
 abbrev pub OfContent : Bool → Content → (Content → Type 0) → Type 0
@@ -82,7 +104,8 @@ OfContent told there P = (content : Content) × (told ≡ true → content ≡ t
 
 -- an input that didn't break, and of which, where inputs tell their bytes, this was read
 abbrev pub LeavesOf : Bool → Content → Source → List ℕ → Type 0
-LeavesOf told content source read = (source.is_broken ≡ false) × (told ≡ true → content.bytes ≡ read ++ source.left.bytes)
+LeavesOf told content source read = (source.is_broken ≡ false)
+    × (told ≡ true → content.bytes ≡ read ++ source.left.bytes)
 
 -- an input that doesn't tell its bytes is one that breaks off only where its source is broken
 abbrev pub BreaksOnly : Bool → Content → Source → Type 0
@@ -96,13 +119,3 @@ pub record KeepsOthers (slot : ℕ) (old new : List Source) : Type 0 where
 -- of the input that was there, this is left, and what was read was needed
 abbrev pub ReadsFor : (List ℕ → Bool) → ℕ → Content → Content → Type 0
 ReadsFor is_complete most there left = (x : List ℕ) × IsNeeded is_complete most x × (there.bytes ≡ x ++ left.bytes)
-
--- How closing an engine ends that has got all of its input: it finished; or a fault stopped it, and its files went if the work clears
--- them, by itself where that fault is a verdict.
-pub data EndsSo {S : Type 0} (Holds : S → List ℕ → Type 0) (Owns : S → ℕ → List Slot → Type 0) (work : S → Work) (told : Bool) (engine : GuardState S) (fed : Fed) (old new : List Slot) : Result Fed Fault → Type 0 where
-  finished : Finishes Holds Owns work engine.stage told old new → EndsSo Holds Owns work told engine fed old new (Ok fed)
-  fell_short : (fault : Fault) (reached : List Slot) → EndsShort Holds Owns work engine.stage told old reached fault
-      → IsCaused (IsMet (work engine.stage).means (work engine.stage).means.closing (Unit {0}) (EndsThere Holds work engine.stage) old reached) engine.is_over engine.fed 0 old reached fault
-      → (is_verdict fault ≡ true → new ≡ reached)
-      → (is_verdict fault ≡ false → (first : ℕ) → Owns engine.stage first old → Swept (work engine.stage).clears first reached new)
-      → EndsSo Holds Owns work told engine fed old new (Err fault)

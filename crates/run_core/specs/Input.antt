@@ -49,7 +49,9 @@ next_slot slot name = if is_dash name then slot else slot + 1
 
 abbrev pub inputs_from : World → Bool → ℕ → List (List ℕ) → List Input
 inputs_from world was_read slot [] = []
-inputs_from world was_read slot (name ∷ names) = input_of world was_read slot name (is_dash name) ∷ inputs_from world (was_read || is_dash name) (next_slot slot name) names
+inputs_from world was_read slot (name ∷ names) =
+    input_of world was_read slot name (is_dash name) ∷ inputs_from world (was_read || is_dash name)
+    (next_slot slot name) names
 
 -- the inputs for names: files have the numbers 1, 2, ..
 abbrev pub inputs_at : World → List (List ℕ) → List Input
@@ -62,10 +64,11 @@ IsFor was_read slot name input = (world : World) × (input ≡ input_of world wa
 abbrev pub AreFrom : Bool → ℕ → List (List ℕ) → List Input → Type 0
 AreFrom was_read slot [] inputs = inputs ≡ []
 AreFrom was_read slot (name ∷ names) [] = ⊥
-AreFrom was_read slot (name ∷ names) (input ∷ inputs) = IsFor was_read slot name input × AreFrom (was_read || is_dash name) (next_slot slot name) names inputs
+AreFrom was_read slot (name ∷ names) (input ∷ inputs) = IsFor was_read slot name input
+    × AreFrom (was_read || is_dash name) (next_slot slot name) names inputs
 
--- Inputs that tell their bytes are those that are there; of others it is known only that they are inputs for these names:
--- nothing is said of their bytes.
+-- Inputs that tell their bytes are those that are there; of others it is known only that they are inputs for these
+-- names: nothing is said of their bytes.
 pub record Finds (told : Bool) (world : World) (names : List (List ℕ)) (inputs : List Input) : Type 0 where
   pub are : AreFrom false 1 names inputs
   pub there : told ≡ true → inputs ≡ inputs_at world names

@@ -4,3 +4,4 @@ pub mod Reading
 pub mod Task
 pub mod RunEnds
 pub mod RunSteps
+pub mod inner

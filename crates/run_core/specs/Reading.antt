@@ -2,22 +2,26 @@
 use Rattle.std.specs.Prelude.{◌≡◌, ℕ, ◌≤◌, ◌<◌, Bool, true, false, List, [], ◌∷◌, ◌⊎◌, length, Option, Some, None}
 use Rattle.ports_core.specs.Source.{Content, Source, source_at, source_of}
 use Rattle.run_core.specs.Feeding.{BreaksOnly, LeavesOf, ReadsFor}
-use Rattle.run_core.specs.Input.{Input, is_dash, next_slot}
+use Rattle.run_core.specs.Input.{Input, next_slot}
 
--- What is left of an input that was done, which was read from this source: where inputs tell their bytes, no more was read than was
--- needed; where they don't, it breaks off only where the source is broken. What could not be opened is not open.
+-- What is left of an input that was done, which was read from this source: where inputs tell their bytes, no more was
+-- read than was needed; where they don't, it breaks off only where the source is broken. What could not be opened is
+-- not open.
 abbrev pub IsLeft : Bool → (List ℕ → Bool) → ℕ → Option Content → Source → Type 0
 IsLeft told is_complete most None source = source.is_open ≡ false
-IsLeft told is_complete most (Some content) source = (told ≡ true → ReadsFor is_complete most content source.left) × BreaksOnly told content source
+IsLeft told is_complete most (Some content) source = (told ≡ true → ReadsFor is_complete most content source.left)
+    × BreaksOnly told content source
 
 -- the same of an input by its number, under which it was opened; a second `-` has none
 abbrev pub IsDone : Bool → (List ℕ → Bool) → ℕ → Option ℕ → Option Content → List Source → Type 0
 IsDone told is_complete most None content sources = Unit {0}
-IsDone told is_complete most (Some slot) content sources = (slot < length sources) × IsLeft told is_complete most content (source_at sources slot)
+IsDone told is_complete most (Some slot) content sources = (slot < length sources)
+    × IsLeft told is_complete most content (source_at sources slot)
 
 abbrev pub AreDone : Bool → (List ℕ → Bool) → ℕ → List Input → List Source → Type 0
 AreDone told is_complete most [] sources = Unit {0}
-AreDone told is_complete most (input ∷ inputs) sources = IsDone told is_complete most input.slot input.content sources × AreDone told is_complete most inputs sources
+AreDone told is_complete most (input ∷ inputs) sources = IsDone told is_complete most input.slot input.content sources
+    × AreDone told is_complete most inputs sources
 
 -- the same as `LeavesOf`, of an input by its number
 abbrev pub Leaves : Bool → Content → Option ℕ → List Source → List ℕ → Type 0
@@ -27,7 +31,8 @@ Leaves told content (Some slot) sources = LeavesOf told content (source_at sourc
 -- an input to which a run did not come: it was not opened, or nothing was asked of it
 abbrev pub IsUntouched : Option ℕ → Option Content → List Source → Type 0
 IsUntouched None content sources = Unit {0}
-IsUntouched (Some slot) content sources = (length sources ≤ slot) ⊎ ((there : Content) × (content ≡ Some there) × (source_at sources slot ≡ source_of there))
+IsUntouched (Some slot) content sources = (length sources ≤ slot)
+    ⊎ ((there : Content) × (content ≡ Some there) × (source_at sources slot ≡ source_of there))
 
 abbrev pub AreUntouched : List Input → List Source → Type 0
 AreUntouched [] sources = Unit {0}
@@ -41,13 +46,3 @@ count_after count (name ∷ names) = count_after (next_slot count name) names
 -- no read asked for more than `most` bytes
 abbrev pub AsksAtMost : ℕ → List Source → Type 0
 AsksAtMost most sources = (place : ℕ) → (source_at sources place).asked ≤ most
-
--- What taking a name leaves of the inputs: a file is one more at the most, those before it are as they were, and standard input is
--- touched by the first `-` alone.
-pub record TakesOne (most : ℕ) (was_read : Bool) (name : List ℕ) (old new : List Source) : Type 0 where
-  pub grown : length old ≤ length new
-  pub within : length new ≤ next_slot (length old) name
-  pub files : (place : ℕ) → 0 < place → place < length old → source_at new place ≡ source_at old place
-  pub unasked : is_dash name ≡ false → source_at new 0 ≡ source_at old 0
-  pub again : was_read ≡ true → source_at new 0 ≡ source_at old 0
-  pub asked : AsksAtMost most old → AsksAtMost most new

@@ -67,14 +67,16 @@ verdict_messages task (Some fault) = message_of task.tool fault (task.subject fa
 abbrev pub ends_badly : Work → Content → Bool
 ends_badly work content = if is_enough work content then is_given (work.verdict content.bytes) else true
 
--- One input: a message where it can't be opened (its number stands in no message); else its header, what the tool makes of it, and a
--- message for the fault with which its work ends, or where the input breaks off. After such a fault the files go if the work clears
--- them.
+-- One input: a message where it can't be opened (its number stands in no message); else its header, what the tool makes
+-- of it, and a message for the fault with which its work ends, or where the input breaks off. After such a fault the
+-- files go if the work clears them.
 abbrev pub of_content : Task → Bool → List ℕ → Option Content → Outcome
-of_content task is_first name None = record { part = nothing; messages = message_of task.tool (Open 0) name ∷ []; failed = true; sweeps = false }
+of_content task is_first name None = record { part = nothing; messages = message_of task.tool (Open 0) name ∷ [];
+    failed = true; sweeps = false }
 of_content task is_first name (Some content) = record {
   part = after_part (only_out (header_text task.with_header is_first name)) (made_of task.work content);
-  messages = if is_enough task.work content then verdict_messages task (task.work.verdict content.bytes) else message_of task.tool (Read 0) name ∷ [];
+  messages = if is_enough task.work content then verdict_messages task (task.work.verdict content.bytes)
+      else message_of task.tool (Read 0) name ∷ [];
   failed = ends_badly task.work content;
   sweeps = task.work.clears && ends_badly task.work content;
 }
@@ -89,7 +91,8 @@ is_missing (Some content) = false
 -- the inputs in order; the header of the first that can be opened is the first
 abbrev pub of_inputs : Task → Bool → List Input → Outcome
 of_inputs task is_first [] = no_outcome
-of_inputs task is_first (input ∷ inputs) = joined (of_input task is_first input) (of_inputs task (is_first && is_missing input.content) inputs)
+of_inputs task is_first (input ∷ inputs) =
+    joined (of_input task is_first input) (of_inputs task (is_first && is_missing input.content) inputs)
 
 -- all inputs of a run
 abbrev pub made_by : Task → List Input → Outcome

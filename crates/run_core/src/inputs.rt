@@ -7,9 +7,11 @@ ghost use Rattle.ports_core.specs.Engine.{is_verdict};
 ghost use Rattle.ports_core.specs.Work.{Needs};
 ghost use Rattle.run_core.specs.Feeding.{FedAs};
 ghost use Rattle.run_core.specs.Input.{has_dash, is_dash, next_slot};
-ghost use Rattle.run_core.specs.Reading.{AsksAtMost, IsDone, Leaves, TakesOne, count_after};
+ghost use Rattle.run_core.specs.Reading.{AsksAtMost, IsDone, Leaves, count_after};
+ghost use Rattle.run_core.specs.inner.Reading.{TakesOne};
 ghost use Rattle.run_core.specs.RunEnds.{EndsAs, RunsOver, streams_with, largest_piece};
-ghost use Rattle.run_core.specs.RunSteps.{HasStreams, HeaderFails, KeepsOther, OfName, OfSource, TookAll, TookInput, is_unopened, standard_source, world_of};
+ghost use Rattle.run_core.specs.inner.RunSteps.{HasStreams, HeaderFails, KeepsOther, OfName, OfSource, TookAll, TookInput, is_unopened, standard_source};
+ghost use Rattle.run_core.specs.RunSteps.{world_of};
 ghost use Rattle.run_core.specs.Task.{Task, header_text, of_content, of_input};
 
 use crate::adapter::Adapter;

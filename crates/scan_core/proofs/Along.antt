@@ -11,7 +11,8 @@ use Rattle.std.proofs.Math.Nat.{mul-le-mul}
 use Rattle.scan_core.specs.Sets.{positions_among}
 use Rattle.scan_core.specs.Counted.{set_at, positions_in_all, AreSteps}
 use Rattle.scan_core.specs.Code.{At, Leads, Goes, Walks, Entered}
-use Rattle.scan_core.specs.Sets.{IsMarked, LeadsOn, Flows, FlowsOn, Passes, Came}
+use Rattle.scan_core.specs.Sets.{IsMarked}
+use Rattle.scan_core.specs.inner.Sets.{LeadsOn, Flows, FlowsOn, Passes, Came}
 use Rattle.scan_core.proofs.Walks.{path_on}
 
 -- which place of the line this is

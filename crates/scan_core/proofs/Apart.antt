@@ -9,11 +9,11 @@ use Rattle.std.specs.Int.{bit_at}
 use Rattle.scan_core.specs.declared.base.Base.{Base}
 use Rattle.scan_core.specs.declared.landing.Landing.{Landing}
 use Rattle.scan_core.specs.declared.node.Node.{Node}
-use Rattle.scan_core.specs.Base.{IsBase}
-use Rattle.scan_core.specs.Closures.{Closes}
-use Rattle.scan_core.specs.Landings.{ClosesWords, Ends, HasLanded, Lands, LandsOn}
-use Rattle.scan_core.specs.Sets.{Flows, FlowsOn}
-use Rattle.scan_core.specs.Words.{IsIn, SpreadsOut, width}
+use Rattle.scan_core.specs.inner.Base.{IsBase}
+use Rattle.scan_core.specs.inner.Closures.{Closes}
+use Rattle.scan_core.specs.inner.Landings.{ClosesWords, Ends, HasLanded, Lands, LandsOn}
+use Rattle.scan_core.specs.inner.Sets.{Flows, FlowsOn}
+use Rattle.scan_core.specs.inner.Words.{IsIn, SpreadsOut, width}
 use Rattle.scan_core.proofs.Closings.{Closed, close_word, flow_anywhere, parts_anywhere}
 use Rattle.scan_core.proofs.Insides.{right_bit}
 use Rattle.scan_core.proofs.Visitings.{flows_join, is_in_word, is_within, spreading_ends}

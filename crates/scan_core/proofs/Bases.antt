@@ -7,8 +7,8 @@ use Rattle.std.specs.Int.{bit_at}
 use Rattle.scan_core.specs.declared.node.Node.{Node}
 use Rattle.scan_core.specs.declared.node.Node.TheVariants.{First, Last, Choose, Back}
 use Rattle.scan_core.specs.Code.{At}
-use Rattle.scan_core.specs.Sets.{Flows, FlowsOn}
-use Rattle.scan_core.specs.Words.{IsIn, Grows, SpreadsOut}
+use Rattle.scan_core.specs.inner.Sets.{Flows, FlowsOn}
+use Rattle.scan_core.specs.inner.Words.{IsIn, Grows, SpreadsOut}
 use Rattle.scan_core.proofs.Enterings.{flows_of}
 
 -- the first bits of a word are looked at

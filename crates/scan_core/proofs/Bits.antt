@@ -6,7 +6,7 @@ use Rattle.std.proofs.lemmas.Nat.{le_or_l, or_lt}
 use Rattle.std.proofs.lemmas.Nat.Bits.{shr_and_one, bit_at_set_same, bit_at_set_other}
 use Rattle.std.specs.Prelude.{bit_and, bit_or}
 use Rattle.std.specs.Int.{bit_at}
-use Rattle.scan_core.specs.Words.{IsIn, unset, Grows}
+use Rattle.scan_core.specs.inner.Words.{IsIn, unset, Grows}
 
 pub has_tests : (words : List ℕ) (number : ℕ) → (eqb (bit_and (get_or words (number / 64) 0 / 2 ^ (number % 64)) 1) 1 ≡ true) ↔ IsIn words number
 unfolding IsIn

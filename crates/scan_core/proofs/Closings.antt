@@ -10,12 +10,12 @@ use Rattle.bre_core.specs.Match.{Parts}
 use Rattle.scan_core.specs.declared.base.Base.{Base}
 use Rattle.scan_core.specs.declared.node.Node.{Node}
 use Rattle.scan_core.specs.declared.node.Node.TheVariants.{Take, First, Last, Choose, Back}
-use Rattle.scan_core.specs.Base.{IsBase}
-use Rattle.scan_core.specs.Closures.{ArePeers, Closes, IsLeaving, Stays}
+use Rattle.scan_core.specs.inner.Base.{IsBase}
+use Rattle.scan_core.specs.inner.Closures.{ArePeers, Closes, IsLeaving, Stays}
 use Rattle.scan_core.specs.declared.hops.Hop.{Hop}
-use Rattle.scan_core.specs.Hops.{AreHops, Hopped, HopsTo, no_hop}
-use Rattle.scan_core.specs.Sets.{LeadsOn, Flows, FlowsOn}
-use Rattle.scan_core.specs.Words.{IsIn, unset, Grows, Visits, width}
+use Rattle.scan_core.specs.inner.Hops.{AreHops, Hopped, HopsTo, no_hop}
+use Rattle.scan_core.specs.inner.Sets.{LeadsOn, Flows, FlowsOn}
+use Rattle.scan_core.specs.inner.Words.{IsIn, unset, Grows, Visits, width}
 use Rattle.scan_core.proofs.Insides.{left_bit, right_bit, either_bit}
 use Rattle.scan_core.proofs.Passings.{set_elsewhere}
 use Rattle.scan_core.proofs.Visitings.{Visiting, is_in_word}

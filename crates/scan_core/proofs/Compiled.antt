@@ -13,9 +13,9 @@ use Rattle.scan_core.specs.declared.compile.Pending.TheVariants.{Group}
 use Rattle.scan_core.specs.declared.emit.Duplication.{Duplication}
 use Rattle.scan_core.specs.declared.node.Node.{Node}
 use Rattle.scan_core.specs.declared.node.Node.TheVariants.{Back}
-use Rattle.scan_core.specs.Backwards.{Repeats, begun}
+use Rattle.scan_core.specs.inner.Backwards.{Repeats, begun}
 use Rattle.scan_core.specs.Code.{code_of, code_of_item, IsOrdered, IsOrderedItem, copies, tail_of, up_to}
-use Rattle.scan_core.specs.Compiling.{IsNow, Finishes, Begins, Closes, Writes, Passes, PassesLeaf, TakesIn, Takes}
+use Rattle.scan_core.specs.inner.Compiling.{IsNow, Finishes, Begins, Closes, Writes, Passes, PassesLeaf, TakesIn, Takes}
 use Rattle.bre_core.proofs.Chains.{Steps-push}
 use Rattle.scan_core.proofs.Finishing.{finished_group, finished_all, finished_repeated}
 

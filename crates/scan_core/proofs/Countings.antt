@@ -10,7 +10,7 @@ use Rattle.scan_core.specs.declared.masks.Kind.TheVariants.{Counts}
 use Rattle.scan_core.specs.declared.node.Node.{Node}
 use Rattle.scan_core.specs.Sets.{IsMarked, weight_if, positions_among}
 use Rattle.scan_core.proofs.Enterings.{weight_most}
-use Rattle.scan_core.specs.Words.{IsIn, IsMask, bits, counted_at, flags_of, width}
+use Rattle.scan_core.specs.inner.Words.{IsIn, IsMask, bits, counted_at, flags_of, width}
 
 -- the weights of the marked numbers
 abbrev sum_of : (ℕ → ℕ) → List Bool → ℕ

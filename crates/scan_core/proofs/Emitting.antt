@@ -4,7 +4,7 @@ use Rattle.std.proofs.lemmas.List.{reverse-append, length-reverse}
 use Rattle.scan_core.specs.declared.node.Node.{Node}
 use Rattle.scan_core.specs.declared.node.Node.TheVariants.{Choose, Back}
 use Rattle.scan_core.specs.Code.{copies, up_to, starred}
-use Rattle.scan_core.specs.Backwards.{stretch}
+use Rattle.scan_core.specs.inner.Backwards.{stretch}
 use Rattle.scan_core.proofs.Stretches.{stretch_after, reverse-cons, reverse-copies, copies_turn}
 
 set_after : (before rest : List Node) (node new : Node) (n : ℕ) → length before ≡ n → set (before ++ node ∷ rest) n new ≡ before ++ new ∷ rest

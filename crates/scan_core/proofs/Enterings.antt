@@ -5,7 +5,8 @@ use Rattle.std.proofs.lemmas.List.{get_or-set_same, get_or-set_other, length-set
 use Rattle.scan_core.specs.declared.reach.Reach.{Reach}
 use Rattle.scan_core.specs.declared.node.Node.{Node}
 use Rattle.scan_core.specs.Code.{At, weight_of, weight}
-use Rattle.scan_core.specs.Sets.{IsMarked, at_place, marked, weight_at, weight_if, positions_among, IsSet, IsReach, Has, Gains, LeadsOn, Flows, IsCode, Passes}
+use Rattle.scan_core.specs.Sets.{IsMarked, weight_if, positions_among}
+use Rattle.scan_core.specs.inner.Sets.{at_place, marked, weight_at, IsSet, IsReach, Has, Gains, LeadsOn, Flows, IsCode, Passes}
 use Rattle.bre_core.specs.ByteSet.{has}
 use Rattle.scan_core.specs.declared.node.Node.TheVariants.{Take, First, Last, Choose, Back}
 

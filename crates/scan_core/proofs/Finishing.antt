@@ -9,8 +9,8 @@ use Rattle.scan_core.specs.declared.compile.Pending.{Pending}
 use Rattle.scan_core.specs.declared.compile.Pending.TheVariants.{Group, Repeated}
 use Rattle.scan_core.specs.declared.emit.Duplication.{Duplication}
 use Rattle.scan_core.specs.declared.node.Node.{Node}
-use Rattle.scan_core.specs.Backwards.{IsBegun, Repeats}
-use Rattle.scan_core.specs.Compiling.{AreBegun, IsNow, FinishesBy, Finishes, PopsNone}
+use Rattle.scan_core.specs.inner.Backwards.{IsBegun, Repeats}
+use Rattle.scan_core.specs.inner.Compiling.{AreBegun, IsNow, FinishesBy, Finishes, PopsNone}
 
 -- more nodes
 begun_wider : (high : Option ℕ) (low start size wider : ℕ) → size ≤ wider → IsBegun high low start size → IsBegun high low start wider

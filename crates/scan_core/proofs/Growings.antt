@@ -4,8 +4,8 @@ use Rattle.std.proofs.lemmas.Bool.{cases_lt}
 use Rattle.scan_core.specs.declared.node.Node.{Node}
 use Rattle.scan_core.specs.declared.node.Node.TheVariants.{Choose}
 use Rattle.scan_core.specs.Code.{At}
-use Rattle.scan_core.specs.Sets.{LeadsOn, Flows}
-use Rattle.scan_core.specs.Words.{IsIn, Grows}
+use Rattle.scan_core.specs.inner.Sets.{LeadsOn, Flows}
+use Rattle.scan_core.specs.inner.Words.{IsIn, Grows}
 use Rattle.scan_core.proofs.Enterings.{flows_of}
 use Rattle.scan_core.proofs.Bits.{grows_none}
 

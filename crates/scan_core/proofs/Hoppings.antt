@@ -7,9 +7,9 @@ use Rattle.std.specs.Prelude.{bit_and, bit_or}
 use Rattle.std.specs.Int.{bit_at, trailing_zeros}
 use Rattle.scan_core.specs.declared.hops.Hop.{Hop}
 use Rattle.scan_core.specs.declared.node.Node.{Node}
-use Rattle.scan_core.specs.Hops.{AreHops, Hopped, IsHop, no_hop}
-use Rattle.scan_core.specs.Sets.{Flows}
-use Rattle.scan_core.specs.Words.{IsIn, Grows}
+use Rattle.scan_core.specs.inner.Hops.{AreHops, Hopped, IsHop, no_hop}
+use Rattle.scan_core.specs.inner.Sets.{Flows}
+use Rattle.scan_core.specs.inner.Words.{IsIn, Grows}
 use Rattle.scan_core.proofs.Bits.{grows_one, grows_none}
 use Rattle.scan_core.proofs.Growings.{grows_by, grows_both}
 use Rattle.scan_core.proofs.Insides.{bit_is}

@@ -9,8 +9,10 @@ use Rattle.scan_core.specs.declared.table.State.{State}
 use Rattle.std.proofs.Math.Nat.{mul-le-mul}
 use Rattle.scan_core.specs.Code.{Entered, weight}
 use Rattle.scan_core.specs.Counted.{set_at, AreSteps, IsStepCount, EndsIn}
-use Rattle.scan_core.specs.Sets.{IsMarked, Flows, FlowsOn, LeadsOn, Passes, positions_among}
-use Rattle.scan_core.specs.Table.{Next, Inner, InSets, entry, IsState, no_state, IsTableOf, IsOutcome, Walked}
+use Rattle.scan_core.specs.Sets.{IsMarked, positions_among}
+use Rattle.scan_core.specs.inner.Sets.{Flows, FlowsOn, LeadsOn, Passes}
+use Rattle.scan_core.specs.inner.Table.{Next, Inner, InSets, entry, IsState, no_state, IsTableOf, Walked}
+use Rattle.scan_core.specs.Table.{IsOutcome}
 use Rattle.scan_core.proofs.Enterings.{positions_most, weight_length}
 use Rattle.scan_core.proofs.Codes.{parts_join}
 use Rattle.scan_core.proofs.Along.{closes_exact, came_exact, one_counted, none_counted, steps_more, steps_wider}

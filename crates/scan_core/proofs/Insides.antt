@@ -8,12 +8,12 @@ use Rattle.std.specs.Prelude.{bit_and, bit_or}
 use Rattle.std.specs.Int.{bit_at, bit_not}
 use Rattle.scan_core.specs.declared.node.Node.{Node}
 use Rattle.scan_core.specs.declared.node.Node.TheVariants.{Take, First, Last, Choose, Back}
-use Rattle.scan_core.specs.Closures.{AreInside, Closes, Stays, chosen_at}
+use Rattle.scan_core.specs.inner.Closures.{AreInside, Closes, Stays, chosen_at}
 use Rattle.scan_core.specs.Code.{At}
 use Rattle.scan_core.specs.declared.hops.Hop.{Hop}
-use Rattle.scan_core.specs.Hops.{HopsTo}
-use Rattle.scan_core.specs.Sets.{LeadsOn, Flows, FlowsOn}
-use Rattle.scan_core.specs.Words.{width}
+use Rattle.scan_core.specs.inner.Hops.{HopsTo}
+use Rattle.scan_core.specs.inner.Sets.{LeadsOn, Flows, FlowsOn}
+use Rattle.scan_core.specs.inner.Words.{width}
 use Rattle.scan_core.proofs.Enterings.{flows_of}
 use Rattle.scan_core.proofs.Tables.{get-front, get-last}
 use Rattle.scan_core.proofs.Visitings.{cleared}

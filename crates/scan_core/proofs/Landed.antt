@@ -11,10 +11,10 @@ use Rattle.scan_core.specs.declared.landing.Landing.{Landing}
 use Rattle.scan_core.specs.declared.node.Node.{Node}
 use Rattle.scan_core.specs.declared.node.Node.TheVariants.{Choose, Back}
 use Rattle.scan_core.specs.Code.{At}
-use Rattle.scan_core.specs.Hops.{AreHops, IsHop, no_hop}
-use Rattle.scan_core.specs.Landings.{AreLandings, Ends, HasLanded, IsLanding, IsOther, Lands, no_landing}
-use Rattle.scan_core.specs.Sets.{Flows}
-use Rattle.scan_core.specs.Words.{IsIn, width}
+use Rattle.scan_core.specs.inner.Hops.{AreHops, IsHop, no_hop}
+use Rattle.scan_core.specs.inner.Landings.{AreLandings, Ends, HasLanded, IsLanding, IsOther, Lands, no_landing}
+use Rattle.scan_core.specs.inner.Sets.{Flows}
+use Rattle.scan_core.specs.inner.Words.{IsIn, width}
 use Rattle.scan_core.proofs.Enterings.{flows_of}
 use Rattle.scan_core.proofs.Hoppings.{one_of, none_of}
 use Rattle.scan_core.proofs.Insides.{bit_is, left_bit, right_bit, either_bit}

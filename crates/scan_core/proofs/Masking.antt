@@ -8,7 +8,7 @@ use Rattle.scan_core.specs.declared.masks.Kind.{Kind}
 use Rattle.scan_core.specs.declared.masks.Kind.TheVariants.{Takes}
 use Rattle.scan_core.specs.declared.node.Node.{Node}
 use Rattle.scan_core.specs.Code.{At, weight_of}
-use Rattle.scan_core.specs.Words.{AddsMask, IsMask, IsOf, counted_at, width}
+use Rattle.scan_core.specs.inner.Words.{AddsMask, IsMask, IsOf, counted_at, width}
 use Rattle.scan_core.proofs.Tables.{get-front, get-last}
 
 -- the first bits of a word are those of a kind

@@ -5,8 +5,8 @@ use Rattle.std.proofs.lemmas.Nat.Bits.{bit_at_and, bit_at-lt, bit_at-zero, bit_a
 use Rattle.std.specs.Prelude.{bit_and, bit_or}
 use Rattle.std.specs.Int.{bit_at, bit_not}
 use Rattle.scan_core.specs.declared.node.Node.{Node}
-use Rattle.scan_core.specs.Closures.{AreNexts, Closes}
-use Rattle.scan_core.specs.Sets.{Flows, FlowsOn}
+use Rattle.scan_core.specs.inner.Closures.{AreNexts, Closes}
+use Rattle.scan_core.specs.inner.Sets.{Flows, FlowsOn}
 use Rattle.scan_core.proofs.Insides.{either_bit, fresh_bit, left_bit, placed, placed_below, right_bit}
 
 -- the first numbers of a word are looked at

@@ -7,8 +7,8 @@ use Rattle.std.specs.Prelude.{bit_and, bit_or}
 use Rattle.std.specs.Int.{bit_at}
 use Rattle.scan_core.specs.declared.masks.Kind.TheVariants.{Takes}
 use Rattle.scan_core.specs.declared.node.Node.{Node}
-use Rattle.scan_core.specs.Sets.{Passes}
-use Rattle.scan_core.specs.Words.{IsIn, width, IsMask}
+use Rattle.scan_core.specs.inner.Sets.{Passes}
+use Rattle.scan_core.specs.inner.Words.{IsIn, width, IsMask}
 use Rattle.scan_core.proofs.Enterings.{pass_least}
 use Rattle.scan_core.proofs.Insides.{left_bit, right_bit, either_bit}
 use Rattle.scan_core.proofs.Visitings.{is_in_word, is_within}

@@ -3,12 +3,13 @@ use Rattle.std.proofs.Common.{◌≡◌, ◌⊎◌, ◌↔◌, inl, inr, ℕ, su
 use Rattle.std.proofs.lemmas.Bool.{cases_eq, false≢true}
 use Rattle.scan_core.specs.declared.base.Base.{Base}
 use Rattle.scan_core.specs.declared.node.Node.{Node}
-use Rattle.scan_core.specs.Base.{IsBase}
+use Rattle.scan_core.specs.inner.Base.{IsBase}
 use Rattle.scan_core.specs.Code.{Entered, weight}
 use Rattle.scan_core.specs.Counted.{AreSteps}
-use Rattle.scan_core.specs.Sets.{IsMarked, FlowsOn, Passes, Came, positions_among}
+use Rattle.scan_core.specs.Sets.{IsMarked, positions_among}
+use Rattle.scan_core.specs.inner.Sets.{FlowsOn, Passes, Came}
 use Rattle.scan_core.specs.Table.{IsOutcome}
-use Rattle.scan_core.specs.Words.{IsIn, width, flags_of, SpreadsOut}
+use Rattle.scan_core.specs.inner.Words.{IsIn, width, flags_of, SpreadsOut}
 use Rattle.scan_core.proofs.Along.{IsPlace, closes_exact, came_exact, none_counted, one_counted, steps_more, steps_wider}
 use Rattle.scan_core.proofs.Closings.{parts_anywhere}
 use Rattle.scan_core.proofs.Countings.{flags_are}

@@ -9,8 +9,9 @@ use Rattle.scan_core.specs.declared.table.State.{State}
 use Rattle.scan_core.specs.declared.table.Table.{Table}
 use Rattle.scan_core.specs.Code.{weight}
 use Rattle.scan_core.specs.Counted.{set_at, EndsIn}
-use Rattle.scan_core.specs.Shifts.{AreLight, IsAt, IsComplete, IsOffset, IsReached, IsShiftTable, IsShifted, IsSized, IsStateAt, IsWeight, IsWord, six_bits}
-use Rattle.scan_core.specs.Table.{IsFound, IsOutcome, IsTable, IsTableOf, Walked, entry, no_state}
+use Rattle.scan_core.specs.inner.Shifts.{AreLight, IsAt, IsComplete, IsOffset, IsReached, IsShiftTable, IsShifted, IsSized, IsStateAt, IsWeight, IsWord, six_bits}
+use Rattle.scan_core.specs.Table.{IsFound, IsOutcome}
+use Rattle.scan_core.specs.inner.Table.{IsTable, IsTableOf, Walked, entry, no_state}
 use Rattle.scan_core.proofs.Along.{steps_more, steps_wider}
 use Rattle.scan_core.proofs.Enterings.{positions_most, weight_length}
 use Rattle.scan_core.proofs.Inners.{any_default, walked_starts, walked_stops, walk_next, walk_run, walk_ends, fixed_stays, bound_fits}

@@ -6,7 +6,8 @@ use Rattle.scan_core.specs.declared.node.Node.{Node}
 use Rattle.scan_core.specs.declared.reach.Reach.{Reach}
 use Rattle.std.proofs.lemmas.List.{get_or-set_same, get_or-set_other, length-set}
 use Rattle.scan_core.proofs.Enterings.{gain_nothing, gain_by, gain_both, marks_within}
-use Rattle.scan_core.specs.Sets.{IsMarked, IsSet, positions_among, at_place, marked, IsReach, Has, Gains, Flows, FlowsOn, Spreads, Opens, Passes, PassesFrom, IsEmptied, Advances, Loaded}
+use Rattle.scan_core.specs.Sets.{IsMarked, positions_among}
+use Rattle.scan_core.specs.inner.Sets.{IsSet, at_place, marked, IsReach, Has, Gains, Flows, FlowsOn, Spreads, Opens, Passes, PassesFrom, IsEmptied, Advances, Loaded}
 
 -- what follows from the first entered ones was entered
 pub record Spreading (code : List Node) (at_first at_last : Bool) (old now : Reach) (done : ℕ) : Type 0 where

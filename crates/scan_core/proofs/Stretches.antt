@@ -3,7 +3,7 @@ use Rattle.std.proofs.Common.{◌≡◌, ℕ, zero, suc, ◌+◌, ◌<◌, ◌�
 use Rattle.std.proofs.lemmas.List.{take_more, get_or-drop, take-append-le, drop-append-le, reverse-append}
 use Rattle.scan_core.specs.declared.node.Node.{Node}
 use Rattle.scan_core.specs.Code.{copies}
-use Rattle.scan_core.specs.Backwards.{stretch}
+use Rattle.scan_core.specs.inner.Backwards.{stretch}
 
 front_of : {X : Type 0} (xs ys : List X) (n : ℕ) (d : X) → n < length xs → get_or (xs ++ ys) n d ≡ get_or xs n d
 front_of [] ys n d h = absurd (omega (arith, h))

@@ -9,11 +9,12 @@ use Rattle.scan_core.specs.declared.node.Node.TheVariants.{Take}
 use Rattle.scan_core.specs.declared.reach.Reach.{Reach}
 use Rattle.scan_core.specs.declared.table.State.{State}
 use Rattle.scan_core.specs.declared.table.Table.{Table}
-use Rattle.scan_core.specs.Built.{AreAlike, Built, AreSized, IsBuilding, IsFilling, LeadsTo, AreNoted}
+use Rattle.scan_core.specs.inner.Built.{AreAlike, Built, AreSized, IsBuilding, IsFilling, LeadsTo, AreNoted}
 use Rattle.scan_core.specs.Code.{At}
 use Rattle.scan_core.specs.Counted.{set_at}
-use Rattle.scan_core.specs.Sets.{IsMarked, IsReach, Has, FlowsOn, Passes, PassesFrom, Advances, Loaded, Spreads, positions_among}
-use Rattle.scan_core.specs.Table.{Next, InSets, entry, Tells, IsState, no_state, IsTableOf}
+use Rattle.scan_core.specs.Sets.{IsMarked, positions_among}
+use Rattle.scan_core.specs.inner.Sets.{IsReach, Has, FlowsOn, Passes, PassesFrom, Advances, Loaded, Spreads}
+use Rattle.scan_core.specs.inner.Table.{Next, InSets, entry, Tells, IsState, no_state, IsTableOf}
 use Rattle.scan_core.proofs.Enterings.{at_index, at_once, at_least}
 
 pub get-front : {X : Type 0} (xs ys : List X) (n : ℕ) (d : X) → n < length xs → get_or (xs ++ ys) n d ≡ get_or xs n d

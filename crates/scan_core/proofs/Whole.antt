@@ -6,7 +6,7 @@ use Rattle.bre_core.specs.Search.{contains}
 use Rattle.bre_core.proofs.Searching.{contains_tells, one_truth}
 use Rattle.scan_core.specs.Code.{code_of, IsOrdered, weight}
 use Rattle.scan_core.specs.Counted.{EndsIn}
-use Rattle.scan_core.specs.Sets.{IsCode}
+use Rattle.scan_core.specs.inner.Sets.{IsCode}
 use Rattle.scan_core.proofs.Codes.{code_exact, contained}
 use Rattle.scan_core.proofs.Along.{flow_goes}
 use Rattle.scan_core.proofs.Weights.{weight_is, length_most}

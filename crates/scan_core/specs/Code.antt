@@ -14,7 +14,8 @@ At (head ∷ rest) (suc number) node = At rest number node
 
 -- from a node entered at a place of the line another is entered
 abbrev pub Leads : Node → List ℕ → ℕ → ℕ → ℕ → ℕ → Type 0
-Leads (Take bytes) line at place at' place' = (at' ≡ at + 1) × (place' ≡ place + 1) × (place < length line) × IsTrue (has bytes (slice_index line place))
+Leads (Take bytes) line at place at' place' = (at' ≡ at + 1) × (place' ≡ place + 1) × (place < length line)
+    × IsTrue (has bytes (slice_index line place))
 Leads First line at place at' place' = (at' ≡ at + 1) × (place' ≡ place) × (place ≡ 0)
 Leads Last line at place at' place' = (at' ≡ at + 1) × (place' ≡ place) × (place ≡ length line)
 Leads (Choose skip) line at place at' place' = ((at' ≡ at + 1) ⊎ (at' ≡ at + skip)) × (place' ≡ place)
@@ -26,7 +27,8 @@ Goes code line at place at' place' = (node : Node) × At code at node × Leads n
 -- a walk of `count` steps
 abbrev pub Walks : List Node → List ℕ → ℕ → ℕ → ℕ → ℕ → ℕ → Type 0
 Walks code line zero at place to stop = (at ≡ to) × (place ≡ stop)
-Walks code line (suc count) at place to stop = (at' : ℕ) × (place' : ℕ) × Goes code line at place at' place' × Walks code line count at' place' to stop
+Walks code line (suc count) at place to stop = (at' : ℕ) × (place' : ℕ) × Goes code line at place at' place'
+    × Walks code line count at' place' to stop
 
 abbrev pub Path : List Node → List ℕ → ℕ → ℕ → ℕ → ℕ → Type 0
 Path code line at place to stop = (count : ℕ) × Walks code line count at place to stop

@@ -1,4 +1,5 @@
--- How many steps a search takes that goes to the end of the line: one for each position at each place where it can be entered.
+-- How many steps a search takes that goes to the end of the line: one for each position at each place where it can be
+-- entered.
 use Rattle.std.specs.Prelude.{◌≡◌, ◌↔◌, ℕ, ◌+◌, ◌<◌, ◌≤◌, Bool, List, [], ◌∷◌, length, slice_index_or}
 use Rattle.scan_core.specs.declared.node.Node.{Node}
 use Rattle.scan_core.specs.Code.{Entered}
@@ -17,7 +18,8 @@ positions_in_all code (set ∷ sets) = positions_among code set + positions_in_a
 pub record AreSteps (code : List Node) (line : List ℕ) (places steps : ℕ) : Type 0 where
   pub sets : List (List Bool)
   pub all : length sets ≡ places
-  pub exact : (place number : ℕ) → place < places → (IsMarked (set_at sets place) number ↔ Entered code line number place)
+  pub exact : (place number : ℕ) → place < places
+      → (IsMarked (set_at sets place) number ↔ Entered code line number place)
   pub total : steps ≡ positions_in_all code sets
 
 -- the steps of a search over the whole line

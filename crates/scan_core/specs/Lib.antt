@@ -1,14 +1,6 @@
 pub mod Code
-pub mod Backwards
-pub mod Compiling
 pub mod Sets
 pub mod Counted
 pub mod ScanState
 pub mod Table
-pub mod Built
-pub mod Shifts
-pub mod Words
-pub mod Closures
-pub mod Hops
-pub mod Base
-pub mod Landings
+pub mod inner

@@ -1,69 +1,9 @@
 -- A table of sets of a code's numbers: which set a byte leads to.
-use Rattle.std.specs.Prelude.{◌≡◌, ◌⊎◌, ◌↔◌, ℕ, zero, suc, ◌+◌, ◌*◌, ◌<◌, ◌≤◌, Bool, true, false, IsTrue, IsFalse, List, length, slice_index, slice_index_or}
+use Rattle.std.specs.Prelude.{◌↔◌, ℕ, ◌+◌, ◌*◌, ◌≤◌, Bool, IsTrue, IsFalse, List, length}
 use Rattle.scan_core.specs.declared.node.Node.{Node}
-use Rattle.scan_core.specs.declared.table.State.{State}
-use Rattle.scan_core.specs.declared.table.Table.{Table}
 use Rattle.scan_core.specs.declared.walk.Outcome.{Outcome}
-use Rattle.scan_core.specs.Code.{Entered, weight}
-use Rattle.scan_core.specs.Sets.{IsMarked, FlowsOn, Passes, positions_among}
-use Rattle.scan_core.specs.Counted.{set_at, AreSteps, EndsIn, IsStepCount}
-
--- what a byte and then none leads to from the numbers of a set, the search having begun once more
-abbrev pub Next : List Node → ℕ → (ℕ → Type 0) → ℕ → Type 0
-Next code byte Set number = (from : ℕ) × (((before : ℕ) × Set before × Passes code byte before from) ⊎ (from ≡ 0)) × FlowsOn code false false from number
-
--- what is entered at a place that isn't the line's last
-abbrev pub Inner : List Node → List ℕ → ℕ → ℕ → Type 0
-Inner code line zero number = FlowsOn code true false 0 number
-Inner code line (suc place) number = Next code (slice_index line place) (Inner code line place) number
-
-abbrev pub InSets : List (List Bool) → ℕ → ℕ → Type 0
-InSets sets state number = IsMarked (set_at sets state) number
-
--- a state's entry for a byte
-abbrev pub entry : List ℕ → ℕ → ℕ → ℕ
-entry rows state byte = slice_index_or rows (state * 256 + byte) 0
-
--- what an entry says of the set of a state and of a byte is so
-pub record Tells (code : List Node) (sets : List (List Bool)) (state byte read : ℕ) : Type 0 where
-  pub next : read < 65534 → (read < length sets) × ((number : ℕ) → InSets sets read number ↔ Next code byte (InSets sets state) number)
-  pub stop : read ≡ 65535 → Next code byte (InSets sets state) (length code)
-
--- what is noted of a state is so of its set
-pub record IsState (code : List Node) (sets : List (List Bool)) (rows : List ℕ) (number : ℕ) (state : State) : Type 0 where
-  pub positions : state.positions ≡ positions_among code (set_at sets number)
-  pub is_fixed : IsTrue state.is_fixed → (byte : ℕ) → byte < 256 → entry rows number byte ≡ number
-  pub last : List Bool
-  pub last_exact : (to : ℕ) → IsMarked last to ↔ ((from : ℕ) × InSets sets number from × FlowsOn code false true from to)
-  pub last_positions : state.last_positions ≡ positions_among code last
-  pub ends : IsTrue state.ends ↔ IsMarked last (length code)
-
-abbrev pub no_state : State
-no_state = record { positions = 0; last_positions = 0; ends = false; is_fixed = false }
-
--- each entry of the table is what it stands for
-pub record IsTableOf (code : List Node) (sets : List (List Bool)) (table : Table) : Type 0 where
-  pub few : length code ≤ 65536
-  pub some : 0 < length sets
-  pub most : length sets < 65534
-  pub rows : length table.rows.items ≡ length sets * 256
-  pub states : length table.states.items ≡ length sets
-  pub front : (number : ℕ) → InSets sets 0 number ↔ FlowsOn code true false 0 number
-  pub none : (state : ℕ) → state < length sets → InSets sets state (length code) → ⊥
-  pub told : (state byte : ℕ) → state < length sets → byte < 256 → Tells code sets state byte (entry table.rows.items state byte)
-  pub noted : (state : ℕ) → state < length sets → IsState code sets table.rows.items state (slice_index_or table.states.items state no_state)
-
-abbrev pub IsTable : List Node → Table → Type 0
-IsTable code table = (sets : List (List Bool)) × IsTableOf code sets table
-
--- the line was read up to a place with the table
-pub record Walked (code : List Node) (sets : List (List Bool)) (line : List ℕ) (place state steps : ℕ) : Type 0 where
-  pub within : place ≤ length line
-  pub known : state < length sets
-  pub exact : (number : ℕ) → InSets sets state number ↔ Inner code line place number
-  pub none : (before : ℕ) → before < place → Entered code line (length code) before → ⊥
-  pub counted : AreSteps code line place steps
-  pub bound : steps ≤ place * (weight code + 1)
+use Rattle.scan_core.specs.Code.{weight}
+use Rattle.scan_core.specs.Counted.{EndsIn, IsStepCount}
 
 -- whether a line has a match
 abbrev pub IsFound : List Node → List ℕ → Bool → Type 0

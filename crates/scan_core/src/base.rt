@@ -2,12 +2,12 @@
 
 ghost use Rattle.std.specs.Prelude.{◌≡◌, ◌⊎◌, ◌↔◌, ◌<◌, ◌+◌, ◌*◌, ◌/◌, ℕ, Bool, false, IsTrue, IfOk, IfErr, [], length};
 ghost use Rattle.bre_core.specs.declared.fault.BreFault.TheVariants.{Memory};
-ghost use Rattle.scan_core.specs.Base.{AreLeads, IsBase, IsLeading};
-ghost use Rattle.scan_core.specs.Closures.{AreClosures};
-ghost use Rattle.scan_core.specs.Hops.{AreHops};
-ghost use Rattle.scan_core.specs.Landings.{AreLandings, AreOthers};
-ghost use Rattle.scan_core.specs.Sets.{IsCode, Flows, FlowsOn};
-ghost use Rattle.scan_core.specs.Words.{IsIn, width};
+ghost use Rattle.scan_core.specs.inner.Base.{AreLeads, IsBase, IsLeading};
+ghost use Rattle.scan_core.specs.inner.Closures.{AreClosures};
+ghost use Rattle.scan_core.specs.inner.Hops.{AreHops};
+ghost use Rattle.scan_core.specs.inner.Landings.{AreLandings, AreOthers};
+ghost use Rattle.scan_core.specs.inner.Sets.{IsCode, Flows, FlowsOn};
+ghost use Rattle.scan_core.specs.inner.Words.{IsIn, width};
 
 use crate::closing::spread_all;
 use crate::closures::Closures;

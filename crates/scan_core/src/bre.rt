@@ -41,11 +41,11 @@ impl Model for Bre {
     ghost use Rattle.bre_core.specs.Code.{pattern_code};
     ghost use Rattle.bre_core.specs.Pattern.{Pattern, positions_of};
     ghost use Rattle.scan_core.specs.Code.{code_of, IsOrdered};
-    ghost use Rattle.scan_core.specs.Table.{IsTable};
-    ghost use Rattle.scan_core.specs.Shifts.{IsShiftTable};
-    ghost use Rattle.scan_core.specs.Base.{IsBase};
-    ghost use Rattle.scan_core.specs.Closures.{AreClosures};
-    ghost use Rattle.scan_core.specs.Words.{IsMasks};
+    ghost use Rattle.scan_core.specs.inner.Table.{IsTable};
+    ghost use Rattle.scan_core.specs.inner.Shifts.{IsShiftTable};
+    ghost use Rattle.scan_core.specs.inner.Base.{IsBase};
+    ghost use Rattle.scan_core.specs.inner.Closures.{AreClosures};
+    ghost use Rattle.scan_core.specs.inner.Words.{IsMasks};
 
     ghost Value = { Pattern };
 

@@ -4,9 +4,9 @@ ghost use Rattle.std.specs.Prelude.{◌≡◌, ◌↔◌, ◌<◌, ◌≤◌, �
 ghost use Rattle.bre_core.specs.declared.fault.BreFault.TheVariants.{Memory};
 ghost use Rattle.bre_core.specs.ByteSet.{has};
 ghost use Rattle.scan_core.specs.declared.node.Node.TheVariants.{Take};
-ghost use Rattle.scan_core.specs.Built.{AreAlike, AreTwins, IsBuilding, IsFilling, LeadsTo, AreNoted};
-ghost use Rattle.scan_core.specs.Sets.{IsCode};
-ghost use Rattle.scan_core.specs.Table.{entry, Tells, IsState, IsTable};
+ghost use Rattle.scan_core.specs.inner.Built.{AreAlike, AreTwins, IsBuilding, IsFilling, LeadsTo, AreNoted};
+ghost use Rattle.scan_core.specs.inner.Sets.{IsCode};
+ghost use Rattle.scan_core.specs.inner.Table.{entry, Tells, IsState, IsTable};
 
 use crate::node::Node;
 use crate::reach::Reach;

@@ -1,12 +1,12 @@
 //! Entering all that follows without a byte, word by word: what is in the word by its closures, and then what is out of it, mostly by hops.
 
 ghost use Rattle.std.specs.Prelude.{◌≡◌, ◌<◌, ◌*◌, ◌/◌, ◌%◌, ◌^◌, ℕ, length};
-ghost use Rattle.scan_core.specs.Base.{IsBase};
-ghost use Rattle.scan_core.specs.Closures.{AreClosures};
-ghost use Rattle.scan_core.specs.Hops.{AreHops, Hopped};
-ghost use Rattle.scan_core.specs.Landings.{ClosesWords};
-ghost use Rattle.scan_core.specs.Sets.{IsCode};
-ghost use Rattle.scan_core.specs.Words.{Grows, IsIn, SpreadsOut, Visits, width};
+ghost use Rattle.scan_core.specs.inner.Base.{IsBase};
+ghost use Rattle.scan_core.specs.inner.Closures.{AreClosures};
+ghost use Rattle.scan_core.specs.inner.Hops.{AreHops, Hopped};
+ghost use Rattle.scan_core.specs.inner.Landings.{ClosesWords};
+ghost use Rattle.scan_core.specs.inner.Sets.{IsCode};
+ghost use Rattle.scan_core.specs.inner.Words.{Grows, IsIn, SpreadsOut, Visits, width};
 
 use crate::base::Base;
 use crate::closures::{Closures, closed, looked_up};

@@ -3,10 +3,10 @@
 ghost use Rattle.std.specs.Prelude.{◌≡◌, ◌⊎◌, ◌↔◌, ◌<◌, ◌≤◌, ◌+◌, ◌*◌, ◌/◌, ◌%◌, ◌^◌, ℕ, Bool, false, IsTrue, IfOk, IfErr, IfSome, length};
 ghost use Rattle.std.specs.Int.{bit_at};
 ghost use Rattle.bre_core.specs.declared.fault.BreFault.TheVariants.{Memory};
-ghost use Rattle.scan_core.specs.Closures.{AreAllNexts, AreAllPeers, AreClosures, AreInside, AreLeaves, AreNexts, ArePeers, Closes, IsLeaving, Stays, chosen_at};
-ghost use Rattle.scan_core.specs.Hops.{HopsTo};
-ghost use Rattle.scan_core.specs.Sets.{IsCode, Flows};
-ghost use Rattle.scan_core.specs.Words.{width};
+ghost use Rattle.scan_core.specs.inner.Closures.{AreAllNexts, AreAllPeers, AreClosures, AreInside, AreLeaves, AreNexts, ArePeers, Closes, IsLeaving, Stays, chosen_at};
+ghost use Rattle.scan_core.specs.inner.Hops.{HopsTo};
+ghost use Rattle.scan_core.specs.inner.Sets.{IsCode, Flows};
+ghost use Rattle.scan_core.specs.inner.Words.{width};
 
 use crate::hops::{Hop, hops_of, is_hop};
 use crate::node::Node;

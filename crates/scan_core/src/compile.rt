@@ -6,7 +6,7 @@ ghost use Rattle.bre_core.specs.Flat.{IsBounded};
 ghost use Rattle.bre_core.specs.declared.fault.BreFault.TheVariants.{Memory};
 ghost use Rattle.bre_core.specs.declared.token.Token.TheVariants.{Repeat};
 ghost use Rattle.scan_core.specs.Code.{code_of, IsOrdered};
-ghost use Rattle.scan_core.specs.Compiling.{Pops, AreBegun, Finishes, Begins, Writes, Passes, Takes, depth_in};
+ghost use Rattle.scan_core.specs.inner.Compiling.{Pops, AreBegun, Finishes, Begins, Writes, Passes, Takes, depth_in};
 
 use crate::emit::{Duplication, keep, write_out};
 use crate::node::Node;

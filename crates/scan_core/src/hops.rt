@@ -3,9 +3,9 @@
 ghost use Rattle.std.specs.Prelude.{◌≡◌, ◌⊎◌, ◌<◌, ◌≤◌, ◌+◌, ◌*◌, ◌/◌, ℕ, false, IsTrue, IfOk, IfErr, length};
 ghost use Rattle.std.specs.Int.{bit_at};
 ghost use Rattle.bre_core.specs.declared.fault.BreFault.TheVariants.{Memory};
-ghost use Rattle.scan_core.specs.Hops.{AreHops, HopsTo, IsHop};
-ghost use Rattle.scan_core.specs.Sets.{IsCode, Flows};
-ghost use Rattle.scan_core.specs.Words.{width};
+ghost use Rattle.scan_core.specs.inner.Hops.{AreHops, HopsTo, IsHop};
+ghost use Rattle.scan_core.specs.inner.Sets.{IsCode, Flows};
+ghost use Rattle.scan_core.specs.inner.Words.{width};
 
 use crate::node::Node;
 use bre_core::BreFault;

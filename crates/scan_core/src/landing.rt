@@ -2,10 +2,10 @@
 
 ghost use Rattle.std.specs.Prelude.{◌≡◌, ◌⊎◌, ◌↔◌, ◌<◌, ◌≤◌, ◌+◌, ◌*◌, ◌/◌, ℕ, Bool, false, IsTrue, OnOk, IfErr, length, slice_index_or};
 ghost use Rattle.bre_core.specs.declared.fault.BreFault.TheVariants.{Memory};
-ghost use Rattle.scan_core.specs.Hops.{AreHops};
-ghost use Rattle.scan_core.specs.Landings.{AreLandings, Ends, HasLanded, IsOther, Lands, LandsOn, no_landing};
-ghost use Rattle.scan_core.specs.Sets.{IsCode, Flows};
-ghost use Rattle.scan_core.specs.Words.{IsIn, width};
+ghost use Rattle.scan_core.specs.inner.Hops.{AreHops};
+ghost use Rattle.scan_core.specs.inner.Landings.{AreLandings, Ends, HasLanded, IsOther, Lands, LandsOn, no_landing};
+ghost use Rattle.scan_core.specs.inner.Sets.{IsCode, Flows};
+ghost use Rattle.scan_core.specs.inner.Words.{IsIn, width};
 
 use crate::hops::{HOPS, Hop};
 use crate::node::Node;

@@ -4,7 +4,7 @@ ghost use Rattle.std.specs.Prelude.{◌≡◌, ◌↔◌, ◌<◌, ◌+◌, ◌^
 ghost use Rattle.std.specs.Int.{bit_at};
 ghost use Rattle.bre_core.specs.declared.fault.BreFault.TheVariants.{Memory};
 ghost use Rattle.scan_core.specs.declared.masks.Kind.TheVariants.{Counts};
-ghost use Rattle.scan_core.specs.Words.{AddsMask, IsMasks, IsOf};
+ghost use Rattle.scan_core.specs.inner.Words.{AddsMask, IsMasks, IsOf};
 
 use crate::node::Node;
 use crate::reach::passes;

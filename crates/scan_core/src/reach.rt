@@ -2,7 +2,7 @@
 
 ghost use Rattle.std.specs.Prelude.{◌≡◌, ◌↔◌, ◌<◌, ◌≤◌, ◌+◌, ℕ, IsTrue, IfOk, IfErr, length};
 ghost use Rattle.bre_core.specs.declared.fault.BreFault.TheVariants.{Memory};
-ghost use Rattle.scan_core.specs.Sets.{IsSet, IsReach, IsCode, Gains, Spreads, Has, Flows, Passes, PassesFrom, Opens, IsEmptied, Advances, Loaded, weight_at};
+ghost use Rattle.scan_core.specs.inner.Sets.{IsSet, IsReach, IsCode, Gains, Spreads, Has, Flows, Passes, PassesFrom, Opens, IsEmptied, Advances, Loaded, weight_at};
 
 use crate::node::Node;
 use bre_core::BreFault;

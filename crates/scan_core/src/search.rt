@@ -1,11 +1,11 @@
 //! Searching a line place by place, with the set of what is entered at each.
 
 ghost use Rattle.std.specs.Prelude.{◌≡◌, length};
-ghost use Rattle.scan_core.specs.Base.{IsBase};
-ghost use Rattle.scan_core.specs.Closures.{AreClosures};
-ghost use Rattle.scan_core.specs.Sets.{IsCode};
+ghost use Rattle.scan_core.specs.inner.Base.{IsBase};
+ghost use Rattle.scan_core.specs.inner.Closures.{AreClosures};
+ghost use Rattle.scan_core.specs.inner.Sets.{IsCode};
 ghost use Rattle.scan_core.specs.Table.{IsOutcome};
-ghost use Rattle.scan_core.specs.Words.{IsMasks, width};
+ghost use Rattle.scan_core.specs.inner.Words.{IsMasks, width};
 
 use crate::base::Base;
 use crate::closing::spread;

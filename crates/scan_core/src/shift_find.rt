@@ -1,7 +1,7 @@
 //! Whether a line has a match, by the table of words: as in `shift_walk`, but that no steps are counted.
 
 ghost use Rattle.std.specs.Prelude.{◌≡◌, ◌<◌, ◌≤◌, ◌+◌, ℕ, length};
-ghost use Rattle.scan_core.specs.Shifts.{IsReached, IsShiftTable, IsSized};
+ghost use Rattle.scan_core.specs.inner.Shifts.{IsReached, IsShiftTable, IsSized};
 ghost use Rattle.scan_core.specs.Table.{IsFound};
 
 use crate::node::Node;

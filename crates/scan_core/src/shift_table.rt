@@ -2,8 +2,8 @@
 
 ghost use Rattle.std.specs.Prelude.{◌≡◌, ◌<◌, ◌≤◌, ◌*◌, ◌%◌, ℕ, IsTrue, IfOk, IfErr, IfSome, length};
 ghost use Rattle.bre_core.specs.declared.fault.BreFault.TheVariants.{Memory};
-ghost use Rattle.scan_core.specs.Shifts.{AreLight, AreWeights, AreWords, IsComplete, IsOffset, IsShiftTable, IsWeight, IsWord};
-ghost use Rattle.scan_core.specs.Table.{IsTable};
+ghost use Rattle.scan_core.specs.inner.Shifts.{AreLight, AreWeights, AreWords, IsComplete, IsOffset, IsShiftTable, IsWeight, IsWord};
+ghost use Rattle.scan_core.specs.inner.Table.{IsTable};
 
 use crate::node::Node;
 use crate::table::{State, Table, UNKNOWN};

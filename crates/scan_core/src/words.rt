@@ -2,8 +2,9 @@
 
 ghost use Rattle.std.specs.Prelude.{◌≡◌, ◌⊎◌, ◌↔◌, ◌<◌, ◌≤◌, ◌+◌, ◌*◌, ℕ, IsTrue, length};
 ghost use Rattle.scan_core.specs.declared.masks.Kind.TheVariants.{Takes, Counts};
-ghost use Rattle.scan_core.specs.Sets.{IsCode, Flows, Passes, positions_among};
-ghost use Rattle.scan_core.specs.Words.{Grows, IsIn, IsMask, flags_of, width};
+ghost use Rattle.scan_core.specs.inner.Sets.{IsCode, Flows, Passes};
+ghost use Rattle.scan_core.specs.Sets.{positions_among};
+ghost use Rattle.scan_core.specs.inner.Words.{Grows, IsIn, IsMask, flags_of, width};
 
 use crate::node::Node;
 

@@ -4,7 +4,8 @@ use Rattle.std.proofs.lemmas.List.{append-nil, append_assoc, length-append, leng
 use Rattle.std.proofs.lemmas.List.Elements.{All-get_or, All-set, All-append, All-take, All-drop}
 use Rattle.std.proofs.Math.Seq.{drop-append-add, take-append-add}
 use Rattle.seg_core.specs.Line.{delimiters, ends_with, first_lines, line_count, after_lines, last_lines, but_last_lines}
-use Rattle.seg_core.specs.Blocks.{BlockState, text_of, count_of, HasCount, HaveCounts, Gone, IsCounted, first_of}
+use Rattle.seg_core.specs.Blocks.{BlockState, text_of, HasCount, HaveCounts, IsCounted}
+use Rattle.seg_core.specs.inner.Blocks.{count_of, Gone, first_of}
 use Rattle.seg_core.proofs.Delimiters.{delimiters-append, delimiters-take-drop}
 use Rattle.seg_core.proofs.LineCounts.{line_count-drop, ends_with-append}
 use Rattle.seg_core.proofs.LastLines.{few_from_nothing}

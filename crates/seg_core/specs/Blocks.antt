@@ -12,15 +12,6 @@ abbrev pub text_of : List BlockState → List ℕ
 text_of [] = []
 text_of (block ∷ blocks) = block.bytes ++ text_of blocks
 
-abbrev pub first_of : List BlockState → List ℕ
-first_of [] = []
-first_of (block ∷ blocks) = block.bytes
-
--- how many delimiters were counted in the blocks
-abbrev pub count_of : List BlockState → ℕ
-count_of [] = 0
-count_of (block ∷ blocks) = block.count + count_of blocks
-
 -- the count is right
 abbrev pub HasCount : ℕ → BlockState → Type 0
 HasCount delim block = block.count ≡ delimiters delim block.bytes
@@ -28,15 +19,8 @@ HasCount delim block = block.count ≡ delimiters delim block.bytes
 abbrev pub HaveCounts : ℕ → List BlockState → Type 0
 HaveCounts delim blocks = All (HasCount delim) blocks
 
--- of blocks of whose bytes n are to go, whole ones are gone: those of `left` are left, `bytes` of the n bytes are still to go, and
--- in what is gone `count` delimiters were counted
-pub record Gone (n : ℕ) (blocks left : List BlockState) (bytes count : ℕ) : Type 0 where
-  pub gone : List BlockState
-  pub whole : blocks ≡ gone ++ left
-  pub long : n ≡ length (text_of gone) + bytes
-  pub counted : count ≡ count_of gone
-
--- what a window over lines knows of the blocks that it holds: no more than `most` lines, fewer than 2^63 bytes, and their counts
+-- what a window over lines knows of the blocks that it holds: no more than `most` lines, fewer than 2^63 bytes, and
+-- their counts
 pub record IsCounted (delim most : ℕ) (blocks : List BlockState) (len count : ℕ) : Type 0 where
   pub few : line_count delim (text_of blocks) ≤ most
   pub fits : length (text_of blocks) < 2 ^ 63

@@ -68,7 +68,8 @@ scaled sign digits (Some factor) = sized sign (value_of digits * factor)
 
 -- the count of a text that follows its sign
 abbrev pub unsigned : Sign → List ℕ → Result Count CountFault
-unsigned sign text = if length (leading_digits text) == 0 then Err NoDigits else scaled sign (leading_digits text) (factor_of (behind_digits text))
+unsigned sign text = if length (leading_digits text) == 0 then Err NoDigits
+    else scaled sign (leading_digits text) (factor_of (behind_digits text))
 
 -- the count that a text writes, or the first reason why it writes none: no digits, no such suffix, too large
 unfoldable pub count_of : List ℕ → Result Count CountFault
@@ -80,4 +81,5 @@ is_number text = nat_lt 0 (length text) && list_all is_ascii_digit text
 
 -- the number that a text of digits alone writes
 unfoldable pub digits_of : List ℕ → Result ℕ CountFault
-digits_of text = if is_number text then (if nat_le (value_of text) greatest then Ok (value_of text) else Err TooLarge) else Err NoDigits
+digits_of text = if is_number text then (if nat_le (value_of text) greatest then Ok (value_of text) else Err TooLarge)
+    else Err NoDigits

@@ -3,3 +3,4 @@ pub mod Count
 pub mod Line
 pub mod Rooms
 pub mod Window
+pub mod inner

@@ -1,15 +1,12 @@
--- The lines of a text. A text is a list of bytes. A line ends with a delimiter: a byte that is chosen once for the text, and that
--- the definitions have as their first argument. POSIX's lines are those that end with the newline, byte 10.
-use Rattle.std.specs.Prelude.{◌≡◌, ◌≢◌, ℕ, ◌+◌, ◌-◌, ◌<◌, ◌≤◌, ◌==◌, Bool, true, false, List, [], ◌∷◌, ◌++◌, ◌⊎◌, if◌then◌else◌, length, take, drop, All}
+-- The lines of a text. A text is a list of bytes. A line ends with a delimiter: a byte that is chosen once for the
+-- text, and that the definitions have as their first argument. POSIX's lines are those that end with the newline, byte
+-- 10.
+use Rattle.std.specs.Prelude.{◌≡◌, ◌≢◌, ℕ, ◌+◌, ◌-◌, ◌<◌, ◌≤◌, ◌==◌, Bool, true, false, List, [], ◌∷◌, ◌++◌, ◌⊎◌, if◌then◌else◌, length, take, drop}
 use Rattle.std.specs.List.{onto_first}
 use Rattle.seg_core.specs.declared.line_reach.Reach.{Reach}
 use Rattle.seg_core.specs.declared.line_reach.Reach.TheVariants.{Ends, Short}
 use Rattle.seg_core.specs.declared.line_reach.ReachBack.{ReachBack}
 use Rattle.seg_core.specs.declared.line_reach.ReachBack.TheVariants as back
-
--- the numbers of a text are bytes
-abbrev pub AreBytes : List ℕ → Type 0
-AreBytes x = All (λ byte. byte < 256) x
 
 -- the lines one after another
 abbrev pub joined : List (List ℕ) → List ℕ
@@ -35,7 +32,8 @@ AreLines delim [] = Unit {0}
 AreLines delim (line ∷ []) = IsComplete delim line ⊎ IsOpen delim line
 AreLines delim (line ∷ next ∷ lines) = IsComplete delim line × AreLines delim (next ∷ lines)
 
--- x cut into its lines: joined they are x, none is empty, a delimiter stands only last in a line, and only the last line may lack it
+-- x cut into its lines: joined they are x, none is empty, a delimiter stands only last in a line, and only the last
+-- line may lack it
 pub record IsLines (delim : ℕ) (x : List ℕ) (lines : List (List ℕ)) : Type 0 where
   pub whole : joined lines ≡ x
   pub each : AreLines delim lines
@@ -43,7 +41,8 @@ pub record IsLines (delim : ℕ) (x : List ℕ) (lines : List (List ℕ)) : Type
 -- the one list that `IsLines` holds of
 abbrev pub lines_of : ℕ → List ℕ → List (List ℕ)
 lines_of delim [] = []
-lines_of delim (byte ∷ bytes) = if byte == delim then (byte ∷ []) ∷ lines_of delim bytes else onto_first byte (lines_of delim bytes)
+lines_of delim (byte ∷ bytes) = if byte == delim then (byte ∷ []) ∷ lines_of delim bytes
+    else onto_first byte (lines_of delim bytes)
 
 -- how often the delimiter stands in a text, and so how many complete lines it has
 abbrev pub delimiters : ℕ → List ℕ → ℕ
@@ -102,7 +101,8 @@ abbrev pub ReachesBack : ℕ → ℕ → List ℕ → ReachBack → Type 0
 ReachesBack delim n x (back.Begins at) = BeginsAt delim n x at
 ReachesBack delim n x (back.Short count) = FallsShort delim n x count
 
--- the last delimiter of the text ends at `end`: its complete lines stand before that place, and an open last line or nothing after it
+-- the last delimiter of the text ends at `end`: its complete lines stand before that place, and an open last line or
+-- nothing after it
 pub record LastEndsAt (delim : ℕ) (x : List ℕ) (end : ℕ) : Type 0 where
   pub some : 0 < end
   pub within : end ≤ length x

@@ -3,7 +3,8 @@
 ghost use Rattle.std.specs.Prelude.{◌≡◌, ℕ, ◌^◌, ◌≤◌, ◌<◌, List, [], ◌++◌, length, take, drop, IfOk, OnOk, OnErr};
 ghost use Rattle.std.specs.VecDeque.{deque_len, deque_capacity};
 ghost use Rattle.seg_core.specs.Line.{after_lines, delimiters, ends_with, first_lines};
-ghost use Rattle.seg_core.specs.Blocks.{Gone, HaveCounts, count_of, first_of, text_of};
+ghost use Rattle.seg_core.specs.inner.Blocks.{Gone, count_of, first_of};
+ghost use Rattle.seg_core.specs.Blocks.{HaveCounts, text_of};
 
 use crate::line::reach;
 use crate::line_back::reach_back;

@@ -19,10 +19,10 @@ use Rattle.split_core.specs.Split.{Plan, Share, share, is_named, are_named, name
 use Rattle.split_core.specs.Splitter.{IsPositive}
 use Rattle.split_core.specs.PartState.{parts_work}
 use Rattle.split_core.specs.Round.{round_plan, round_work}
-use Rattle.split_core.specs.CutLaws.{short_some, full_from, whole_of_lines, whole_of_none, whole_some, rest_short}
-use Rattle.split_core.specs.ShareLaws.{cut_first, parts_on, settled_count}
-use Rattle.split_core.specs.PartStateLaws as part_law
-use Rattle.split_core.specs.RoundLaws as round_law
+use Rattle.split_core.specs.laws.CutLaws.{short_some, full_from, whole_of_lines, whole_of_none, whole_some, rest_short}
+use Rattle.split_core.specs.laws.ShareLaws.{cut_first, parts_on, settled_count}
+use Rattle.split_core.specs.laws.PartStateLaws as part_law
+use Rattle.split_core.specs.laws.RoundLaws as round_law
 use Rattle.split_core.proofs.MoveLemmas.{named_before}
 use Rattle.split_core.proofs.SectionLemmas.{bytes_of_shares, settled_list, settled_bytes}
 

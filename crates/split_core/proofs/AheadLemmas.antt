@@ -10,8 +10,8 @@ use Rattle.std.proofs.lemmas.List.{take_more, take-append-drop, take_all, take-t
 use Rattle.seg_core.specs.Line.{HasNone, lines_of, delimiters}
 use Rattle.seg_core.proofs.Delimiters.{delimiters-append, delimiters-one_yes}
 use Rattle.seg_core.proofs.LinesOf.{lines_of-complete}
-use Rattle.split_core.specs.FirstLine.{IsFirstLine}
-use Rattle.split_core.specs.Ahead.{Sees, delimiter_mask}
+use Rattle.split_core.specs.inner.FirstLine.{IsFirstLine}
+use Rattle.split_core.specs.inner.Ahead.{Sees, delimiter_mask}
 use Rattle.split_core.specs.declared.complete_lines.Ahead.{Ahead}
 
 none_append : (delim : ℕ) (x y : List ℕ) → HasNone delim x → HasNone delim y → HasNone delim (x ++ y)

@@ -10,9 +10,9 @@ use Rattle.seg_core.proofs.LinesOf.{lines_of-open}
 use Rattle.ports_core.specs.Slot.{changed_at}
 use Rattle.ports_core.proofs.SlotLemmas.{length-changed_at, set-changed}
 use Rattle.split_core.specs.Parts.{dealt}
-use Rattle.split_core.specs.Dealt.{dealt_piece, reached_by}
-use Rattle.split_core.specs.FirstLine.{IsFirstLine}
-use Rattle.split_core.specs.DealLaws.{dealt_same}
+use Rattle.split_core.specs.inner.Dealt.{dealt_piece, reached_by}
+use Rattle.split_core.specs.inner.FirstLine.{IsFirstLine}
+use Rattle.split_core.proofs.DealLaws.{dealt_same}
 
 -- of a piece what is left is still to be gathered
 pub record Dealing (delim n start : ℕ) (piece : List ℕ) (gathered : List (List ℕ)) (next reached : ℕ) (left : List ℕ) : Type 0 where

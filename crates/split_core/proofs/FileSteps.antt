@@ -18,8 +18,9 @@ use Rattle.ports_core.proofs.SlotSteps.{writable_within, writable_before, opened
 use Rattle.split_core.specs.Split.{share, name_of, from_start, file_at, only_files}
 use Rattle.split_core.specs.FilesState.{FilesState}
 use Rattle.split_core.specs.Round.{AreReady, OwnsFiles, output_at}
-use Rattle.split_core.specs.RoundLaws.{all_begin_themselves}
-use Rattle.split_core.specs.Sharing.{AllBegin, added, filled, filed, closed_first, open_part, closing_part, StayBroken, StandAt, KeepsFiles, Became, IsDue, StopsAt, StopsShort, HaveClosed, ClosesShort, with_opened, FailsToFollow, CannotOpen, CannotClose, could_not, unnamed, IsOfFiles}
+use Rattle.split_core.specs.laws.RoundLaws.{all_begin_themselves}
+use Rattle.split_core.specs.inner.Sharing.{AllBegin, added, filled, filed, closed_first, open_part, closing_part, StayBroken, StandAt, KeepsFiles, Became, IsDue, StopsAt, StopsShort, HaveClosed, ClosesShort, with_opened, FailsToFollow, CannotClose, could_not, unnamed, IsOfFiles}
+use Rattle.split_core.specs.Sharing.{CannotOpen}
 use Rattle.split_core.proofs.FilesLemmas.{filled_begin, filled_next, filled_same, length-filled, filed_more, open_length, length-filed, filed_gets, filed_ends, changed_begin, cut_begin, parts_begin, closed_shares, stay_broken, stay_later, stay_changed, stay_opened, became_then, halts_then, stops_in_order, caused_later, added_next, added_begin, added_fewer, filled_again, filled_further, length-added, added_before, added_past, take_changed, drop_changed, take_filled, take_further, drop_filled, drop_past_filled, take_filed, drop_filed}
 
 -- Opening

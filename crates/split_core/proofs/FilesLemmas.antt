@@ -14,9 +14,10 @@ use Rattle.ports_core.proofs.FileLemmas.{gets, ended}
 use Rattle.split_core.specs.Split.{Share, share, name_of, from_start, file_at, only_files}
 use Rattle.split_core.specs.FilesState.{FilesState}
 use Rattle.split_core.specs.Round.{AreReady}
-use Rattle.split_core.specs.RoundLaws.{all_begin_themselves}
-use Rattle.split_core.specs.ShareLaws.{SharesBegin, kept_file}
-use Rattle.split_core.specs.Sharing.{AllBegin, added, filled, filed, open_part, closed_first, StayBroken, StandAt, Became, IsDue, HaltedAt, StopsAt, StopsShort, IsOfFiles}
+use Rattle.split_core.specs.laws.RoundLaws.{all_begin_themselves}
+use Rattle.split_core.specs.inner.ShareLaws.{SharesBegin}
+use Rattle.split_core.specs.laws.ShareLaws.{kept_file}
+use Rattle.split_core.specs.inner.Sharing.{AllBegin, added, filled, filed, open_part, closed_first, StayBroken, StandAt, Became, IsDue, HaltedAt, StopsAt, StopsShort, IsOfFiles}
 
 -- Beginnings
 

@@ -19,3 +19,6 @@ pub mod AgreedLemmas
 pub mod UndecidedLemmas
 pub mod PlacedLemmas
 pub mod RoundPlacedLemmas
+pub mod CutLaws
+pub mod DealLaws
+pub mod ShareLaws

@@ -2,21 +2,26 @@
 use Rattle.std.proofs.Common.{◌≡◌, ℕ, ◌+◌, ◌<◌, ◌≤◌, suc, List, [], ◌∷◌, ◌++◌, length, take, Bool, true, false, cond, IsTrue, Option, Some, None, inl, inr, refl, sym, ◌∙◌, ap, subst, arith, length-append}
 use Rattle.std.proofs.lemmas.Bool.{false≢true}
 use Rattle.ports_core.specs.Name.{Naming, next_name}
-use Rattle.ports_core.specs.Slot.{Slot, changed_at, opened, unopened, adds, closes, breaks, with_written, with_broken, told_of, is_writable, KeepsBroken}
+use Rattle.ports_core.specs.Slot.{Slot, changed_at, opened, unopened, adds, closes, breaks, with_written, with_broken, told_of, is_writable}
+use Rattle.ports_core.specs.inner.Slot.{KeepsBroken}
 use Rattle.ports_core.specs.declared.slot.Mode.TheVariants.{Fresh}
 use Rattle.ports_core.specs.declared.slot.State.TheVariants as state
-use Rattle.ports_core.specs.Part.{File, Part, OutputsAt, Begins, IsNext, Marks, IsAt, AllClosed, InTurn, StoppedInTurn}
+use Rattle.ports_core.specs.Part.{File, Part, OutputsAt, Begins, IsNext, Marks, IsAt}
+use Rattle.ports_core.specs.inner.Part.{AllClosed, InTurn, StoppedInTurn}
 use Rattle.ports_core.specs.declared.fault.Fault.{Fault}
 use Rattle.ports_core.specs.declared.fault.Fault.TheVariants.{Memory, Write, Read, Open, Suffixes, NoMatch, Range, Usage, Failed, TooLong}
 use Rattle.ports_core.proofs.PartLemmas.{begins_itself, begins_more, take_begins_behind, turn_between, turn_last, turn_next, outputs_count, part_begins_itself}
 use Rattle.ports_core.proofs.FileLemmas.{file_more, last_changes, gets, ended, write_makes, close_makes}
 use Rattle.ports_core.proofs.SlotLemmas.{length-changed_at}
-use Rattle.ports_core.specs.Write.{WritesShort, broke}
+use Rattle.ports_core.specs.inner.Write.{WritesShort, broke}
 use Rattle.ports_core.proofs.SlotSteps.{rose_later, write_rose, open_rose}
 use Rattle.split_core.specs.Split.{Share, share, is_named, file_at, named, name_of}
-use Rattle.split_core.specs.ShareLaws.{AllShut, SharesBegin, shares_more, last_grows, part_begins, no_more}
-use Rattle.split_core.specs.PartsState.{IsAtEnd, OwnsFile}
-use Rattle.split_core.specs.Moves.{part_of, Moves, Halts, KeepsFile, Breaks, OpensNone}
+use Rattle.split_core.specs.inner.ShareLaws.{AllShut, SharesBegin}
+use Rattle.split_core.proofs.ShareLaws.{shares_more, last_grows}
+use Rattle.split_core.specs.laws.ShareLaws.{part_begins, no_more}
+use Rattle.split_core.specs.inner.PartsState.{IsAtEnd}
+use Rattle.split_core.specs.PartsState.{OwnsFile}
+use Rattle.split_core.specs.inner.Moves.{part_of, Moves, Halts, KeepsFile, Breaks, OpensNone}
 
 -- names
 

@@ -4,7 +4,8 @@ use Rattle.std.proofs.lemmas.Bool.{false≢true}
 use Rattle.std.proofs.lemmas.List.{length-map}
 use Rattle.ports_core.specs.Name.{Naming}
 use Rattle.ports_core.specs.Slot.{Slot}
-use Rattle.ports_core.specs.Part.{OutputsAt, StoppedBetween, StoppedInTurn}
+use Rattle.ports_core.specs.Part.{OutputsAt, StoppedBetween}
+use Rattle.ports_core.specs.inner.Part.{StoppedInTurn}
 use Rattle.ports_core.specs.Engine.{TakesIn, PutsOut, CutsOff, EndsShort, EndsWith, EndsThere, StandsAt, Ended, IsMet, KeepsOwn, is_verdict}
 use Rattle.ports_core.specs.Engine as engine
 use Rattle.ports_core.specs.declared.fault.Fault.{Fault}
@@ -14,10 +15,10 @@ use Rattle.ports_core.proofs.PartLemmas.{stopped_in_turn}
 use Rattle.split_core.specs.declared.limit.Limit.{Limit}
 use Rattle.split_core.specs.Parts.{parts}
 use Rattle.split_core.specs.Split.{Share, share, are_named, from_start}
-use Rattle.split_core.specs.ShareLaws.{settled_count}
+use Rattle.split_core.specs.laws.ShareLaws.{settled_count}
 use Rattle.split_core.specs.PartsState.{PartsState, Stands, IsReady}
 use Rattle.split_core.specs.PartState.{work, parts_work, Owns}
-use Rattle.split_core.specs.Moves.{part_of, Passes, Stopped, Breaks, Finishes}
+use Rattle.split_core.specs.inner.Moves.{part_of, Passes, Stopped, Breaks, Finishes}
 use Rattle.split_core.proofs.MoveLemmas.{part_drawn, owns_last}
 use Rattle.split_core.proofs.TakenLemmas.{are_named_drawn}
 

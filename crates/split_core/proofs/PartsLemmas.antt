@@ -3,16 +3,19 @@ use Rattle.std.proofs.Common.{◌≡◌, ℕ, ◌+◌, ◌≤◌, suc, List, [],
 use Rattle.std.proofs.lemmas.List.{append-nil}
 use Rattle.std.proofs.lemmas.Bool.{false≢true}
 use Rattle.ports_core.specs.Name.{Naming, next_name, has_next, with_one_drawn}
-use Rattle.ports_core.specs.Slot.{Slot, changed_at, opened, closes, with_written, with_broken, told_of, is_writable, is_closable, KeepsBroken}
+use Rattle.ports_core.specs.Slot.{Slot, changed_at, opened, closes, with_written, with_broken, told_of, is_writable, is_closable}
+use Rattle.ports_core.specs.inner.Slot.{KeepsBroken}
 use Rattle.ports_core.specs.declared.slot.Mode.TheVariants.{Fresh}
 use Rattle.ports_core.specs.declared.slot.State.TheVariants as state
 use Rattle.ports_core.specs.declared.fault.Fault.{Fault}
 use Rattle.ports_core.specs.declared.fault.Fault.TheVariants as fault
-use Rattle.ports_core.specs.Write.{WritesShort}
+use Rattle.ports_core.specs.inner.Write.{WritesShort}
 use Rattle.split_core.specs.Split.{Share, share, is_some, is_named, are_named}
-use Rattle.split_core.specs.ShareLaws.{SharesBegin, shares_themselves, shares_more, last_grows}
-use Rattle.split_core.specs.PartsState.{PartsState, IsReady, IsAtEnd, is_given}
-use Rattle.split_core.specs.Moves.{Moves, Halts, KeepsFile, OpensNone, Begun, begun_share, HasFile, there, made, HasNone, IsLast, Extended, Interrupted, EndsFile, closed, failed}
+use Rattle.split_core.specs.inner.ShareLaws.{SharesBegin}
+use Rattle.split_core.proofs.ShareLaws.{shares_themselves, shares_more, last_grows}
+use Rattle.split_core.specs.PartsState.{PartsState, IsReady, is_given}
+use Rattle.split_core.specs.inner.PartsState.{IsAtEnd}
+use Rattle.split_core.specs.inner.Moves.{Moves, Halts, KeepsFile, OpensNone, Begun, begun_share, HasFile, there, made, HasNone, IsLast, Extended, Interrupted, EndsFile, closed, failed}
 use Rattle.split_core.proofs.HeldLemmas.{written_both}
 use Rattle.ports_core.proofs.SlotSteps as slot_steps
 use Rattle.split_core.proofs.MoveLemmas as move

@@ -9,14 +9,17 @@ use Rattle.ports_core.specs.declared.fault.Fault.{Fault}
 use Rattle.ports_core.specs.declared.fault.Fault.TheVariants as fault
 use Rattle.ports_core.proofs.PartLemmas.{begins_itself}
 use Rattle.ports_core.proofs.SlotLemmas.{length-changed_at}
-use Rattle.ports_core.specs.Write.{WritesShort}
+use Rattle.ports_core.specs.inner.Write.{WritesShort}
 use Rattle.split_core.specs.declared.limit.Limit.{Limit}
 use Rattle.split_core.specs.Parts.{cut_up, parts, unless_empty, settled_rest, waiting_rest}
-use Rattle.split_core.specs.CutLaws.{settled_then_waiting, settled_some}
+use Rattle.split_core.specs.laws.CutLaws.{settled_then_waiting, settled_some}
 use Rattle.split_core.specs.Split.{Share, share, is_some, is_named, are_named, settled_parts}
-use Rattle.split_core.specs.ShareLaws.{shut_map, SharesBegin, last_grows, settled_grow, whole_parts}
-use Rattle.split_core.specs.PartsState.{PartsState, Stands, IsReady, IsAtEnd, is_given}
-use Rattle.split_core.specs.Moves.{Moves, Halts, KeepsFile, Breaks, begun_share, Took, Stopped, Finishes}
+use Rattle.split_core.proofs.ShareLaws.{shut_map, last_grows}
+use Rattle.split_core.specs.inner.ShareLaws.{SharesBegin, whole_parts}
+use Rattle.split_core.specs.laws.ShareLaws.{settled_grow}
+use Rattle.split_core.specs.PartsState.{PartsState, Stands, IsReady, is_given}
+use Rattle.split_core.specs.inner.PartsState.{IsAtEnd}
+use Rattle.split_core.specs.inner.Moves.{Moves, Halts, KeepsFile, Breaks, begun_share, Took, Stopped, Finishes}
 use Rattle.ports_core.proofs.SlotSteps as slot_steps
 use Rattle.split_core.proofs.MoveLemmas as move
 use Rattle.split_core.proofs.PartsLemmas.{count_one, some_share}

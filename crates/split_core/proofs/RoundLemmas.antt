@@ -25,12 +25,14 @@ use Rattle.ports_core.proofs.PartLemmas.{stopped_here}
 use Rattle.ports_core.proofs.FileLemmas.{slots_counted}
 use Rattle.split_core.specs.Parts.{dealt, round_robin}
 use Rattle.split_core.specs.Split.{Share, share, named, is_named, are_named, from_start, file_at, only_files, dealt_files, settled_by, whole_by, is_short, is_some, split_means, split_work, bytes_in, waiting}
-use Rattle.split_core.specs.Dealt.{dealt_piece, dealt_first, reached_by}
+use Rattle.split_core.specs.inner.Dealt.{dealt_piece, dealt_first, reached_by}
 use Rattle.split_core.specs.FilesState.{FilesState}
 use Rattle.split_core.specs.RoundState.{RoundState}
 use Rattle.split_core.specs.Round.{round_plan, plan_of, round_work, work, opened_by, Holds, AreReady, OwnsFiles, Owns}
-use Rattle.split_core.specs.Sharing.{added, filled, filed, open_part, closing_part, StandAt, Makes, Became, StopsShort, HaveClosed, ClosesShort, CannotClose, IsOfFiles}
-use Rattle.split_core.specs.DealLaws.{share_of, dealt_append, dealt_same, dealt_none, dealt_files_are, share_none, line_count-append, opened_by-most}
+use Rattle.split_core.specs.inner.Sharing.{added, filled, filed, open_part, closing_part, StandAt, Makes, Became, StopsShort, HaveClosed, ClosesShort, CannotClose, IsOfFiles}
+use Rattle.split_core.specs.inner.DealLaws.{share_of}
+use Rattle.split_core.specs.laws.DealLaws.{dealt_append, dealt_none, dealt_files_are, share_none, line_count-append}
+use Rattle.split_core.proofs.DealLaws.{dealt_same, opened_by-most}
 use Rattle.split_core.proofs.FilesLemmas.{closed_all, added_begin, open_begins}
 use Rattle.split_core.proofs.PlaceLemmas.{all_dealt}
 

@@ -4,7 +4,7 @@ use Rattle.std.proofs.lemmas.List.{append-nil, map-append, length-map, take-appe
 use Rattle.std.proofs.lemmas.Bool.{false≢true}
 use Rattle.ports_core.specs.Name.{Naming, has_next}
 use Rattle.ports_core.specs.Slot.{Slot}
-use Rattle.ports_core.specs.Part.{InTurn}
+use Rattle.ports_core.specs.inner.Part.{InTurn}
 use Rattle.ports_core.proofs.PartLemmas.{turn_next}
 use Rattle.ports_core.specs.declared.slot.State.TheVariants as file_state
 use Rattle.ports_core.specs.declared.fault.Fault.{Fault}
@@ -13,12 +13,17 @@ use Rattle.split_core.specs.declared.limit.Limit.{Limit}
 use Rattle.split_core.specs.declared.step.Step.{Step}
 use Rattle.split_core.specs.declared.step.Step.TheVariants.{Goes, Ends, Begins, Waits}
 use Rattle.split_core.specs.Parts.{CutUp, most, cut_up, parts, unless_empty, settled_rest, waiting_rest}
-use Rattle.split_core.specs.CutLaws.{cut_so, cut_on, cut_none, cut_two, settled_then_waiting}
+use Rattle.split_core.specs.inner.CutLaws.{cut_so}
+use Rattle.split_core.specs.laws.CutLaws.{cut_on, cut_none, settled_then_waiting}
+use Rattle.split_core.proofs.CutLaws.{cut_two}
 use Rattle.split_core.specs.Split.{Share, share, is_some, is_named, are_named, named, settled_parts}
-use Rattle.split_core.specs.ShareLaws.{AllShut, shut_map, SharesBegin, shares_trans, last_grows, settled_on, parts_on, parts_some, begun_grows, are_named_more, settled_grow, named_short}
-use Rattle.split_core.specs.Step.{IsSettled, IsTurned, IsHeld, Leads}
-use Rattle.split_core.specs.PartsState.{PartsState, Lacks, Stands, IsReady, IsAtEnd, is_given}
-use Rattle.split_core.specs.Moves.{Moves, Halts, KeepsFile, Begun, begun_share, IsLast, Extended, Interrupted, Turned, TurnsNot, Took, Stopped, Steps}
+use Rattle.split_core.specs.inner.ShareLaws.{AllShut, SharesBegin}
+use Rattle.split_core.proofs.ShareLaws.{shut_map, shares_trans, last_grows, parts_some, begun_grows}
+use Rattle.split_core.specs.laws.ShareLaws.{settled_on, parts_on, are_named_more, settled_grow, named_short}
+use Rattle.split_core.specs.inner.Step.{IsSettled, IsTurned, IsHeld, Leads}
+use Rattle.split_core.specs.PartsState.{PartsState, Lacks, Stands, IsReady, is_given}
+use Rattle.split_core.specs.inner.PartsState.{IsAtEnd}
+use Rattle.split_core.specs.inner.Moves.{Moves, Halts, KeepsFile, Begun, begun_share, IsLast, Extended, Interrupted, Turned, TurnsNot, Took, Stopped, Steps}
 use Rattle.ports_core.proofs.SlotSteps as slot_steps
 use Rattle.split_core.proofs.MoveLemmas as move
 use Rattle.split_core.proofs.PartsLemmas.{count_one, some_share}

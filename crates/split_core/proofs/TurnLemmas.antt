@@ -3,7 +3,8 @@ use Rattle.std.proofs.Common.{◌≡◌, ℕ, ◌+◌, ◌-◌, ◌<◌, ◌≤�
 use Rattle.std.proofs.lemmas.List.{append-nil}
 use Rattle.std.proofs.lemmas.Bool.{false≢true, eqb-true, eq-eqb}
 use Rattle.ports_core.specs.Name.{Naming}
-use Rattle.ports_core.specs.Slot.{Slot, closes, is_closable, KeepsBroken}
+use Rattle.ports_core.specs.Slot.{Slot, closes, is_closable}
+use Rattle.ports_core.specs.inner.Slot.{KeepsBroken}
 use Rattle.ports_core.specs.declared.slot.State.TheVariants as state
 use Rattle.ports_core.specs.declared.fault.Fault.{Fault}
 use Rattle.ports_core.specs.declared.fault.Fault.TheVariants as fault
@@ -11,11 +12,12 @@ use Rattle.ports_core.proofs.SlotLemmas.{length-changed_at}
 use Rattle.ports_core.proofs.PartLemmas.{begins_itself}
 use Rattle.split_core.specs.Parts.{most}
 use Rattle.split_core.specs.Split.{Share, share, is_some, is_named, are_named}
-use Rattle.split_core.specs.ShareLaws.{shut_more, last_grows}
+use Rattle.split_core.proofs.ShareLaws.{shut_more, last_grows}
 use Rattle.seg_core.specs.Window.{ByteWindowState}
 use Rattle.split_core.specs.declared.limit.Limit.{Limit}
-use Rattle.split_core.specs.PartsState.{PartsState, Fits, IsReady, IsAtEnd, is_given}
-use Rattle.split_core.specs.Moves.{Moves, Halts, KeepsFile, Begun, begun_share, IsLast, Extended, Interrupted, EndsFile, none_there, closed, failed, Turned, TurnsNot}
+use Rattle.split_core.specs.PartsState.{PartsState, IsReady, is_given}
+use Rattle.split_core.specs.inner.PartsState.{Fits, IsAtEnd}
+use Rattle.split_core.specs.inner.Moves.{Moves, Halts, KeepsFile, Begun, begun_share, IsLast, Extended, Interrupted, EndsFile, none_there, closed, failed, Turned, TurnsNot}
 use Rattle.ports_core.proofs.SlotSteps as slot_steps
 use Rattle.split_core.proofs.MoveLemmas as move
 use Rattle.split_core.proofs.PartsLemmas.{count_one, some_share}

@@ -22,8 +22,9 @@ use Rattle.split_core.specs.Splitter.{IsPositive}
 use Rattle.split_core.specs.PartState.{parts_work}
 use Rattle.split_core.specs.Place.{dealt_to, dealt_spots, split_spots}
 use Rattle.split_core.specs.Round.{round_plan}
-use Rattle.split_core.specs.CutLaws.{whole_some, open_of_none, cut_all}
-use Rattle.split_core.specs.PartStateLaws as part_law
+use Rattle.split_core.specs.laws.CutLaws.{whole_some}
+use Rattle.split_core.proofs.CutLaws.{open_of_none, cut_all}
+use Rattle.split_core.specs.laws.PartStateLaws as part_law
 use Rattle.split_core.proofs.PlaceLemmas.{all_dealt}
 use Rattle.split_core.proofs.SectionLemmas.{settled_list, list_all}
 use Rattle.split_core.proofs.AgreedLemmas.{named_bytes, named_more, each_named, whole_files, settled_files, list_count, decides_lines, one_of, delimiters_some, dealt_settled, plan_by}

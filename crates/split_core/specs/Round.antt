@@ -45,19 +45,20 @@ pub record Holds (round : RoundState) (x : List ℕ) : Type 0 where
 abbrev pub output_at : FilesState → ℕ → ℕ
 output_at files place = slice_index_or files.outputs place 0
 
--- the streams are there, each file that is open has an output of its own that can be written and closed, and the next name is that
--- of the next file
+-- the streams are there, each file that is open has an output of its own that can be written and closed, and the next
+-- name is that of the next file
 pub record AreReady (files : FilesState) (slots : List Slot) : Type 0 where
   pub streams : 2 ≤ length slots
   pub drawn : files.names.drawn ≡ length files.outputs
-  pub apart : (place other : ℕ) → place < other → other < length files.outputs → output_at files place < output_at files other
+  pub apart : (place other : ℕ) → place < other → other < length files.outputs
+      → output_at files place < output_at files other
   pub closable : (place : ℕ) → place < length files.outputs → is_closable slots (output_at files place)
 
 abbrev pub Ready : RoundState → List Slot → Type 0
 Ready round slots = AreReady round.files slots
 
--- the files that are open stand in order from this place on; and as long as each name that was drawn is the name of one of
--- them, they are the last outputs
+-- the files that are open stand in order from this place on; and as long as each name that was drawn is the name of one
+-- of them, they are the last outputs
 pub record OwnsFiles (files : FilesState) (first : ℕ) (slots : List Slot) : Type 0 where
   pub stand : (place : ℕ) → place < length files.outputs → output_at files place ≡ first + place
   pub last : files.names.drawn ≡ length files.outputs → first + length files.outputs ≡ length slots

@@ -1,15 +1,12 @@
 -- The two ways to cut, as one stage.
-use Rattle.std.specs.Prelude.{ℕ, List, length}
+use Rattle.std.specs.Prelude.{ℕ, List}
 use Rattle.ports_core.specs.Slot.{Slot}
-use Rattle.ports_core.specs.Work.{Work, IsLawful}
+use Rattle.ports_core.specs.Work.{Work}
 use Rattle.split_core.specs.declared.splitter.Splitter.{Splitter}
 use Rattle.split_core.specs.declared.splitter.Splitter.TheVariants.{Parts, Round}
-use Rattle.split_core.specs.Split.{from_start}
 use Rattle.split_core.specs.PartsState.{Stands}
 use Rattle.split_core.specs.PartState as part
-use Rattle.split_core.specs.PartStateLaws as part_law
 use Rattle.split_core.specs.Round as round
-use Rattle.split_core.specs.RoundLaws as round_law
 
 abbrev pub Holds : Splitter → List ℕ → Type 0
 Holds (Parts state) x = Stands state x
@@ -19,11 +16,6 @@ abbrev pub work : Splitter → Work
 work (Parts state) = part.work state
 work (Round state) = round.work state
 
--- how many bytes wait; where lines are dealt, none
-abbrev pub held : Splitter → ℕ
-held (Parts state) = length state.waiting
-held (Round state) = 0
-
 abbrev pub Ready : Splitter → List Slot → Type 0
 Ready (Parts state) slots = part.Ready state slots
 Ready (Round state) slots = round.Ready state slots
@@ -31,7 +23,3 @@ Ready (Round state) slots = round.Ready state slots
 abbrev pub Owns : Splitter → ℕ → List Slot → Type 0
 Owns (Parts state) first slots = part.Owns state first slots
 Owns (Round state) first slots = round.Owns state first slots
-
-pub lawful : (way : Splitter) → IsLawful (work way)
-lawful (Parts state) = part_law.lawful state.limit (from_start state.names)
-lawful (Round state) = round_law.lawful state.delim state.count state.elide (from_start state.files.names)

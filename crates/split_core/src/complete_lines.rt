@@ -1,7 +1,7 @@
 ghost use Rattle.std.specs.Prelude.{◌≡◌, ◌+◌, ◌-◌, ◌≤◌, ◌<◌, ℕ, List, [], ◌++◌, replicate, length, take, IfSome, IfNone};
 ghost use Rattle.seg_core.specs.Line.{delimiters};
-ghost use Rattle.split_core.specs.FirstLine.{IsFirstLine};
-ghost use Rattle.split_core.specs.Ahead.{Sees, delimiter_mask};
+ghost use Rattle.split_core.specs.inner.FirstLine.{IsFirstLine};
+ghost use Rattle.split_core.specs.inner.Ahead.{Sees, delimiter_mask};
 
 use std::marker::Model;
 use std::simd::prelude::*;
@@ -32,7 +32,7 @@ struct Ahead {
 
 impl<'a> Model for CompleteLines<'a> {
     ghost use Rattle.seg_core.specs.Line.{LinesLeft};
-    ghost use Rattle.split_core.specs.Ahead.{Sees};
+    ghost use Rattle.split_core.specs.inner.Ahead.{Sees};
 
     ghost Value = { LinesLeft };
 

@@ -1,7 +1,7 @@
 ghost use Rattle.std.specs.Prelude.{◌≡◌, ◌+◌, ◌%◌, ◌<◌, ◌≤◌, [], ◌++◌, length, take, slice_index_or, ℕ, IfOk, OnOk};
 ghost use Rattle.seg_core.specs.Line.{delimiters};
 ghost use Rattle.ports_core.specs.Slot.{changed_at};
-ghost use Rattle.split_core.specs.Dealt.{dealt_piece, reached_by};
+ghost use Rattle.split_core.specs.inner.Dealt.{dealt_piece, reached_by};
 
 use crate::complete_lines::CompleteLines;
 use crate::gathered::Gathered;
@@ -20,7 +20,7 @@ pub(crate) struct Deal {
 
 impl Model for Deal {
     ghost use Rattle.std.specs.Prelude.{◌<◌, length};
-    ghost use Rattle.split_core.specs.DealState.{DealState};
+    ghost use Rattle.split_core.specs.inner.DealState.{DealState};
 
     ghost Value = { DealState };
 

@@ -2,7 +2,7 @@
 //! for the bytes that wait: fewer than a part has, and only under a limit of bytes for whole lines.
 ghost use Rattle.std.specs.Prelude.{◌≡◌, true, length};
 ghost use Rattle.split_core.specs.PartState.{Owns, Ready, work};
-ghost use Rattle.split_core.specs.PartStateLaws.{lawful};
+ghost use Rattle.split_core.specs.laws.PartStateLaws.{lawful};
 ghost use Rattle.split_core.specs.PartsState.{Stands};
 ghost use Rattle.split_core.specs.Split.{from_start, waiting};
 

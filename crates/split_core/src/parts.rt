@@ -1,6 +1,6 @@
 //! Parts of an input that follow one another, each in a file of its own.
 ghost use Rattle.std.specs.Prelude.{◌≡◌, ◌+◌, ◌-◌, ◌++◌, ◌<◌, ◌≤◌, List, ℕ, [], Some, None, false, length, IfOk, IfErr, OnOk};
-ghost use Rattle.split_core.specs.Moves.{EndsFile, Extends, FindsFile, Finishes, KeepsFile, Passes, Steps, Turns};
+ghost use Rattle.split_core.specs.inner.Moves.{EndsFile, Extends, FindsFile, Finishes, KeepsFile, Passes, Steps, Turns};
 ghost use Rattle.split_core.specs.PartState.{parts_work, work};
 ghost use Rattle.split_core.specs.Parts.{most};
 ghost use Rattle.split_core.specs.PartsState.{IsReady, Stands};
@@ -31,7 +31,8 @@ pub struct Parts {
 }
 
 impl Model for Parts {
-    ghost use Rattle.split_core.specs.PartsState.{PartsState, Fits};
+    ghost use Rattle.split_core.specs.PartsState.{PartsState};
+    ghost use Rattle.split_core.specs.inner.PartsState.{Fits};
 
     ghost Value = { PartsState };
 

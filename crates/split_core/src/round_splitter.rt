@@ -2,10 +2,11 @@ ghost use Rattle.std.specs.Prelude.{◌≡◌, ℕ, ◌+◌, ◌%◌, ◌<◌, �
 ghost use Rattle.seg_core.specs.Line.{delimiters};
 ghost use Rattle.ports_core.specs.Slot.{Slot};
 ghost use Rattle.ports_core.specs.Part.{OutputsAt, StoppedBetween, nothing};
-ghost use Rattle.split_core.specs.Dealt.{dealt_first, reached_by};
+ghost use Rattle.split_core.specs.inner.Dealt.{dealt_first, reached_by};
 ghost use Rattle.split_core.specs.Round.{AreReady, Holds, Owns, Ready, round_plan, work};
-ghost use Rattle.split_core.specs.RoundLaws.{lawful};
-ghost use Rattle.split_core.specs.Sharing.{Became, CannotOpen, IsOfFiles, KeepsFiles, StopsShort, added};
+ghost use Rattle.split_core.specs.laws.RoundLaws.{lawful};
+ghost use Rattle.split_core.specs.inner.Sharing.{Became, IsOfFiles, KeepsFiles, StopsShort, added};
+ghost use Rattle.split_core.specs.Sharing.{CannotOpen};
 ghost use Rattle.split_core.specs.Split.{are_named, from_start, settled_by, split_work, waiting};
 
 use crate::deal::Deal;

@@ -6,7 +6,9 @@ ghost use Rattle.ports_core.specs.Slot.{Slot};
 ghost use Rattle.split_core.specs.Sharing.{CannotOpen};
 ghost use Rattle.split_core.specs.Split.{settled_by, split_work, waiting};
 ghost use Rattle.split_core.specs.Splitter.{HasNames, IsPositive};
-ghost use Rattle.split_core.specs.Ways.{Holds, Owns, Ready, held, lawful, work};
+ghost use Rattle.split_core.specs.Ways.{Holds, Owns, Ready, work};
+ghost use Rattle.split_core.specs.inner.Ways.{held};
+ghost use Rattle.split_core.specs.laws.Ways.{lawful};
 
 use crate::parts::Parts;
 use crate::round_splitter::RoundSplitter;

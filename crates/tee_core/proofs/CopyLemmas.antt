@@ -14,7 +14,7 @@ use Rattle.ports_core.proofs.MessageLemmas.{all_said_state, says_behind}
 use Rattle.run_core.specs.RunEnds.{standard_output, standard_error}
 use Rattle.tee_core.specs.Outputs.{ChangesEach, Gets, gets_all, breaks_off, gets_none, IsFile, IsOutput, IsReady, IsUsable, newly_broken}
 use Rattle.tee_core.specs.Run.{OutputLeft, output_whole, output_cut, broke_in, fault_in, output_names, said_in, said_before}
-use Rattle.tee_core.specs.Steps.{Copies, FileHas, has_all, has_none, has_begun, FilesHave, no_more, one_more, HasStreams, IsTeeOf, SaysTo, broken_of, said_since}
+use Rattle.tee_core.specs.inner.Steps.{Copies, FileHas, has_all, has_none, has_begun, FilesHave, no_more, one_more, HasStreams, IsTeeOf, SaysTo, broken_of, said_since}
 use Rattle.tee_core.specs.TeeState.{TeeState}
 use Rattle.tee_core.proofs.ChangeLemmas.{StayBroken, is_between, is_place, stay_broken}
 use Rattle.tee_core.proofs.GetsLemmas.{still_broken, written_twice}

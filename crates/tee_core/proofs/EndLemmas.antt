@@ -15,7 +15,7 @@ use Rattle.run_core.specs.Input.{empty}
 use Rattle.run_core.specs.RunEnds.{standard_output, standard_error}
 use Rattle.run_core.proofs.FeedingLemmas.{of_content}
 use Rattle.tee_core.specs.Run.{EndsAs, copied, no_room, file_whole, file_unopened, file_cut, file_unclosed, FilesLeft, no_file, one_file, IsRead, to_end, to_break, to_limit, LeavesOf, OutputLeft, output_whole, output_cut, all_copied, are_sound, is_sound, messages_of, output_names, said_before, said_in, status_of}
-use Rattle.tee_core.specs.Steps.{CopiesInput, any_of}
+use Rattle.tee_core.specs.inner.Steps.{CopiesInput, any_of}
 
 -- the status
 

@@ -5,7 +5,8 @@ use Rattle.std.proofs.lemmas.Bool.{false≢true}
 use Rattle.ports_core.specs.Slot.{Slot, slot_at, opened, unopened, is_open, FailsToOpen, broke}
 use Rattle.ports_core.specs.declared.slot.Mode.{Mode}
 use Rattle.ports_core.specs.declared.fault.Fault.TheVariants as fault
-use Rattle.tee_core.specs.Opening.{OpensAs, is_opened, is_unopened, OpensEach, no_more, one_more, Opens, OpensOne, OpensSome}
+use Rattle.tee_core.specs.Opening.{OpensAs, is_opened, is_unopened, OpensEach, no_more, one_more, Opens, OpensSome}
+use Rattle.tee_core.specs.inner.Opening.{OpensOne}
 use Rattle.tee_core.specs.Outputs.{IsOutput, IsReady, IsUsable}
 use Rattle.tee_core.specs.TeeState.{TeeState}
 

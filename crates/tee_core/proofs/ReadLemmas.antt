@@ -10,7 +10,7 @@ use Rattle.ports_core.specs.declared.fault.Fault.TheVariants.{Read, TooLong}
 use Rattle.ports_core.specs.declared.slot.Mode.{Mode}
 use Rattle.run_core.proofs.FeedingLemmas.{HasRead, read_broken, read_failed, read_more, read_none_more, read_to_end}
 use Rattle.tee_core.specs.Run.{IsRead, LeavesOf, to_end, to_break, to_limit}
-use Rattle.tee_core.specs.Steps.{Copies, CopiesRead}
+use Rattle.tee_core.specs.inner.Steps.{Copies, CopiesRead}
 
 nothing_more : (x rest : List ℕ) → x ≡ x ++ rest → rest ≡ []
 nothing_more x [] is = refl

@@ -10,8 +10,8 @@ use Rattle.ports_core.proofs.WriteLemmas.{told_of-nil}
 use Rattle.run_core.specs.RunEnds.{standard_output, standard_error}
 use Rattle.tee_core.specs.Opening.{OpensAs, is_opened, is_unopened, OpensEach, no_more, one_more, Opens}
 use Rattle.tee_core.specs.Run.{OutputLeft, output_whole, fault_in, output_names}
-use Rattle.tee_core.specs.Steps.{Copies, FileHas, has_all, has_none, FilesHave, HasStreams, IsTeeOf, SaysTo, broken_of, said_since}
-use Rattle.tee_core.specs.Steps as steps
+use Rattle.tee_core.specs.inner.Steps.{Copies, FileHas, has_all, has_none, FilesHave, HasStreams, IsTeeOf, SaysTo, broken_of, said_since}
+use Rattle.tee_core.specs.inner.Steps as steps
 use Rattle.tee_core.specs.TeeState.{TeeState}
 use Rattle.tee_core.proofs.CopyLemmas.{AllMark, Marks, all_marked, marked_none, marked_now, none_marked, said_marked}
 use Rattle.tee_core.proofs.OpeningLemmas.{length-since}

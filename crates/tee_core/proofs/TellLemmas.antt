@@ -8,7 +8,7 @@ use Rattle.ports_core.specs.declared.tool.Tool.TheVariants.{Tee}
 use Rattle.ports_core.specs.declared.fault.Fault.{Fault}
 use Rattle.ports_core.proofs.MessageLemmas.{all_said_state, says_more}
 use Rattle.tee_core.specs.Run.{output_names}
-use Rattle.tee_core.specs.Steps.{HasStreams, SaysTo, broken_of, output_slot, said_since}
+use Rattle.tee_core.specs.inner.Steps.{HasStreams, SaysTo, broken_of, output_slot, said_since}
 
 -- what is said of one output
 

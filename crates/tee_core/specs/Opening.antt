@@ -11,7 +11,8 @@ pub data OpensAs (mode : Mode) (name : List ℕ) : Slot → Type 0 where
 -- one output for each name, in order
 pub data OpensEach (mode : Mode) : List (List ℕ) → List Slot → Type 0 where
   no_more : OpensEach mode [] []
-  one_more : (name : List ℕ) (names : List (List ℕ)) (slot : Slot) (slots : List Slot) → OpensAs mode name slot → OpensEach mode names slots → OpensEach mode (name ∷ names) (slot ∷ slots)
+  one_more : (name : List ℕ) (names : List (List ℕ)) (slot : Slot) (slots : List Slot) → OpensAs mode name slot
+      → OpensEach mode names slots → OpensEach mode (name ∷ names) (slot ∷ slots)
 
 -- the files were opened after the outputs that were there
 pub record Opens (mode : Mode) (names : List (List ℕ)) (old new : List Slot) : Type 0 where
@@ -25,9 +26,3 @@ pub record OpensSome (mode : Mode) (names : List (List ℕ)) (old new : List Slo
   pub rest : List (List ℕ)
   pub names_are : names ≡ first ++ rest
   pub opens : Opens mode first old new
-
--- one file was opened so
-pub record OpensOne (mode : Mode) (name : List ℕ) (old new : List Slot) : Type 0 where
-  pub slot : Slot
-  pub opens : OpensAs mode name slot
-  pub slots : new ≡ old ++ slot ∷ []

@@ -22,7 +22,8 @@ IsReady tee slots = (place : ℕ) → IsOutput tee place → IsUsable (slot_at s
 -- Some bytes came: an output took all of them; or it took a beginning and broke; or it was broken before.
 pub data Gets (told : Bool) (bytes : List ℕ) (old : Slot) : Slot → Type 0 where
   gets_all : old.is_broken ≡ false → Gets told bytes old (adds (told_of told bytes) old)
-  breaks_off : old.is_broken ≡ false → (n : ℕ) → n < length bytes → Gets told bytes old (breaks (adds (told_of told (take n bytes)) old))
+  breaks_off : old.is_broken ≡ false → (n : ℕ) → n < length bytes
+      → Gets told bytes old (breaks (adds (told_of told (take n bytes)) old))
   gets_none : old.is_broken ≡ true → Gets told bytes old old
 
 -- The end came: a file was closed, or broke as it was; or it was broken before.

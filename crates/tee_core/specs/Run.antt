@@ -11,9 +11,9 @@ use Rattle.ports_core.specs.declared.fault.Fault.{Fault}
 use Rattle.ports_core.specs.declared.fault.Fault.TheVariants.{Memory, Write, Read, Open, TooLong}
 use Rattle.run_core.specs.RunEnds.{standard_output, standard_error, streams_with}
 
--- The calls of a run are numbered: call 0 opens the files, one call follows for each piece of the input, and the last one closes
--- the files. What broke when is a list: for standard output and then for each file, the number of the call in which it broke, if it
--- did.
+-- The calls of a run are numbered: call 0 opens the files, one call follows for each piece of the input, and the last
+-- one closes the files. What broke when is a list: for standard output and then for each file, the number of the call
+-- in which it broke, if it did.
 
 abbrev pub broke_in : ℕ → Option ℕ → Bool
 broke_in call None = false
@@ -32,7 +32,8 @@ output_names names = codes "standard output" ∷ names
 abbrev pub said_in : ℕ → List (List ℕ) → List (Option ℕ) → List (List ℕ)
 said_in call [] broke = []
 said_in call (name ∷ names) [] = []
-said_in call (name ∷ names) (first ∷ broke) = if broke_in call first then message_of Tee (fault_in call) name ∷ said_in call names broke else said_in call names broke
+said_in call (name ∷ names) (first ∷ broke) = if broke_in call first
+    then message_of Tee (fault_in call) name ∷ said_in call names broke else said_in call names broke
 
 -- those for the calls before this one, one call after another
 abbrev pub said_before : ℕ → List (List ℕ) → List (Option ℕ) → List (List ℕ)
@@ -47,7 +48,8 @@ said_of_input (Some fault) = message_of Tee fault (codes "standard input") ∷ [
 -- all messages of a run over `pieces` pieces
 abbrev pub messages_of : List (List ℕ) → List (Option ℕ) → ℕ → Option Fault → List (List ℕ)
 messages_of names broke pieces fault =
-    said_before (suc pieces) (output_names names) broke ++ said_of_input fault ++ said_in (suc pieces) (output_names names) broke
+    said_before (suc pieces) (output_names names) broke ++ said_of_input fault
+        ++ said_in (suc pieces) (output_names names) broke
 
 abbrev pub is_sound : {X : Type 0} → Option X → Bool
 is_sound None = true
@@ -60,12 +62,14 @@ are_sound (first ∷ broke) = is_sound first && are_sound broke
 abbrev pub status_of : List (Option ℕ) → Option Fault → ℕ
 status_of broke fault = if are_sound broke && is_sound fault then 0 else 1
 
--- How an input is read: to its end; or until it breaks off; or up to a piece with which it has more bytes than any tool takes. HasCopied
--- is all that came before, and `Leaves` says what is left unread.
+-- How an input is read: to its end; or until it breaks off; or up to a piece with which it has more bytes than any tool
+-- takes. HasCopied is all that came before, and `Leaves` says what is left unread.
 pub data IsRead (content : Content) (Leaves : List ℕ → Type 0) : List ℕ → Option Fault → Type 0 where
   to_end : (x : List ℕ) → content.bytes ≡ x → content.breaks_off ≡ false → Leaves [] → IsRead content Leaves x None
-  to_break : (x : List ℕ) → content.bytes ≡ x → content.breaks_off ≡ true → Leaves [] → IsRead content Leaves x (Some (Read 0))
-  to_limit : (x piece rest : List ℕ) → content.bytes ≡ (x ++ piece) ++ rest → 2 ^ 63 ≤ length (x ++ piece) → Leaves rest → IsRead content Leaves x (Some TooLong)
+  to_break : (x : List ℕ) → content.bytes ≡ x → content.breaks_off ≡ true → Leaves []
+      → IsRead content Leaves x (Some (Read 0))
+  to_limit : (x piece rest : List ℕ) → content.bytes ≡ (x ++ piece) ++ rest → 2 ^ 63 ≤ length (x ++ piece) → Leaves rest
+      → IsRead content Leaves x (Some TooLong)
 
 -- this is left of a source that tells its bytes
 abbrev pub LeavesOf : Bool → Source → List ℕ → Type 0
@@ -74,29 +78,42 @@ LeavesOf told source rest = told ≡ true → source.left.bytes ≡ rest
 -- Standard output: it has all that was copied; or it broke in a piece, and has a beginning.
 pub data OutputLeft (told : Bool) (pieces : List (List ℕ)) : Option ℕ → Slot → Type 0 where
   output_whole : OutputLeft told pieces None (adds (told_of told (concat pieces)) standard_output)
-  output_cut : (before : List (List ℕ)) (piece : List ℕ) (after : List (List ℕ)) (n : ℕ) → pieces ≡ before ++ piece ∷ after → n < length piece
-      → OutputLeft told pieces (Some (suc (length before))) (breaks (adds (told_of told (concat before ++ take n piece)) standard_output))
+  output_cut : (before : List (List ℕ)) (piece : List ℕ) (after : List (List ℕ)) (n : ℕ)
+      → pieces ≡ before ++ piece ∷ after → n < length piece
+      → OutputLeft told pieces (Some (suc (length before)))
+          (breaks (adds (told_of told (concat before ++ take n piece)) standard_output))
 
--- A file: it has all that was copied, and was closed; or it couldn't be opened, and its name is lost where there was no memory to
--- keep it; or it broke in a piece, and has a beginning; or it has all, and broke as it was closed.
+-- A file: it has all that was copied, and was closed; or it couldn't be opened, and its name is lost where there was no
+-- memory to keep it; or it broke in a piece, and has a beginning; or it has all, and broke as it was closed.
 pub data FileLeft (told : Bool) (mode : Mode) (pieces : List (List ℕ)) (name : List ℕ) : Option ℕ → Slot → Type 0 where
   file_whole : FileLeft told mode pieces name None (closes (adds (told_of told (concat pieces)) (opened name mode)))
-  file_unopened : (kept : List ℕ) → (kept ≡ name) ⊎ (kept ≡ []) → FileLeft told mode pieces name (Some 0) (unopened kept)
-  file_cut : (before : List (List ℕ)) (piece : List ℕ) (after : List (List ℕ)) (n : ℕ) → pieces ≡ before ++ piece ∷ after → n < length piece
-      → FileLeft told mode pieces name (Some (suc (length before))) (breaks (adds (told_of told (concat before ++ take n piece)) (opened name mode)))
-  file_unclosed : FileLeft told mode pieces name (Some (suc (length pieces))) (breaks (closes (adds (told_of told (concat pieces)) (opened name mode))))
+  file_unopened : (kept : List ℕ) → (kept ≡ name) ⊎ (kept ≡ [])
+      → FileLeft told mode pieces name (Some 0) (unopened kept)
+  file_cut : (before : List (List ℕ)) (piece : List ℕ) (after : List (List ℕ)) (n : ℕ)
+      → pieces ≡ before ++ piece ∷ after → n < length piece
+      → FileLeft told mode pieces name (Some (suc (length before)))
+          (breaks (adds (told_of told (concat before ++ take n piece)) (opened name mode)))
+  file_unclosed : FileLeft told mode pieces name (Some (suc (length pieces)))
+      (breaks (closes (adds (told_of told (concat pieces)) (opened name mode))))
 
 -- the files, each in one of these ways, whatever became of the others
-pub data FilesLeft (told : Bool) (mode : Mode) (pieces : List (List ℕ)) : List (List ℕ) → List (Option ℕ) → List Slot → Type 0 where
+pub data FilesLeft (told : Bool) (mode : Mode) (pieces : List (List ℕ)) : List (List ℕ) → List (Option ℕ) → List Slot
+    → Type 0 where
   no_file : FilesLeft told mode pieces [] [] []
-  one_file : (name : List ℕ) (names : List (List ℕ)) (first : Option ℕ) (broke : List (Option ℕ)) (file : Slot) (files : List Slot)
-      → FileLeft told mode pieces name first file → FilesLeft told mode pieces names broke files → FilesLeft told mode pieces (name ∷ names) (first ∷ broke) (file ∷ files)
+  one_file : (name : List ℕ) (names : List (List ℕ)) (first : Option ℕ) (broke : List (Option ℕ)) (file : Slot)
+      (files : List Slot)
+      → FileLeft told mode pieces name first file → FilesLeft told mode pieces names broke files
+          → FilesLeft told mode pieces (name ∷ names) (first ∷ broke) (file ∷ files)
 
--- A run ended so: standard output and each file were left as they must be by what broke when, the messages for that were said, and the
--- status tells whether anything went wrong; or there was no memory for the run at all, and nothing was opened or read.
-pub data EndsAs (told_in told : Bool) (mode : Mode) (names : List (List ℕ)) (content : Content) (source : Source) (new : List Slot) (status : ℕ) : Type 0 where
-  copied : (pieces : List (List ℕ)) (fault : Option Fault) (first : Option ℕ) (broke : List (Option ℕ)) (output error : Slot) (files : List Slot)
-      → IsRead content (LeavesOf told_in source) (concat pieces) fault → OutputLeft told pieces first output → FilesLeft told mode pieces names broke files
+-- A run ended so: standard output and each file were left as they must be by what broke when, the messages for that
+-- were said, and the status tells whether anything went wrong; or there was no memory for the run at all, and nothing
+-- was opened or read.
+pub data EndsAs (told_in told : Bool) (mode : Mode) (names : List (List ℕ)) (content : Content) (source : Source)
+    (new : List Slot) (status : ℕ) : Type 0 where
+  copied : (pieces : List (List ℕ)) (fault : Option Fault) (first : Option ℕ) (broke : List (Option ℕ))
+      (output error : Slot) (files : List Slot)
+      → IsRead content (LeavesOf told_in source) (concat pieces) fault → OutputLeft told pieces first output
+          → FilesLeft told mode pieces names broke files
       → SaysAll told Tee (messages_of names (first ∷ broke) (length pieces) fault) standard_error error
       → new ≡ output ∷ error ∷ files → status ≡ status_of (first ∷ broke) fault
       → EndsAs told_in told mode names content source new status
@@ -107,4 +124,5 @@ pub data EndsAs (told_in told : Bool) (mode : Mode) (names : List (List ℕ)) (c
 -- where nothing breaks: standard output and every file have these bytes, the files are closed, and nothing was said
 abbrev pub all_copied : Bool → Mode → List (List ℕ) → List ℕ → List Slot
 all_copied told mode names bytes =
-    adds (told_of told bytes) standard_output ∷ standard_error ∷ map (λ name. closes (adds (told_of told bytes) (opened name mode))) names
+    adds (told_of told bytes) standard_output ∷ standard_error ∷ map
+        (λ name. closes (adds (told_of told bytes) (opened name mode))) names

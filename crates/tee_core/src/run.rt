@@ -11,7 +11,7 @@ ghost use Rattle.run_core.specs.Reading.{AsksAtMost};
 ghost use Rattle.run_core.specs.RunEnds.{largest_piece};
 ghost use Rattle.tee_core.specs.Opening.{Opens};
 ghost use Rattle.tee_core.specs.Run.{EndsAs, all_copied, is_sound, output_names, said_of_input};
-ghost use Rattle.tee_core.specs.Steps.{HasCopied, Copies, CopiesInput, CopiesRead, HasStreams, IsTeeOf, SaysTo, any_of, broken_of, output_slot, said_since};
+ghost use Rattle.tee_core.specs.inner.Steps.{HasCopied, Copies, CopiesInput, CopiesRead, HasStreams, IsTeeOf, SaysTo, any_of, broken_of, output_slot, said_since};
 
 use crate::tee::Tee;
 use ports_core::{Fault, Inputs, Mode, Outs, Tool, fed_with, say, tell};

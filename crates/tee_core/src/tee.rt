@@ -1,7 +1,8 @@
 //! An input's copies.
 ghost use Rattle.std.specs.Prelude.{◌≡◌, ◌++◌, ◌∷◌, [], ◌+◌, ◌≤◌, ◌<◌, ◌^◌, ◌-◌, ℕ, List, true, false, length, map, IfOk, IfErr, OnOk};
 ghost use Rattle.ports_core.specs.Slot.{Slot, adds, is_open, slot_at, told_of};
-ghost use Rattle.tee_core.specs.Opening.{Opens, OpensOne, OpensSome};
+ghost use Rattle.tee_core.specs.Opening.{Opens, OpensSome};
+ghost use Rattle.tee_core.specs.inner.Opening.{OpensOne};
 ghost use Rattle.tee_core.specs.Outputs.{ChangesEach, Closes, Gets, IsFile, IsOutput, IsReady, IsUsable, newly_broken};
 ghost use Rattle.tee_core.specs.TeeState.{TeeState};
 

@@ -1,4 +1,5 @@
--- What a run of `tail` leaves that follows its files, by its words: POSIX.1-2017, XCU tail, `-f`; names that are followed are GNU's.
+-- What a run of `tail` leaves that follows its files, by its words: POSIX.1-2017, XCU tail, `-f`; names that are
+-- followed are GNU's.
 use Rattle.std.specs.Prelude.{◌≡◌, ℕ, Bool, true, false, List, [], Option, Some, None, Result, Ok, Err, ◌⊎◌}
 use Rattle.ports_core.specs.Slot.{Slot, streams}
 use Rattle.ports_core.specs.declared.fault.Fault.{Fault}
@@ -20,36 +21,53 @@ use Rattle.tools_core.specs.Tasks.{has_headers, is_plus}
 
 -- the part of a file that the first look writes
 abbrev pub start_of : EndsAsked → Start
-start_of asked = record { unit = asked.unit; from_nth = is_plus asked.count.sign; count = asked.count.amount; delim = asked.delim }
+start_of asked = record { unit = asked.unit; from_nth = is_plus asked.count.sign; count = asked.count.amount;
+    delim = asked.delim }
 
 abbrev pub is_name : Followed → Bool
 is_name Descriptor = false
 is_name Name = true
 
--- these files are followed, in as many looks, and where a file that is appended to keeps its bytes so long, the run ends so that it gave
--- exactly what these looks give
-abbrev pub FollowsAs : (told_in told : Bool) → EndsAsked → Followed → (looks : ℕ) → (ℕ → Snapshot) → List Snapshot → List Watched → List Slot → (status : ℕ) → Type 0
-FollowsAs told_in told asked followed looks shows seen watched new status = KeptSoLong told_in (is_name followed) shows looks seen asked.names
-    → FollowEndsAs told_in told (ways_of (is_name followed) (start_of asked)) (has_headers asked.headers asked.names) asked.names looks shows streams seen watched new status
+-- these files are followed, in as many looks, and where a file that is appended to keeps its bytes so long, the run
+-- ends so that it gave exactly what these looks give
+abbrev pub FollowsAs : (told_in told : Bool) → EndsAsked → Followed → (looks : ℕ) → (ℕ → Snapshot) → List Snapshot
+    → List Watched → List Slot → (status : ℕ) → Type 0
+FollowsAs told_in told asked followed looks shows seen watched new status =
+    KeptSoLong told_in (is_name followed) shows looks seen asked.names
+    → FollowEndsAs told_in told (ways_of (is_name followed) (start_of asked)) (has_headers asked.headers asked.names)
+        asked.names looks shows streams seen watched new status
 
 -- the words are refused for this, and no name was watched and no look made
 abbrev pub RefusesUnseen : Bool → List (List ℕ) → Fault → List Snapshot → List Watched → List Slot → ℕ → Type 0
-RefusesUnseen told words fault seen watched new status = (seen ≡ []) × (watched ≡ []) × RefusesFor told words fault new status
+RefusesUnseen told words fault seen watched new status = (seen ≡ []) × (watched ≡ [])
+    × RefusesFor told words fault new status
 
 -- words that follow nothing are
 abbrev pub RefusesToFollow : Bool → List (List ℕ) → List Snapshot → List Watched → List Slot → ℕ → Type 0
-RefusesToFollow told words seen watched new status = RefusesUnseen told words (Usage BadFollow 0) seen watched new status
+RefusesToFollow told words seen watched new status =
+    RefusesUnseen told words (Usage BadFollow 0) seen watched new status
 
-abbrev pub FollowsTail : (told_in told : Bool) → List (List ℕ) → EndsAsked → Option Followed → ℕ → (ℕ → Snapshot) → List Snapshot → List Watched → List Slot → ℕ → Type 0
-FollowsTail told_in told words asked (Some followed) looks shows seen watched new status = FollowsAs told_in told asked followed looks shows seen watched new status
-FollowsTail told_in told words asked None looks shows seen watched new status = RefusesToFollow told words seen watched new status
+abbrev pub FollowsTail : (told_in told : Bool) → List (List ℕ) → EndsAsked → Option Followed → ℕ → (ℕ → Snapshot)
+    → List Snapshot → List Watched → List Slot → ℕ → Type 0
+FollowsTail told_in told words asked (Some followed) looks shows seen watched new status =
+    FollowsAs told_in told asked followed looks shows seen watched new status
+FollowsTail told_in told words asked None looks shows seen watched new status =
+    RefusesToFollow told words seen watched new status
 
 -- what was asked for was followed, or the words were refused
-abbrev pub FollowingEndsAt : (told_in told : Bool) → List (List ℕ) → ℕ → (ℕ → Snapshot) → List Snapshot → List Watched → List Slot → ℕ → Result Settings Fault → Type 0
-FollowingEndsAt told_in told words looks shows seen watched new status (Ok (Tail asked)) = FollowsTail told_in told words asked.ends asked.followed looks shows seen watched new status
-FollowingEndsAt told_in told words looks shows seen watched new status (Ok settings) = RefusesToFollow told words seen watched new status ⊎ ((seen ≡ []) × (watched ≡ []) × RefusesOperands told words settings new status)
-FollowingEndsAt told_in told words looks shows seen watched new status (Err fault) = RefusesUnseen told words fault seen watched new status
+abbrev pub FollowingEndsAt : (told_in told : Bool) → List (List ℕ) → ℕ → (ℕ → Snapshot) → List Snapshot → List Watched
+    → List Slot → ℕ → Result Settings Fault → Type 0
+FollowingEndsAt told_in told words looks shows seen watched new status (Ok (Tail asked)) =
+    FollowsTail told_in told words asked.ends asked.followed looks shows seen watched new status
+FollowingEndsAt told_in told words looks shows seen watched new status (Ok settings) =
+    RefusesToFollow told words seen watched new status
+    ⊎ ((seen ≡ []) × (watched ≡ []) × RefusesOperands told words settings new status)
+FollowingEndsAt told_in told words looks shows seen watched new status (Err fault) =
+    RefusesUnseen told words fault seen watched new status
 
--- a run of these words, over looks that would see this and of which these were made, left the outputs so, and returned this status
-abbrev pub FollowingEnds : (told_in told : Bool) → List (List ℕ) → ℕ → (ℕ → Snapshot) → List Snapshot → List Watched → List Slot → ℕ → Type 0
-FollowingEnds told_in told words looks shows seen watched new status = FollowingEndsAt told_in told words looks shows seen watched new status (settings_of words)
+-- a run of these words, over looks that would see this and of which these were made, left the outputs so, and returned
+-- this status
+abbrev pub FollowingEnds : (told_in told : Bool) → List (List ℕ) → ℕ → (ℕ → Snapshot) → List Snapshot → List Watched
+    → List Slot → ℕ → Type 0
+FollowingEnds told_in told words looks shows seen watched new status =
+    FollowingEndsAt told_in told words looks shows seen watched new status (settings_of words)

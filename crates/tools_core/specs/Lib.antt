@@ -1,5 +1,5 @@
-pub mod Props
 pub mod Tasks
 pub mod Outcome
 pub mod Following
 pub mod Program
+pub mod laws

@@ -51,15 +51,19 @@ pub record Refuses (told : Bool) (tool : Tool) (text : List ℕ) (new : List Slo
   pub slots : new ≡ streams_with error
   pub failed : status ≡ 1
 
--- `csplit` over its input: it was cut at the operands that its words ask for; or there was no memory for them, and nothing was read.
-pub data CsplitEndsAs (told_in told : Bool) (asked : CsplitAsked) (inputs : List Input) (sources : List Source) (new : List Slot) (status : ℕ) : Type 0 where
-  cut : (operands : List Operand) → Asks asked.operands operands → EndsAs told_in told (csplit_task asked operands) inputs sources new status
+-- `csplit` over its input: it was cut at the operands that its words ask for; or there was no memory for them, and
+-- nothing was read.
+pub data CsplitEndsAs (told_in told : Bool) (asked : CsplitAsked) (inputs : List Input) (sources : List Source)
+    (new : List Slot) (status : ℕ) : Type 0 where
+  cut : (operands : List Operand) → Asks asked.operands operands
+      → EndsAs told_in told (csplit_task asked operands) inputs sources new status
       → CsplitEndsAs told_in told asked inputs sources new status
   unread : AreUntouched inputs sources → Refuses told tool.Csplit (message_of tool.Csplit Memory []) new status
       → CsplitEndsAs told_in told asked inputs sources new status
 
 -- `tee` over its inputs, which are standard input alone
-pub record TeeEndsAs (told_in told : Bool) (asked : TeeAsked) (inputs : List Input) (sources : List Source) (new : List Slot) (status : ℕ) : Type 0 where
+pub record TeeEndsAs (told_in told : Bool) (asked : TeeAsked) (inputs : List Input) (sources : List Source)
+    (new : List Slot) (status : ℕ) : Type 0 where
   pub content : Content
   pub input : inputs ≡ standard_input content ∷ []
   pub ends : TeeCopies told_in told asked.mode asked.names content (source_at sources 0) new status
@@ -69,29 +73,38 @@ pub record TeeEndsAs (told_in told : Bool) (asked : TeeAsked) (inputs : List Inp
 
 -- a run did what these settings ask for
 abbrev pub DoesAsked : Bool → Bool → Settings → List Input → List Source → List Slot → ℕ → Type 0
-DoesAsked told_in told (Head asked) inputs sources new status = EndsAs told_in told (head_task asked) inputs sources new status
-DoesAsked told_in told (Tail asked) inputs sources new status = EndsAs told_in told (tail_task asked.ends) inputs sources new status
-DoesAsked told_in told (Split asked) inputs sources new status = EndsAs told_in told (split_task asked) inputs sources new status
-DoesAsked told_in told (Csplit asked) inputs sources new status = CsplitEndsAs told_in told asked inputs sources new status
+DoesAsked told_in told (Head asked) inputs sources new status =
+    EndsAs told_in told (head_task asked) inputs sources new status
+DoesAsked told_in told (Tail asked) inputs sources new status =
+    EndsAs told_in told (tail_task asked.ends) inputs sources new status
+DoesAsked told_in told (Split asked) inputs sources new status =
+    EndsAs told_in told (split_task asked) inputs sources new status
+DoesAsked told_in told (Csplit asked) inputs sources new status =
+    CsplitEndsAs told_in told asked inputs sources new status
 DoesAsked told_in told (Tee asked) inputs sources new status = TeeEndsAs told_in told asked inputs sources new status
 
 -- the words are refused for this fault, with the word that it speaks of
 abbrev pub RefusesFor : Bool → List (List ℕ) → Fault → List Slot → ℕ → Type 0
-RefusesFor told words fault new status = Refuses told (speaker words) (message_of (speaker words) fault (word_of words fault)) new status
+RefusesFor told words fault new status =
+    Refuses told (speaker words) (message_of (speaker words) fault (word_of words fault)) new status
 
 -- what is asked for has operands that can't be read, and the words are refused for that
 abbrev pub RefusesOperands : Bool → List (List ℕ) → Settings → List Slot → ℕ → Type 0
-RefusesOperands told words settings new status = (fault : Fault) × HasBadOperands settings fault × RefusesFor told words fault new status
+RefusesOperands told words settings new status = (fault : Fault) × HasBadOperands settings fault
+    × RefusesFor told words fault new status
 
 -- a run did what was asked for, or refused its operands; or it refused the words
-abbrev pub RunEndsAt : Bool → Bool → List (List ℕ) → List Input → List Source → List Slot → ℕ → Result Settings Fault → Type 0
-RunEndsAt told_in told words inputs sources new status (Ok settings) = DoesAsked told_in told settings inputs sources new status ⊎ RefusesOperands told words settings new status
+abbrev pub RunEndsAt : Bool → Bool → List (List ℕ) → List Input → List Source → List Slot → ℕ → Result Settings Fault
+    → Type 0
+RunEndsAt told_in told words inputs sources new status (Ok settings) =
+    DoesAsked told_in told settings inputs sources new status ⊎ RefusesOperands told words settings new status
 RunEndsAt told_in told words inputs sources new status (Err fault) = RefusesFor told words fault new status
 
--- a run of these words on these inputs left inputs and outputs so, and returned this status; words that are refused leave the inputs
--- as they were, which stands on `run`
+-- a run of these words on these inputs left inputs and outputs so, and returned this status; words that are refused
+-- leave the inputs as they were, which stands on `run`
 abbrev pub RunEnds : Bool → Bool → List (List ℕ) → List Input → List Source → List Slot → ℕ → Type 0
-RunEnds told_in told words inputs sources new status = RunEndsAt told_in told words inputs sources new status (settings_of words)
+RunEnds told_in told words inputs sources new status =
+    RunEndsAt told_in told words inputs sources new status (settings_of words)
 
 -- the names that these words read
 abbrev pub names_at : Result Settings Fault → List (List ℕ)

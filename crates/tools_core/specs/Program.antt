@@ -17,11 +17,19 @@ abbrev pub looks_at : Result Settings Fault → Option ℕ
 looks_at (Ok settings) = if follows settings then Some (looks settings) else None
 looks_at (Err fault) = None
 
--- Files were followed in as many looks, and no input was opened or read; or the tool ran over its inputs, and no file was watched.
-abbrev pub ProgramEndsAt : (told_in told_watched told : Bool) → List (List ℕ) → (ℕ → List ℕ → Option Content) → List Source → List Source → (ℕ → Snapshot) → List Snapshot → List Watched → List Slot → ℕ → Option ℕ → Type 0
-ProgramEndsAt told_in told_watched told words laid sources sources_new shows seen watched new status (Some looks) = (sources_new ≡ sources) × FollowingEnds told_watched told words looks shows seen watched new status
-ProgramEndsAt told_in told_watched told words laid sources sources_new shows seen watched new status None = (seen ≡ []) × (watched ≡ []) × RunsOver told_in (world_of laid sources) (names_read words) (λ found. RunEnds told_in told words found sources_new new status)
+-- Files were followed in as many looks, and no input was opened or read; or the tool ran over its inputs, and no file
+-- was watched.
+abbrev pub ProgramEndsAt : (told_in told_watched told : Bool) → List (List ℕ) → (ℕ → List ℕ → Option Content)
+    → List Source → List Source → (ℕ → Snapshot) → List Snapshot → List Watched → List Slot → ℕ → Option ℕ → Type 0
+ProgramEndsAt told_in told_watched told words laid sources sources_new shows seen watched new status (Some looks) =
+    (sources_new ≡ sources) × FollowingEnds told_watched told words looks shows seen watched new status
+ProgramEndsAt told_in told_watched told words laid sources sources_new shows seen watched new status None = (seen ≡ [])
+    × (watched ≡ []) × RunsOver told_in (world_of laid sources) (names_read words)
+    (λ found. RunEnds told_in told words found sources_new new status)
 
 -- by what the words ask for
-abbrev pub ProgramEnds : (told_in told_watched told : Bool) → List (List ℕ) → (ℕ → List ℕ → Option Content) → List Source → List Source → (ℕ → Snapshot) → List Snapshot → List Watched → List Slot → ℕ → Type 0
-ProgramEnds told_in told_watched told words laid sources sources_new shows seen watched new status = ProgramEndsAt told_in told_watched told words laid sources sources_new shows seen watched new status (looks_at (settings_of words))
+abbrev pub ProgramEnds : (told_in told_watched told : Bool) → List (List ℕ) → (ℕ → List ℕ → Option Content)
+    → List Source → List Source → (ℕ → Snapshot) → List Snapshot → List Watched → List Slot → ℕ → Type 0
+ProgramEnds told_in told_watched told words laid sources sources_new shows seen watched new status =
+    ProgramEndsAt told_in told_watched told words laid sources sources_new shows seen watched new status
+    (looks_at (settings_of words))

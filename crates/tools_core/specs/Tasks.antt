@@ -1,5 +1,6 @@
--- What each tool does with its inputs, where words ask for it: POSIX.1-2017, XCU head, tail, split and csplit; several files for tail,
--- headers and their options, bytes, and all but the last are GNU's, and so is what split does where an input breaks off.
+-- What each tool does with its inputs, where words ask for it: POSIX.1-2017, XCU head, tail, split and csplit; several
+-- files for tail, headers and their options, bytes, and all but the last are GNU's, and so is what split does where an
+-- input breaks off.
 use Rattle.std.specs.Prelude.{ℕ, nat_lt, Bool, true, false, not, List, [], ◌∷◌, length, slice_index_or, codes}
 use Rattle.ports_core.specs.Name.{Naming}
 use Rattle.ports_core.specs.declared.fault.Fault.{Fault}

@@ -1,5 +1,5 @@
 //! `split`: an input cut into files (POSIX.1-2017, XCU split).
-ghost use Rattle.tools_core.specs.Props.{CanSplit-prop};
+ghost use Rattle.tools_core.specs.laws.Props.{CanSplit-prop};
 ghost use Rattle.tools_core.specs.Tasks.{split_task};
 ghost use Rattle.words_core.specs.SplitWords.{CanSplit};
 

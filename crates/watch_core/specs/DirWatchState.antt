@@ -1,6 +1,6 @@
--- What contracts see of a watch over real files: how many looks began, and the names. What a look could see is not told, so each look
--- is a snapshot without files.
-use Rattle.std.specs.Prelude.{ℕ, List, [], replicate}
+-- What contracts see of a watch over real files: how many looks began, and the names. What a look could see is not
+-- told, so each look is a snapshot without files.
+use Rattle.std.specs.Prelude.{ℕ, List, replicate}
 use Rattle.watch_core.specs.Snapshot.{Snapshot, no_files}
 use Rattle.watch_core.specs.Watched.{Watched}
 
@@ -11,7 +11,3 @@ pub record DirWatchState : Type 0 where
 
 abbrev pub seen : DirWatchState → List Snapshot
 seen watch = replicate watch.turns no_files
-
--- no name and no look
-abbrev pub no_turns : DirWatchState
-no_turns = record { turns = 0; watched = [] }

@@ -1,18 +1,18 @@
--- Files under edits. Of a name that leads nowhere only a replacement does anything, and it makes a file that was not there before. A
--- file to which no name leads any more keeps what it holds.
+-- Files under edits. Of a name that leads nowhere only a replacement does anything, and it makes a file that was not
+-- there before. A file to which no name leads any more keeps what it holds.
 use Rattle.std.specs.Prelude.{ℕ, List, [], ◌∷◌, ◌++◌, length, map, take, Option, Some, None, slice_index_or, bytes_eq, if◌then◌else◌}
 use Rattle.ports_core.specs.Slot.{changed_at}
 use Rattle.watch_core.specs.Snapshot.{Snapshot}
 
 pub data Edit : Type 0 where
   -- bytes come to the end of the name's file
-  append : List ℕ → List ℕ → Edit
+  pub append : List ℕ → List ℕ → Edit
   -- of the name's file the first n bytes are left, or all where it has no more
-  truncate : List ℕ → ℕ → Edit
+  pub truncate : List ℕ → ℕ → Edit
   -- the name leads to a new file, which holds these bytes
-  replace : List ℕ → List ℕ → Edit
+  pub replace : List ℕ → List ℕ → Edit
   -- the name leads nowhere
-  remove : List ℕ → Edit
+  pub remove : List ℕ → Edit
 
 pub record Link : Type 0 where
   pub name : List ℕ
@@ -42,7 +42,8 @@ with_file (Some file) change world = record world { files = changed_at file chan
 abbrev pub edited : Edit → World → World
 edited (append name bytes) world = with_file (led_to world.links name) (λ held. held ++ bytes) world
 edited (truncate name n) world = with_file (led_to world.links name) (λ held. take n held) world
-edited (replace name bytes) world = record { links = record { name = name; file = Some (length world.files) } ∷ world.links; files = world.files ++ bytes ∷ [] }
+edited (replace name bytes) world = record {
+    links = record { name = name; file = Some (length world.files) } ∷ world.links; files = world.files ++ bytes ∷ [] }
 edited (remove name) world = record world { links = record { name = name; file = None } ∷ world.links }
 
 abbrev pub edited_by : List Edit → World → World

@@ -3,3 +3,4 @@ pub mod Edits
 pub mod Watched
 pub mod MemWatchState
 pub mod DirWatchState
+pub mod inner

@@ -57,7 +57,8 @@ open_contents snapshot watched = elim watched.opened [
 ]
 
 -- what the name leads to was opened in place of the file that was open; where it leads nowhere, none is open
-pub record Reopens (told : Bool) (snapshot : Snapshot) (old new : List Watched) (place : ℕ) (is_there : Bool) : Type 0 where
+pub record Reopens (told : Bool) (snapshot : Snapshot) (old new : List Watched) (place : ℕ)
+    (is_there : Bool) : Type 0 where
   pub file : Option ℕ
   pub found : is_some file ≡ is_there
   pub names : new ≡ changed_at place (opens file) old

@@ -1,6 +1,7 @@
 ghost use Rattle.std.specs.Prelude.{◌≡◌, ◌∷◌, ◌++◌, [], ℕ, false, length, IsTrue, IfOk};
 ghost use Rattle.watch_core.specs.Snapshot.{no_files};
-ghost use Rattle.watch_core.specs.DirWatchState.{DirWatchState, no_turns, seen};
+ghost use Rattle.watch_core.specs.DirWatchState.{DirWatchState, seen};
+ghost use Rattle.watch_core.specs.inner.DirWatchState.{no_turns};
 
 use crate::dir_name::DirName;
 use crate::{Seen, Watch};

@@ -50,10 +50,12 @@ with_prefix prefix option = prefix_by prefix option.choice option.value
 abbrev pub style_of : List GivenOption → Style
 style_of options =
     let asked = fold csplit_after two_digits options in
-    record { prefix = fold with_prefix (codes "xx") options; digits = asked.digits; keep = asked.keep; quiet = asked.quiet; elide = asked.elide; suppress = asked.suppress }
+    record { prefix = fold with_prefix (codes "xx") options; digits = asked.digits; keep = asked.keep;
+        quiet = asked.quiet; elide = asked.elide; suppress = asked.suppress }
 
 abbrev pub asked_with : Style → List ℕ → List GivenOperand → CsplitAsked
-asked_with style input operands = record { style = style; input = input; operands = texts_of operands; places = places_of operands }
+asked_with style input operands = record { style = style; input = input; operands = texts_of operands;
+    places = places_of operands }
 
 -- the file and at least one operand
 abbrev pub asked_of : Style → List GivenOperand → Result CsplitAsked Fault
@@ -64,8 +66,8 @@ asked_of style (file ∷ operand ∷ operands) = Ok (asked_with style file.text 
 abbrev pub csplit_asked : Given → Result CsplitAsked Fault
 csplit_asked given = asked_of (style_of given.options) given.operands
 
--- What tells that operands are refused: the number of the rule that is broken, and for a pattern its rule and the place in it. A pattern that
--- is too large has no such place.
+-- What tells that operands are refused: the number of the rule that is broken, and for a pattern its rule and the place
+-- in it. A pattern that is too large has no such place.
 
 abbrev pub pattern_kind : ℕ → Option ℕ → UsageKind
 pattern_kind number (Some offset) = BadPattern number offset
@@ -82,4 +84,5 @@ operand_fault places fault = fault_in (slice_index_or places fault.index 0) faul
 
 -- The operands can't be read, and this fault tells the first that is wrong. It may also be want of memory.
 abbrev pub HasBadOperand : CsplitAsked → Fault → Type 0
-HasBadOperand asked fault = (found : OperandFault) × IsFault asked.operands found × (fault ≡ operand_fault asked.places found)
+HasBadOperand asked fault = (found : OperandFault) × IsFault asked.operands found
+    × (fault ≡ operand_fault asked.places found)

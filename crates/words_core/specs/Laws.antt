@@ -114,7 +114,8 @@ widens choice value = false
 abbrev pub is_width : GivenOption → Bool
 is_width option = widens option.choice option.value
 
--- which option of `csplit` it is: one for the prefix, one for the digits, or one without a value; and whether it lets `tee` append
+-- which option of `csplit` it is: one for the prefix, one for the digits, or one without a value; and whether it lets
+-- `tee` append
 
 abbrev pub names_prefix : Choice → Meant → Bool
 names_prefix Prefix (Text text) = true
@@ -162,12 +163,16 @@ as_operands place (word ∷ words) = record { text = word; word = place } ∷ as
 -- operands are some of these words, in their order, each with its place; the first word stands at this place
 pub data AreAmong : List GivenOperand → ℕ → List (List ℕ) → Type 0 where
   none : (place : ℕ) → AreAmong [] place []
-  passed : (operands : List GivenOperand) (place : ℕ) (word : List ℕ) (words : List (List ℕ)) → AreAmong operands (place + 1) words → AreAmong operands place (word ∷ words)
-  taken : (operands : List GivenOperand) (place : ℕ) (word : List ℕ) (words : List (List ℕ)) → AreAmong operands (place + 1) words → AreAmong (record { text = word; word = place } ∷ operands) place (word ∷ words)
+  passed : (operands : List GivenOperand) (place : ℕ) (word : List ℕ) (words : List (List ℕ))
+      → AreAmong operands (place + 1) words → AreAmong operands place (word ∷ words)
+  taken : (operands : List GivenOperand) (place : ℕ) (word : List ℕ) (words : List (List ℕ))
+      → AreAmong operands (place + 1) words
+      → AreAmong (record { text = word; word = place } ∷ operands) place (word ∷ words)
 
 -- words spell an option with its value, and then what the rest spells
 abbrev pub Gives : List OptionRow → List (List ℕ) → ℕ → Choice → Meant → Result Given Fault → Type 0
-Gives rows words place choice meant rest = spelled rows words place Reading ≡ behind (one_option choice meant place) rest
+Gives rows words place choice meant rest =
+    spelled rows words place Reading ≡ behind (one_option choice meant place) rest
 
 -- a letter, and a name after two hyphens, that name an option of a tool which takes a value of this kind
 
@@ -181,10 +186,12 @@ pub record IsName (rows : List OptionRow) (name : List ℕ) (choice : Choice) (k
   pub some : name ≢ []
   pub no_equals : list_any is_equals name ≡ false
 
--- what is asked of `head` or `tail`, of `split`, and of `csplit` with the operand `1` in the word at this place, for standard input
+-- what is asked of `head` or `tail`, of `split`, and of `csplit` with the operand `1` in the word at this place, for
+-- standard input
 
 abbrev pub ends_as : Measured → Count → Headers → EndsAsked
-ends_as unit count headers = record { unit = unit; count = count; headers = headers; delim = 10; names = codes "-" ∷ [] }
+ends_as unit count headers = record { unit = unit; count = count; headers = headers; delim = 10;
+    names = codes "-" ∷ [] }
 
 -- the same of `tail`, where nothing is followed
 abbrev pub tail_as : EndsAsked → TailSettings
@@ -192,10 +199,14 @@ tail_as ends = record { ends = ends; followed = None; looks = 2 ^ 63 - 1 }
 
 -- where the file `f` is followed in this way, in as many looks
 abbrev pub following_as : Option Followed → ℕ → TailSettings
-following_as followed looks = record { ends = record { unit = unit.Lines; count = ten_lines.count; headers = headers.ForSeveral; delim = 10; names = codes "f" ∷ [] }; followed = followed; looks = looks }
+following_as followed looks = record {
+    ends = record { unit = unit.Lines; count = ten_lines.count; headers = headers.ForSeveral; delim = 10;
+    names = codes "f" ∷ [] }; followed = followed; looks = looks }
 
 abbrev pub split_as : Cut → Alphabet → ℕ → Bool → Bool → SplitAsked
-split_as cut alphabet width auto elide = record { cut = cut; alphabet = alphabet; width = width; auto = auto; elide = elide; input = codes "-"; prefix = codes "x"; ending = []; delim = 10 }
+split_as cut alphabet width auto elide =
+    record { cut = cut; alphabet = alphabet; width = width; auto = auto; elide = elide; input = codes "-";
+    prefix = codes "x"; ending = []; delim = 10 }
 
 abbrev pub csplit_as : Style → ℕ → CsplitAsked
 csplit_as style place = record { style = style; input = codes "-"; operands = codes "1" ∷ []; places = place ∷ [] }

@@ -13,3 +13,4 @@ pub mod TeeAsked
 pub mod TeeWords
 pub mod Value
 pub mod Words
+pub mod inner

@@ -1,5 +1,5 @@
--- What the words after a tool's name spell: options with their values, and operands. What a word means depends on what the words
--- before it left. 45 is a hyphen, 61 `=`.
+-- What the words after a tool's name spell: options with their values, and operands. What a word means depends on what
+-- the words before it left. 45 is a hyphen, 61 `=`.
 use Rattle.std.specs.Prelude.{◌≡◌, ℕ, ◌+◌, ◌==◌, nat_lt, Bool, List, [], ◌∷◌, length, ◌⊎◌, Option, Some, None, Result, Ok, Err, if◌then◌else◌}
 use Rattle.std.specs.List.{before_first, after_first, position_or_len}
 use Rattle.seg_core.specs.Count.{is_number}
@@ -40,13 +40,6 @@ said choice option place (Err fault) = Err (Usage fault place)
 
 abbrev pub valued : Choice → Kind → ℕ → ℕ → List ℕ → Result Meaning Fault
 valued choice kind option place text = said choice option place (value_in kind text)
-
--- A cluster: letters, each an option. The value of one that takes one is the rest of the word, or the next word.
-
--- the first letter of a text and what follows it; letters are ASCII
-abbrev pub first_letter : List ℕ → Option (ℕ × List ℕ)
-first_letter [] = None
-first_letter (byte ∷ bytes) = if nat_lt byte 128 then Some (byte, bytes) else None
 
 abbrev pub option_lettered : List OptionRow → ℕ → Option (Choice × Takes)
 option_lettered rows letter = if nat_lt letter 128 then option_named rows (45 ∷ letter ∷ []) else None
@@ -112,7 +105,8 @@ numbered choice kind place text else_wise = if is_number text then valued choice
 abbrev pub foremost : List OptionRow → Choice → Kind → ℕ → List ℕ → Result Meaning Fault
 foremost rows choice kind place [] = mixed rows place []
 foremost rows choice kind place (byte ∷ text) =
-    if byte == 45 then numbered choice kind place text (mixed rows place (byte ∷ text)) else mixed rows place (byte ∷ text)
+    if byte == 45 then numbered choice kind place text (mixed rows place (byte ∷ text))
+        else mixed rows place (byte ∷ text)
 
 -- a word at this place; one that an option awaits is its value, whatever it begins with
 abbrev pub meaning_of : List OptionRow → State → ℕ → List ℕ → Result Meaning Fault
@@ -149,16 +143,13 @@ start_of (Some number) = First number.0 number.1
 abbrev pub given_by : ToolRow → List (List ℕ) → Result Given Fault
 given_by tool words = spelled tool.options words 1 (start_of tool.number)
 
--- a call added what was meant to what was given before; or memory was refused
-abbrev pub Adds : Result Meaning Fault → Given → Given → Result State Fault → Type 0
-Adds meant old new (Ok next) = before old meant ≡ Ok (record { given = new; next = next })
-Adds meant old new (Err fault) = (fault ≡ Memory) ⊎ (before old meant ≡ Err fault)
-
 -- What a call returns is what was meant; or memory was refused.
 abbrev pub Reads : {A : Type 0} → Result A Fault → Result A Fault → Type 0
 Reads meant (Ok value) = meant ≡ Ok value
 Reads meant (Err fault) = (fault ≡ Memory) ⊎ (meant ≡ Err fault)
 
--- With this fault what is meant isn't returned: memory was refused, or the words are at fault, or what they mean has this fault of its own.
+-- With this fault what is meant isn't returned: memory was refused, or the words are at fault, or what they mean has
+-- this fault of its own.
 abbrev pub IsRefused : {A : Type 0} → (HasFault : A → Fault → Type 0) → Result A Fault → Fault → Type 0
-IsRefused {A = A} HasFault meant fault = (fault ≡ Memory) ⊎ ((meant ≡ Err fault) ⊎ ((value : A) × (meant ≡ Ok value) × HasFault value fault))
+IsRefused {A = A} HasFault meant fault = (fault ≡ Memory)
+    ⊎ ((meant ≡ Err fault) ⊎ ((value : A) × (meant ≡ Ok value) × HasFault value fault))

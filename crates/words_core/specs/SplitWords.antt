@@ -25,8 +25,8 @@ then_check (Err fault) next = Err fault
 abbrev pub no_options : SplitOptions
 no_options = record { cut = None; alphabet = Letters; width = 0; elide = false }
 
--- With one more option: the last one for the alphabet decides, and so does the last one for the width. A second way to split is
--- refused, and told by its word.
+-- With one more option: the last one for the alphabet decides, and so does the last one for the width. A second way to
+-- split is refused, and told by its word.
 
 abbrev pub sized : Choice → ℕ → Cut
 sized choice.Bytes size = Bytes size
@@ -96,9 +96,9 @@ abbrev pub way_of : Option Cut → Cut
 way_of None = Lines 1000
 way_of (Some cut) = cut
 
--- The suffixes. A width of 0 stands for none. With a width all suffixes have it; without one they widen from 2 characters
--- on. Where lines are dealt to files they never widen: the width must name all files, and without one it is the least from 2
--- on that does.
+-- The suffixes. A width of 0 stands for none. With a width all suffixes have it; without one they widen from 2
+-- characters on. Where lines are dealt to files they never widen: the width must name all files, and without one it is
+-- the least from 2 on that does.
 
 abbrev pub fixed : ℕ → Suffix
 fixed width = record { width = width; auto = false }

@@ -1,6 +1,7 @@
--- The tools and their options, as their manuals list them: POSIX.1-2017, XCU head, tail, split, csplit and tee; GNU coreutils manual,
--- for `-q`, `-v`, `-z`, the `-c` of `head`, the `-C`, `-n`, `-d`, `-x`, `-e`, `-t` and `--additional-suffix` of `split`, the
--- `--suppress-matched` of `csplit`, the `-F`, `--follow` and `--retry` of `tail`, and the long names; `--looks` is of these tools alone.
+-- The tools and their options, as their manuals list them: POSIX.1-2017, XCU head, tail, split, csplit and tee; GNU
+-- coreutils manual, for `-q`, `-v`, `-z`, the `-c` of `head`, the `-C`, `-n`, `-d`, `-x`, `-e`, `-t` and
+-- `--additional-suffix` of `split`, the `--suppress-matched` of `csplit`, the `-F`, `--follow` and `--retry` of `tail`,
+-- and the long names; `--looks` is of these tools alone.
 use Rattle.std.specs.Prelude.{ℕ, Bool, true, false, List, [], ◌∷◌, ◌++◌, map, codes, Option, Some, None, if◌then◌else◌}
 use Rattle.std.specs.Borrow.{Bor}
 use Rattle.std.specs.Str.{bytes_eq}
@@ -26,8 +27,8 @@ pub record ToolRow : Type 0 where
   pub options : List OptionRow
   pub number : Option (Choice × Kind)
 
--- The table of the manuals. After its names an option has what it chooses and the kind of its value; `value_in` says what each
--- kind means.
+-- The table of the manuals. After its names an option has what it chooses and the kind of its value; `value_in` says
+-- what each kind means.
 
 abbrev pub option : List (List ℕ) → Choice → Takes → OptionRow
 option names choice takes = record { names = names; choice = choice; takes = takes }
@@ -96,7 +97,8 @@ tools =
 abbrev pub row_seen : (Bor (List (Bor (List ℕ))) × Choice × Takes) → OptionRow
 row_seen row = record { names = map (λ name. name.now) row.0.now; choice = row.1; takes = row.2 }
 
-abbrev pub tool_seen : (Bor (List ℕ) × Tool × Bor (List (Bor (List (Bor (List ℕ))) × Choice × Takes)) × Option (Choice × Kind)) → ToolRow
+abbrev pub tool_seen : (Bor (List ℕ) × Tool × Bor (List (Bor (List (Bor (List ℕ))) × Choice × Takes))
+    × Option (Choice × Kind)) → ToolRow
 tool_seen row = record { name = row.0.now; tool = row.1; options = map row_seen row.2.now; number = row.3 }
 
 -- the tool of this name in a table
@@ -111,4 +113,5 @@ is_among (known ∷ names) name = if bytes_eq known name then true else is_among
 -- the option of this name in a tool's table
 abbrev pub option_named : List OptionRow → List ℕ → Option (Choice × Takes)
 option_named [] name = None
-option_named (row ∷ rows) name = if is_among row.names name then Some (row.choice, row.takes) else option_named rows name
+option_named (row ∷ rows) name = if is_among row.names name then Some (row.choice, row.takes)
+    else option_named rows name

@@ -68,4 +68,5 @@ followed_in followed retry names = bad_follow
 abbrev pub tail_asked : Given → Result TailSettings Fault
 tail_asked given =
     let asked = fold follow_after no_following given.options in
-    then_check (followed_in asked.followed asked.retry (texts_of given.operands)) (λ followed. Ok (record { ends = ends_asked given; followed = followed; looks = asked.looks }))
+    then_check (followed_in asked.followed asked.retry (texts_of given.operands))
+        (λ followed. Ok (record { ends = ends_asked given; followed = followed; looks = asked.looks }))

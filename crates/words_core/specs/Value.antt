@@ -1,5 +1,5 @@
--- What the value of an option says, or what is wrong with it, by its kind. A value that isn't of its form is told before one that
--- is too large, and that before 0.
+-- What the value of an option says, or what is wrong with it, by its kind. A value that isn't of its form is told
+-- before one that is too large, and that before 0.
 use Rattle.std.specs.Prelude.{ℕ, ◌-◌, ◌^◌, ◌==◌, nat_le, codes, List, [], ◌∷◌, Result, Ok, Err, if◌then◌else◌}
 use Rattle.std.specs.List.{list_any}
 use Rattle.std.specs.Str.{bytes_eq}
@@ -38,10 +38,6 @@ seen (value.Text text) = Text text.now
 seen (value.Byte byte) = Byte byte
 seen (value.Following followed) = Following followed
 seen (value.Looks looks) = Looks looks
-
-abbrev pub seen_in : Result Value UsageKind → Result Meant UsageKind
-seen_in (Ok value) = Ok (seen value)
-seen_in (Err fault) = Err fault
 
 abbrev pub number_fault : CountFault → UsageKind
 number_fault NoDigits = BadNumber

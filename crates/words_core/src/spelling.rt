@@ -2,7 +2,8 @@
 ghost use Rattle.std.specs.Prelude.{◌≡◌, ◌∷◌, option_map, IfSome, map};
 ghost use Rattle.std.specs.List.{before_first};
 ghost use Rattle.seg_core.specs.Count.{is_number};
-ghost use Rattle.words_core.specs.Spelling.{Adds, Reads, after_equals, attached, by_name, cluster, first_letter, foremost, given_by, is_equals, long, meaning_of, mixed, reading, spelled, valued};
+ghost use Rattle.words_core.specs.inner.Spelling.{Adds, first_letter};
+ghost use Rattle.words_core.specs.Spelling.{Reads, after_equals, attached, by_name, cluster, foremost, given_by, is_equals, long, meaning_of, mixed, reading, spelled, valued};
 ghost use Rattle.words_core.specs.Given.{bare, one_operand};
 ghost use Rattle.words_core.specs.Table.{row_seen, tool_seen};
 

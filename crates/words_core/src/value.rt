@@ -2,7 +2,8 @@
 //! GNU's).
 ghost use Rattle.std.specs.Prelude.{◌≡◌, ◌≤◌, Ok, Err, IfOk, IfErr};
 ghost use Rattle.seg_core.specs.Count.{count_of, digits_of};
-ghost use Rattle.words_core.specs.Value.{byte_in, counted, ending_in, followed_in, not_zero, number_fault, round_in, seen_in, size_in, up_to, value_in};
+ghost use Rattle.words_core.specs.Value.{byte_in, counted, ending_in, followed_in, not_zero, number_fault, round_in, size_in, up_to, value_in};
+ghost use Rattle.words_core.specs.inner.Value.{seen_in};
 
 use crate::table::Kind;
 use ports_core::UsageKind;

@@ -38,8 +38,11 @@ Keeps place old new (Err (Over why)) = Unit {0}
 
 -- The call made what the name leads to the open file; it broke the name where it failed. No other name was changed.
 abbrev pub Follows : {T : Type 0} → Bool → Option ℕ → ℕ → List Watched → List Watched → Result T Stop → Type 0
-Follows told led place old new (Ok value) = (file : Option ℕ) × (new ≡ changed_at place (opens file) old) × (told ≡ true → file ≡ led)
-Follows told led place old new (Err (Broke why)) = (file : Option ℕ) × (new ≡ changed_at place breaks (changed_at place (opens file) old)) × ((why ≡ fault.Open place) ⊎ (why ≡ fault.Read place))
+Follows told led place old new (Ok value) = (file : Option ℕ) × (new ≡ changed_at place (opens file) old)
+    × (told ≡ true → file ≡ led)
+Follows told led place old new (Err (Broke why)) = (file : Option ℕ)
+    × (new ≡ changed_at place breaks (changed_at place (opens file) old))
+    × ((why ≡ fault.Open place) ⊎ (why ≡ fault.Read place))
 Follows told led place old new (Err (Over why)) = Unit {0}
 
 -- what is due of the open file
@@ -57,7 +60,8 @@ abbrev pub bytes_open : Entry → Snapshot → Option ℕ → List ℕ
 bytes_open last snapshot opened = gains_later last (entries_open snapshot opened)
 
 abbrev pub lines_open : List ℕ → Entry → Snapshot → Option ℕ → List (List ℕ)
-lines_open name last snapshot opened = map (λ notice. notice_of notice name) (notices_later last (entries_open snapshot opened))
+lines_open name last snapshot opened =
+    map (λ notice. notice_of notice name) (notices_later last (entries_open snapshot opened))
 
 -- and of where a name leads
 
@@ -65,7 +69,8 @@ lines_open name last snapshot opened = map (λ notice. notice_of notice name) (n
 abbrev pub change_between : Option ℕ → Option ℕ → Option Notice
 change_between None None = None
 change_between (Some opened) None = Some Inaccessible
-change_between opened (Some file) = if is_file file opened then None else Some (if is_some opened then Replaced else Appeared)
+change_between opened (Some file) = if is_file file opened then None
+    else Some (if is_some opened then Replaced else Appeared)
 
 -- the entry that an open file has at a look
 abbrev pub entry_open : Snapshot → Option ℕ → Entry
@@ -82,7 +87,8 @@ abbrev pub bytes_led : Snapshot → Option ℕ → Option ℕ → List ℕ
 bytes_led snapshot opened led = gains_later (entry_open snapshot opened) (entries_led snapshot opened led)
 
 abbrev pub lines_led : List ℕ → Snapshot → Option ℕ → Option ℕ → List (List ℕ)
-lines_led name snapshot opened led = map (λ notice. notice_of notice name) (notices_later (entry_open snapshot opened) (entries_led snapshot opened led))
+lines_led name snapshot opened led = map (λ notice. notice_of notice name)
+    (notices_later (entry_open snapshot opened) (entries_led snapshot opened led))
 
 -- of both
 
@@ -91,21 +97,30 @@ abbrev pub bytes_again : Bool → List ℕ → Entry → Snapshot → Option ℕ
 bytes_again by_name name last snapshot opened = gains_later last (entries_at_look by_name name opened snapshot)
 
 abbrev pub lines_again : Bool → List ℕ → Entry → Snapshot → Option ℕ → List (List ℕ)
-lines_again by_name name last snapshot opened = map (λ notice. notice_of notice name) (notices_later last (entries_at_look by_name name opened snapshot))
+lines_again by_name name last snapshot opened =
+    map (λ notice. notice_of notice name) (notices_later last (entries_at_look by_name name opened snapshot))
 
 -- what came to the open file of a name that stood at some entry was given, and how long it is
 pub record Catches (told_in told : Bool) (snapshot : Snapshot) (place : ℕ) (name : List ℕ) (position : ℕ)
-    (watched : List Watched) (printer : PrinterState) (slots : List Slot) (watched_new : List Watched) (after : PrinterState) (slots_new : List Slot)
+    (watched : List Watched) (printer : PrinterState) (slots : List Slot) (watched_new : List Watched)
+        (after : PrinterState) (slots_new : List Slot)
     (result : Result ℕ Stop) : Type 0 where
   pub ends : (last : Entry) → (told_in ≡ true → StandsAt last (watched_at watched place).opened position)
-      → Ends {T = ℕ} told_in told printer name (bytes_open last snapshot (watched_at watched place).opened) (lines_open name last snapshot (watched_at watched place).opened) slots after slots_new result
-  pub len : IfOk result (λ len. told_in ≡ true → (last : Entry) → StandsAt last (watched_at watched place).opened position → len ≡ length (held_at snapshot (watched_at watched place).opened))
+      → Ends {T = ℕ} told_in told printer name (bytes_open last snapshot (watched_at watched place).opened)
+          (lines_open name last snapshot (watched_at watched place).opened) slots after slots_new result
+  pub len : IfOk result (λ len. told_in ≡ true → (last : Entry)
+      → StandsAt last (watched_at watched place).opened position
+      → len ≡ length (held_at snapshot (watched_at watched place).opened))
   pub keeps : Keeps place watched watched_new result
 
 -- the name was followed to where it leads, and what is due of that was given
 pub record Leads (told_in told : Bool) (snapshot : Snapshot) (place : ℕ) (name : List ℕ) (position : ℕ)
-    (watched : List Watched) (printer : PrinterState) (slots : List Slot) (watched_new : List Watched) (after : PrinterState) (slots_new : List Slot)
+    (watched : List Watched) (printer : PrinterState) (slots : List Slot) (watched_new : List Watched)
+        (after : PrinterState) (slots_new : List Slot)
     (result : Result ℕ Stop) : Type 0 where
-  pub ends : Ends {T = ℕ} told_in told printer name (bytes_led snapshot (watched_at watched place).opened (snapshot.leads name)) (lines_led name snapshot (watched_at watched place).opened (snapshot.leads name)) slots after slots_new result
-  pub len : IfOk result (λ len. told_in ≡ true → position ≡ length (held_at snapshot (watched_at watched place).opened) → len ≡ length (held_at snapshot (snapshot.leads name)))
+  pub ends : Ends {T = ℕ} told_in told printer name
+      (bytes_led snapshot (watched_at watched place).opened (snapshot.leads name))
+      (lines_led name snapshot (watched_at watched place).opened (snapshot.leads name)) slots after slots_new result
+  pub len : IfOk result (λ len. told_in ≡ true → position ≡ length (held_at snapshot (watched_at watched place).opened)
+      → len ≡ length (held_at snapshot (snapshot.leads name)))
   pub follows : Follows told_in (snapshot.leads name) place watched watched_new result

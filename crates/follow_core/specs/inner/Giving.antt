@@ -30,30 +30,43 @@ abbrev pub printer_under : PrinterState → List ℕ → List ℕ → PrinterSta
 printer_under printer name bytes = if is_due printer name bytes then record printer { last = Some name } else printer
 
 -- these bytes of a name were written, with a header where one was due
-pub record PutOut (told : Bool) (printer : PrinterState) (name bytes : List ℕ) (old : List Slot) (after : PrinterState) (new : List Slot) : Type 0 where
+pub record PutOut (told : Bool) (printer : PrinterState) (name bytes : List ℕ) (old : List Slot) (after : PrinterState)
+    (new : List Slot) : Type 0 where
   pub slots : new ≡ with_written 0 (told_of told (text_under printer name bytes)) old
   pub printer_is : after ≡ printer_under printer name bytes
 
--- standard output got these bytes of a name, after a header where one was due, and standard error these lines; no other output changed
-pub record Gives (told : Bool) (printer : PrinterState) (name bytes : List ℕ) (lines : List (List ℕ)) (old : List Slot) (after : PrinterState) (new : List Slot) : Type 0 where
+-- standard output got these bytes of a name, after a header where one was due, and standard error these lines; no other
+-- output changed
+pub record Gives (told : Bool) (printer : PrinterState) (name bytes : List ℕ) (lines : List (List ℕ)) (old : List Slot)
+    (after : PrinterState) (new : List Slot) : Type 0 where
   pub printer_is : after ≡ printer_under printer name bytes
   pub slots : (output error : Slot) (others : List Slot) → old ≡ output ∷ error ∷ others
-      → (error_after : Slot) × TellsAll told lines error error_after × (new ≡ adds (told_of told (text_under printer name bytes)) output ∷ error_after ∷ others)
+      → (error_after : Slot) × TellsAll told lines error error_after
+          × (new ≡ adds (told_of told (text_under printer name bytes)) output ∷ error_after ∷ others)
 
 -- the same, but standard output broke among these bytes, or memory was wanting: a beginning of them was written
-pub record Halts (told : Bool) (printer : PrinterState) (name bytes : List ℕ) (lines : List (List ℕ)) (old new : List Slot) (fault : Fault) : Type 0 where
+pub record Halts (told : Bool) (printer : PrinterState) (name bytes : List ℕ) (lines : List (List ℕ))
+    (old new : List Slot) (fault : Fault) : Type 0 where
   pub slots : (output error : Slot) (others : List Slot) → old ≡ output ∷ error ∷ others
-      → (error_after : Slot) × TellsAll told lines error error_after × Short told (text_under printer name bytes) (output ∷ error_after ∷ others) new fault
+      → (error_after : Slot) × TellsAll told lines error error_after
+          × Short told (text_under printer name bytes) (output ∷ error_after ∷ others) new fault
 
--- How giving what is due of a name ends: all was given; or a call on the name failed, or following ends, and a beginning was. Where the
--- files don't tell their bytes, something was given.
-pub data Ends {T : Type 0} (told_in told : Bool) (printer : PrinterState) (name due : List ℕ) (lines_due : List (List ℕ)) (old : List Slot) (after : PrinterState) (new : List Slot) : Result T Stop → Type 0 where
+-- How giving what is due of a name ends: all was given; or a call on the name failed, or following ends, and a
+-- beginning was. Where the files don't tell their bytes, something was given.
+pub data Ends {T : Type 0} (told_in told : Bool) (printer : PrinterState) (name due : List ℕ)
+    (lines_due : List (List ℕ)) (old : List Slot) (after : PrinterState) (new : List Slot) : Result T Stop
+    → Type 0 where
   whole : (value : T) (bytes : List ℕ) (lines : List (List ℕ)) → (told_in ≡ true → (bytes ≡ due) × (lines ≡ lines_due))
-      → Gives told printer name bytes lines old after new → Ends told_in told printer name due lines_due old after new (Ok value)
-  broke : (why : Fault) (bytes : List ℕ) (lines : List (List ℕ)) → (told_in ≡ true → IsFront bytes due × IsFront lines lines_due)
-      → Gives told printer name bytes lines old after new → Ends told_in told printer name due lines_due old after new (Err (Broke why))
-  over : (why : Fault) (bytes : List ℕ) (lines : List (List ℕ)) → (told_in ≡ true → IsFront bytes due × IsFront lines lines_due)
-      → Halts told printer name bytes lines old new why → Ends told_in told printer name due lines_due old after new (Err (Over why))
+      → Gives told printer name bytes lines old after new
+          → Ends told_in told printer name due lines_due old after new (Ok value)
+  broke : (why : Fault) (bytes : List ℕ) (lines : List (List ℕ))
+      → (told_in ≡ true → IsFront bytes due × IsFront lines lines_due)
+      → Gives told printer name bytes lines old after new
+          → Ends told_in told printer name due lines_due old after new (Err (Broke why))
+  over : (why : Fault) (bytes : List ℕ) (lines : List (List ℕ))
+      → (told_in ≡ true → IsFront bytes due × IsFront lines lines_due)
+      → Halts told printer name bytes lines old new why
+          → Ends told_in told printer name due lines_due old after new (Err (Over why))
 
 -- the header that stands before a file as it is opened first
 abbrev pub opening_under : PrinterState → List ℕ → List ℕ
@@ -63,10 +76,12 @@ abbrev pub opened_under : PrinterState → List ℕ → PrinterState
 opened_under printer name = if printer.headers then record printer { last = Some name } else printer
 
 -- all of a share came there
-pub record Shared (told : Bool) (printer : PrinterState) (share : Share) (old : List Slot) (after : PrinterState) (new : List Slot) : Type 0 where
+pub record Shared (told : Bool) (printer : PrinterState) (share : Share) (old : List Slot) (after : PrinterState)
+    (new : List Slot) : Type 0 where
   pub printer_is : after ≡ record printer { last = header_after printer.headers printer.last share }
   pub slots : Wrote told (share_text printer.headers printer.last share) share.messages old new
 
 -- a beginning of it did
-pub record SharedShort (told : Bool) (printer : PrinterState) (share : Share) (old new : List Slot) (fault : Fault) : Type 0 where
+pub record SharedShort (told : Bool) (printer : PrinterState) (share : Share) (old new : List Slot)
+    (fault : Fault) : Type 0 where
   pub slots : WroteShort told (share_text printer.headers printer.last share) share.messages old new fault

@@ -46,21 +46,27 @@ has_failed Missing = true
 has_failed Dropped = true
 
 -- the look at the name was stopped: the outputs have a beginning of what it gives
-pub record Stopped (told_in told : Bool) (ways : Ways) (before : List Look) (snapshot : Snapshot) (name : List ℕ) (printer : PrinterState) (old new : List Slot) (why : Fault) : Type 0 where
+pub record Stopped (told_in told : Bool) (ways : Ways) (before : List Look) (snapshot : Snapshot) (name : List ℕ)
+    (printer : PrinterState) (old new : List Slot) (why : Fault) : Type 0 where
   pub share : Share
-  pub begins : told_in ≡ true → (fates : List Fate) → BeginsShare share (share_by ways name before (record { snapshot = snapshot; fates = fates }) sound)
+  pub begins : told_in ≡ true → (fates : List Fate)
+      → BeginsShare share (share_by ways name before (record { snapshot = snapshot; fates = fates }) sound)
   pub short : SharedShort told printer share old new why
 
--- Which file of the name is open after the look, where the name leads to this one, and how much of it was seen. No other name was
--- changed.
+-- Which file of the name is open after the look, where the name leads to this one, and how much of it was seen. No
+-- other name was changed.
 abbrev pub Leaves : Bool → Snapshot → Option ℕ → ℕ → List Watched → List Watched → Came → Type 0
-Leaves told snapshot led place old new (Through len) = (file : Option ℕ) × (new ≡ changed_at place (opens file) old) × (told ≡ true → (file ≡ led) × (len ≡ length (held_at snapshot led)))
-Leaves told snapshot led place old new Missing = (file : Option ℕ) × (new ≡ changed_at place (opens file) old) × (told ≡ true → (file ≡ led) × (led ≡ None))
-Leaves told snapshot led place old new Dropped = (file : Option ℕ) × (new ≡ changed_at place breaks (changed_at place (opens file) old))
+Leaves told snapshot led place old new (Through len) = (file : Option ℕ) × (new ≡ changed_at place (opens file) old)
+    × (told ≡ true → (file ≡ led) × (len ≡ length (held_at snapshot led)))
+Leaves told snapshot led place old new Missing = (file : Option ℕ) × (new ≡ changed_at place (opens file) old)
+    × (told ≡ true → (file ≡ led) × (led ≡ None))
+Leaves told snapshot led place old new Dropped = (file : Option ℕ)
+    × (new ≡ changed_at place breaks (changed_at place (opens file) old))
 
 -- A call on the name failed, which was told, so that it is dropped; or following ends, and nothing more was told.
 abbrev pub TellsStop : Bool → List ℕ → List Slot → List Slot → Stop → Result Came Fault → Type 0
-TellsStop told name old new (Broke why) result = (result ≡ Ok Dropped) × SaysOn told Tail (message_of Tail why name) old new
+TellsStop told name old new (Broke why) result = (result ≡ Ok Dropped)
+    × SaysOn told Tail (message_of Tail why name) old new
 TellsStop told name old new (Over why) result = (result ≡ Err why) × (new ≡ old)
 
 -- no name but the one at this place was changed
@@ -68,61 +74,89 @@ pub record KeepsOthers (place : ℕ) (old new : List Watched) : Type 0 where
   pub count : length new ≡ length old
   pub others : (other : ℕ) → (other ≡ place → ⊥) → watched_at new other ≡ watched_at old other
 
--- The outputs have what the look gives for the name at this place, and the name stands as after that look, with the fate that it had.
-pub record Visited (told_in told : Bool) (ways : Ways) (looks : List Look) (snapshot : Snapshot) (place : ℕ) (name : List ℕ) (printer : PrinterState) (old : List Slot) (after : PrinterState) (new : List Slot) (watched : Watched) (standing : Standing) (failed : Bool) : Type 0 where
+-- The outputs have what the look gives for the name at this place, and the name stands as after that look, with the
+-- fate that it had.
+pub record Visited (told_in told : Bool) (ways : Ways) (looks : List Look) (snapshot : Snapshot) (place : ℕ)
+    (name : List ℕ) (printer : PrinterState) (old : List Slot) (after : PrinterState) (new : List Slot)
+    (watched : Watched) (standing : Standing) (failed : Bool) : Type 0 where
   pub fate : Fate
   pub share : Share
-  pub is_share : told_in ≡ true → (fates : List Fate) → fate_at place (record { snapshot = snapshot; fates = fates }) ≡ fate → share ≡ share_of ways looks (record { snapshot = snapshot; fates = fates }) place name
+  pub is_share : told_in ≡ true → (fates : List Fate)
+      → fate_at place (record { snapshot = snapshot; fates = fates }) ≡ fate
+      → share ≡ share_of ways looks (record { snapshot = snapshot; fates = fates }) place name
   pub is_failed : share.has_failed ≡ failed
   pub shared : Shared told printer share old after new
-  pub stands : (fates : List Fate) → fate_at place (record { snapshot = snapshot; fates = fates }) ≡ fate → Stands told_in ways (looks ++ record { snapshot = snapshot; fates = fates } ∷ []) place name watched standing
+  pub stands : (fates : List Fate) → fate_at place (record { snapshot = snapshot; fates = fates }) ≡ fate
+      → Stands told_in ways (looks ++ record { snapshot = snapshot; fates = fates } ∷ []) place name watched standing
 
--- Whatever looks were made before at this name, which stood so: one more was made that saw this, and the outputs have what it gives.
-abbrev pub VisitsOn : (told_in told : Bool) → Ways → Snapshot → ℕ → NameState → Watched → PrinterState → List Slot → NameState → Watched → PrinterState → List Slot → (failed : Bool) → Type 0
-VisitsOn told_in told ways snapshot place old watched printer slots new watched_new printer_new slots_new failed = (looks : List Look) → Stands told_in ways looks place old.text watched old.standing → KeepsBytes told_in ways looks snapshot old.text
-    → Visited told_in told ways looks snapshot place old.text printer slots printer_new slots_new watched_new new.standing failed
+-- Whatever looks were made before at this name, which stood so: one more was made that saw this, and the outputs have
+-- what it gives.
+abbrev pub VisitsOn : (told_in told : Bool) → Ways → Snapshot → ℕ → NameState → Watched → PrinterState → List Slot
+    → NameState → Watched → PrinterState → List Slot → (failed : Bool) → Type 0
+VisitsOn told_in told ways snapshot place old watched printer slots new watched_new printer_new slots_new failed =
+    (looks : List Look) → Stands told_in ways looks place old.text watched old.standing
+    → KeepsBytes told_in ways looks snapshot old.text
+    → Visited told_in told ways looks snapshot place old.text printer slots printer_new slots_new watched_new
+        new.standing failed
 
 -- whatever looks were made before, the next one was stopped
-abbrev pub StopsVisit : (told_in told : Bool) → Ways → Snapshot → ℕ → NameState → Watched → PrinterState → List Slot → List Slot → Fault → Type 0
-StopsVisit told_in told ways snapshot place name watched printer slots slots_new why = (looks : List Look) → Stands told_in ways looks place name.text watched name.standing → KeepsBytes told_in ways looks snapshot name.text
+abbrev pub StopsVisit : (told_in told : Bool) → Ways → Snapshot → ℕ → NameState → Watched → PrinterState → List Slot
+    → List Slot → Fault → Type 0
+StopsVisit told_in told ways snapshot place name watched printer slots slots_new why = (looks : List Look)
+    → Stands told_in ways looks place name.text watched name.standing → KeepsBytes told_in ways looks snapshot name.text
     → (is_dropped place looks ≡ false) × Stopped told_in told ways looks snapshot name.text printer slots slots_new why
 
 -- What a look at one name leaves, where it stood so before: it stands then by how it came through.
-pub record Looks (told_in told : Bool) (ways : Ways) (snapshot : Snapshot) (place : ℕ) (name : List ℕ) (standing : Standing)
-    (watched : List Watched) (printer : PrinterState) (slots : List Slot) (watched_new : List Watched) (printer_new : PrinterState) (slots_new : List Slot)
+pub record Looks (told_in told : Bool) (ways : Ways) (snapshot : Snapshot) (place : ℕ) (name : List ℕ)
+    (standing : Standing)
+    (watched : List Watched) (printer : PrinterState) (slots : List Slot) (watched_new : List Watched)
+        (printer_new : PrinterState) (slots_new : List Slot)
     (result : Result Came Fault) : Type 0 where
-  pub visited : IfOk result (λ came. VisitsOn told_in told ways snapshot place (record { text = name; standing = standing }) (watched_at watched place) printer slots
-      (record { text = name; standing = standing_after ways.by_name came }) (watched_at watched_new place) printer_new slots_new (has_failed came))
-  pub stopped : IfErr result (StopsVisit told_in told ways snapshot place (record { text = name; standing = standing }) (watched_at watched place) printer slots slots_new)
+  pub visited : IfOk result (λ came. VisitsOn told_in told ways snapshot place
+      (record { text = name; standing = standing }) (watched_at watched place) printer slots
+      (record { text = name; standing = standing_after ways.by_name came }) (watched_at watched_new place) printer_new
+          slots_new (has_failed came))
+  pub stopped : IfErr result (StopsVisit told_in told ways snapshot place (record { text = name; standing = standing })
+      (watched_at watched place) printer slots slots_new)
   pub leaves : IfOk result (Leaves false snapshot (snapshot.leads name) place watched watched_new)
 
 -- the same of the name itself, which can be looked at again, or is looked at no more
-pub record Visits (told_in told : Bool) (ways : Ways) (snapshot : Snapshot) (place : ℕ) (old : NameState) (watched : List Watched) (printer : PrinterState) (slots : List Slot)
-    (new : NameState) (watched_new : List Watched) (printer_new : PrinterState) (slots_new : List Slot) (result : Result Bool Fault) : Type 0 where
-  pub visited : IfOk result (VisitsOn told_in told ways snapshot place old (watched_at watched place) printer slots new (watched_at watched_new place) printer_new slots_new)
-  pub stopped : IfErr result (StopsVisit told_in told ways snapshot place old (watched_at watched place) printer slots slots_new)
+pub record Visits (told_in told : Bool) (ways : Ways) (snapshot : Snapshot) (place : ℕ) (old : NameState)
+    (watched : List Watched) (printer : PrinterState) (slots : List Slot)
+    (new : NameState) (watched_new : List Watched) (printer_new : PrinterState) (slots_new : List Slot)
+        (result : Result Bool Fault) : Type 0 where
+  pub visited : IfOk result (VisitsOn told_in told ways snapshot place old (watched_at watched place) printer slots new
+      (watched_at watched_new place) printer_new slots_new)
+  pub stopped : IfErr result (StopsVisit told_in told ways snapshot place old (watched_at watched place) printer slots
+      slots_new)
   pub same : new.text ≡ old.text
   pub ready : OnOk result (CanVisit new (watched_at watched_new place))
   pub others : OnOk result (KeepsOthers place watched watched_new)
 
 -- the outputs have what the look gives for all names, and these stand as after it
-pub record VisitedAll (told_in told : Bool) (ways : Ways) (looks : List Look) (snapshot : Snapshot) (names : List NameState) (printer : PrinterState) (old : List Slot) (after : PrinterState) (new : List Slot) (watched : List Watched) (names_now : List NameState) (failed : Bool) : Type 0 where
+pub record VisitedAll (told_in told : Bool) (ways : Ways) (looks : List Look) (snapshot : Snapshot)
+    (names : List NameState) (printer : PrinterState) (old : List Slot) (after : PrinterState) (new : List Slot)
+    (watched : List Watched) (names_now : List NameState) (failed : Bool) : Type 0 where
   pub fates : List Fate
   pub shares : List Share
-  pub are : told_in ≡ true → shares ≡ shares_at_look ways (texts names) looks (record { snapshot = snapshot; fates = fates })
+  pub are : told_in ≡ true → shares ≡ shares_at_look ways (texts names) looks
+      (record { snapshot = snapshot; fates = fates })
   pub is_failed : any_failed shares ≡ failed
   pub shared : AllShared told printer shares old after new
   pub same : texts names_now ≡ texts names
   pub stand : AllStand told_in ways (looks ++ record { snapshot = snapshot; fates = fates } ∷ []) names_now watched
 
--- The look was stopped at some name: of the names before it the outputs have all that the look gives, of it a beginning, and of the
--- names after it nothing.
-pub record StoppedAt (told_in told : Bool) (ways : Ways) (looks : List Look) (snapshot : Snapshot) (names : List (List ℕ)) (printer : PrinterState) (old new : List Slot) (why : Fault) : Type 0 where
+-- The look was stopped at some name: of the names before it the outputs have all that the look gives, of it a
+-- beginning, and of the names after it nothing.
+pub record StoppedAt (told_in told : Bool) (ways : Ways) (looks : List Look) (snapshot : Snapshot)
+    (names : List (List ℕ)) (printer : PrinterState) (old new : List Slot) (why : Fault) : Type 0 where
   pub fates : List Fate
   pub place : ℕ
   pub shares : List Share
   pub share : Share
   pub within : place < length names
-  pub are : told_in ≡ true → shares ≡ shares_at_look_from ways looks (record { snapshot = snapshot; fates = fates }) 0 (take place names)
-  pub begins : told_in ≡ true → BeginsShare share (share_of ways looks (record { snapshot = snapshot; fates = fates }) place (slice_index_or names place []))
+  pub are : told_in ≡ true → shares ≡ shares_at_look_from ways looks (record { snapshot = snapshot; fates = fates }) 0
+      (take place names)
+  pub begins : told_in ≡ true → BeginsShare share
+      (share_of ways looks (record { snapshot = snapshot; fates = fates }) place (slice_index_or names place []))
   pub short : AllShort told printer (shares ++ share ∷ []) old new why

@@ -2,7 +2,7 @@ use Rattle.std.proofs.Common.{◌≡◌, ◌++◌, drop, min, OnOk, ◌∙◌, a
 use Rattle.seg_core.specs.Line.{but_last_lines}
 use Rattle.seg_core.specs.Window.{Window}
 use Rattle.ports_core.proofs.HandedOn.{result_is}
-use Rattle.csplit_core.specs.Writer.{Goes}
+use Rattle.csplit_core.specs.inner.Writer.{Goes}
 use Rattle.csplit_core.proofs.HoldLemmas.{hold_short, hold_cut, hold_went, goes_or_lacks, kept_window, fits_rest, rest_within}
 use Rattle.csplit_core.proofs.holding.hold_last.Goals as goal
 

@@ -1,6 +1,6 @@
 use Rattle.std.proofs.Common.{◌<◌, ◌^◌, length, arith}
 use Rattle.ports_core.proofs.HandedOn.{result_is}
-use Rattle.csplit_core.specs.Writer.{Goes}
+use Rattle.csplit_core.specs.inner.Writer.{Goes}
 use Rattle.csplit_core.proofs.HoldLemmas.{starts, fits_front, empties, empties_short, emptied_went, emptied_window, left_within}
 use Rattle.csplit_core.proofs.holding.write_front.Goals as goal
 

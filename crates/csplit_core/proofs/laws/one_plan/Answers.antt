@@ -1,4 +1,4 @@
-use Rattle.csplit_core.specs.PlanLaws.{plan_runs, plan_once}
+use Rattle.csplit_core.specs.laws.PlanLaws.{plan_runs, plan_once}
 use Rattle.csplit_core.proofs.laws.one_plan.Goals as goal
 
 pub returns : goal.returns

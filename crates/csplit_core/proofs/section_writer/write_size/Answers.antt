@@ -1,6 +1,7 @@
 use Rattle.std.proofs.Common.{◌∙◌, ap, subst, arith}
 use Rattle.ports_core.specs.Slot.{told_of, with_written}
-use Rattle.ports_core.specs.Write.{BrokeAfter, broke}
+use Rattle.ports_core.specs.Write.{BrokeAfter}
+use Rattle.ports_core.specs.inner.Write.{broke}
 use Rattle.ports_core.proofs.HandedOn.{fault_is, of_write}
 use Rattle.csplit_core.proofs.SizeLine.{line_is}
 use Rattle.csplit_core.proofs.section_writer.write_size.Goals as goal

@@ -1,5 +1,5 @@
 use Rattle.std.proofs.Common.{sym, subst, Err}
-use Rattle.run_core.specs.Feeding.{EndsSo, finished}
+use Rattle.run_core.specs.inner.Feeding.{EndsSo, finished}
 use Rattle.run_core.proofs.FeedingLemmas.{close_short}
 use Rattle.run_core.proofs.feeding.end.Goals as goal
 

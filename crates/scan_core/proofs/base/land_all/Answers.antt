@@ -1,5 +1,5 @@
 use Rattle.std.proofs.Common.{arith, subst}
-use Rattle.scan_core.specs.Landings.{IsOther}
+use Rattle.scan_core.specs.inner.Landings.{IsOther}
 use Rattle.scan_core.proofs.Insides.{pushed, one_longer}
 use Rattle.scan_core.proofs.Landed.{other_kept}
 use Rattle.scan_core.proofs.base.land_all.Goals as goal

@@ -1,5 +1,5 @@
 use Rattle.std.proofs.Common.{◌≡◌, ◌<◌, ℕ, length, get_or}
-use Rattle.scan_core.specs.Landings.{AreLandings, IsOther}
+use Rattle.scan_core.specs.inner.Landings.{AreLandings, IsOther}
 use Rattle.scan_core.proofs.base.land_all.Given as goal
 
 abbrev pub invariant-loop-at : goal.invariant-loop-at

@@ -1,5 +1,5 @@
 use Rattle.std.proofs.Common.{arith}
-use Rattle.scan_core.specs.Base.{IsLeading}
+use Rattle.scan_core.specs.inner.Base.{IsLeading}
 use Rattle.scan_core.proofs.Insides.{pushed, one_longer}
 use Rattle.scan_core.proofs.base.leads_of.Goals as goal
 

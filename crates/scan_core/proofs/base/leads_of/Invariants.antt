@@ -1,5 +1,5 @@
 use Rattle.std.proofs.Common.{◌≡◌, ◌<◌, ℕ, length, get_or}
-use Rattle.scan_core.specs.Base.{IsLeading}
+use Rattle.scan_core.specs.inner.Base.{IsLeading}
 use Rattle.scan_core.proofs.base.leads_of.Given as goal
 
 abbrev pub invariant-loop-at : goal.invariant-loop-at

@@ -1,5 +1,5 @@
 use Rattle.std.proofs.Common.{◌≤◌, ◌*◌, length}
-use Rattle.scan_core.specs.Built.{IsBuilding}
+use Rattle.scan_core.specs.inner.Built.{IsBuilding}
 use Rattle.scan_core.proofs.build.build.Given as goal
 
 abbrev pub invariant-loop-state : goal.invariant-loop-state

@@ -1,5 +1,5 @@
 use Rattle.std.proofs.Common.{◌≡◌, ◌<◌, ℕ}
-use Rattle.scan_core.specs.Table.{entry}
+use Rattle.scan_core.specs.inner.Table.{entry}
 use Rattle.scan_core.proofs.build.is_fixed.Given as goal
 
 abbrev pub invariant-loop-byte : goal.invariant-loop-byte

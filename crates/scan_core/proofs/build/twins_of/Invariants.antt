@@ -1,5 +1,5 @@
 use Rattle.std.proofs.Common.{◌≡◌, ◌<◌, ℕ, length, slice_index_or}
-use Rattle.scan_core.specs.Built.{AreAlike}
+use Rattle.scan_core.specs.inner.Built.{AreAlike}
 use Rattle.scan_core.proofs.build.twins_of.Given as goal
 
 abbrev pub invariant-loop-byte : goal.invariant-loop-byte

@@ -3,9 +3,9 @@ use Rattle.std.proofs.lemmas.List.{get_or-set_same}
 use Rattle.std.proofs.lemmas.Nat.Bits.{bit_at-trailing_zeros}
 use Rattle.std.specs.Prelude.{bit_or}
 use Rattle.std.specs.Int.{trailing_zeros}
-use Rattle.scan_core.specs.Closures.{ArePeers}
-use Rattle.scan_core.specs.Hops.{Hopped}
-use Rattle.scan_core.specs.Words.{Grows}
+use Rattle.scan_core.specs.inner.Closures.{ArePeers}
+use Rattle.scan_core.specs.inner.Hops.{Hopped}
+use Rattle.scan_core.specs.inner.Words.{Grows}
 use Rattle.scan_core.proofs.Enterings.{no_default}
 use Rattle.scan_core.proofs.Closings.{close_word, close_more, close_ends, peers_smaller}
 use Rattle.scan_core.proofs.closing.close.Goals as goal

@@ -1,8 +1,8 @@
 use Rattle.std.proofs.Common.{◌≡◌, ◌+◌, ◌<◌, ℕ, List, get_or, set, length, refl, sym, ap, ◌∙◌, subst, arith}
 use Rattle.std.proofs.lemmas.List.{get_or-set_same}
 use Rattle.std.specs.Prelude.{bit_and, bit_or}
-use Rattle.scan_core.specs.Hops.{Hopped}
-use Rattle.scan_core.specs.Words.{Grows}
+use Rattle.scan_core.specs.inner.Hops.{Hopped}
+use Rattle.scan_core.specs.inner.Words.{Grows}
 use Rattle.scan_core.proofs.Closings.{close_none, close_word, close_ends}
 use Rattle.scan_core.proofs.Enterings.{no_default}
 use Rattle.scan_core.proofs.Visitings.{visit_starts}

@@ -1,6 +1,6 @@
 use Rattle.std.proofs.Common.{◌+◌, ◌<◌, get_or, refl, sym, ap, ◌∙◌, subst, arith}
 use Rattle.std.specs.Prelude.{bit_and, bit_or}
-use Rattle.scan_core.specs.Words.{width}
+use Rattle.scan_core.specs.inner.Words.{width}
 use Rattle.scan_core.proofs.Apart.{Apart, apart_starts, apart_skip, apart_more, apart_ends}
 use Rattle.scan_core.proofs.Enterings.{no_default}
 use Rattle.scan_core.proofs.closing.close_words.Goals as goal

@@ -1,5 +1,5 @@
-use Rattle.scan_core.specs.Hops.{Hopped}
-use Rattle.scan_core.specs.Words.{Grows}
+use Rattle.scan_core.specs.inner.Hops.{Hopped}
+use Rattle.scan_core.specs.inner.Words.{Grows}
 use Rattle.scan_core.proofs.closing.hop.Given as goal
 
 abbrev pub invariant-loop-which : goal.invariant-loop-which

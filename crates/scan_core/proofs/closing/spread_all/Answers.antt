@@ -1,5 +1,5 @@
 use Rattle.std.proofs.Common.{◌≡◌, ◌+◌, ◌*◌, ◌-◌, length, ap, arith}
-use Rattle.scan_core.specs.Words.{unset}
+use Rattle.scan_core.specs.inner.Words.{unset}
 use Rattle.scan_core.proofs.Visitings.{spreading_more, spreading_ends, smaller}
 use Rattle.scan_core.proofs.closing.spread_all.Goals as goal
 

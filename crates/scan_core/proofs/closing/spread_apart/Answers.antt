@@ -1,5 +1,5 @@
 use Rattle.std.proofs.Common.{subst}
-use Rattle.scan_core.specs.Landings.{HasLanded}
+use Rattle.scan_core.specs.inner.Landings.{HasLanded}
 use Rattle.scan_core.proofs.Apart.{spread_landed, spread_after}
 use Rattle.scan_core.proofs.closing.spread_apart.Goals as goal
 

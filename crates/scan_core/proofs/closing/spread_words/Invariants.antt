@@ -1,5 +1,5 @@
 use Rattle.std.proofs.Common.{◌+◌, ◌*◌, ◌-◌, length}
-use Rattle.scan_core.specs.Words.{unset}
+use Rattle.scan_core.specs.inner.Words.{unset}
 use Rattle.scan_core.proofs.Visitings.{Spreading}
 use Rattle.scan_core.proofs.closing.spread_words.Given as goal
 

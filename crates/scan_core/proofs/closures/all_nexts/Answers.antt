@@ -1,5 +1,5 @@
 use Rattle.std.proofs.Common.{IfSome, None, arith}
-use Rattle.scan_core.specs.Closures.{AreNexts}
+use Rattle.scan_core.specs.inner.Closures.{AreNexts}
 use Rattle.scan_core.proofs.Insides.{pushed, one_longer}
 use Rattle.scan_core.proofs.closures.all_nexts.Goals as goal
 

@@ -1,5 +1,5 @@
 use Rattle.std.proofs.Common.{◌≡◌, ◌<◌, ℕ, None, IfSome, length, get_or}
-use Rattle.scan_core.specs.Closures.{AreNexts}
+use Rattle.scan_core.specs.inner.Closures.{AreNexts}
 use Rattle.scan_core.proofs.closures.all_nexts.Given as goal
 
 abbrev pub invariant-loop-at : goal.invariant-loop-at

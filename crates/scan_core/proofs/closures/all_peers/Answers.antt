@@ -1,4 +1,4 @@
-use Rattle.scan_core.specs.Closures.{ArePeers}
+use Rattle.scan_core.specs.inner.Closures.{ArePeers}
 use Rattle.scan_core.proofs.Insides.{pushed, one_longer}
 use Rattle.scan_core.proofs.closures.all_peers.Goals as goal
 

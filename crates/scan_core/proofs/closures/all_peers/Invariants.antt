@@ -1,5 +1,5 @@
 use Rattle.std.proofs.Common.{◌≡◌, ◌<◌, ℕ, length, get_or}
-use Rattle.scan_core.specs.Closures.{ArePeers}
+use Rattle.scan_core.specs.inner.Closures.{ArePeers}
 use Rattle.scan_core.proofs.closures.all_peers.Given as goal
 
 abbrev pub invariant-loop-number : goal.invariant-loop-number

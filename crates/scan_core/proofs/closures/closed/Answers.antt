@@ -1,5 +1,5 @@
 use Rattle.std.proofs.Common.{IfSome, None, ◌∙◌, sym, subst, arith}
-use Rattle.scan_core.specs.Closures.{AreNexts}
+use Rattle.scan_core.specs.inner.Closures.{AreNexts}
 use Rattle.scan_core.proofs.Inners.{any_default}
 use Rattle.scan_core.proofs.Nexts.{close_nexts}
 use Rattle.scan_core.proofs.closures.closed.Goals as goal

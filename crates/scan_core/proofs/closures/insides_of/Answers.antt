@@ -1,5 +1,5 @@
 use Rattle.std.proofs.Common.{◌/◌, subst, arith}
-use Rattle.scan_core.specs.Closures.{AreInside, Closes, chosen_at}
+use Rattle.scan_core.specs.inner.Closures.{AreInside, Closes, chosen_at}
 use Rattle.scan_core.proofs.Insides.{pushed, one_longer}
 use Rattle.scan_core.proofs.closures.insides_of.Goals as goal
 

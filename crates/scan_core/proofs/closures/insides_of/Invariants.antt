@@ -1,4 +1,4 @@
-use Rattle.scan_core.specs.Closures.{AreInside}
+use Rattle.scan_core.specs.inner.Closures.{AreInside}
 use Rattle.scan_core.proofs.closures.insides_of.Given as goal
 
 abbrev pub invariant-loop-place : goal.invariant-loop-place

@@ -1,5 +1,5 @@
 use Rattle.std.proofs.Common.{arith}
-use Rattle.scan_core.specs.Closures.{IsLeaving}
+use Rattle.scan_core.specs.inner.Closures.{IsLeaving}
 use Rattle.scan_core.proofs.Insides.{pushed, one_longer}
 use Rattle.scan_core.proofs.closures.leaves_of.Goals as goal
 

@@ -1,5 +1,5 @@
 use Rattle.std.proofs.Common.{◌≡◌, ◌<◌, ℕ, length, get_or}
-use Rattle.scan_core.specs.Closures.{IsLeaving}
+use Rattle.scan_core.specs.inner.Closures.{IsLeaving}
 use Rattle.scan_core.proofs.closures.leaves_of.Given as goal
 
 abbrev pub invariant-loop-at : goal.invariant-loop-at

@@ -1,7 +1,7 @@
 use Rattle.std.proofs.Common.{◌≡◌, ◌-◌, reverse, drop, length, sym, ap, ◌∙◌, subst, arith}
 use Rattle.bre_core.specs.Flat.{AreBounded}
 use Rattle.bre_core.specs.Steps.{Steps}
-use Rattle.scan_core.specs.Compiling.{Takes, AreBegun, depth_in}
+use Rattle.scan_core.specs.inner.Compiling.{Takes, AreBegun, depth_in}
 use Rattle.scan_core.proofs.Compiled.{compiled, ordered, way_starts, way_more, bounded_at}
 use Rattle.scan_core.proofs.compile.compile.Goals as goal
 

@@ -1,7 +1,7 @@
 use Rattle.std.proofs.Common.{◌+◌, ◌≤◌, [], None, length, drop, reverse}
 use Rattle.bre_core.specs.Steps.{Steps}
 use Rattle.scan_core.specs.declared.compile.Compiling.{Compiling}
-use Rattle.scan_core.specs.Compiling.{AreBegun, Takes, IsNow, depth_in}
+use Rattle.scan_core.specs.inner.Compiling.{AreBegun, Takes, IsNow, depth_in}
 use Rattle.scan_core.proofs.compile.compile.Given as goal
 
 abbrev pub invariant-loop-place : goal.invariant-loop-place

@@ -1,6 +1,6 @@
 use Rattle.std.proofs.Common.{◌≡◌, ◌*◌, ◌+◌, ◌<◌, ℕ, false, refl, sym, ap, ◌∙◌}
 use Rattle.std.specs.Int.{bit_at}
-use Rattle.scan_core.specs.Sets.{Flows}
+use Rattle.scan_core.specs.inner.Sets.{Flows}
 use Rattle.scan_core.proofs.Hoppings.{none_leads}
 use Rattle.scan_core.proofs.hops.hop_of.Goals as goal
 use Rattle.scan_core.proofs.hops.hop_of.Goals.{then-to-at, else-to-at}

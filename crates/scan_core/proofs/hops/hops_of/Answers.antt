@@ -1,5 +1,5 @@
 use Rattle.std.proofs.Common.{subst, arith}
-use Rattle.scan_core.specs.Hops.{AreHops}
+use Rattle.scan_core.specs.inner.Hops.{AreHops}
 use Rattle.scan_core.proofs.Hoppings.{hop_pushed}
 use Rattle.scan_core.proofs.hops.hops_of.Goals as goal
 

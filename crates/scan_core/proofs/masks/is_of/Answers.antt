@@ -1,5 +1,5 @@
 use Rattle.std.proofs.Common.{◌↔◌, ◌+◌, IsTrue, sym, subst}
-use Rattle.scan_core.specs.Words.{IsOf}
+use Rattle.scan_core.specs.inner.Words.{IsOf}
 use Rattle.scan_core.proofs.masks.is_of.Goals as goal
 
 pub returns-in-Takes : goal.returns-in-Takes

@@ -1,6 +1,6 @@
 use Rattle.std.proofs.Common.{rules, ◌≡◌, ◌⊎◌, ◌↔◌, ℕ, ◌+◌, ◌≤◌, ◌<◌, ◌^◌, length, slice_index, true, false, refl, ◌∙◌, subst, arith}
-use Rattle.scan_core.specs.Sets.{Passes}
-use Rattle.scan_core.specs.Words.{IsIn}
+use Rattle.scan_core.specs.inner.Sets.{Passes}
+use Rattle.scan_core.specs.inner.Words.{IsIn}
 use Rattle.scan_core.specs.Code.{weight}
 use Rattle.scan_core.proofs.Enterings.{weight_length}
 use Rattle.scan_core.proofs.Along.{inner, final, steps_fit}

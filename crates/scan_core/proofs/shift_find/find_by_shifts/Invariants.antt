@@ -1,5 +1,5 @@
 use Rattle.std.proofs.Common.{length, ◌-◌, ◌≤◌}
-use Rattle.scan_core.specs.Shifts.{IsReached}
+use Rattle.scan_core.specs.inner.Shifts.{IsReached}
 use Rattle.scan_core.proofs.shift_find.find_by_shifts.Given as goal
 
 abbrev pub invariant-loop-place : goal.invariant-loop-place

@@ -1,5 +1,5 @@
 use Rattle.std.proofs.Common.{◌+◌}
-use Rattle.scan_core.specs.Shifts.{IsReached}
+use Rattle.scan_core.specs.inner.Shifts.{IsReached}
 use Rattle.scan_core.proofs.shift_find.glide.Given as goal
 
 abbrev pub invariant-loop-done : goal.invariant-loop-done

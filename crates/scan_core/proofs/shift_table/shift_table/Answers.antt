@@ -1,5 +1,5 @@
 use Rattle.std.proofs.Common.{rules, ◌≡◌, ◌*◌, length, refl, sym, ap, ◌∙◌, subst, arith}
-use Rattle.scan_core.specs.Shifts.{AreLight, AreWeights, AreWords, IsComplete}
+use Rattle.scan_core.specs.inner.Shifts.{AreLight, AreWeights, AreWords, IsComplete}
 use Rattle.scan_core.proofs.Shiftings.{states_are_light}
 use Rattle.scan_core.proofs.shift_table.shift_table.Goals as goal
 

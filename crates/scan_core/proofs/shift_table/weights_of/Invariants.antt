@@ -1,5 +1,5 @@
 use Rattle.std.proofs.Common.{◌≡◌, ◌<◌, ◌%◌, ℕ, length, slice_index_or}
-use Rattle.scan_core.specs.Shifts.{IsWeight}
+use Rattle.scan_core.specs.inner.Shifts.{IsWeight}
 use Rattle.scan_core.proofs.shift_table.weights_of.Given as goal
 
 abbrev pub invariant-loop-low : goal.invariant-loop-low

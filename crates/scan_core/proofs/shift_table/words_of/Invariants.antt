@@ -1,5 +1,5 @@
 use Rattle.std.proofs.Common.{◌≡◌, ◌<◌, ℕ, length, slice_index_or}
-use Rattle.scan_core.specs.Shifts.{IsWord}
+use Rattle.scan_core.specs.inner.Shifts.{IsWord}
 use Rattle.scan_core.proofs.shift_table.words_of.Given as goal
 
 abbrev pub invariant-loop-byte : goal.invariant-loop-byte

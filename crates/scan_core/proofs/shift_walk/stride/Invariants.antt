@@ -1,5 +1,5 @@
 use Rattle.std.proofs.Common.{◌+◌, ◌*◌, ◌≤◌, ℕ}
-use Rattle.scan_core.specs.Shifts.{IsAt}
+use Rattle.scan_core.specs.inner.Shifts.{IsAt}
 use Rattle.scan_core.proofs.shift_walk.stride.Given as goal
 
 abbrev pub invariant-loop-done : goal.invariant-loop-done

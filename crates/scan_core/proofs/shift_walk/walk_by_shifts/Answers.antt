@@ -1,5 +1,5 @@
 use Rattle.std.proofs.Common.{rules, ◌≡◌, ◌<◌, ◌+◌, ◌*◌, ◌-◌, ℕ, length, slice_index, refl, subst, arith}
-use Rattle.scan_core.specs.Shifts.{IsAt}
+use Rattle.scan_core.specs.inner.Shifts.{IsAt}
 use Rattle.scan_core.proofs.Shiftings.{at_starts, at_fits, at_stop, at_known, at_fixed, at_end, outcome_fits}
 use Rattle.scan_core.proofs.shift_walk.walk_by_shifts.Goals as goal
 

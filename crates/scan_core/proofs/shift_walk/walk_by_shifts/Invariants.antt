@@ -1,5 +1,5 @@
 use Rattle.std.proofs.Common.{length, ◌-◌, ◌≤◌}
-use Rattle.scan_core.specs.Shifts.{IsAt}
+use Rattle.scan_core.specs.inner.Shifts.{IsAt}
 use Rattle.scan_core.proofs.shift_walk.walk_by_shifts.Given as goal
 
 abbrev pub invariant-loop-place : goal.invariant-loop-place

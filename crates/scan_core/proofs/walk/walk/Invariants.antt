@@ -1,5 +1,5 @@
 use Rattle.std.proofs.Common.{length, ◌-◌, List, Bool}
-use Rattle.scan_core.specs.Table.{IsTableOf, Walked}
+use Rattle.scan_core.specs.inner.Table.{IsTableOf, Walked}
 use Rattle.scan_core.proofs.walk.walk.Given as goal
 
 abbrev pub invariant-loop-place : goal.invariant-loop-place

@@ -1,5 +1,5 @@
 use Rattle.std.proofs.Common.{◌+◌, ◌-◌, ◌<◌, ◌≤◌, drop, sym, subst, length, refl, arith}
-use Rattle.seg_core.specs.Blocks.{Gone}
+use Rattle.seg_core.specs.inner.Blocks.{Gone}
 use Rattle.seg_core.proofs.BlockLemmas.{gone_fits, first_goes}
 use Rattle.seg_core.proofs.line_blocks.drop_whole.Goals as goal
 

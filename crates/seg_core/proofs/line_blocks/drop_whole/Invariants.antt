@@ -1,5 +1,5 @@
 use Rattle.std.proofs.Common.{length}
-use Rattle.seg_core.specs.Blocks.{Gone}
+use Rattle.seg_core.specs.inner.Blocks.{Gone}
 use Rattle.seg_core.proofs.line_blocks.drop_whole.Given as goal
 
 abbrev pub invariant-loop-first : goal.invariant-loop-first

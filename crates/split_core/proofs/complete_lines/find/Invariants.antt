@@ -1,5 +1,5 @@
 use Rattle.std.proofs.Common.{◌+◌, ◌-◌, length}
-use Rattle.split_core.specs.Ahead.{Sees}
+use Rattle.split_core.specs.inner.Ahead.{Sees}
 use Rattle.split_core.proofs.complete_lines.find.Given as goal
 
 abbrev pub invariant-blocks-2 : goal.invariant-blocks-2

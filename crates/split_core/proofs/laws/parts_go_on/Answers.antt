@@ -1,5 +1,5 @@
-use Rattle.split_core.specs.CutLaws.{settled_then_waiting}
-use Rattle.split_core.specs.ShareLaws.{parts_on, settled_on}
+use Rattle.split_core.specs.laws.CutLaws.{settled_then_waiting}
+use Rattle.split_core.specs.laws.ShareLaws.{parts_on, settled_on}
 use Rattle.split_core.proofs.SectionLemmas.{joined_parts, settled_all, waiting_few}
 use Rattle.split_core.proofs.laws.parts_go_on.Goals as goal
 

@@ -1,7 +1,7 @@
 use Rattle.std.proofs.Common.{◌∙◌, IfErr, length, subst}
 use Rattle.std.proofs.lemmas.Result.{on_ok_weaker}
 use Rattle.ports_core.proofs.HandedOn.{fault_is}
-use Rattle.split_core.specs.Sharing.{StopsShort, added}
+use Rattle.split_core.specs.inner.Sharing.{StopsShort, added}
 use Rattle.split_core.proofs.RoundLemmas.{no_room, first_gathered, became_dealt}
 use Rattle.split_core.proofs.round_splitter.deal_out.Goals as goal
 

@@ -1,6 +1,6 @@
 use Rattle.std.proofs.Common.{◌+◌, ap, subst, sym, ◌∙◌}
 use Rattle.std.proofs.lemmas.List.{length-map}
-use Rattle.tee_core.specs.Steps.{HasStreams}
+use Rattle.tee_core.specs.inner.Steps.{HasStreams}
 use Rattle.tee_core.specs.Run.{said_of_input}
 use Rattle.tee_core.proofs.CopyLemmas.{copies_ready, known_many}
 use Rattle.tee_core.proofs.CloseLemmas.{closed_next, closing_quiet, closing_said, ending_streams}

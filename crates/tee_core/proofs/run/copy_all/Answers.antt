@@ -1,7 +1,7 @@
 use Rattle.std.proofs.Common.{subst}
 use Rattle.std.proofs.lemmas.List.{length-map}
 use Rattle.tee_core.specs.Run.{said_of_input}
-use Rattle.tee_core.specs.Steps.{HasStreams}
+use Rattle.tee_core.specs.inner.Steps.{HasStreams}
 use Rattle.tee_core.proofs.CloseLemmas.{copies_said, copies_streams}
 use Rattle.tee_core.proofs.StartLemmas.{length-names, opened_streams, starts}
 use Rattle.tee_core.proofs.run.copy_all.Goals as goal

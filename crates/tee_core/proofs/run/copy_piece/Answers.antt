@@ -1,6 +1,6 @@
 use Rattle.std.proofs.Common.{◌+◌, [], ap, subst, sym, ◌∙◌}
 use Rattle.std.proofs.lemmas.List.{length-map}
-use Rattle.tee_core.specs.Steps.{HasStreams}
+use Rattle.tee_core.specs.inner.Steps.{HasStreams}
 use Rattle.tee_core.proofs.CopyLemmas.{copies_ready, fed_next, known_many, next_streams, piece_quiet, piece_said}
 use Rattle.tee_core.proofs.run.copy_piece.Goals as goal
 

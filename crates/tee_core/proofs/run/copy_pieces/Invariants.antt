@@ -4,7 +4,7 @@ use Rattle.ports_core.specs.Source.{source_at, is_readable}
 use Rattle.ports_core.specs.declared.slot.Mode.{Mode}
 use Rattle.run_core.specs.Feeding.{KeepsOthers}
 use Rattle.run_core.proofs.FeedingLemmas.{HasRead}
-use Rattle.tee_core.specs.Steps.{Copies}
+use Rattle.tee_core.specs.inner.Steps.{Copies}
 use Rattle.tee_core.proofs.run.copy_pieces.Given as goal
 
 abbrev pub invariant-pieces : goal.invariant-pieces

@@ -1,5 +1,5 @@
 use Rattle.ports_core.proofs.HandedOn.{result_is}
-use Rattle.csplit_core.specs.CsplitState.{Closes}
+use Rattle.csplit_core.specs.inner.CsplitState.{Closes}
 use Rattle.csplit_core.proofs.StageLemmas.{closed_short}
 use Rattle.csplit_core.proofs.StageSteps.{closes_by}
 use Rattle.csplit_core.proofs.csplitter.Csplitter.end.Goals as goal

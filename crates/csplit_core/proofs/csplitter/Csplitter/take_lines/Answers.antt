@@ -1,6 +1,6 @@
 use Rattle.ports_core.proofs.HandedOn.{result_is}
 use Rattle.seg_core.proofs.LineCounts.{ends_with-some}
-use Rattle.csplit_core.specs.Cutter.{Takes}
+use Rattle.csplit_core.specs.inner.Cutter.{Takes}
 use Rattle.csplit_core.specs.Input.{newline}
 use Rattle.csplit_core.proofs.ByteLemmas.{first_line, others_whole}
 use Rattle.csplit_core.proofs.StageSteps.{lines_stop, lines_after}

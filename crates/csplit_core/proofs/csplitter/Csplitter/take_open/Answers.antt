@@ -1,6 +1,6 @@
 use Rattle.std.proofs.Common.{◌∙◌}
 use Rattle.ports_core.proofs.HandedOn.{result_is}
-use Rattle.csplit_core.specs.Cutter.{Takes}
+use Rattle.csplit_core.specs.inner.Cutter.{Takes}
 use Rattle.csplit_core.proofs.StageSteps.{line_at, lacks_at}
 use Rattle.csplit_core.proofs.csplitter.Csplitter.take_open.Goals as goal
 

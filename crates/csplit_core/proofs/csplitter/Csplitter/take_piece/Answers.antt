@@ -1,6 +1,6 @@
 use Rattle.std.proofs.Common.{refl}
 use Rattle.ports_core.proofs.HandedOn.{result_is}
-use Rattle.csplit_core.specs.CsplitState.{Passes}
+use Rattle.csplit_core.specs.inner.CsplitState.{Passes}
 use Rattle.csplit_core.proofs.ByteLemmas.{piece_ends}
 use Rattle.csplit_core.proofs.StageSteps.{aims_other, all_after, none_passes, past_passes, some_passes, some_stop}
 use Rattle.csplit_core.proofs.csplitter.Csplitter.take_piece.Goals as goal

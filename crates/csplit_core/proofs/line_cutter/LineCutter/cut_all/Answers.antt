@@ -1,6 +1,7 @@
 use Rattle.std.proofs.Common.{ap, arith}
 use Rattle.ports_core.proofs.HandedOn.{result_is}
-use Rattle.csplit_core.specs.Cutter.{CutterState, CutsAll}
+use Rattle.csplit_core.specs.Cutter.{CutterState}
+use Rattle.csplit_core.specs.inner.Cutter.{CutsAll}
 use Rattle.csplit_core.proofs.SpreadLemmas.{spread_once, spread_more_at, spread_stopped_at, spread_held, first_stopped, spread_fit, spread_lines, spread_size, spread_ready, spread_none, spread_fewer, spread_held_size}
 use Rattle.csplit_core.proofs.line_cutter.LineCutter.cut_all.Goals as goal
 

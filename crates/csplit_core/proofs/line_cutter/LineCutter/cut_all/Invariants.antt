@@ -1,4 +1,4 @@
-use Rattle.csplit_core.specs.PlanLaws.{needed}
+use Rattle.csplit_core.specs.inner.PlanLaws.{needed}
 use Rattle.csplit_core.specs.Cutter.{state_in}
 use Rattle.csplit_core.proofs.SpreadLemmas.{Spreading}
 use Rattle.csplit_core.proofs.line_cutter.LineCutter.cut_all.Given as goal

@@ -1,6 +1,6 @@
 use Rattle.std.proofs.Common.{refl, sym, ◌∙◌}
 use Rattle.ports_core.proofs.HandedOn.{result_is}
-use Rattle.csplit_core.specs.Cutter.{CutsAll}
+use Rattle.csplit_core.specs.inner.Cutter.{CutsAll}
 use Rattle.csplit_core.proofs.CutLineLemmas.{none_there, cut_alone, cut_drained, cut_lacks, waiting_count, waiting_size}
 use Rattle.csplit_core.proofs.line_cutter.LineCutter.cut_line.Goals as goal
 

@@ -1,5 +1,5 @@
 use Rattle.ports_core.proofs.HandedOn.{result_is}
-use Rattle.csplit_core.specs.Cutter.{EndsAll}
+use Rattle.csplit_core.specs.inner.Cutter.{EndsAll}
 use Rattle.csplit_core.proofs.EndedLemmas.{end_goes_at, end_short_at}
 use Rattle.csplit_core.proofs.line_cutter.LineCutter.end.Goals as goal
 

@@ -1,6 +1,6 @@
 use Rattle.std.proofs.Common.{length, take, refl, sym, ◌∙◌, subst, arith}
 use Rattle.ports_core.proofs.HandedOn.{result_is}
-use Rattle.csplit_core.specs.Cutter.{IsWhole, Stretches}
+use Rattle.csplit_core.specs.inner.Cutter.{IsWhole, Stretches}
 use Rattle.csplit_core.proofs.TakeLemmas.{took_past}
 use Rattle.csplit_core.proofs.StretchLemmas.{stretch_held, stretch_not_held, stretch_line, stretch_done, stretch_line_stopped, line_whole, last_or_ends, take_whole, rest_some, first_there, some_there}
 use Rattle.csplit_core.proofs.line_cutter.LineCutter.stretch.Goals as goal

@@ -1,6 +1,6 @@
 use Rattle.ports_core.proofs.HandedOn.{result_is}
 use Rattle.std.proofs.Common.{◌^◌}
-use Rattle.csplit_core.specs.Cutter.{Takes}
+use Rattle.csplit_core.specs.inner.Cutter.{Takes}
 use Rattle.csplit_core.proofs.StretchLemmas.{takes_all, takes_more, takes_stopped, takes_end, takes_fit, takes_fewer, none_left}
 use Rattle.csplit_core.proofs.line_cutter.LineCutter.take.Goals as goal
 

@@ -1,7 +1,7 @@
 use Rattle.std.proofs.Common.{refl}
 use Rattle.ports_core.proofs.HandedOn.{result_is, of_write}
-use Rattle.ports_core.specs.Write.{broke}
-use Rattle.csplit_core.specs.WriterSteps.{Appends}
+use Rattle.ports_core.specs.inner.Write.{broke}
+use Rattle.csplit_core.specs.inner.WriterSteps.{Appends}
 use Rattle.csplit_core.proofs.section_writer.SectionWriter.append.Goals as goal
 
 pub returns-in_err-write_whole : goal.returns-in_err-write_whole

@@ -1,7 +1,7 @@
 use Rattle.std.proofs.Common.{◌∙◌, ap, sym, subst}
 use Rattle.ports_core.proofs.HandedOn.{result_is}
 use Rattle.csplit_core.specs.Writer.{WriterState}
-use Rattle.csplit_core.specs.WriterSteps.{Started, Starts}
+use Rattle.csplit_core.specs.inner.WriterSteps.{Started, Starts}
 use Rattle.csplit_core.specs.declared.section_writer.Current.TheVariants.{Skipped, Unmade}
 use Rattle.csplit_core.proofs.MakeLemmas.{state_of}
 use Rattle.csplit_core.proofs.BeginLemmas.{begin_skipped, begin_unmade, begin_made, begin_not}

@@ -1,6 +1,7 @@
 use Rattle.std.proofs.Common.{◌∙◌, ap, sym, subst}
 use Rattle.ports_core.proofs.HandedOn.{result_is}
-use Rattle.csplit_core.specs.Writer.{WriterState, Ended, EndedNot, Ends}
+use Rattle.csplit_core.specs.Writer.{WriterState}
+use Rattle.csplit_core.specs.inner.Writer.{Ended, EndedNot, Ends}
 use Rattle.csplit_core.specs.declared.section_writer.Current.TheVariants.{Skipped}
 use Rattle.csplit_core.proofs.MakeLemmas.{state_of}
 use Rattle.csplit_core.proofs.EndLemmas.{close_not, end_quiet, end_sized}

@@ -2,7 +2,7 @@ use Rattle.std.proofs.Common.{◌∙◌, ℕ, List, ap}
 use Rattle.ports_core.specs.Name.{numbered_name}
 use Rattle.ports_core.proofs.HandedOn.{result_is}
 use Rattle.csplit_core.specs.Writer.{WriterState}
-use Rattle.csplit_core.specs.WriterSteps.{Makes, next_name}
+use Rattle.csplit_core.specs.inner.WriterSteps.{Makes, next_name}
 use Rattle.csplit_core.specs.declared.section_writer.Current.TheVariants.{Unopened}
 use Rattle.csplit_core.proofs.MakeLemmas.{not_named, not_opened, state_of}
 use Rattle.csplit_core.proofs.section_writer.SectionWriter.make_file.Goals as goal

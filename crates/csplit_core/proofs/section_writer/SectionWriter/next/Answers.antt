@@ -1,6 +1,6 @@
 use Rattle.ports_core.proofs.HandedOn.{result_is}
-use Rattle.csplit_core.specs.Draft.{with_section}
-use Rattle.csplit_core.specs.Writer.{Goes}
+use Rattle.csplit_core.specs.inner.Draft.{with_section}
+use Rattle.csplit_core.specs.inner.Writer.{Goes}
 use Rattle.csplit_core.proofs.EndLemmas.{next_not_ended, next_begun}
 use Rattle.csplit_core.proofs.section_writer.SectionWriter.next.Goals as goal
 

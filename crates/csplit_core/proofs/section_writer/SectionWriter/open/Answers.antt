@@ -1,5 +1,5 @@
 use Rattle.ports_core.proofs.HandedOn.{result_is}
-use Rattle.csplit_core.specs.Writer.{Begins}
+use Rattle.csplit_core.specs.inner.Writer.{Begins}
 use Rattle.csplit_core.proofs.BeginLemmas.{new_ready, first_begun, first_not}
 use Rattle.csplit_core.proofs.section_writer.SectionWriter.open.Goals as goal
 

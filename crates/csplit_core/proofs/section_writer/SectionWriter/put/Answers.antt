@@ -1,7 +1,8 @@
 use Rattle.std.proofs.Common.{◌∙◌, ap, sym}
 use Rattle.ports_core.proofs.HandedOn.{result_is}
-use Rattle.csplit_core.specs.Draft.{with_bytes}
-use Rattle.csplit_core.specs.Writer.{WriterState, Goes}
+use Rattle.csplit_core.specs.inner.Draft.{with_bytes}
+use Rattle.csplit_core.specs.Writer.{WriterState}
+use Rattle.csplit_core.specs.inner.Writer.{Goes}
 use Rattle.csplit_core.proofs.PutLemmas.{put_skipped, put_file, some_bytes}
 use Rattle.csplit_core.proofs.BeginLemmas.{put_first, put_unmade}
 use Rattle.csplit_core.proofs.section_writer.SectionWriter.put.Goals as goal

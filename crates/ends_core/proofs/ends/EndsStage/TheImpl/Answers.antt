@@ -1,5 +1,6 @@
 use Rattle.std.proofs.Common.{◌∙◌, ap, length, arith}
-use Rattle.ends_core.specs.Stage.{count_of, delim_of, due, due_at_end, stretch_of, unit_of}
+use Rattle.ends_core.specs.Stage.{count_of, delim_of, stretch_of, unit_of}
+use Rattle.ends_core.specs.inner.Stage.{due, due_at_end}
 use Rattle.ends_core.proofs.StopLemmas.{writable_still}
 use Rattle.ends_core.proofs.EndsLemmas.{on_ok, on_ok_each, if_err, same_work, takes_in, puts_out, cuts_off, met, finishes, ends_short, end_met, loads, waits_within, full_is, done_is_exact}
 use Rattle.ends_core.proofs.ends.EndsStage.TheImpl.Goals as goal

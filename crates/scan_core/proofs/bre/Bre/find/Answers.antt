@@ -1,5 +1,5 @@
 use Rattle.std.proofs.Common.{IfSome, sym, subst}
-use Rattle.scan_core.specs.Shifts.{IsShiftTable}
+use Rattle.scan_core.specs.inner.Shifts.{IsShiftTable}
 use Rattle.scan_core.proofs.bre.Bre.find.Goals as goal
 
 pub find_by_shifts-requires-clause-table : goal.find_by_shifts-requires-clause-table

@@ -1,10 +1,10 @@
 use Rattle.std.proofs.Common.{IfSome, length, sym, ap, ◌∙◌, subst, arith}
-use Rattle.scan_core.specs.Base.{IsBase}
-use Rattle.scan_core.specs.Closures.{AreClosures}
-use Rattle.scan_core.specs.Sets.{IsCode}
-use Rattle.scan_core.specs.Shifts.{IsShiftTable}
-use Rattle.scan_core.specs.Table.{IsTable}
-use Rattle.scan_core.specs.Words.{IsMasks}
+use Rattle.scan_core.specs.inner.Base.{IsBase}
+use Rattle.scan_core.specs.inner.Closures.{AreClosures}
+use Rattle.scan_core.specs.inner.Sets.{IsCode}
+use Rattle.scan_core.specs.inner.Shifts.{IsShiftTable}
+use Rattle.scan_core.specs.inner.Table.{IsTable}
+use Rattle.scan_core.specs.inner.Words.{IsMasks}
 use Rattle.scan_core.proofs.Whole.{is_code, enough_room}
 use Rattle.scan_core.proofs.bre.Bre.read.Goals as goal
 

@@ -1,5 +1,5 @@
 use Rattle.std.proofs.Common.{IfSome, sym, subst}
-use Rattle.scan_core.specs.Shifts.{IsShiftTable}
+use Rattle.scan_core.specs.inner.Shifts.{IsShiftTable}
 use Rattle.scan_core.proofs.bre.Bre.walk.Goals as goal
 
 pub walk_by_shifts-requires-clause-table : goal.walk_by_shifts-requires-clause-table

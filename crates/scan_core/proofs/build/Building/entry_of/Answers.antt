@@ -1,7 +1,7 @@
 use Rattle.std.proofs.Common.{refl, arith}
 use Rattle.std.proofs.lemmas.Result.{IfOk-weaker}
-use Rattle.scan_core.specs.Built.{IsFilling}
-use Rattle.scan_core.specs.Table.{Tells}
+use Rattle.scan_core.specs.inner.Built.{IsFilling}
+use Rattle.scan_core.specs.inner.Table.{Tells}
 use Rattle.scan_core.proofs.Tables.{twin_entry, led_on}
 use Rattle.scan_core.proofs.build.Building.entry_of.Goals as goal
 

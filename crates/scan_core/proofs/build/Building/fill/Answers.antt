@@ -1,6 +1,6 @@
 use Rattle.std.proofs.Common.{◌≡◌, [], refl, subst}
 use Rattle.scan_core.specs.Counted.{set_at}
-use Rattle.scan_core.specs.Sets.{Loaded}
+use Rattle.scan_core.specs.inner.Sets.{Loaded}
 use Rattle.scan_core.proofs.Inners.{any_default}
 use Rattle.scan_core.proofs.Tables.{fill_starts, filled_more}
 use Rattle.scan_core.proofs.build.Building.fill.Goals as goal

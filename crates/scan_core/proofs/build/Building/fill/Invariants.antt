@@ -1,4 +1,4 @@
-use Rattle.scan_core.specs.Built.{IsFilling}
+use Rattle.scan_core.specs.inner.Built.{IsFilling}
 use Rattle.scan_core.proofs.build.Building.fill.Given as goal
 
 abbrev pub invariant-loop-byte : goal.invariant-loop-byte

@@ -1,7 +1,7 @@
 use Rattle.std.proofs.Common.{◌≡◌, ◌<◌, [], ℕ, IsTrue, subst}
 use Rattle.scan_core.specs.Counted.{set_at}
-use Rattle.scan_core.specs.Sets.{Loaded}
-use Rattle.scan_core.specs.Table.{entry}
+use Rattle.scan_core.specs.inner.Sets.{Loaded}
+use Rattle.scan_core.specs.inner.Table.{entry}
 use Rattle.scan_core.proofs.Inners.{any_default}
 use Rattle.scan_core.proofs.Tables.{state_is}
 use Rattle.scan_core.proofs.build.Building.state_of.Goals as goal

@@ -1,5 +1,5 @@
 use Rattle.std.proofs.Common.{◌∷◌, [], length, sym, ap, ◌∙◌, subst, arith, length-append}
-use Rattle.scan_core.specs.Table.{IsState}
+use Rattle.scan_core.specs.inner.Table.{IsState}
 use Rattle.scan_core.proofs.Tables.{one_noted}
 use Rattle.scan_core.proofs.build.Building.states_of.Goals as goal
 

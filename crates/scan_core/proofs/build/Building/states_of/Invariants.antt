@@ -1,5 +1,5 @@
 use Rattle.std.proofs.Common.{◌≡◌, ◌*◌, length}
-use Rattle.scan_core.specs.Built.{IsBuilding, AreNoted}
+use Rattle.scan_core.specs.inner.Built.{IsBuilding, AreNoted}
 use Rattle.scan_core.proofs.build.Building.states_of.Given as goal
 
 abbrev pub invariant-loop-state : goal.invariant-loop-state

@@ -1,5 +1,5 @@
 use Rattle.std.proofs.Common.{length, sym, ap, ◌∙◌, subst}
-use Rattle.scan_core.specs.Compiling.{AreBegun, Finishes}
+use Rattle.scan_core.specs.inner.Compiling.{AreBegun, Finishes}
 use Rattle.scan_core.proofs.Finishing.{are_begun_wider, are_begun_front, are_begun_last, finish_more, finish_ends}
 use Rattle.scan_core.proofs.compile.Compiling.finish.Goals as goal
 

@@ -1,5 +1,5 @@
 use Rattle.std.proofs.Common.{rules, ◌<◌, length, refl, ap, ◌∙◌, arith}
-use Rattle.scan_core.specs.Sets.{at_place}
+use Rattle.scan_core.specs.inner.Sets.{at_place}
 use Rattle.scan_core.proofs.Enterings.{no_default, set_count_most, marks_within}
 use Rattle.scan_core.proofs.Spreadings.{empty_more, empty_ends}
 use Rattle.scan_core.proofs.reach.Reach.clear.Goals as goal

@@ -1,6 +1,6 @@
 use Rattle.std.proofs.Common.{rules, ◌<◌, ◌+◌, length, sym, ◌∙◌, subst, arith}
 use Rattle.std.proofs.lemmas.Bool.{false≢true}
-use Rattle.scan_core.specs.Sets.{Gains}
+use Rattle.scan_core.specs.inner.Sets.{Gains}
 use Rattle.scan_core.proofs.Enterings.{no_default, count_most, pass_least}
 use Rattle.scan_core.proofs.Spreadings.{Past, pass_more, pass_skip, pass_ends}
 use Rattle.scan_core.proofs.reach.Reach.pass.Goals as goal

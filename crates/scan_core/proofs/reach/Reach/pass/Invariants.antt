@@ -1,4 +1,4 @@
-use Rattle.scan_core.specs.Sets.{Gains}
+use Rattle.scan_core.specs.inner.Sets.{Gains}
 use Rattle.scan_core.proofs.Spreadings.{Past}
 use Rattle.scan_core.proofs.reach.Reach.pass.Given as goal
 

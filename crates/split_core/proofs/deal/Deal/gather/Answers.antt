@@ -2,7 +2,7 @@ use Rattle.std.proofs.Common.{ℕ, List, ◌++◌, length, sym, ap, ◌∙◌, �
 use Rattle.std.proofs.lemmas.List.{take_all}
 use Rattle.ports_core.specs.Slot.{changed_at}
 use Rattle.seg_core.specs.Line.{LinesLeft, delimiters}
-use Rattle.split_core.specs.DealState.{DealState}
+use Rattle.split_core.specs.inner.DealState.{DealState}
 use Rattle.split_core.proofs.DealLemmas.{by_delimiter, line_more, line_within, first_taken, ends_here, ends_open, Gathers}
 use Rattle.split_core.proofs.deal.Deal.gather.Goals as goal
 

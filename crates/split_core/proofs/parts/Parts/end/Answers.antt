@@ -1,10 +1,10 @@
 use Rattle.std.proofs.Common.{ap, sym, subst, ◌∙◌}
 use Rattle.ports_core.specs.Slot.{told_of, with_written}
 use Rattle.ports_core.proofs.HandedOn.{result_is}
-use Rattle.ports_core.specs.Write.{WritesShort}
+use Rattle.ports_core.specs.inner.Write.{WritesShort}
 use Rattle.ports_core.proofs.SlotSteps.{short_size, written_size}
 use Rattle.split_core.specs.PartsState.{PartsState}
-use Rattle.split_core.specs.Moves.{Finishes, KeepsFile}
+use Rattle.split_core.specs.inner.Moves.{Finishes, KeepsFile}
 use Rattle.split_core.proofs.MoveLemmas.{owned_same}
 use Rattle.split_core.proofs.PassLemmas.{finishes_none, held_breaks, close_ends, close_can, end_owned}
 use Rattle.split_core.proofs.parts.Parts.end.Goals as goal

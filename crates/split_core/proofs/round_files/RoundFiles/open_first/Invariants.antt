@@ -1,4 +1,4 @@
-use Rattle.split_core.specs.Sharing.{Became, filled}
+use Rattle.split_core.specs.inner.Sharing.{Became, filled}
 use Rattle.split_core.proofs.round_files.RoundFiles.open_first.Given as goal
 
 abbrev pub invariant-loop-place : goal.invariant-loop-place

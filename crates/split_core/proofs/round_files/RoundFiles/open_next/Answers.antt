@@ -3,7 +3,7 @@ use Rattle.ports_core.specs.Slot.{FailsToOpen}
 use Rattle.ports_core.specs.Name.{next_name}
 use Rattle.ports_core.proofs.HandedOn.{fault_is}
 use Rattle.split_core.specs.FilesState.{FilesState}
-use Rattle.split_core.specs.Sharing.{FailsToFollow, could_not, unnamed}
+use Rattle.split_core.specs.inner.Sharing.{FailsToFollow, could_not, unnamed}
 use Rattle.split_core.proofs.FileSteps.{unchanged, drew_one}
 use Rattle.split_core.proofs.round_files.RoundFiles.open_next.Goals as goal
 

@@ -1,5 +1,5 @@
 use Rattle.std.proofs.Common.{take}
-use Rattle.split_core.specs.Sharing.{Became, added}
+use Rattle.split_core.specs.inner.Sharing.{Became, added}
 use Rattle.split_core.proofs.round_files.RoundFiles.write.Given as goal
 
 abbrev pub invariant-loop-place : goal.invariant-loop-place

@@ -1,7 +1,7 @@
 use Rattle.std.proofs.Common.{◌∙◌, length, ap, subst}
 use Rattle.split_core.specs.FilesState.{FilesState}
 use Rattle.split_core.specs.RoundState.{RoundState}
-use Rattle.split_core.specs.Sharing.{KeepsFiles}
+use Rattle.split_core.specs.inner.Sharing.{KeepsFiles}
 use Rattle.split_core.specs.Split.{from_start}
 use Rattle.split_core.proofs.PartStageLemmas.{on_ok, on_err}
 use Rattle.split_core.proofs.RoundLemmas.{same_work, ended, ended_short, ended_met}

@@ -1,8 +1,8 @@
 use Rattle.std.proofs.Common.{◌≡◌, ◌+◌, ◌%◌, length, OnOk, IfErr, ◌∙◌, ap, subst}
 use Rattle.seg_core.specs.Line.{delimiters}
-use Rattle.split_core.specs.Dealt.{dealt_first, reached_by}
+use Rattle.split_core.specs.inner.Dealt.{dealt_first, reached_by}
 use Rattle.split_core.specs.RoundState.{RoundState}
-use Rattle.split_core.specs.Sharing.{Became, KeepsFiles, StopsShort, added}
+use Rattle.split_core.specs.inner.Sharing.{Became, KeepsFiles, StopsShort, added}
 use Rattle.split_core.specs.Split.{from_start}
 use Rattle.split_core.proofs.PartStageLemmas.{on_ok, on_err}
 use Rattle.split_core.proofs.RoundLemmas.{same_work, dealt_holds, dealt_outputs, dealt_ready, dealt_short, dealt_met}

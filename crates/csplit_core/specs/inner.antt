@@ -1,0 +1,10 @@
+pub mod Csplit
+pub mod CsplitState
+pub mod Cutter
+pub mod Draft
+pub mod MatchLaws
+pub mod PlanLaws
+pub mod Progress
+pub mod SectionLaws
+pub mod Writer
+pub mod WriterSteps

@@ -1,0 +1,317 @@
+-- What private calls say: what contracts see of the cutter of lines, and what its calls do.
+use Rattle.std.specs.Prelude.{◌≡◌, ◌⊎◌, ℕ, ◌+◌, ◌-◌, ◌<◌, ◌≤◌, Bool, true, false, List, [], ◌∷◌, ◌++◌, length, take, Option, Some, None, Result, Ok, Err}
+use Rattle.bre_core.specs.Pattern.{Pattern}
+use Rattle.bre_core.specs.Search.{contains}
+use Rattle.seg_core.specs.Line.{lines_of, line_count, ends_with}
+use Rattle.ports_core.specs.Part.{Part, Begins, nothing}
+use Rattle.ports_core.specs.Swept.{AreMade}
+use Rattle.ports_core.specs.Slot.{Slot}
+use Rattle.ports_core.specs.inner.Slot.{KeepsBroken}
+use Rattle.ports_core.specs.declared.fault.Fault.{Fault}
+use Rattle.csplit_core.specs.Csplit.{settled_of, whole_of}
+use Rattle.csplit_core.specs.Draft.{draft_part}
+use Rattle.csplit_core.specs.Input.{newline, marked, all_lines}
+use Rattle.csplit_core.specs.Measure.{Moves}
+use Rattle.csplit_core.specs.Operand.{Operand, Line, is_match}
+use Rattle.csplit_core.specs.Output.{Style}
+use Rattle.csplit_core.specs.Plan.{search_line, line_after, state_after}
+use Rattle.csplit_core.specs.Planned.{plan}
+use Rattle.csplit_core.specs.inner.PlanLaws.{needed}
+use Rattle.csplit_core.specs.Progress.{AimsAt}
+use Rattle.csplit_core.specs.inner.Progress.{GoesPast}
+use Rattle.csplit_core.specs.Section.{is_final}
+use Rattle.csplit_core.specs.Writer.{OwnsFiles, IsReady, Breaks, size_of}
+use Rattle.csplit_core.specs.inner.Writer.{KeepsFiles, Halts, Moves as Gets}
+use Rattle.csplit_core.specs.declared.progress.Turn.{Turn}
+use Rattle.csplit_core.specs.declared.progress.Turn.TheVariants.{UsedUp, Missed, Above, Below, Cuts}
+use Rattle.csplit_core.specs.declared.line_cutter.Cut.{Cut}
+use Rattle.csplit_core.specs.Cutter.{CutterState, suppress_in, state_in, kept_by, IsFit, IsSound, load, draft_by, IsAt, EndsNow, IsLive, Stands}
+
+-- a text of complete lines
+abbrev pub IsWhole : List ℕ → Type 0
+IsWhole x = (x ≡ []) ⊎ (ends_with newline x ≡ true)
+
+-- a text of one line, which may lack its newline
+abbrev pub IsLine : List ℕ → Type 0
+IsLine line = lines_of newline line ≡ line ∷ []
+
+abbrev pub settled_part : CutterState → List ℕ → Part
+settled_part cutter x = settled_of cutter.writer.style cutter.operands (all_lines x)
+
+abbrev pub part_at : (cutter : CutterState) (x left : List ℕ) → IsAt cutter x left → Part
+part_at cutter x left at = draft_part cutter.writer.style
+    (draft_by (all_lines x) at.steps (kept_by (state_in cutter).operands) at.written)
+
+-- where the plan over x ends, as far as its fault is known from it
+pub record IsJudged (cutter : CutterState) (x : List ℕ) : Type 0 where
+  pub last : state_in cutter ≡ (plan (suppress_in cutter) cutter.operands (all_lines x)).last
+  pub aims : AimsAt cutter.aim (plan (suppress_in cutter) cutter.operands (all_lines x)).ending
+
+-- the same operands and style
+pub record IsSame (cutter next : CutterState) : Type 0 where
+  pub operands : next.operands ≡ cutter.operands
+  pub style : next.writer.style ≡ cutter.writer.style
+
+-- These bytes came in, and what is settled with them is written.
+pub record Took (told : Bool) (cutter : CutterState) (text : List ℕ) (old new : List Slot)
+    (next : CutterState) : Type 0 where
+  pub same : IsSame cutter next
+  pub stands : (x : List ℕ) → IsWhole x → Stands cutter x → Stands next (x ++ text)
+  pub moves : (x : List ℕ) → IsWhole x → Stands cutter x
+      → Gets told (settled_part cutter x) (settled_part cutter (x ++ text)) old new
+  pub keeps : KeepsBroken old new
+  pub owns : KeepsFiles cutter.writer next.writer old new
+  pub ready : IsReady next.writer new
+  pub sound : IsSound next
+  pub size : load next ≤ load cutter + length text
+
+-- A fault came among them.
+pub record TookNot (told : Bool) (cutter : CutterState) (text : List ℕ) (old new : List Slot) (next : CutterState)
+    (fault : Fault) : Type 0 where
+  pub same : IsSame cutter next
+  pub halts : (x : List ℕ) → IsWhole x → Stands cutter x
+      → Halts told (settled_part cutter x) (settled_part cutter (x ++ text)) old new fault
+  pub breaks : Breaks cutter.writer.style old new fault
+  pub owns : KeepsFiles cutter.writer next.writer old new
+
+abbrev pub Takes : Bool → CutterState → List ℕ → List Slot → List Slot → CutterState → Result (Unit {0}) Fault → Type 0
+Takes told cutter text old new next (Ok done) = Took told cutter text old new next
+Takes told cutter text old new next (Err fault) = TookNot told cutter text old new next fault
+
+-- The plan over x ends where the cutter stands, and what is written of the open section is settled.
+pub record Arrives (cutter : CutterState) (x left : List ℕ) (at : IsAt cutter x left) : Type 0 where
+  pub ends : EndsNow cutter x
+  pub low : is_final ends.ending ≡ true → at.taken ≡ 0
+  pub enough : (at.taken ≡ 0) ⊎ (cutter.window.most ≤ line_count newline left)
+
+-- What `hold` does: the lines up to x came in, and these were left.
+pub record Held (told : Bool) (cutter : CutterState) (left : List ℕ) (old new : List Slot)
+    (next : CutterState) : Type 0 where
+  pub same : next ≡ record cutter { writer = next.writer; window = next.window }
+  pub style : next.writer.style ≡ cutter.writer.style
+  pub window : next.window ≡ record cutter.window { held = next.window.held }
+  pub stands : (x : List ℕ) (at : IsAt cutter x left) → Arrives cutter x left at → Stands next x
+  pub moves : (x : List ℕ) (at : IsAt cutter x left) → Arrives cutter x left at
+      → Gets told (part_at cutter x left at) (settled_part cutter x) old new
+  pub keeps : KeepsBroken old new
+  pub owns : KeepsFiles cutter.writer next.writer old new
+  pub ready : IsReady next.writer new
+  pub size : size_of next.writer.current + length next.window.held ≤ size_of cutter.writer.current + length left
+
+pub record HeldNot (told : Bool) (cutter : CutterState) (left : List ℕ) (old new : List Slot) (next : CutterState)
+    (fault : Fault) : Type 0 where
+  pub same : IsSame cutter next
+  pub halts : (x : List ℕ) (at : IsAt cutter x left) → Arrives cutter x left at
+      → Halts told (part_at cutter x left at) (settled_part cutter x) old new fault
+  pub breaks : Breaks cutter.writer.style old new fault
+  pub owns : KeepsFiles cutter.writer next.writer old new
+
+abbrev pub Holds : Bool → CutterState → List ℕ → List Slot → List Slot → CutterState → Result (Unit {0}) Fault → Type 0
+Holds told cutter left old new next (Ok done) = Held told cutter left old new next
+Holds told cutter left old new next (Err fault) = HeldNot told cutter left old new next fault
+
+-- a line stands last in x
+abbrev pub IsLastLine : List ℕ → List ℕ → Type 0
+IsLastLine x line = (front : List Line) × (all_lines x ≡ front ++ marked line ∷ [])
+
+-- whether a line of this number has the pattern that is searched for, if the search reaches it
+pub record IsFound (cutter : CutterState) (text : List ℕ) (number : ℕ) (found : Bool) : Type 0 where
+  pub none : cutter.sought ≡ None → found ≡ false
+  pub before : number < search_line (suppress_in cutter) (state_in cutter) → found ≡ false
+  pub some : (pattern : Pattern) → cutter.sought ≡ Some pattern
+      → search_line (suppress_in cutter) (state_in cutter) ≤ number → found ≡ contains pattern text
+
+-- x has as many lines as came in, this one last, and none before it has the pattern that is searched for, from the
+-- beginning of the search on
+pub record Looked (cutter : CutterState) (x line : List ℕ) : Type 0 where
+  pub counted : cutter.lines ≡ line_count newline x
+  pub last : IsLastLine x line
+  pub others : (operand : Operand) (operands : List Operand) → (state_in cutter).operands ≡ operand ∷ operands
+      → (other : ℕ) → search_line (suppress_in cutter) (state_in cutter) ≤ other → other < cutter.lines
+          → is_match operand (all_lines x) other ≡ false
+
+-- The next operand cuts at this line, which is among those that came in.
+pub record WillCut (cutter : CutterState) (cut : Cut) : Type 0 where
+  pub operand : Operand
+  pub operands : List Operand
+  pub some : cutter.progress.done < length cutter.operands
+  pub left : (state_in cutter).operands ≡ operand ∷ operands
+  pub moves : Moves cutter.lines (state_in cutter) operand.target cut.matched cut.line
+  pub matched : cut.matched ≤ cutter.lines
+  pub from : cutter.progress.current ≤ cut.line
+  pub within : cut.line ≤ cutter.lines
+
+-- where a search after this cut begins
+abbrev pub search_after : Bool → Cut → ℕ
+search_after suppress cut = search_line suppress
+    (record { operands = []; repetition = 0; current = line_after suppress cut.line; matched = cut.matched })
+
+-- After the cut no line before the last one is looked at: so it is where that was so before it, and where a pattern
+-- cuts.
+abbrev pub StaysNear : CutterState → Cut → Type 0
+StaysNear cutter cut = (cutter.lines ≤ search_line (suppress_in cutter) (state_in cutter)) ⊎ (cutter.sought ≡ None → ⊥)
+    → cutter.lines ≤ search_after (suppress_in cutter) cut
+
+-- What trying the next operand with the last line says of the plan over all lines that came in.
+abbrev pub Tries : CutterState → List ℕ → CutterState → Option Cut → Type 0
+Tries cutter line next None = (x : List ℕ) → Looked cutter x line → EndsNow next x
+Tries cutter line next (Some cut) = (x : List ℕ) → Looked cutter x line
+    → GoesPast (suppress_in cutter) (all_lines x) (state_in cutter) cut.matched cut.line × StaysNear cutter cut
+
+-- The same of a line that is counted first, where the lines x came in before it.
+abbrev pub TriesNext : CutterState → List ℕ → CutterState → Option Cut → Type 0
+TriesNext cutter line next None = (x : List ℕ) → IsWhole x → IsLive cutter x → EndsNow next (x ++ line)
+TriesNext cutter line next (Some cut) = (x : List ℕ) → IsWhole x → IsLive cutter x
+    → GoesPast (suppress_in cutter) (all_lines (x ++ line)) (state_in cutter) cut.matched cut.line
+        × (next.lines ≤ search_after (suppress_in cutter) cut)
+
+-- The plan over x cuts there, and no line of it before the last one is to be looked at again. The lines that are left
+-- begin with number `place`.
+pub record CutsNow (cutter : CutterState) (x left line : List ℕ) (cut : Cut) (place : ℕ)
+    (at : IsAt cutter x left) : Type 0 where
+  pub last : IsLastLine x line
+  pub near : cutter.lines ≤ search_after (suppress_in cutter) cut
+  pub place_is : place ≡ cutter.progress.current + at.taken
+  pub before : place ≤ cut.line
+  pub goes : GoesPast (suppress_in cutter) (all_lines x) (state_in cutter) cut.matched cut.line
+
+-- the turn is no cut
+abbrev pub IsNoCut : Turn → Type 0
+IsNoCut UsedUp = Unit {0}
+IsNoCut Missed = Unit {0}
+IsNoCut (Above matched line) = Unit {0}
+IsNoCut Below = Unit {0}
+IsNoCut (Cuts matched line) = ⊥
+
+-- where the run stands after a cut
+abbrev pub PassesOn : CutterState → Cut → CutterState → Type 0
+PassesOn cutter cut next = (operand : Operand) (operands : List Operand)
+    → (state_in cutter).operands ≡ operand ∷ operands
+    → state_in next ≡ state_after (suppress_in cutter) operand operands cutter.progress.repetition cut.matched cut.line
+
+-- What is so after a cut: the open section has no line yet, and none before the last line is to be looked at again.
+pub record IsAfter (told : Bool) (cutter : CutterState) (x line : List ℕ) (next : CutterState) (rest : List ℕ)
+    (low : Part) (old new : List Slot) : Type 0 where
+  pub now : IsAt next x rest
+  pub looked : Looked next x line
+  pub near : next.lines ≤ search_line (suppress_in next) (state_in next)
+  pub none : now.taken ≡ 0
+  pub grows : Begins low (part_at next x rest now)
+  pub moves : Gets told low (part_at next x rest now) old new
+
+-- The open section ended at a cut, and the next one began.
+pub record CutAt (told : Bool) (cutter : CutterState) (cut : Cut) (place : ℕ) (left : List ℕ) (old new : List Slot)
+    (next : CutterState) (rest : List ℕ) : Type 0 where
+  pub same : IsSame cutter next
+  pub lines : next.lines ≡ cutter.lines
+  pub fit : IsFit next
+  pub fewer : needed next.lines (state_in next) < needed cutter.lines (state_in cutter)
+  pub held : next.window.held ≡ []
+  pub after : (x line : List ℕ) (at : IsAt cutter x left) → CutsNow cutter x left line cut place at
+      → IsAfter told cutter x line next rest (part_at cutter x left at) old new
+  pub keeps : KeepsBroken old new
+  pub owns : KeepsFiles cutter.writer next.writer old new
+  pub ready : IsReady next.writer new
+  pub size : size_of next.writer.current + length rest ≤ size_of cutter.writer.current + length left
+
+-- A fault came before that.
+pub record CutNot (told : Bool) (cutter : CutterState) (cut : Cut) (place : ℕ) (left : List ℕ) (old new : List Slot)
+    (next : CutterState) (fault : Fault) : Type 0 where
+  pub same : IsSame cutter next
+  pub halts : (x line : List ℕ) (at : IsAt cutter x left) → CutsNow cutter x left line cut place at
+      → Halts told (part_at cutter x left at) (settled_part cutter x) old new fault
+  pub breaks : Breaks cutter.writer.style old new fault
+  pub owns : KeepsFiles cutter.writer next.writer old new
+
+-- What cutting as often as operands cut does, from the first cut on.
+pub record CutAll (told : Bool) (cutter : CutterState) (cut : Cut) (place : ℕ) (left line : List ℕ)
+    (old new : List Slot) (next : CutterState) : Type 0 where
+  pub same : IsSame cutter next
+  pub lines : next.lines ≡ cutter.lines
+  pub sound : IsSound next
+  pub stands : (x : List ℕ) (at : IsAt cutter x left) → CutsNow cutter x left line cut place at → Stands next x
+  pub moves : (x : List ℕ) (at : IsAt cutter x left) → CutsNow cutter x left line cut place at
+      → Gets told (part_at cutter x left at) (settled_part cutter x) old new
+  pub keeps : KeepsBroken old new
+  pub owns : KeepsFiles cutter.writer next.writer old new
+  pub ready : IsReady next.writer new
+  pub size : size_of next.writer.current + length next.window.held ≤ size_of cutter.writer.current + length left
+
+pub record CutAllNot (told : Bool) (cutter : CutterState) (cut : Cut) (place : ℕ) (left line : List ℕ)
+    (old new : List Slot) (next : CutterState) (fault : Fault) : Type 0 where
+  pub same : IsSame cutter next
+  pub halts : (x : List ℕ) (at : IsAt cutter x left) → CutsNow cutter x left line cut place at
+      → Halts told (part_at cutter x left at) (settled_part cutter x) old new fault
+  pub breaks : Breaks cutter.writer.style old new fault
+  pub owns : KeepsFiles cutter.writer next.writer old new
+
+abbrev pub CutsAll : Bool → CutterState → Cut → ℕ → List ℕ → List ℕ → List Slot → List Slot → CutterState
+    → Result (Unit {0}) Fault → Type 0
+CutsAll told cutter cut place left line old new next (Ok done) = CutAll told cutter cut place left line old new next
+CutsAll told cutter cut place left line old new next (Err fault) =
+    CutAllNot told cutter cut place left line old new next fault
+
+-- What passing over lines says: the next operand stands as it did.
+pub record PassesOver (cutter : CutterState) (text : List ℕ) (next : CutterState) (n : ℕ) : Type 0 where
+  pub same : next ≡ record cutter { lines = next.lines }
+  pub within : n ≤ length text
+  pub whole : IsWhole (take n text)
+  pub few : next.lines ≤ cutter.lines + n
+  pub sound : IsSound next
+  pub ends : (x : List ℕ) → IsWhole x → IsLive cutter x → (next.lines ≡ line_count newline (x ++ take n text))
+      × EndsNow next (x ++ take n text)
+
+-- A stretch of the text was taken in, or a fault came.
+abbrev pub Stretches : Bool → CutterState → List ℕ → List Slot → List Slot → CutterState → Result ℕ Fault → Type 0
+Stretches told cutter text old new next (Ok n) = (0 < n) × (n ≤ length text) × IsWhole (take n text)
+    × Took told cutter (take n text) old new next
+Stretches told cutter text old new next (Err fault) = TookNot told cutter text old new next fault
+
+-- what is written where the input ends after these lines
+abbrev pub whole_part : CutterState → List ℕ → Part
+whole_part cutter x = whole_of cutter.writer.style cutter.operands (all_lines x)
+
+-- The first section began, and no line came in yet.
+pub record Opened (told : Bool) (style : Style) (operands : List Operand) (old new : List Slot)
+    (cutter : CutterState) : Type 0 where
+  pub asked : cutter.writer.style ≡ style
+  pub operands_are : cutter.operands ≡ operands
+  pub stands : Stands cutter []
+  pub moves : Gets told nothing (settled_of style operands []) old new
+  pub owns : OwnsFiles cutter.writer (length old) new
+  pub ready : IsReady cutter.writer new
+  pub sound : IsSound cutter
+  pub size : load cutter ≡ 0
+
+-- It could not begin.
+pub record OpenedNot (told : Bool) (style : Style) (operands : List Operand) (old new : List Slot)
+    (fault : Fault) : Type 0 where
+  pub halts : Halts told nothing (settled_of style operands []) old new fault
+  pub breaks : Breaks style old new fault
+  -- no file was made
+  pub none : (place : ℕ) → length old ≤ place → AreMade place 0 new
+
+abbrev pub Opens : Bool → Style → List Operand → List Slot → List Slot → Result CutterState Fault → Type 0
+Opens told style operands old new (Ok cutter) = Opened told style operands old new cutter
+Opens told style operands old new (Err fault) = OpenedNot told style operands old new fault
+
+-- The last section ended.
+pub record EndedAll (told : Bool) (cutter : CutterState) (old new : List Slot) (next : CutterState) : Type 0 where
+  pub same : IsSame cutter next
+  pub moves : (x : List ℕ) → Stands cutter x → Gets told (settled_part cutter x) (whole_part cutter x) old new
+  -- how the plan ends stays
+  pub judged : (x : List ℕ) → Stands cutter x → IsJudged next x
+  pub keeps : KeepsBroken old new
+  pub owns : KeepsFiles cutter.writer next.writer old new
+  pub ready : IsReady next.writer new
+
+pub record EndedNone (told : Bool) (cutter : CutterState) (old new : List Slot) (next : CutterState)
+    (fault : Fault) : Type 0 where
+  pub same : IsSame cutter next
+  pub halts : (x : List ℕ) → Stands cutter x → Halts told (settled_part cutter x) (whole_part cutter x) old new fault
+  pub breaks : Breaks cutter.writer.style old new fault
+  pub owns : KeepsFiles cutter.writer next.writer old new
+
+abbrev pub EndsAll : Bool → CutterState → List Slot → List Slot → CutterState → Result (Unit {0}) Fault → Type 0
+EndsAll told cutter old new next (Ok done) = EndedAll told cutter old new next
+EndsAll told cutter old new next (Err fault) = EndedNone told cutter old new next fault

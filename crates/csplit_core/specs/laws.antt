@@ -1,0 +1,4 @@
+pub mod InputLaws
+pub mod MatchLaws
+pub mod PlanLaws
+pub mod SectionLaws

@@ -1,0 +1,5 @@
+pub mod Head
+pub mod Kept
+pub mod Load
+pub mod Stage
+pub mod Stops

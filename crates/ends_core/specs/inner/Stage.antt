@@ -1,0 +1,65 @@
+-- What private calls say: the one stage of `head` and `tail`, as contracts see it.
+use Rattle.std.specs.Prelude.{◌≡◌, ℕ, ◌==◌, ◌-◌, ◌≤◌, Bool, true, false, List, [], ◌++◌, length}
+use Rattle.seg_core.specs.declared.unit.Unit.{Unit as Counted}
+use Rattle.seg_core.specs.declared.unit.Unit.TheVariants.{Bytes}
+use Rattle.ends_core.specs.declared.ends.Ends.{Ends}
+use Rattle.ends_core.specs.declared.ends.Ends.TheVariants.{First, ButLast, FromNth, Last}
+use Rattle.ends_core.specs.Ends.{first_of, behind_of, last_of, but_last_of}
+use Rattle.ends_core.specs.inner.Head.{IsDone}
+use Rattle.ends_core.specs.Kept.{held_of, most_of, delim_of as kept_delim, unit_of as kept_unit}
+use Rattle.ends_core.specs.Stage.{Stretch, the_first, all_but_last, from_the_nth, the_last, stretch_of, unit_of, delim_of, count_of, waiting_of, may_lack}
+
+abbrev pub is_last : Stretch → Bool
+is_last the_first = false
+is_last all_but_last = false
+is_last from_the_nth = false
+is_last the_last = true
+
+-- whatever comes after x, a head stays; a tail is never done
+abbrev pub done_in : Stretch → ℕ → Counted → ℕ → List ℕ → Type 0
+done_in the_first delim unit n x = IsDone delim unit false n x
+done_in all_but_last delim unit n x = IsDone delim unit true n x
+done_in from_the_nth delim unit n x = ⊥
+done_in the_last delim unit n x = ⊥
+
+abbrev pub is_done : Ends → List ℕ → Type 0
+is_done ends x = done_in (stretch_of ends) (delim_of ends) (unit_of ends) (count_of ends) x
+
+-- if bytes are kept and as many wait as are to be kept, no memory can be wanting
+abbrev pub FullLacksNone : Ends → Type 0
+FullLacksNone ends = unit_of ends ≡ Bytes → count_of ends ≤ length (waiting_of ends) → may_lack ends ≡ false
+
+-- what is written with a piece
+abbrev pub due : Ends → List ℕ → List ℕ
+due (First count front) piece = first_of front.delim front.unit front.left piece
+due (ButLast kept) piece = but_last_of (kept_delim kept) (kept_unit kept) (most_of kept) (held_of kept ++ piece)
+due (FromNth count front) piece = behind_of front.delim front.unit front.left piece
+due (Last kept) piece = []
+
+-- what waits after the piece
+abbrev pub left_waiting : Ends → List ℕ → List ℕ
+left_waiting (First count front) piece = []
+left_waiting (ButLast kept) piece = last_of (kept_delim kept) (kept_unit kept) (most_of kept) (held_of kept ++ piece)
+left_waiting (FromNth count front) piece = []
+left_waiting (Last kept) piece = last_of (kept_delim kept) (kept_unit kept) (most_of kept) (held_of kept ++ piece)
+
+-- what is written at the end
+abbrev pub due_at_end : Ends → List ℕ
+due_at_end (First count front) = []
+due_at_end (ButLast kept) = []
+due_at_end (FromNth count front) = []
+due_at_end (Last kept) = held_of kept
+
+-- nothing more is to come
+abbrev pub is_full : Ends → Bool
+is_full (First count front) = front.left == 0
+is_full (ButLast kept) = false
+is_full (FromNth count front) = false
+is_full (Last kept) = false
+
+-- both were asked for the same
+pub record SameAsked (old new : Ends) : Type 0 where
+  pub stretch : stretch_of new ≡ stretch_of old
+  pub delim : delim_of new ≡ delim_of old
+  pub unit : unit_of new ≡ unit_of old
+  pub count : count_of new ≡ count_of old

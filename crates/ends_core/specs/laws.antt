@@ -1,0 +1,2 @@
+pub mod EndsLaws
+pub mod WorkLaws

@@ -1,0 +1,138 @@
+-- Laws that traits cite: what stands at the ends of an input, and of an input that goes on.
+use Rattle.std.proofs.Common.{◌≡◌, ℕ, ◌+◌, ◌-◌, ◌<◌, ◌≤◌, zero, suc, List, [], ◌∷◌, ◌++◌, length, take, drop, refl, sym, ◌∙◌, ap, arith, append_assoc, length-append, length-drop, inl, inr}
+use Rattle.std.proofs.lemmas.List.{append-nil, take_all, drop-drop, drop-append-le, take-append-drop, append_cancel_left, append_cancel_right}
+use Rattle.std.proofs.lemmas.Bool.{cases_lt}
+use Rattle.seg_core.specs.Line.{line_count}
+use Rattle.seg_core.proofs.Delimiters.{delimiters-append}
+use Rattle.seg_core.proofs.FirstLines.{first_lines-append, first_lines-zero, first_lines-short, first_lines_then_rest}
+use Rattle.seg_core.proofs.EndLines.{last_lines-append}
+use Rattle.seg_core.specs.declared.unit.Unit.{Unit as Counted}
+use Rattle.seg_core.specs.declared.unit.Unit.TheVariants.{Lines, Bytes}
+use Rattle.ends_core.specs.Ends.{measure, first_of, behind_of, last_of, but_last_of}
+
+pub measure-append : (delim : ℕ) (unit : Counted) (x y : List ℕ)
+    → measure delim unit (x ++ y) ≡ measure delim unit x + measure delim unit y
+measure-append delim Lines x y = delimiters-append delim x y
+measure-append delim Bytes x y = length-append x y
+
+take_both : (n : ℕ) (x y : List ℕ) → take n (x ++ y) ≡ take n x ++ take (n - length x) y
+take_both zero [] y = refl
+take_both (suc n) [] y = let all : suc n - 0 ≡ suc n = omega arith in ap (λ m. take m y) (sym all)
+take_both zero (byte ∷ x) y = let none : 0 - suc (length x) ≡ 0 = omega arith in ap (λ m. take m y) (sym none)
+take_both (suc n) (byte ∷ x) y =
+    let less : n - length x ≡ suc n - suc (length x) = omega arith in
+    ap (λ rest. byte ∷ rest) (take_both n x y ∙ ap (λ m. take n x ++ take m y) less)
+
+-- the first n of a text that goes on: those of the text, and of what follows as many as are missing
+pub first_of-append : (delim : ℕ) (unit : Counted) (n : ℕ) (x y : List ℕ)
+    → first_of delim unit n (x ++ y) ≡ first_of delim unit n x ++ first_of delim unit (n - measure delim unit x) y
+first_of-append delim Lines n x y = first_lines-append delim n x y
+first_of-append delim Bytes n x y = take_both n x y
+
+pub first_of-zero : (delim : ℕ) (unit : Counted) (x : List ℕ) → first_of delim unit 0 x ≡ []
+first_of-zero delim Lines x = first_lines-zero delim x
+first_of-zero delim Bytes x = refl
+
+-- a text with fewer than n complete lines or bytes is its own first n, and so is that text with one byte more
+pub first_of-short : (delim : ℕ) (unit : Counted) (n : ℕ) (x : List ℕ) → measure delim unit x < n
+    → first_of delim unit n x ≡ x
+first_of-short delim Lines n x short = first_lines-short delim n x short
+first_of-short delim Bytes n x short = take_all n x (omega arith)
+
+-- once there are n, what follows adds nothing
+pub first_of-full : (delim : ℕ) (unit : Counted) (n : ℕ) (x y : List ℕ) → n ≤ measure delim unit x
+    → first_of delim unit n (x ++ y) ≡ first_of delim unit n x
+first_of-full delim unit n x y full =
+    let none : n - measure delim unit x ≡ 0 = omega arith in
+    first_of-append delim unit n x y ∙ ap (λ left. first_of delim unit n x ++ first_of delim unit left y) none
+        ∙ ap (λ more. first_of delim unit n x ++ more) (first_of-zero delim unit y)
+        ∙ append-nil (first_of delim unit n x)
+
+-- the first of a text and what stands after them are the text
+pub first_then_behind : (delim : ℕ) (unit : Counted) (n : ℕ) (x : List ℕ)
+    → first_of delim unit n x ++ behind_of delim unit n x ≡ x
+first_then_behind delim Lines n x = first_lines_then_rest delim n x
+first_then_behind delim Bytes n x = take-append-drop n x
+
+-- what stands after the first of a text that goes on
+pub behind_of-append : (delim : ℕ) (unit : Counted) (n : ℕ) (x y : List ℕ)
+    → behind_of delim unit n (x ++ y) ≡ behind_of delim unit n x ++ behind_of delim unit (n - measure delim unit x) y
+behind_of-append delim unit n x y = elim (cases_lt (measure delim unit x) n) [
+  | inl short ↦ behind_short short
+  | inr full ↦ behind_full full
+] where
+  together : first_of delim unit n (x ++ y) ++ behind_of delim unit n (x ++ y) ≡ x ++ y
+  together = first_then_behind delim unit n (x ++ y)
+
+  split : first_of delim unit n (x ++ y) ++ behind_of delim unit n (x ++ y) ≡ first_of delim unit n x
+      ++ (behind_of delim unit n x ++ y)
+  split = first_then_behind delim unit n (x ++ y) ∙ ap (λ z. z ++ y) (sym (first_then_behind delim unit n x))
+      ∙ append_assoc (first_of delim unit n x) (behind_of delim unit n x) y
+
+  behind_full : n ≤ measure delim unit x
+      → behind_of delim unit n (x ++ y) ≡ behind_of delim unit n x ++ behind_of delim unit (n - measure delim unit x) y
+  behind_full full =
+      let none : n - measure delim unit x ≡ 0 = omega arith in
+      let all : behind_of delim unit 0 y ≡ y =
+          sym (ap (λ z. z ++ behind_of delim unit 0 y) (first_of-zero delim unit y))
+          ∙ first_then_behind delim unit 0 y in
+      append_cancel_left (first_of delim unit n x) _ _
+          (ap (λ z. z ++ behind_of delim unit n (x ++ y)) (sym (first_of-full delim unit n x y full)) ∙ split)
+      ∙ ap (λ z. behind_of delim unit n x ++ z) (sym all)
+          ∙ ap (λ left. behind_of delim unit n x ++ behind_of delim unit left y) (sym none)
+
+  behind_short : measure delim unit x < n
+      → behind_of delim unit n (x ++ y) ≡ behind_of delim unit n x ++ behind_of delim unit (n - measure delim unit x) y
+  behind_short short =
+      let nothing : behind_of delim unit n x ≡ [] =
+          append_cancel_left x _ _ (ap (λ z. z ++ behind_of delim unit n x) (sym (first_of-short delim unit n x short))
+          ∙ first_then_behind delim unit n x ∙ sym (append-nil x)) in
+      let front : first_of delim unit n (x ++ y) ≡ x ++ first_of delim unit (n - measure delim unit x) y =
+          first_of-append delim unit n x y ∙ ap (λ z. z ++ first_of delim unit (n - measure delim unit x) y)
+          (first_of-short delim unit n x short) in
+      append_cancel_left (first_of delim unit n (x ++ y)) _ _
+      (first_then_behind delim unit n (x ++ y)
+          ∙ ap (λ z. x ++ z) (sym (first_then_behind delim unit (n - measure delim unit x) y))
+      ∙ sym (append_assoc x (first_of delim unit (n - measure delim unit x) y)
+          (behind_of delim unit (n - measure delim unit x) y))
+      ∙ ap (λ z. z ++ behind_of delim unit (n - measure delim unit x) y) (sym front))
+      ∙ ap (λ z. z ++ behind_of delim unit (n - measure delim unit x) y) (sym nothing)
+
+-- what stands before the last of a text, and these, are the text
+pub ends_together : (delim : ℕ) (unit : Counted) (n : ℕ) (x : List ℕ)
+    → but_last_of delim unit n x ++ last_of delim unit n x ≡ x
+ends_together delim Lines n x = first_then_behind delim Lines (line_count delim x - n) x
+ends_together delim Bytes n x = first_then_behind delim Bytes (length x - n) x
+
+last_bytes-append : (n : ℕ) (x y : List ℕ)
+    → drop (length (x ++ y) - n) (x ++ y) ≡ drop (length (drop (length x - n) x ++ y) - n) (drop (length x - n) x ++ y)
+last_bytes-append n x y =
+    let k = length x - n in
+    let within : k ≤ length x = omega arith in
+    let long : length (x ++ y) ≡ length x + length y = length-append x y in
+    let here : drop k (x ++ y) ≡ drop k x ++ y = drop-append-le k x y within in
+    let short : length (drop k x ++ y) ≡ length (x ++ y) - k = ap length (sym here) ∙ length-drop k (x ++ y) in
+    let both : k + (length (drop k x ++ y) - n) ≡ length (x ++ y) - n = omega arith in
+    sym (ap (drop (length (drop k x ++ y) - n)) (sym here) ∙ drop-drop (length (drop k x ++ y) - n) k (x ++ y)
+        ∙ ap (λ m. drop m (x ++ y)) both)
+
+-- the last of a text that goes on are among its last and what follows: nothing else need be kept
+pub last_of-append : (delim : ℕ) (unit : Counted) (n : ℕ) (x y : List ℕ)
+    → last_of delim unit n (x ++ y) ≡ last_of delim unit n (last_of delim unit n x ++ y)
+last_of-append delim Lines n x y = last_lines-append delim n x y
+last_of-append delim Bytes n x y = last_bytes-append n x y
+
+-- what stands before the last of a text stays there, and some of what was among the last joins it
+pub but_last_of-append : (delim : ℕ) (unit : Counted) (n : ℕ) (x y : List ℕ)
+    → but_last_of delim unit n (x ++ y) ≡ but_last_of delim unit n x
+    ++ but_last_of delim unit n (last_of delim unit n x ++ y)
+but_last_of-append delim unit n x y =
+    let z = last_of delim unit n x ++ y in
+    append_cancel_right (but_last_of delim unit n (x ++ y)) (but_last_of delim unit n x ++ but_last_of delim unit n z)
+        (last_of delim unit n z)
+    (ap (λ last. but_last_of delim unit n (x ++ y) ++ last) (sym (last_of-append delim unit n x y))
+    ∙ ends_together delim unit n (x ++ y)
+    ∙ ap (λ w. w ++ y) (sym (ends_together delim unit n x))
+    ∙ append_assoc (but_last_of delim unit n x) (last_of delim unit n x) y
+    ∙ ap (λ w. but_last_of delim unit n x ++ w) (sym (ends_together delim unit n z))
+    ∙ sym (append_assoc (but_last_of delim unit n x) (but_last_of delim unit n z) (last_of delim unit n z)))

@@ -1,0 +1,3 @@
+pub mod Aiming
+pub mod Repeating
+pub mod Seen

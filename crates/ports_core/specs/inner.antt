@@ -1,0 +1,6 @@
+pub mod Counter
+pub mod Engine
+pub mod Name
+pub mod Part
+pub mod Slot
+pub mod Write

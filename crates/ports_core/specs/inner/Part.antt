@@ -1,0 +1,31 @@
+-- What private calls say: what a tool has written at some moment: bytes on standard output, and files in the order in
+-- which they were opened.
+use Rattle.std.specs.Prelude.{◌≡◌, ℕ, ◌≤◌, suc, Bool, List, [], ◌∷◌, length, take}
+use Rattle.ports_core.specs.Slot.{Slot}
+use Rattle.ports_core.specs.declared.slot.State.TheVariants as state
+use Rattle.ports_core.specs.declared.fault.Fault.{Fault}
+use Rattle.ports_core.specs.Part.{File, Part, OutputsAt, Begins, IsNext, Marks, IsAt}
+
+abbrev pub AllClosed : List File → Type 0
+AllClosed [] = Unit {0}
+AllClosed (file ∷ files) = (file.state ≡ state.Closed) × AllClosed files
+
+-- the files were reached one after another: those before this place are closed, and after it there is none
+pub record InTurn (part : List File) (place : ℕ) : Type 0 where
+  pub closed : AllClosed (take place part)
+  pub within : place ≤ length part
+  pub last : length part ≤ suc place
+
+-- The same of a tool that closes each file before it opens the next. It says no more of the two parts than that they
+-- begin one another, so that steps compose.
+pub record StoppedInTurn (told : Bool) (before : List Slot) (low high : Part) (fault : Fault)
+    (now : List Slot) : Type 0 where
+  pub part : Part
+  pub above : Begins low part
+  pub below : Begins part high
+  pub place : ℕ
+  pub turn : InTurn part.files place
+  pub reached : List Slot
+  pub outputs : OutputsAt told before part reached
+  pub marks : Marks (IsNext part high) fault reached now
+  pub from : IsAt fault (length before) place (length part.files)

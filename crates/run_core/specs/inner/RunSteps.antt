@@ -1,0 +1,105 @@
+-- What private calls say: what each step of a run over its inputs leaves.
+use Rattle.std.specs.Prelude.{◌≡◌, ℕ, Bool, true, false, ◌&&◌, ◌||◌, List, ◌∷◌, ◌++◌, Option, Some, None, Result, Ok, Err, if◌then◌else◌}
+use Rattle.ports_core.specs.Slot.{Slot, is_open, streams}
+use Rattle.ports_core.specs.Source.{Content, Source, source_at}
+use Rattle.ports_core.specs.Part.{Part, OutputsAt, StoppedBetween}
+use Rattle.ports_core.specs.Swept.{Swept}
+use Rattle.ports_core.specs.Write.{BrokeAfter}
+use Rattle.ports_core.specs.Message.{SaysAll}
+use Rattle.ports_core.specs.declared.fault.Fault.{Fault}
+use Rattle.ports_core.specs.declared.fault.Fault.TheVariants.{Memory, Write, Read, Open, Suffixes, NoMatch, Range, Usage, Failed, TooLong}
+use Rattle.run_core.specs.declared.inputs.Progress.{Progress}
+use Rattle.run_core.specs.Feeding.{Step, Stops, KeepsOthers}
+use Rattle.run_core.specs.Input.{Input, IsFor, World, is_dash, input_of, empty}
+use Rattle.run_core.specs.Reading.{AreDone, AreUntouched, IsDone}
+use Rattle.run_core.specs.RunEnds.{streams_with, standard_error, largest_piece, RunStep}
+use Rattle.run_core.specs.Task.{Task, Outcome, made_by, after_part, header_text, is_missing, are_missing}
+
+-- the outputs are at some part, and standard error is open
+pub record HasStreams (told : Bool) (slots : List Slot) : Type 0 where
+  pub part : Part
+  pub error : Slot
+  pub at : OutputsAt told (streams_with error) part slots
+  pub opened : is_open error.state ≡ true
+
+-- how a header fails to be written
+pub data HeaderFails (told : Bool) (text : List ℕ) (old new : List Slot) : Fault → Type 0 where
+  no_room : new ≡ old → HeaderFails told text old new Memory
+  broke : (n : ℕ) → BrokeAfter told old new 0 text n → HeaderFails told text old new (Write 0)
+
+-- a file can't be opened
+abbrev pub is_unopened : Fault → Bool
+is_unopened (Open slot) = true
+is_unopened Memory = false
+is_unopened (Write slot) = false
+is_unopened (Read slot) = false
+is_unopened Suffixes = false
+is_unopened (NoMatch operand repetition) = false
+is_unopened (Range operand repetition) = false
+is_unopened (Usage kind word) = false
+is_unopened Failed = false
+is_unopened TooLong = false
+
+-- what an input leaves to the next one
+abbrev pub after_input : Progress → Bool → Bool → Option Content → Progress
+after_input progress was_read failed content =
+    record { was_read = was_read; is_first = progress.is_first && is_missing content;
+    failed = progress.failed || failed }
+
+-- one input was done, or a fault stopped the run there; the files that may be removed are those from `first` on
+pub data TookInput (told_in told : Bool) (task : Task) (most : ℕ) (outcome : Outcome) (header : List ℕ)
+    (slot : Option ℕ) (content : Option Content) (progress : Progress) (was_read : Bool) (so_far : Part) (error : Slot)
+    (first : ℕ) (sources : List Source) (new : List Slot) : Result Progress Fault → Type 0 where
+  took : (next : Progress) (after : Slot) (reached : List Slot)
+      → next ≡ after_input progress was_read outcome.failed content
+      → IsDone told_in task.work.is_complete most slot content sources
+      → SaysAll told task.tool outcome.messages error after
+          → OutputsAt told (streams_with after) (after_part so_far outcome.part) reached
+          → Swept outcome.sweeps first reached new
+      → TookInput told_in told task most outcome header slot content progress was_read so_far error first sources new
+          (Ok next)
+  cut_off : (fault : Fault) (step : Step) (reached : List Slot)
+      → RunStep told_in task most so_far header slot sources content step → Stops step reached fault
+      → StoppedBetween told (streams_with error) step.low step.high fault reached
+          → Swept task.work.clears first reached new
+      → TookInput told_in told task most outcome header slot content progress was_read so_far error first sources new
+          (Err fault)
+
+-- all inputs were done, or a fault stopped the run at one of them, or before the first
+pub data TookAll (told_in told : Bool) (task : Task) (inputs : List Input) (sources : List Source)
+    (new : List Slot) : Result Bool Fault → Type 0 where
+  all : (failed : Bool) (error : Slot) (reached : List Slot) → failed ≡ (made_by task inputs).failed
+      → SaysAll told task.tool (made_by task inputs).messages standard_error error
+      → OutputsAt told (streams_with error) (made_by task inputs).part reached
+          → Swept (made_by task inputs).sweeps 2 reached new
+          → AreDone told_in task.work.is_complete largest_piece inputs sources
+      → TookAll told_in told task inputs sources new (Ok failed)
+  stopped_at : (fault : Fault) (before : List Input) (input : Input) (after : List Input) (error : Slot) (step : Step)
+      (reached : List Slot)
+      → inputs ≡ before ++ input ∷ after → AreDone told_in task.work.is_complete largest_piece before sources
+          → AreUntouched after sources
+      → RunStep told_in task largest_piece (made_by task before).part
+          (header_text task.with_header (are_missing before) input.name) input.slot sources input.content step
+      → Stops step reached fault → SaysAll told task.tool (made_by task before).messages standard_error error
+      → StoppedBetween told (streams_with error) step.low step.high fault reached → Swept task.work.clears 2 reached new
+      → TookAll told_in told task inputs sources new (Err fault)
+  not_begun : new ≡ streams → AreUntouched inputs sources → TookAll told_in told task inputs sources new (Err Memory)
+
+-- the input that a source gives: standard input or a file by its number, or one that is empty
+abbrev pub OfSource : Bool → Option ℕ → List Source → (Content → Type 0) → Type 0
+OfSource told None sources P = P empty
+OfSource told (Some slot) sources P = (content : Content) × (told ≡ true → content ≡ (source_at sources slot).left)
+    × P content
+
+abbrev pub OfName : Bool → World → Bool → ℕ → List ℕ → (Input → Type 0) → Type 0
+OfName told world was_read slot name P = (input : Input) × IsFor was_read slot name input
+    × (told ≡ true → input ≡ input_of world was_read slot name (is_dash name)) × P input
+
+-- no input but that of the source was touched
+abbrev pub KeepsOther : Option ℕ → List Source → List Source → Type 0
+KeepsOther None old new = new ≡ old
+KeepsOther (Some slot) old new = KeepsOthers slot old new
+
+-- where a `-` reads from: from standard input the first time, and from nowhere again
+abbrev pub standard_source : Bool → Option ℕ
+standard_source was_read = if was_read then None else Some 0

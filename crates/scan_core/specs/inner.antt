@@ -1,0 +1,11 @@
+pub mod Backwards
+pub mod Base
+pub mod Built
+pub mod Closures
+pub mod Compiling
+pub mod Hops
+pub mod Landings
+pub mod Sets
+pub mod Shifts
+pub mod Table
+pub mod Words

@@ -1,0 +1,70 @@
+-- What numbers lead to without a byte, ready to be looked up.
+use Rattle.std.specs.Prelude.{◌≡◌, ◌⊎◌, ℕ, ◌+◌, ◌*◌, ◌/◌, ◌%◌, ◌^◌, ◌<◌, Bool, false, Option, None, IfSome, List, length, slice_index_or}
+use Rattle.std.specs.Int.{bit_at}
+use Rattle.scan_core.specs.declared.closures.Closures.{Closures}
+use Rattle.scan_core.specs.declared.node.Node.{Node}
+use Rattle.scan_core.specs.declared.hops.Hop.{Hop}
+use Rattle.scan_core.specs.inner.Hops.{AreHops, HopsTo}
+use Rattle.scan_core.specs.inner.Sets.{Flows, FlowsOn}
+use Rattle.scan_core.specs.inner.Words.{width}
+
+-- a step without a byte to a number of the same word, at any place
+abbrev pub Stays : List Node → ℕ → ℕ → Type 0
+Stays code from to = Flows code false false from to × (to / 64 ≡ from / 64)
+
+-- where more than that follows, and no hop leads there, the bit is set
+abbrev pub IsLeaving : List Node → List Hop → ℕ → ℕ → Type 0
+IsLeaving code hops at word = (bit : ℕ) (at_first at_last : Bool) (to : ℕ) → bit < 64
+    → Flows code at_first at_last (at * 64 + bit) to → (bit_at word bit ≡ 1)
+    ⊎ (Stays code (at * 64 + bit) to ⊎ HopsTo hops at bit to)
+
+-- a number itself, and others of its word of which no more follows
+pub record ArePeers (code : List Node) (number word : ℕ) : Type 0 where
+  pub own : bit_at word (number % 64) ≡ 1
+  pub others : (bit : ℕ) (at_first at_last : Bool) (to : ℕ) → bit < 64 → bit_at word bit ≡ 1
+      → Flows code at_first at_last (number / 64 * 64 + bit) to → Stays code (number / 64 * 64 + bit) to
+      ⊎ Flows code at_first at_last number to
+
+-- the numbers of a word that some of its numbers lead to
+pub record Closes (code : List Node) (at chosen all : ℕ) : Type 0 where
+  pub kept : (bit : ℕ) → bit < 64 → bit_at chosen bit ≡ 1 → bit_at all bit ≡ 1
+  pub from_chosen : (number : ℕ) → number < 64 → bit_at all number ≡ 1 → (bit : ℕ) × (bit < 64)
+      × (bit_at chosen bit ≡ 1) × FlowsOn code false false (at * 64 + bit) (at * 64 + number)
+  pub closed : (number to : ℕ) → number < 64 → to < 64 → bit_at all number ≡ 1
+      → Flows code false false (at * 64 + number) (at * 64 + to) → bit_at all to ≡ 1
+
+-- the numbers that are led to in a word: each follows the only one that leads to it there, and leads nowhere in the
+-- word
+pub record AreNexts (code : List Node) (at nexts : ℕ) : Type 0 where
+  pub only : (bit to : ℕ) → bit < 64 → to < 64 → Flows code false false (at * 64 + bit) (at * 64 + to) → (to ≡ bit + 1)
+      × (bit_at nexts to ≡ 1) × (bit_at nexts bit ≡ 1 → ⊥)
+  pub leads : (bit : ℕ) → bit + 1 < 64 → bit_at nexts (bit + 1) ≡ 1
+      → Flows code false false (at * 64 + bit) (at * 64 + (bit + 1))
+
+-- the numbers that a place of the table is for: a choice from eight of a word
+abbrev pub chosen_at : ℕ → ℕ
+chosen_at place = place % 256 * 2 ^ (place / 256 % 8 * 8) % 2 ^ 64
+
+-- the first entries of the table
+pub record AreInside (code : List Node) (count : ℕ) (inside : List ℕ) : Type 0 where
+  pub size : length inside ≡ count
+  pub each : (place : ℕ) → place < count → Closes code (place / 2048) (chosen_at place) (slice_index_or inside place 0)
+
+pub record AreAllNexts (code : List Node) (nexts : List (Option ℕ)) : Type 0 where
+  pub size : length nexts ≡ width code
+  pub each : (at : ℕ) → at < width code → IfSome (slice_index_or nexts at None) (AreNexts code at)
+
+pub record AreLeaves (code : List Node) (hops : List Hop) (leaves : List ℕ) : Type 0 where
+  pub size : length leaves ≡ width code
+  pub each : (at : ℕ) → at < width code → IsLeaving code hops at (slice_index_or leaves at 0)
+
+pub record AreAllPeers (code : List Node) (peers : List ℕ) : Type 0 where
+  pub size : length peers ≡ width code * 64
+  pub each : (number : ℕ) → number < width code * 64 → ArePeers code number (slice_index_or peers number 0)
+
+pub record AreClosures (code : List Node) (closures : Closures) : Type 0 where
+  pub inside : AreInside code (width code * 2048) closures.inside.items
+  pub nexts : AreAllNexts code closures.nexts.items
+  pub hops : AreHops code (width code * 3) closures.hops.items
+  pub leaves : AreLeaves code closures.hops.items closures.leaves.items
+  pub peers : AreAllPeers code closures.peers.items

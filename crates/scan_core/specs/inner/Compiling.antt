@@ -1,0 +1,98 @@
+-- Going over a pattern's tokens from the last to the first: what one token does.
+use Rattle.std.specs.Prelude.{◌≡◌, ℕ, zero, suc, List, [], ◌∷◌, ◌++◌, length, reverse, Option, Some, None}
+use Rattle.bre_core.specs.declared.token.Token.{Token}
+use Rattle.bre_core.specs.declared.token.Token.TheVariants.{Set, Front, End, Open, Close, Repeat}
+use Rattle.scan_core.specs.declared.compile.Compiling.{Compiling}
+use Rattle.scan_core.specs.declared.compile.Pending.{Pending}
+use Rattle.scan_core.specs.declared.compile.Pending.TheVariants.{Group, Repeated}
+use Rattle.scan_core.specs.declared.emit.Duplication.{Duplication}
+use Rattle.scan_core.specs.declared.node.Node.{Node}
+use Rattle.scan_core.specs.declared.node.Node.TheVariants.{Take, First, Last, Back}
+use Rattle.scan_core.specs.inner.Backwards.{IsBegun, Repeats}
+
+-- what waits for an item waits for one that may stand among `size` nodes
+abbrev pub AreBegun : ℕ → List Pending → Type 0
+AreBegun size [] = Unit {0}
+AreBegun size (Group ∷ pending) = AreBegun size pending
+AreBegun size (Repeated duplication ∷ pending) = IsBegun duplication.high duplication.low duplication.start size
+    × AreBegun size pending
+
+-- the state, in its parts
+pub record IsNow (written : List Node) (waiting : List Pending) (depth : Option ℕ) (new : Compiling) : Type 0 where
+  pub nodes : new.nodes.items ≡ written
+  pub pending : new.pending.items ≡ waiting
+  pub passing : new.passing ≡ depth
+
+-- an item is complete after these nodes: the duplications that wait for it are written out, the innermost, which is the
+-- first here, first
+abbrev pub FinishesBy : List Pending → List Node → Compiling → Type 0
+FinishesBy [] nodes new = IsNow nodes [] None new
+FinishesBy (Group ∷ stack) nodes new = IsNow nodes (reverse (Group ∷ stack)) None new
+FinishesBy (Repeated duplication ∷ stack) nodes new = (written : List Node) × Repeats duplication nodes written
+    × FinishesBy stack written new
+
+abbrev pub Finishes : List Node → List Pending → Compiling → Type 0
+Finishes nodes pending new = (stack : List Pending) → pending ≡ reverse stack → FinishesBy stack nodes new
+
+-- a duplication begins; one that asks for no time passes its item over
+abbrev pub Begins : ℕ → Option ℕ → Compiling → Compiling → Type 0
+Begins low None old new = IsNow (old.nodes.items ++ Back 0 ∷ [])
+    (old.pending.items ++ Repeated (record { start = length old.nodes.items; low = low; high = None }) ∷ []) None new
+Begins low (Some zero) old new = IsNow old.nodes.items old.pending.items (Some 0) new
+Begins low (Some (suc high)) old new =
+    IsNow old.nodes.items (old.pending.items
+    ++ Repeated (record { start = length old.nodes.items; low = low; high = Some (suc high) }) ∷ []) None new
+
+-- a group is complete
+abbrev pub Closes : Compiling → Compiling → Type 0
+Closes old new = (around : List Pending) → old.pending.items ≡ around ++ Group ∷ []
+    → Finishes old.nodes.items around new
+
+-- a token outside of what is passed over
+abbrev pub Writes : Token → Compiling → Compiling → Type 0
+Writes (Set bytes) old new = Finishes (old.nodes.items ++ Take bytes ∷ []) old.pending.items new
+Writes Front old new = Finishes (old.nodes.items ++ First ∷ []) old.pending.items new
+Writes End old new = Finishes (old.nodes.items ++ Last ∷ []) old.pending.items new
+Writes Close old new = IsNow old.nodes.items (old.pending.items ++ Group ∷ []) None new
+Writes Open old new = Closes old new
+Writes (Repeat low high) old new = Begins low high old new
+
+-- a token that may be the first of what is passed over
+abbrev pub PassesLeaf : ℕ → Compiling → Compiling → Type 0
+PassesLeaf zero old new = Finishes old.nodes.items old.pending.items new
+PassesLeaf (suc depth) old new = IsNow old.nodes.items old.pending.items (Some (suc depth)) new
+
+abbrev pub PassesOpen : ℕ → Compiling → Compiling → Type 0
+PassesOpen zero old new = Unit {0}
+PassesOpen (suc depth) old new = PassesLeaf depth old new
+
+-- a token of an item that isn't written, of which `depth` groups are open
+abbrev pub Passes : ℕ → Token → Compiling → Compiling → Type 0
+Passes depth (Set bytes) old new = PassesLeaf depth old new
+Passes depth Front old new = PassesLeaf depth old new
+Passes depth End old new = PassesLeaf depth old new
+Passes depth Close old new = IsNow old.nodes.items old.pending.items (Some (suc depth)) new
+Passes depth Open old new = PassesOpen depth old new
+Passes depth (Repeat low high) old new = IsNow old.nodes.items old.pending.items (Some depth) new
+
+abbrev pub TakesIn : Option ℕ → Token → Compiling → Compiling → Type 0
+TakesIn None token old new = Writes token old new
+TakesIn (Some depth) token old new = Passes depth token old new
+
+abbrev pub Takes : Compiling → Token → Compiling → Type 0
+Takes old token new = TakesIn old.passing token old new
+
+-- how deep it is in what is passed over
+abbrev pub depth_in : Option ℕ → ℕ
+depth_in None = 0
+depth_in (Some depth) = depth
+
+-- no duplication waits
+abbrev pub PopsNone : List Pending → Type 0
+PopsNone pending = (around : List Pending) (duplication : Duplication) → pending ≡ around ++ Repeated duplication ∷ []
+    → ⊥
+
+abbrev pub Pops : Compiling → Option Duplication → Compiling → Type 0
+Pops old None new = (new ≡ old) × PopsNone old.pending.items
+Pops old (Some duplication) new = (new.nodes.items ≡ old.nodes.items) × (new.passing ≡ old.passing)
+    × (old.pending.items ≡ new.pending.items ++ Repeated duplication ∷ [])

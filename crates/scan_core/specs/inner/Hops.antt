@@ -1,0 +1,32 @@
+-- Hops: numbers of a word that lead to the same one beyond it.
+use Rattle.std.specs.Prelude.{◌≡◌, ℕ, ◌+◌, ◌*◌, ◌/◌, ◌%◌, ◌^◌, ◌<◌, ◌≤◌, false, List, length, slice_index_or}
+use Rattle.std.specs.Int.{bit_at}
+use Rattle.scan_core.specs.declared.hops.Hop.{Hop}
+use Rattle.scan_core.specs.declared.node.Node.{Node}
+use Rattle.scan_core.specs.inner.Sets.{Flows}
+
+abbrev pub no_hop : Hop
+no_hop = record { from = 0; to = 0; word = 0; bit = 0 }
+
+-- at any place, the numbers lead where the hop does
+pub record IsHop (code : List Node) (at : ℕ) (hop : Hop) : Type 0 where
+  pub within : hop.to ≤ length code
+  pub word : hop.word ≡ hop.to / 64
+  pub bit : hop.bit ≡ 1 * 2 ^ (hop.to % 64) % 2 ^ 64
+  pub leads : (bit : ℕ) → bit < 64 → bit_at hop.from bit ≡ 1 → Flows code false false (at * 64 + bit) hop.to
+
+-- the first hops, three for each word
+pub record AreHops (code : List Node) (count : ℕ) (hops : List Hop) : Type 0 where
+  pub size : length hops ≡ count
+  pub each : (place : ℕ) → place < count → IsHop code (place / 3) (slice_index_or hops place no_hop)
+
+-- one of a word's hops leads from one of its numbers to another number
+abbrev pub HopsTo : List Hop → ℕ → ℕ → ℕ → Type 0
+HopsTo hops at bit to = (which : ℕ) × (which < 3) × (bit_at (slice_index_or hops (at * 3 + which) no_hop).from bit ≡ 1)
+    × (to ≡ (slice_index_or hops (at * 3 + which) no_hop).to)
+
+-- what the first hops of a word lead to from some of its numbers
+abbrev pub Hopped : List Hop → ℕ → ℕ → ℕ → ℕ → Type 0
+Hopped hops at word count to = (which : ℕ) × (which < count) × (bit : ℕ) × (bit < 64) × (bit_at word bit ≡ 1)
+    × (bit_at (slice_index_or hops (at * 3 + which) no_hop).from bit ≡ 1)
+    × (to ≡ (slice_index_or hops (at * 3 + which) no_hop).to)

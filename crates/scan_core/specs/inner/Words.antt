@@ -1,0 +1,85 @@
+-- Sets of a code's numbers as words, 64 numbers in each.
+use Rattle.std.specs.Prelude.{◌≡◌, ◌⊎◌, ◌↔◌, ℕ, zero, suc, ◌+◌, ◌-◌, ◌*◌, ◌/◌, ◌%◌, ◌^◌, ◌<◌, ◌≤◌, ◌==◌, Bool, List, [], ◌∷◌, ◌++◌, length, slice_index_or}
+use Rattle.std.specs.Int.{bit_at}
+use Rattle.scan_core.specs.declared.masks.Kind.{Kind}
+use Rattle.scan_core.specs.declared.masks.Kind.TheVariants.{Takes, Counts}
+use Rattle.scan_core.specs.declared.masks.Masks.{Masks}
+use Rattle.scan_core.specs.declared.node.Node.{Node}
+use Rattle.scan_core.specs.Code.{weight_of}
+use Rattle.scan_core.specs.inner.Sets.{Flows, FlowsOn, Passes}
+
+unfoldable pub IsIn : List ℕ → ℕ → Type 0
+IsIn words number = bit_at (slice_index_or words (number / 64) 0) (number % 64) ≡ 1
+
+-- how many words have a bit for each number of a code and for its end
+abbrev pub width : List Node → ℕ
+width code = length code / 64 + 1
+
+-- the lowest bits of a word, and the bits of all words, as flags
+unfoldable pub bits : ℕ → ℕ → List Bool
+bits zero word = []
+bits (suc count) word = (word % 2 == 1) ∷ bits count (word / 2)
+
+abbrev pub flags_of : List ℕ → List Bool
+flags_of [] = []
+flags_of (word ∷ words) = bits 64 word ++ flags_of words
+
+-- how far the words are from having all their bits
+abbrev pub unset : List ℕ → ℕ
+unset [] = 0
+unset (word ∷ words) = (2 ^ 64 - word) + unset words
+
+-- numbers were added; none below the word to go on with, which is an earlier one only where some were
+pub record Grows (Added : ℕ → Type 0) (old new : List ℕ) (before on : ℕ) : Type 0 where
+  pub size : length new ≡ length old
+  pub exact : (number : ℕ) → IsIn new number ↔ (IsIn old number ⊎ Added number)
+  pub low : on ≤ before
+  pub under : (number : ℕ) → number < 64 * on → IsIn new number → IsIn old number
+  pub fuller : unset new ≤ unset old
+  pub less : on < before → unset new < unset old
+
+-- a number's positions: none beyond the end
+abbrev pub counted_at : List Node → ℕ → ℕ
+counted_at [] zero = 1
+counted_at [] (suc number) = 0
+counted_at (node ∷ code) zero = weight_of node
+counted_at (node ∷ code) (suc number) = counted_at code number
+
+abbrev pub IsOf : List Node → Kind → ℕ → Type 0
+IsOf code (Takes byte) number = Passes code byte number (number + 1)
+IsOf code Counts number = counted_at code number ≡ 1
+
+-- from a place on, words have the numbers of a kind
+abbrev pub IsMask : List Node → Kind → ℕ → List ℕ → Type 0
+IsMask code kind from words = (number : ℕ) → number < 64 * width code
+    → (bit_at (slice_index_or words (from + number / 64) 0) (number % 64) ≡ 1) ↔ IsOf code kind number
+
+pub record IsMasks (code : List Node) (masks : Masks) : Type 0 where
+  pub takes_size : length masks.takes.items ≡ 256 * width code
+  pub takes : (byte : ℕ) → byte < 256 → IsMask code (Takes byte) (byte * width code) masks.takes.items
+  pub counts_size : length masks.counts.items ≡ width code
+  pub counts : IsMask code Counts 0 masks.counts.items
+
+-- the words of a kind were added to others
+pub record AddsMask (code : List Node) (kind : Kind) (old new : List ℕ) : Type 0 where
+  pub size : length new ≡ length old + width code
+  pub kept : (at : ℕ) → at < length old → slice_index_or new at 0 ≡ slice_index_or old at 0
+  pub exact : IsMask code kind (length old) new
+
+-- what the nodes of a word lead to was entered, if the word to go on with is the next; in earlier words none was, up to
+-- that
+pub record Visits (code : List Node) (at_first at_last : Bool) (at : ℕ) (old new : List ℕ) (on : ℕ) : Type 0 where
+  pub size : length new ≡ length old
+  pub kept : (number : ℕ) → IsIn old number → IsIn new number
+  pub from : (number : ℕ) → IsIn new number → (start : ℕ) × IsIn old start × FlowsOn code at_first at_last start number
+  pub low : on ≤ at + 1
+  pub under : (number : ℕ) → number < 64 * on → number < 64 * at → IsIn new number → IsIn old number
+  pub fuller : unset new ≤ unset old
+  pub less : on < at + 1 → unset new < unset old
+  pub done : on ≡ at + 1 → (start to : ℕ) → start / 64 ≡ at → IsIn new start → Flows code at_first at_last start to
+      → IsIn new to
+
+-- all was entered that a set leads to without a byte
+pub record SpreadsOut (code : List Node) (at_first at_last : Bool) (old new : List ℕ) : Type 0 where
+  pub size : length new ≡ length old
+  pub exact : (number : ℕ) → IsIn new number ↔ ((from : ℕ) × IsIn old from × FlowsOn code at_first at_last from number)

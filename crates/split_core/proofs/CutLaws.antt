@@ -1,0 +1,80 @@
+-- Laws of parts that follow one another: what a text that goes on is cut into.
+use Rattle.std.proofs.Common.{◌≡◌, ℕ, ◌+◌, ◌-◌, ◌<◌, ◌≤◌, zero, suc, List, [], ◌∷◌, ◌++◌, length, take, drop, Bool, true, false, cond, ◌&&◌, nat_lt, nat_le, refl, sym, ◌∙◌, ap, subst, arith, append_assoc}
+use Rattle.std.proofs.lemmas.Bool.Decides.{nat_tests}
+use Rattle.std.proofs.lemmas.List.{append-nil, take_all, take-append-drop, drop-append-le}
+use Rattle.seg_core.specs.Line.{joined, delimiters, first_lines, after_lines}
+use Rattle.seg_core.proofs.FirstLines.{first_lines-is_take}
+use Rattle.split_core.specs.declared.limit.Limit.{Limit}
+use Rattle.split_core.specs.declared.limit.Limit.TheVariants.{Lines, Bytes, LineBytes}
+use Rattle.split_core.specs.Parts.{whole_lines, open_line, most, measure, is_full, first_part, behind_first, cut_up}
+use Rattle.split_core.specs.laws.CutLaws.{nothing_short, has_lines, without_lines, whole_within, cuts_up, cut_once}
+use Rattle.split_core.specs.inner.CutLaws.{Cuts, stops, goes, cut_so}
+
+short_from_test : (most measure : ℕ) → measure < most → (nat_lt 0 most && nat_le most measure) ≡ false
+short_from_test most measure less = grind (arith, nat_tests, less)
+
+pub short_from : (limit : Limit) (x : List ℕ) → measure limit x < most limit → is_full limit x ≡ false
+short_from limit x less = short_from_test (most limit) (measure limit x) less
+
+-- whole lines
+
+whole_by : ℕ → Bool → List ℕ → List ℕ
+whole_by delim has x = cond has (first_lines delim (delimiters delim x) x) x
+
+no_lines : (n : ℕ) → nat_lt 0 n ≡ false → n ≡ 0
+no_lines n is = grind (arith, nat_tests, is)
+
+pub open_of_lines : (delim : ℕ) (x : List ℕ) → 0 < delimiters delim x → open_line delim x ≡ after_lines delim (delimiters delim x) x
+open_of_lines delim x some = ap (λ has. cond has (after_lines delim (delimiters delim x) x) []) (has_lines (delimiters delim x) some)
+
+pub open_of_none : (delim : ℕ) (x : List ℕ) → delimiters delim x ≡ 0 → open_line delim x ≡ []
+open_of_none delim x none = ap (λ has. cond has (after_lines delim (delimiters delim x) x) []) (without_lines (delimiters delim x) none)
+
+whole_is_take : (delim : ℕ) (x : List ℕ) → whole_lines delim x ≡ take (length (whole_lines delim x)) x
+whole_is_take delim x = by (nat_lt 0 (delimiters delim x)) where
+  by : (has : Bool) → cond has (first_lines delim (delimiters delim x) x) x ≡ take (length (cond has (first_lines delim (delimiters delim x) x) x)) x
+  by true = first_lines-is_take delim (delimiters delim x) x
+  by false = sym (take_all (length x) x (omega arith))
+
+-- the first part of a text that has it in full
+
+take-is_take : (n : ℕ) (x : List ℕ) → take n x ≡ take (length (take n x)) x
+take-is_take zero x = refl
+take-is_take (suc n) [] = refl
+take-is_take (suc n) (byte ∷ x) = ap (λ rest. byte ∷ rest) (take-is_take n x)
+
+take-take_few : (k n : ℕ) (x : List ℕ) → k ≤ length (take n x) → take k (take n x) ≡ take k x
+take-take_few zero n x few = refl
+take-take_few (suc k) zero x few = absurd (omega arith)
+take-take_few (suc k) (suc n) [] few = refl
+take-take_few (suc k) (suc n) (byte ∷ x) few = ap (λ rest. byte ∷ rest) (take-take_few k n x (omega arith))
+
+first_is_take : (limit : Limit) (x : List ℕ) → first_part limit x ≡ take (length (first_part limit x)) x
+first_is_take (Lines n delim) x = first_lines-is_take delim n x
+first_is_take (Bytes n) x = take-is_take n x
+first_is_take (LineBytes n delim) x = whole_is_take delim (take n x) ∙ take-take_few (length (whole_lines delim (take n x))) n x (whole_within delim (take n x))
+
+pub first_then_behind : (limit : Limit) (x : List ℕ) → first_part limit x ++ behind_first limit x ≡ x
+first_then_behind limit x = ap (λ front. front ++ behind_first limit x) (first_is_take limit x) ∙ take-append-drop (length (first_part limit x)) x
+
+cuts_all : (limit : Limit) (x : List ℕ) (parts : List (List ℕ)) (rest : List ℕ) → Cuts limit x parts rest → joined parts ++ rest ≡ x
+cuts_all limit x _ _ (stops _ short) = refl
+cuts_all limit x _ rest (goes _ parts _ full behind) =
+    append_assoc (first_part limit x) (joined parts) rest ∙ ap (λ those. first_part limit x ++ those) (cuts_all limit (behind_first limit x) parts rest behind) ∙ first_then_behind limit x
+
+-- nothing is lost
+pub cut_all : (limit : Limit) (x : List ℕ) → joined (cut_up limit x).full ++ (cut_up limit x).rest ≡ x
+cut_all limit x = cuts_all limit x _ _ (cuts_up limit x)
+
+pub cut_two : (limit : Limit) (x first next : List ℕ) → is_full limit x ≡ true → first_part limit x ≡ first → x ≡ first ++ next → is_full limit next ≡ false → cut_up limit x ≡ cut_so (first ∷ []) next
+cut_two limit x first next full is both short =
+    let behind : behind_first limit x ≡ next = ap (λ (front : List ℕ). drop (length front) x) is ∙ ap (drop (length first)) both ∙ drop-append-le (length first) first next (omega arith) ∙ ap (λ rest. rest ++ next) (dropped first) in
+    cut_once limit x (first ∷ []) next
+    (subst (λ front. Cuts limit x (front ∷ []) next) is
+    (goes x [] next full (subst (λ those. Cuts limit those [] next) (sym behind) (stops next short)))) where
+      dropped : (xs : List ℕ) → drop (length xs) xs ≡ []
+      dropped [] = refl
+      dropped (byte ∷ xs) = dropped xs
+
+pub cut_one : (limit : Limit) (x : List ℕ) → is_full limit x ≡ true → first_part limit x ≡ x → cut_up limit x ≡ cut_so (x ∷ []) []
+cut_one limit x full is = cut_two limit x x [] full is (sym (append-nil x)) (nothing_short limit [] refl)

@@ -1,0 +1,55 @@
+-- Laws of what files get: what is written once more came in, and in the end.
+use Rattle.std.proofs.Common.{◌≡◌, ℕ, ◌+◌, ◌-◌, ◌<◌, List, [], ◌∷◌, ◌++◌, length, map, ◌⊎◌, inl, inr, refl, ap, arith}
+use Rattle.seg_core.specs.Line.{joined}
+use Rattle.ports_core.specs.Part.{IsBeginning}
+use Rattle.ports_core.specs.declared.slot.State.TheVariants.{Open, Closed}
+use Rattle.ports_core.proofs.PartLemmas.{begins_itself, begins_trans, kept_trans}
+use Rattle.split_core.specs.declared.limit.Limit.{Limit}
+use Rattle.split_core.specs.Parts.{cut_up, unless_empty, parts}
+use Rattle.split_core.specs.Split.{Share, share}
+use Rattle.split_core.proofs.CutLaws.{cut_all}
+use Rattle.split_core.specs.inner.ShareLaws.{SharesBegin, AllShut}
+use Rattle.split_core.specs.laws.ShareLaws.{shares_behind}
+
+pub shares_themselves : (shares : List Share) → SharesBegin shares shares
+shares_themselves [] = tt
+shares_themselves (share ∷ shares) = (inr refl, begins_itself share.bytes, shares_themselves shares)
+
+pub shares_trans : (low middle high : List Share) → SharesBegin low middle → SharesBegin middle high → SharesBegin low high
+shares_trans [] middle high first second = tt
+shares_trans (share ∷ low) [] high first second = absurd first
+shares_trans (share ∷ low) (mid ∷ middle) [] first second = absurd second
+shares_trans (share ∷ low) (mid ∷ middle) (whole ∷ high) first second = (kept_trans (λ (those : Share). those.state) share mid whole first.0 second.0, begins_trans _ _ _ first.1 second.1, shares_trans low middle high first.2 second.2)
+
+pub shares_more : (shares more : List Share) → SharesBegin shares (shares ++ more)
+shares_more [] more = tt
+shares_more (share ∷ shares) more = (inr refl, begins_itself share.bytes, shares_more shares more)
+
+-- the last share grew
+pub last_grows : (front more : List Share) (one other : Share) → (one.state ≡ Open) ⊎ (one ≡ other) → IsBeginning one.bytes other.bytes → SharesBegin (front ++ one ∷ []) (front ++ other ∷ more)
+last_grows front more one other kept begins = shares_behind front (one ∷ []) (other ∷ more) (kept, begins, tt)
+
+pub shut_map : (bytes : List (List ℕ)) → AllShut (map (share Closed) bytes)
+shut_map [] = tt
+shut_map (one ∷ bytes) = (refl, shut_map bytes)
+
+pub shut_more : (shares : List Share) (one : Share) → AllShut shares → one.state ≡ Closed → AllShut (shares ++ one ∷ [])
+shut_more [] one shut is = (is, tt)
+shut_more (share ∷ shares) one shut is = (shut.0, shut_more shares one shut.1 is)
+
+-- a text that isn't empty has a part
+
+some_by : (full : List (List ℕ)) (rest x : List ℕ) → joined full ++ rest ≡ x → 0 < length x → 0 < length (full ++ unless_empty rest)
+some_by [] [] x is some = absurd (none_of (ap length is)) where
+  none_of : 0 ≡ length x → ⊥
+  none_of e = omega (arith, e, some)
+some_by [] (byte ∷ rest) x is some = omega arith
+some_by (part ∷ full) rest x is some = omega arith
+
+pub parts_some : (limit : Limit) (x : List ℕ) → 0 < length x → 0 < length (parts limit x)
+parts_some limit x some = some_by (cut_up limit x).full (cut_up limit x).rest x (cut_all limit x) some
+
+-- a part that was begun, or wasn't yet, begins the same part with more bytes
+pub begun_grows : (front : List Share) (begun more : List ℕ) → IsBeginning begun more → SharesBegin (front ++ map (share Open) (unless_empty begun)) (front ++ share Open more ∷ [])
+begun_grows front [] more begins = shares_behind front [] (share Open more ∷ []) tt
+begun_grows front (byte ∷ begun) more begins = shares_behind front (share Open (byte ∷ begun) ∷ []) (share Open more ∷ []) (inl refl, begins, tt)

@@ -1,0 +1,18 @@
+-- The lines of a piece, dealt to files.
+use Rattle.std.specs.Prelude.{ℕ, ◌+◌, List, map, min}
+use Rattle.std.specs.List.{range_with_len}
+use Rattle.seg_core.specs.Line.{lines_of, line_count}
+use Rattle.split_core.specs.Parts.{dealt}
+
+-- what each of n files gets of a piece, whose first byte goes to the file at this place
+abbrev pub dealt_piece : ℕ → ℕ → ℕ → List ℕ → List (List ℕ)
+dealt_piece delim n place piece = map (λ file. dealt n file place (lines_of delim piece)) (range_with_len 0 n)
+
+-- how many of the first files a piece can go to, whose first byte goes to the file at this place
+abbrev pub reached_by : ℕ → ℕ → ℕ → List ℕ → ℕ
+reached_by delim n place piece = min n (place + line_count delim piece)
+
+-- what these first files get
+abbrev pub dealt_first : ℕ → ℕ → ℕ → List ℕ → List (List ℕ)
+dealt_first delim n place piece = map (λ file. dealt n file place (lines_of delim piece))
+    (range_with_len 0 (reached_by delim n place piece))

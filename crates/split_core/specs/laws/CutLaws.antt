@@ -1,0 +1,231 @@
+-- Laws that traits cite: laws of parts that follow one another: what a text that goes on is cut into.
+use Rattle.std.proofs.Common.{◌≡◌, ℕ, ◌+◌, ◌-◌, ◌<◌, ◌≤◌, zero, suc, List, [], ◌∷◌, ◌++◌, length, take, drop, Bool, true, false, cond, ◌&&◌, nat_lt, nat_le, refl, sym, ◌∙◌, ap, subst, arith, length-append, length-drop}
+use Rattle.std.proofs.lemmas.Bool.{false≢true}
+use Rattle.std.proofs.lemmas.Bool.Decides.{nat_tests}
+use Rattle.std.proofs.lemmas.List.{append-nil, take-append-le, drop-append-le, length-take-le}
+use Rattle.seg_core.specs.Line.{delimiters, first_lines, after_lines}
+use Rattle.seg_core.proofs.Delimiters.{delimiters-append, delimiters-le-length}
+use Rattle.seg_core.proofs.FirstLines.{first_lines-full, first_lines_then_rest, length-first_lines-le, delimiters-first_lines}
+use Rattle.split_core.specs.declared.limit.Limit.{Limit}
+use Rattle.split_core.specs.declared.limit.Limit.TheVariants.{Lines, Bytes, LineBytes}
+use Rattle.split_core.specs.Parts.{whole_lines, open_line, most, measure, is_full, first_part, behind_first, uncut, behind_part, cut_within, cut_up, settled_rest, waiting_rest}
+use Rattle.split_core.specs.inner.CutLaws.{Cuts, stops, goes, cut_so}
+
+-- when a part is full
+
+full_test : (most measure : ℕ) → (nat_lt 0 most && nat_le most measure) ≡ true → (0 < most) × (most ≤ measure)
+full_test most measure is = (grind (arith, nat_tests, is), grind (arith, nat_tests, is))
+
+pub full_some : (limit : Limit) (x : List ℕ) → is_full limit x ≡ true → (0 < most limit)
+    × (most limit ≤ measure limit x)
+full_some limit x full = full_test (most limit) (measure limit x) full
+
+full_from_test : (most measure : ℕ) → 0 < most → most ≤ measure → (nat_lt 0 most && nat_le most measure) ≡ true
+full_from_test most measure some enough = grind (arith, nat_tests, some, enough)
+
+pub full_from : (limit : Limit) (x : List ℕ) → 0 < most limit → most limit ≤ measure limit x → is_full limit x ≡ true
+full_from limit x some enough = full_from_test (most limit) (measure limit x) some enough
+
+short_test : (most measure : ℕ) → (nat_lt 0 most && nat_le most measure) ≡ false → 0 < most → measure < most
+short_test most measure is some = grind (arith, nat_tests, is, some)
+
+pub short_some : (limit : Limit) (x : List ℕ) → is_full limit x ≡ false → 0 < most limit → measure limit x < most limit
+short_some limit x short some = short_test (most limit) (measure limit x) short some
+
+pub measure-append : (limit : Limit) (x y : List ℕ) → measure limit (x ++ y) ≡ measure limit x + measure limit y
+measure-append (Lines n delim) x y = delimiters-append delim x y
+measure-append (Bytes n) x y = length-append x y
+measure-append (LineBytes n delim) x y = length-append x y
+
+pub measure-le-length : (limit : Limit) (x : List ℕ) → measure limit x ≤ length x
+measure-le-length (Lines n delim) x = delimiters-le-length delim x
+measure-le-length (Bytes n) x = omega arith
+measure-le-length (LineBytes n delim) x = omega arith
+
+pub full-append : (limit : Limit) (x y : List ℕ) → is_full limit x ≡ true → is_full limit (x ++ y) ≡ true
+full-append limit x y full =
+    let is = full_some limit x full in
+    full_from limit (x ++ y) is.0 (let sum : measure limit (x ++ y)
+        ≡ measure limit x + measure limit y = measure-append limit x y in
+    let enough : most limit ≤ measure limit x = is.1 in omega arith)
+
+pub nothing_short : (limit : Limit) (x : List ℕ) → length x ≡ 0 → is_full limit x ≡ false
+nothing_short limit x none = is_short (is_full limit x) refl where
+  is_short : (b : Bool) → is_full limit x ≡ b → is_full limit x ≡ false
+  is_short false is = is
+  is_short true is =
+      let full = full_some limit x is in
+      let few : measure limit x ≤ length x = measure-le-length limit x in
+      let some : 0 < most limit = full.0 in let enough : most limit ≤ measure limit x =
+          full.1 in absurd (none_of some enough few) where
+        none_of : 0 < most limit → most limit ≤ measure limit x → measure limit x ≤ length x → ⊥
+        none_of some enough few = omega (arith, none)
+
+some_lines : (n : ℕ) → nat_lt 0 n ≡ true → 0 < n
+some_lines n is = grind (arith, nat_tests, is)
+
+pub has_lines : (n : ℕ) → 0 < n → nat_lt 0 n ≡ true
+has_lines n some = grind (arith, nat_tests, some)
+
+pub without_lines : (n : ℕ) → n ≡ 0 → nat_lt 0 n ≡ false
+without_lines n none = grind (arith, nat_tests, none)
+
+pub whole_of_lines : (delim : ℕ) (x : List ℕ) → 0 < delimiters delim x
+    → whole_lines delim x ≡ first_lines delim (delimiters delim x) x
+whole_of_lines delim x some = ap (λ has. cond has (first_lines delim (delimiters delim x) x) x)
+    (has_lines (delimiters delim x) some)
+
+pub whole_of_none : (delim : ℕ) (x : List ℕ) → delimiters delim x ≡ 0 → whole_lines delim x ≡ x
+whole_of_none delim x none = ap (λ has. cond has (first_lines delim (delimiters delim x) x) x)
+    (without_lines (delimiters delim x) none)
+
+pub whole_then_open : (delim : ℕ) (x : List ℕ) → whole_lines delim x ++ open_line delim x ≡ x
+whole_then_open delim x = by (nat_lt 0 (delimiters delim x)) where
+  by : (has : Bool) → cond has (first_lines delim (delimiters delim x) x) x
+      ++ cond has (after_lines delim (delimiters delim x) x) [] ≡ x
+  by true = first_lines_then_rest delim (delimiters delim x) x
+  by false = append-nil x
+
+pub whole_within : (delim : ℕ) (x : List ℕ) → length (whole_lines delim x) ≤ length x
+whole_within delim x = by (nat_lt 0 (delimiters delim x)) where
+  by : (has : Bool) → length (cond has (first_lines delim (delimiters delim x) x) x) ≤ length x
+  by true = length-first_lines-le delim (delimiters delim x) x
+  by false = omega arith
+
+pub whole_some : (delim : ℕ) (x : List ℕ) → 0 < length x → 0 < length (whole_lines delim x)
+whole_some delim x some = by (nat_lt 0 (delimiters delim x)) refl where
+  by : (has : Bool) → nat_lt 0 (delimiters delim x) ≡ has
+      → 0 < length (cond has (first_lines delim (delimiters delim x) x) x)
+  by true is =
+      let lines : delimiters delim (first_lines delim (delimiters delim x) x) ≡ delimiters delim x =
+          delimiters-first_lines delim (delimiters delim x) x (omega arith) in
+      let few : delimiters delim (first_lines delim (delimiters delim x) x)
+          ≤ length (first_lines delim (delimiters delim x) x) =
+          delimiters-le-length delim (first_lines delim (delimiters delim x) x) in
+      let has_one : 0 < delimiters delim x = some_lines (delimiters delim x) is in omega arith
+  by false is = some
+
+length-take_few : (n : ℕ) (x : List ℕ) → length (take n x) ≤ length x
+length-take_few zero x = omega arith
+length-take_few (suc n) [] = omega arith
+length-take_few (suc n) (byte ∷ x) = let few : length (take n x) ≤ length x = length-take_few n x in omega arith
+
+pub first_within : (limit : Limit) (x : List ℕ) → length (first_part limit x) ≤ length x
+first_within (Lines n delim) x = length-first_lines-le delim n x
+first_within (Bytes n) x = length-take_few n x
+first_within (LineBytes n delim) x =
+    let whole : length (whole_lines delim (take n x)) ≤ length (take n x) = whole_within delim (take n x) in
+    let few : length (take n x) ≤ length x = length-take_few n x in omega arith
+
+first_some_by : (limit : Limit) (x : List ℕ) → 0 < most limit → most limit ≤ measure limit x
+    → 0 < length (first_part limit x)
+first_some_by (Lines n delim) x some enough =
+    let lines : delimiters delim (first_lines delim n x) ≡ n = delimiters-first_lines delim n x enough in
+    let few : delimiters delim (first_lines delim n x) ≤ length (first_lines delim n x) =
+        delimiters-le-length delim (first_lines delim n x) in omega arith
+first_some_by (Bytes n) x some enough = let all : length (take n x) ≡ n = length-take-le n x enough in omega arith
+first_some_by (LineBytes n delim) x some enough =
+    whole_some delim (take n x) (let all : length (take n x) ≡ n = length-take-le n x enough in omega arith)
+
+pub first_some : (limit : Limit) (x : List ℕ) → is_full limit x ≡ true → 0 < length (first_part limit x)
+first_some limit x full = let is = full_some limit x full in first_some_by limit x is.0 is.1
+
+first-append_by : (limit : Limit) (x y : List ℕ) → most limit ≤ measure limit x
+    → first_part limit (x ++ y) ≡ first_part limit x
+first-append_by (Lines n delim) x y enough = first_lines-full delim n x y enough
+first-append_by (Bytes n) x y enough = take-append-le n x y enough
+first-append_by (LineBytes n delim) x y enough = ap (whole_lines delim) (take-append-le n x y enough)
+
+pub first-append : (limit : Limit) (x y : List ℕ) → is_full limit x ≡ true
+    → first_part limit (x ++ y) ≡ first_part limit x
+first-append limit x y full = first-append_by limit x y (full_some limit x full).1
+
+pub behind-append : (limit : Limit) (x y : List ℕ) → is_full limit x ≡ true
+    → behind_first limit (x ++ y) ≡ behind_first limit x ++ y
+behind-append limit x y full =
+    ap (λ (first : List ℕ). drop (length first) (x ++ y)) (first-append limit x y full)
+        ∙ drop-append-le (length (first_part limit x)) x y (first_within limit x)
+
+behind_less : (limit : Limit) (x : List ℕ) (bound : ℕ) → is_full limit x ≡ true → length x ≤ suc bound
+    → length (behind_first limit x) ≤ bound
+behind_less limit x bound full within =
+    let some : 0 < length (first_part limit x) = first_some limit x full in
+    let left : length (behind_first limit x) ≡ length x - length (first_part limit x) =
+        length-drop (length (first_part limit x)) x in omega arith
+
+cuts_within : (limit : Limit) (bound : ℕ) (x : List ℕ) → length x ≤ bound
+    → Cuts limit x (cut_within bound limit x).full (cut_within bound limit x).rest
+cuts_within limit zero x within = stops x (nothing_short limit x (omega arith))
+cuts_within limit (suc bound) x within =
+    by (is_full limit x) refl (λ full. cuts_within limit bound (behind_first limit x)
+    (behind_less limit x bound full within)) where
+  by : (full : Bool) → is_full limit x ≡ full
+      → (is_full limit x ≡ true → Cuts limit (behind_first limit x) (cut_within bound limit (behind_first limit x)).full
+      (cut_within bound limit (behind_first limit x)).rest)
+      → Cuts limit x (cond full (behind_part (first_part limit x) (cut_within bound limit (behind_first limit x)))
+          (uncut x)).full (cond full (behind_part (first_part limit x) (cut_within bound limit (behind_first limit x)))
+          (uncut x)).rest
+  by true is more = goes x _ _ is (more is)
+  by false is more = stops x is
+
+pub cuts_up : (limit : Limit) (x : List ℕ) → Cuts limit x (cut_up limit x).full (cut_up limit x).rest
+cuts_up limit x = cuts_within limit (length x) x (omega arith)
+
+once_within : (limit : Limit) (bound : ℕ) (x : List ℕ) (parts : List (List ℕ)) (rest : List ℕ) → length x ≤ bound
+    → Cuts limit x parts rest → cut_within bound limit x ≡ cut_so parts rest
+once_within limit zero x _ _ within (stops _ short) = refl
+once_within limit zero x _ _ within (goes _ parts rest full more) =
+    absurd (false≢true (sym (nothing_short limit x (omega arith)) ∙ full))
+once_within limit (suc bound) x _ _ within (stops _ short) =
+    ap (λ full. cond full (behind_part (first_part limit x) (cut_within bound limit (behind_first limit x))) (uncut x))
+        short
+once_within limit (suc bound) x _ _ within (goes _ parts rest full more) =
+    ap (λ is. cond is (behind_part (first_part limit x) (cut_within bound limit (behind_first limit x))) (uncut x)) full
+    ∙ ap (behind_part (first_part limit x))
+        (once_within limit bound (behind_first limit x) parts rest (behind_less limit x bound full within) more)
+
+-- a text is cut in one way
+pub cut_once : (limit : Limit) (x : List ℕ) (parts : List (List ℕ)) (rest : List ℕ) → Cuts limit x parts rest
+    → cut_up limit x ≡ cut_so parts rest
+cut_once limit x parts rest cuts = once_within limit (length x) x parts rest (omega arith) cuts
+
+pub cuts_on : (limit : Limit) (x y : List ℕ) (parts more : List (List ℕ)) (rest left : List ℕ) → Cuts limit x parts rest
+    → Cuts limit (rest ++ y) more left → Cuts limit (x ++ y) (parts ++ more) left
+cuts_on limit x y _ more _ left (stops _ short) then = then
+cuts_on limit x y _ more rest left (goes _ parts _ full behind) then =
+    subst (λ first. Cuts limit (x ++ y) (first ∷ (parts ++ more)) left) (first-append limit x y full)
+    (goes (x ++ y) (parts ++ more) left (full-append limit x y full)
+    (subst (λ those. Cuts limit those (parts ++ more) left) (sym (behind-append limit x y full))
+    (cuts_on limit (behind_first limit x) y parts more rest left behind then)))
+
+-- a text that goes on has its parts, and then those of what was left of it and what follows
+pub cut_on : (limit : Limit) (x y : List ℕ)
+    → cut_up limit (x ++ y) ≡ cut_so ((cut_up limit x).full ++ (cut_up limit ((cut_up limit x).rest ++ y)).full)
+    (cut_up limit ((cut_up limit x).rest ++ y)).rest
+cut_on limit x y = cut_once limit (x ++ y) _ _
+    (cuts_on limit x y _ _ _ _ (cuts_up limit x) (cuts_up limit ((cut_up limit x).rest ++ y)))
+
+left_short : (limit : Limit) (x : List ℕ) (parts : List (List ℕ)) (rest : List ℕ) → Cuts limit x parts rest
+    → is_full limit rest ≡ false
+left_short limit x _ _ (stops _ short) = short
+left_short limit x _ rest (goes _ parts _ full behind) = left_short limit (behind_first limit x) parts rest behind
+
+-- what is left has no full part
+pub rest_short : (limit : Limit) (x : List ℕ) → is_full limit (cut_up limit x).rest ≡ false
+rest_short limit x = left_short limit x _ _ (cuts_up limit x)
+
+-- three ways to go on: no part is full yet; all of the text is one; the text is one and a beginning of the next
+
+pub cut_none : (limit : Limit) (x : List ℕ) → is_full limit x ≡ false → cut_up limit x ≡ cut_so [] x
+cut_none limit x short = cut_once limit x [] x (stops x short)
+
+-- what is left is what is settled of it, and what waits
+pub settled_then_waiting : (limit : Limit) (rest : List ℕ) → settled_rest limit rest ++ waiting_rest limit rest ≡ rest
+settled_then_waiting (Lines n delim) rest = append-nil rest
+settled_then_waiting (Bytes n) rest = append-nil rest
+settled_then_waiting (LineBytes n delim) rest = whole_then_open delim rest
+
+pub settled_some : (limit : Limit) (rest : List ℕ) → 0 < length rest → 0 < length (settled_rest limit rest)
+settled_some (Lines n delim) rest some = some
+settled_some (Bytes n) rest some = some
+settled_some (LineBytes n delim) rest some = whole_some delim rest some

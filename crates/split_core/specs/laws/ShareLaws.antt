@@ -1,0 +1,306 @@
+-- Laws that traits cite: laws of what files get: what is written once more came in, and in the end.
+use Rattle.std.proofs.Common.{◌≡◌, ℕ, ◌+◌, ◌-◌, ◌<◌, ◌≤◌, zero, suc, List, [], ◌∷◌, ◌++◌, length, map, take, drop, Bool, true, false, cond, ◌||◌, nat_lt, ◌⊎◌, inl, inr, refl, sym, ◌∙◌, ap, subst, arith, append_assoc, length-append}
+use Rattle.std.proofs.lemmas.Bool.{false≢true}
+use Rattle.std.proofs.lemmas.Bool.Decides.{nat_tests}
+use Rattle.std.proofs.lemmas.List.{map-append, length-map}
+use Rattle.seg_core.specs.Line.{joined, lines_of, delimiters, first_lines}
+use Rattle.seg_core.proofs.Delimiters.{delimiters-append}
+use Rattle.seg_core.proofs.FirstLines.{first_lines-append, first_lines-full, first_lines-short, first_lines_then_rest, lines_of-first_lines}
+use Rattle.ports_core.specs.Name.{Naming}
+use Rattle.ports_core.specs.Part.{File, IsBeginning, FilesBegin, Begins}
+use Rattle.ports_core.specs.declared.slot.State.TheVariants.{Open, Closed}
+use Rattle.ports_core.proofs.PartLemmas.{begins_itself, begins_more}
+use Rattle.split_core.specs.declared.limit.Limit.{Limit}
+use Rattle.split_core.specs.declared.limit.Limit.TheVariants.{Lines, Bytes, LineBytes}
+use Rattle.split_core.specs.Parts.{whole_lines, most, measure, is_full, first_part, behind_first, cut_up, unless_empty, parts, settled_rest}
+use Rattle.split_core.specs.Split.{Share, share, is_named, file_at, named, are_named, only_files, settled_parts}
+use Rattle.split_core.specs.laws.CutLaws.{short_some, full_some, whole_of_lines, whole_of_none, settled_then_waiting, settled_some, cut_on, cut_none, cut_once, cuts_up, rest_short}
+use Rattle.split_core.specs.inner.CutLaws.{goes, cut_so}
+use Rattle.split_core.specs.inner.ShareLaws.{SharesBegin, whole_parts}
+
+-- shares that begin others still do after the same front
+pub shares_behind : (front low high : List Share) → SharesBegin low high → SharesBegin (front ++ low) (front ++ high)
+shares_behind [] low high begins = begins
+shares_behind (share ∷ front) low high begins =
+    (inr refl, begins_itself share.bytes, shares_behind front low high begins)
+
+-- the files of shares that begin others begin the files of those
+
+pub kept_file : (names : Naming) (place : ℕ) (one other : Share) → (one.state ≡ Open) ⊎ (one ≡ other)
+    → ((file_at names place one).state ≡ Open) ⊎ (file_at names place one ≡ file_at names place other)
+kept_file names place one other (inl is) = inl is
+kept_file names place one other (inr same) = inr (ap (file_at names place) same)
+
+files_by : (names : Naming) (has : Bool) (place : ℕ) (one other : Share) (low high : List File) → (one.state ≡ Open)
+    ⊎ (one ≡ other) → IsBeginning one.bytes other.bytes → FilesBegin low high
+    → FilesBegin (cond has (file_at names place one ∷ low) []) (cond has (file_at names place other ∷ high) [])
+files_by names true place one other low high kept first rest =
+    (refl, refl, refl, kept_file names place one other kept, first, rest)
+files_by names false place one other low high kept first rest = tt
+
+pub files_begin : (names : Naming) (place : ℕ) (low high : List Share) → SharesBegin low high
+    → FilesBegin (named names place low) (named names place high)
+files_begin names place [] high begins = tt
+files_begin names place (share ∷ low) [] begins = absurd begins
+files_begin names place (share ∷ low) (whole ∷ high) begins =
+    files_by names (is_named names place) place share whole (named names (place + 1) low) (named names (place + 1) high)
+        begins.0 begins.1 (files_begin names (place + 1) low high begins.2)
+
+pub part_begins : (names : Naming) (low high : List Share) → SharesBegin low high
+    → Begins (only_files (named names 0 low)) (only_files (named names 0 high))
+part_begins names low high begins = record { out = begins_itself []; files = files_begin names 0 low high begins }
+
+-- names that ran out
+
+no_more_test : (auto : Bool) (most place more : ℕ) → (auto || nat_lt place most) ≡ false → place ≤ more
+    → (auto || nat_lt more most) ≡ false
+no_more_test true most place more is less = is
+no_more_test false most place more is less = grind (arith, nat_tests, is, less)
+
+pub no_more : (names : Naming) (place more : ℕ) → is_named names place ≡ false → place ≤ more
+    → is_named names more ≡ false
+no_more names place more is less = no_more_test names.auto _ place more is less
+
+-- where a place has no name, what stands from there on makes no file
+pub named_short : (names : Naming) (place : ℕ) (front rest : List Share) → is_named names (place + length front) ≡ false
+    → named names place (front ++ rest) ≡ named names place front
+named_short names place [] [] none = refl
+named_short names place [] (share ∷ rest) none =
+    ap (λ has. cond has (file_at names place share ∷ named names (place + 1) rest) [])
+        (subst (λ n. is_named names n ≡ false) (same place) none) where
+      same : (n : ℕ) → n + 0 ≡ n
+      same n = omega arith
+named_short names place (share ∷ front) rest none =
+    ap (λ files. cond (is_named names place) (file_at names place share ∷ files) [])
+        (named_short names (place + 1) front rest
+        (subst (λ n. is_named names n ≡ false) (moved place (length front)) none)) where
+      moved : (n m : ℕ) → n + suc m ≡ n + 1 + m
+      moved n m = omega arith
+
+-- the parts of whole texts
+
+pub take_less : {X : Type 0} (k n : ℕ) (xs : List X) → k ≤ n → take k (take n xs) ≡ take k xs
+take_less zero n xs less = refl
+take_less (suc k) zero xs less = absurd (omega arith)
+take_less (suc k) (suc n) [] less = refl
+take_less (suc k) (suc n) (x ∷ xs) less = ap (λ rest. x ∷ rest) (take_less k n xs (omega arith))
+
+first_lines_begin : (delim k n : ℕ) (x : List ℕ) → k ≤ n → IsBeginning (first_lines delim k x) (first_lines delim n x)
+first_lines_begin delim k n x less = (
+  joined (drop k (lines_of delim (first_lines delim n x))),
+  sym (first_lines_then_rest delim k (first_lines delim n x))
+      ∙ ap (λ (lines : List (List ℕ)). joined lines ++ joined (drop k (lines_of delim (first_lines delim n x))))
+          (ap (take k) (lines_of-first_lines delim n x) ∙ take_less k n (lines_of delim x) less),
+)
+
+whole_begins_by : (delim : ℕ) (x y : List ℕ) (k m : ℕ) → delimiters delim x ≡ k → delimiters delim (x ++ y) ≡ m
+    → IsBeginning (whole_lines delim x) (whole_lines delim (x ++ y))
+whole_begins_by delim x y (suc k) (suc m) here all =
+    subst (λ low. IsBeginning low (whole_lines delim (x ++ y)))
+        (sym (whole_of_lines delim x (omega arith)
+        ∙ sym (first_lines-full delim (delimiters delim x) x y (omega arith))))
+    (subst (λ high. IsBeginning (first_lines delim (delimiters delim x) (x ++ y)) high)
+        (sym (whole_of_lines delim (x ++ y) (omega arith)))
+    (first_lines_begin delim (delimiters delim x) (delimiters delim (x ++ y)) (x ++ y)
+        (let sum : delimiters delim (x ++ y) ≡ delimiters delim x + delimiters delim y = delimiters-append delim x y
+        in omega arith)))
+whole_begins_by delim x y zero (suc m) here all =
+    subst (λ low. IsBeginning low (whole_lines delim (x ++ y))) (sym (whole_of_none delim x here))
+    (_, whole_of_lines delim (x ++ y) (omega arith) ∙ first_lines-append delim (delimiters delim (x ++ y)) x y
+        ∙ ap (λ front. front ++ first_lines delim (delimiters delim (x ++ y) - delimiters delim x) y)
+        (first_lines-short delim (delimiters delim (x ++ y)) x (omega arith)))
+whole_begins_by delim x y zero zero here all =
+    subst (λ low. IsBeginning low (whole_lines delim (x ++ y))) (sym (whole_of_none delim x here))
+        (y, whole_of_none delim (x ++ y) all)
+whole_begins_by delim x y (suc k) zero here all =
+    absurd (let sum : delimiters delim (x ++ y)
+    ≡ delimiters delim x + delimiters delim y = delimiters-append delim x y in omega arith)
+
+pub whole_begins : (delim : ℕ) (x y : List ℕ) → IsBeginning (whole_lines delim x) (whole_lines delim (x ++ y))
+whole_begins delim x y = whole_begins_by delim x y (delimiters delim x) (delimiters delim (x ++ y)) refl refl
+
+take_begins_long : (n : ℕ) (x y : List ℕ) → length x < n → (more : List ℕ) × (take n (x ++ y) ≡ x ++ more)
+take_begins_long n [] y short = (take n y, refl)
+take_begins_long zero (byte ∷ x) y short = absurd (omega arith)
+take_begins_long (suc n) (byte ∷ x) y short = let behind =
+    take_begins_long n x y (omega arith) in (behind.0, ap (λ rest. byte ∷ rest) behind.1)
+
+-- what is settled of a text without a full part begins the first part of the text that goes on
+
+settled_in_full : (limit : Limit) (x y : List ℕ) → measure limit x < most limit
+    → IsBeginning (settled_rest limit x) (first_part limit (x ++ y))
+settled_in_full (Lines n delim) x y short =
+    (_, first_lines-append delim n x y ∙ ap (λ front. front ++ first_lines delim (n - delimiters delim x) y)
+    (first_lines-short delim n x short))
+settled_in_full (Bytes n) x y short = take_begins_long n x y short
+settled_in_full (LineBytes n delim) x y short =
+    let taken = take_begins_long n x y short in subst
+        (λ those. IsBeginning (whole_lines delim x) (whole_lines delim those)) (sym taken.1)
+        (whole_begins delim x taken.0)
+
+settled_in_rest : (limit : Limit) (x y : List ℕ) → IsBeginning (settled_rest limit x) (settled_rest limit (x ++ y))
+settled_in_rest (Lines n delim) x y = begins_more x y
+settled_in_rest (Bytes n) x y = begins_more x y
+settled_in_rest (LineBytes n delim) x y = whole_begins delim x y
+
+pub settled_in_whole : (limit : Limit) (x : List ℕ) → IsBeginning (settled_rest limit x) x
+settled_in_whole limit x = (_, sym (settled_then_waiting limit x))
+
+-- what files get of a text that goes on: the full parts of the text, and then what they get of the rest and what
+-- follows
+
+pub settled_on : (limit : Limit) (x y : List ℕ)
+    → settled_parts limit (x ++ y) ≡ map (share Closed) (cut_up limit x).full
+    ++ settled_parts limit ((cut_up limit x).rest ++ y)
+settled_on limit x y =
+    ap (λ cut. map (share Closed) cut.full ++ map (share Open) (unless_empty (settled_rest limit cut.rest)))
+        (cut_on limit x y)
+    ∙ ap (λ front. front ++ map (share Open)
+        (unless_empty (settled_rest limit (cut_up limit ((cut_up limit x).rest ++ y)).rest)))
+        (map-append (share Closed) (cut_up limit x).full (cut_up limit ((cut_up limit x).rest ++ y)).full)
+    ∙ append_assoc (map (share Closed) (cut_up limit x).full) _ _
+
+pub parts_on : (limit : Limit) (x y : List ℕ)
+    → parts limit (x ++ y) ≡ (cut_up limit x).full ++ parts limit ((cut_up limit x).rest ++ y)
+parts_on limit x y = ap (λ cut. cut.full ++ unless_empty cut.rest) (cut_on limit x y)
+    ∙ append_assoc (cut_up limit x).full _ _
+
+-- a text with a full part has that as its first
+pub cut_first : (limit : Limit) (x : List ℕ) → is_full limit x ≡ true
+    → cut_up limit x ≡ cut_so (first_part limit x ∷ (cut_up limit (behind_first limit x)).full)
+    (cut_up limit (behind_first limit x)).rest
+cut_first limit x full = cut_once limit x _ _ (goes x _ _ full (cuts_up limit (behind_first limit x)))
+
+rest_begins_by : (limit : Limit) (rest y : List ℕ) (full : Bool) → is_full limit (rest ++ y) ≡ full
+    → is_full limit rest ≡ false → SharesBegin (map (share Open) (unless_empty (settled_rest limit rest)))
+    (settled_parts limit (rest ++ y))
+rest_begins_by limit rest y true full short =
+    subst (λ cut. SharesBegin (map (share Open) (unless_empty (settled_rest limit rest)))
+        (map (share Closed) cut.full ++ map (share Open) (unless_empty (settled_rest limit cut.rest))))
+        (sym (cut_first limit (rest ++ y) full))
+    (in_first (settled_rest limit rest) _
+        (settled_in_full limit rest y (short_some limit rest short (full_some limit (rest ++ y) full).0))) where
+      in_first : (low : List ℕ) (more : List Share) → IsBeginning low (first_part limit (rest ++ y))
+          → SharesBegin (map (share Open) (unless_empty low)) (share Closed (first_part limit (rest ++ y)) ∷ more)
+      in_first [] more begins = tt
+      in_first (byte ∷ low) more begins = (inl refl, begins, tt)
+rest_begins_by limit rest y false full short =
+    subst (λ cut. SharesBegin (map (share Open) (unless_empty (settled_rest limit rest)))
+        (map (share Closed) cut.full ++ map (share Open) (unless_empty (settled_rest limit cut.rest))))
+        (sym (cut_none limit (rest ++ y) full))
+    (in_next (settled_rest limit rest) (settled_rest limit (rest ++ y)) (settled_in_rest limit rest y)) where
+      in_next : (low high : List ℕ) → IsBeginning low high
+          → SharesBegin (map (share Open) (unless_empty low)) (map (share Open) (unless_empty high))
+      in_next [] high begins = tt
+      in_next (byte ∷ low) [] (rest, is) = absurd (none_of (ap length is)) where
+        none_of : {n : ℕ} → 0 ≡ suc n → ⊥
+        none_of e = omega (arith, e)
+      in_next (byte ∷ low) (first ∷ high) begins = (inl refl, begins, tt)
+
+pub rest_begins : (limit : Limit) (rest y : List ℕ) → is_full limit rest ≡ false
+    → SharesBegin (map (share Open) (unless_empty (settled_rest limit rest))) (settled_parts limit (rest ++ y))
+rest_begins limit rest y short = rest_begins_by limit rest y (is_full limit (rest ++ y)) refl short
+
+-- what is written stays
+pub settled_grow : (limit : Limit) (x y : List ℕ) → SharesBegin (settled_parts limit x) (settled_parts limit (x ++ y))
+settled_grow limit x y =
+    subst (SharesBegin (settled_parts limit x)) (sym (settled_on limit x y))
+    (shares_behind (map (share Closed) (cut_up limit x).full) _ _
+        (rest_begins limit (cut_up limit x).rest y (rest_short limit x)))
+
+pub settled_end : (limit : Limit) (x : List ℕ) → SharesBegin (settled_parts limit x) (whole_parts limit x)
+settled_end limit x =
+    subst (SharesBegin (settled_parts limit x))
+        (sym (map-append (share Closed) (cut_up limit x).full (unless_empty (cut_up limit x).rest)))
+    (shares_behind (map (share Closed) (cut_up limit x).full) _ _
+        (closes (settled_rest limit (cut_up limit x).rest) (cut_up limit x).rest
+        (settled_in_whole limit (cut_up limit x).rest))) where
+      closes : (low high : List ℕ) → IsBeginning low high
+          → SharesBegin (map (share Open) (unless_empty low)) (map (share Closed) (unless_empty high))
+      closes [] high begins = tt
+      closes (byte ∷ low) [] (rest, is) = absurd (none_of (ap length is)) where
+        none_of : {n : ℕ} → 0 ≡ suc n → ⊥
+        none_of e = omega (arith, e)
+      closes (byte ∷ low) (first ∷ high) begins = (inl refl, begins, tt)
+
+-- there are as many shares as the text has parts
+
+unless_count : (low high : List ℕ) → (0 < length high → 0 < length low) → (0 < length low → 0 < length high)
+    → length (unless_empty low) ≡ length (unless_empty high)
+unless_count [] [] some back = refl
+unless_count [] (byte ∷ high) some back = absurd (none_of (some (omega arith))) where
+  none_of : 0 < 0 → ⊥
+  none_of e = omega (arith, e)
+unless_count (byte ∷ low) [] some back = absurd (none_of (back (omega arith))) where
+  none_of : 0 < 0 → ⊥
+  none_of e = omega (arith, e)
+unless_count (byte ∷ low) (first ∷ high) some back = refl
+
+pub settled_count : (limit : Limit) (x : List ℕ) → length (settled_parts limit x) ≡ length (parts limit x)
+settled_count limit x =
+    length-append (map (share Closed) (cut_up limit x).full) _
+    ∙ ap (λ n. n + length (map (share Open) (unless_empty (settled_rest limit (cut_up limit x).rest))))
+        (length-map (cut_up limit x).full (share Closed))
+    ∙ ap (λ n. length (cut_up limit x).full + n)
+        (length-map (unless_empty (settled_rest limit (cut_up limit x).rest)) (share Open)
+        ∙ unless_count _ _ (settled_some limit (cut_up limit x).rest) few)
+    ∙ sym (length-append (cut_up limit x).full (unless_empty (cut_up limit x).rest)) where
+      few : 0 < length (settled_rest limit (cut_up limit x).rest) → 0 < length (cut_up limit x).rest
+      few some = let begins = settled_in_whole limit (cut_up limit x).rest in
+          let size : length (cut_up limit x).rest
+              ≡ length (settled_rest limit (cut_up limit x).rest) + length begins.0 = ap length begins.1
+              ∙ length-append (settled_rest limit (cut_up limit x).rest) begins.0 in omega (arith, some)
+
+-- Once names ran out, nothing more is written.
+
+are_named_by : (names : Naming) (count place : ℕ) → are_named names count ≡ false → count ≤ place + 1
+    → is_named names place ≡ false
+are_named_by names zero place none few = absurd (false≢true (sym none))
+are_named_by names (suc last) place none few = no_more names last place none (omega arith)
+
+pub are_named_more : (names : Naming) (count more : ℕ) → are_named names count ≡ false → count ≤ more
+    → are_named names more ≡ false
+are_named_more names zero more none few = absurd (false≢true (sym none))
+are_named_more names (suc last) zero none few = absurd (omega (arith, few))
+are_named_more names (suc last) (suc more) none few = no_more names last more none (omega arith)
+
+parts_few : (limit : Limit) (x : List ℕ) → length (parts limit x) ≤ length (cut_up limit x).full + 1
+parts_few limit x = by (cut_up limit x).full (cut_up limit x).rest where
+  by : (full : List (List ℕ)) (rest : List ℕ) → length (full ++ unless_empty rest) ≤ length full + 1
+  by full [] = let size : length (full ++ unless_empty []) ≡ length full + length (unless_empty []) =
+      length-append full (unless_empty []) in omega arith
+  by full (byte ∷ rest) = let size : length (full ++ unless_empty (byte ∷ rest))
+      ≡ length full + length (unless_empty (byte ∷ rest)) =
+      length-append full (unless_empty (byte ∷ rest)) in omega arith
+
+place_nameless : (names : Naming) (limit : Limit) (x : List ℕ) → are_named names (length (parts limit x)) ≡ false
+    → is_named names (0 + length (map (share Closed) (cut_up limit x).full)) ≡ false
+place_nameless names limit x short = are_named_by names (length (parts limit x)) _ short
+    (let size : length (map (share Closed) (cut_up limit x).full)
+        ≡ length (cut_up limit x).full = length-map (cut_up limit x).full (share Closed) in
+    let few : length (parts limit x) ≤ length (cut_up limit x).full + 1 = parts_few limit x in omega arith)
+
+-- the files are those of the full parts alone
+pub files_settled : (names : Naming) (limit : Limit) (x y : List ℕ) → are_named names (length (parts limit x)) ≡ false
+    → named names 0 (settled_parts limit (x ++ y)) ≡ named names 0 (map (share Closed) (cut_up limit x).full)
+files_settled names limit x y short =
+    ap (named names 0) (settled_on limit x y)
+        ∙ named_short names 0 (map (share Closed) (cut_up limit x).full) _ (place_nameless names limit x short)
+
+pub files_whole : (names : Naming) (limit : Limit) (x y : List ℕ) → are_named names (length (parts limit x)) ≡ false
+    → named names 0 (whole_parts limit (x ++ y)) ≡ named names 0 (map (share Closed) (cut_up limit x).full)
+files_whole names limit x y short =
+    ap (λ those. named names 0 (map (share Closed) those)) (parts_on limit x y)
+        ∙ ap (named names 0) (map-append (share Closed) (cut_up limit x).full _)
+    ∙ named_short names 0 (map (share Closed) (cut_up limit x).full) _ (place_nameless names limit x short)
+
+-- a text that goes on has no fewer parts
+pub parts_grow : (limit : Limit) (x y : List ℕ) → length (parts limit x) ≤ length (parts limit (x ++ y))
+parts_grow limit x y = subst (λ n. n ≤ length (parts limit (x ++ y))) (settled_count limit x)
+    (subst (λ n. length (settled_parts limit x) ≤ n) (settled_count limit (x ++ y))
+    (shares_fewer _ _ (settled_grow limit x y))) where
+  shares_fewer : (low high : List Share) → SharesBegin low high → length low ≤ length high
+  shares_fewer [] high begins = omega arith
+  shares_fewer (share ∷ low) [] begins = absurd begins
+  shares_fewer (share ∷ low) (whole ∷ high) begins = let few : length low ≤ length high =
+      shares_fewer low high begins.2 in omega arith

@@ -1,0 +1,119 @@
+-- What each step of a run leaves.
+use Rattle.std.specs.Prelude.{◌≡◌, ℕ, ◌<◌, zero, suc, not, ◌&&◌, ◌||◌, Bool, true, false, List, [], ◌∷◌, ◌++◌, length, map, take, Option, Some, None, ◌⊎◌, if◌then◌else◌}
+use Rattle.std.specs.List.{concat}
+use Rattle.ports_core.specs.Slot.{Slot, slot_at, changed_at, is_open, opened, unopened, adds, breaks, told_of}
+use Rattle.ports_core.specs.Source.{Content, Source}
+use Rattle.ports_core.specs.Text.{message_of}
+use Rattle.ports_core.specs.Message.{SaysAll}
+use Rattle.ports_core.specs.declared.slot.Mode.{Mode}
+use Rattle.ports_core.specs.declared.tool.Tool.TheVariants.{Tee}
+use Rattle.ports_core.specs.declared.fault.Fault.{Fault}
+use Rattle.run_core.specs.RunEnds.{standard_error}
+use Rattle.tee_core.specs.Run.{FilesLeft, IsRead, LeavesOf, OutputLeft, is_sound, messages_of, output_names, said_before}
+use Rattle.tee_core.specs.TeeState.{TeeState}
+
+abbrev pub any_of : List Bool → Bool
+any_of [] = false
+any_of (flag ∷ flags) = flag || any_of flags
+
+-- where the outputs stand, standard output first, and then the files
+abbrev pub output_slot : ℕ → ℕ
+output_slot zero = 0
+output_slot (suc n) = suc (suc n)
+
+-- which of the outputs are broken: standard output, and then the files
+abbrev pub broken_of : List Slot → List Bool
+broken_of [] = []
+broken_of (output ∷ []) = []
+broken_of (output ∷ error ∷ files) = output.is_broken ∷ map (λ file. file.is_broken) files
+
+-- the messages for the outputs that are broken and weren't known to be, in their order
+abbrev pub said_since : Fault → List (List ℕ) → List Bool → List Bool → List (List ℕ)
+said_since fault [] known broken = []
+said_since fault (name ∷ names) [] broken = []
+said_since fault (name ∷ names) (was ∷ known) [] = []
+said_since fault (name ∷ names) (was ∷ known) (now ∷ broken) = if not was && now
+    then message_of Tee fault name ∷ said_since fault names known broken else said_since fault names known broken
+
+-- standard error got these texts, and no other output changed
+abbrev pub SaysTo : Bool → List (List ℕ) → List Slot → List Slot → Type 0
+SaysTo told texts old new = (after : Slot) × SaysAll told Tee texts (slot_at old 1) after
+    × (new ≡ changed_at 1 (λ _. after) old)
+
+-- both streams are there, and standard error is open
+pub record HasStreams (slots : List Slot) (count : ℕ) : Type 0 where
+  pub output : Slot
+  pub error : Slot
+  pub files : List Slot
+  pub are : slots ≡ output ∷ error ∷ files
+  pub opened : is_open error.state ≡ true
+  pub files_are : length files ≡ count
+
+-- a tee with the files of these names, in a run: they are all that was opened
+pub record IsTeeOf (names : List (List ℕ)) (tee : TeeState) : Type 0 where
+  pub live : tee.is_over ≡ false
+  pub count : tee.count ≡ length names
+  pub first : 0 < tee.count → tee.first ≡ 2
+
+-- a file before it is closed
+pub data FileHas (told : Bool) (mode : Mode) (pieces : List (List ℕ)) (name : List ℕ) : Option ℕ → Slot → Type 0 where
+  has_all : FileHas told mode pieces name None (adds (told_of told (concat pieces)) (opened name mode))
+  has_none : (kept : List ℕ) → (kept ≡ name) ⊎ (kept ≡ []) → FileHas told mode pieces name (Some 0) (unopened kept)
+  has_begun : (before : List (List ℕ)) (piece : List ℕ) (after : List (List ℕ)) (n : ℕ)
+      → pieces ≡ before ++ piece ∷ after → n < length piece
+      → FileHas told mode pieces name (Some (suc (length before)))
+          (breaks (adds (told_of told (concat before ++ take n piece)) (opened name mode)))
+
+pub data FilesHave (told : Bool) (mode : Mode) (pieces : List (List ℕ)) : List (List ℕ) → List (Option ℕ) → List Slot
+    → Type 0 where
+  no_more : FilesHave told mode pieces [] [] []
+  one_more : (name : List ℕ) (names : List (List ℕ)) (first : Option ℕ) (broke : List (Option ℕ)) (file : Slot)
+      (files : List Slot)
+      → FileHas told mode pieces name first file → FilesHave told mode pieces names broke files
+          → FilesHave told mode pieces (name ∷ names) (first ∷ broke) (file ∷ files)
+
+-- these pieces were copied, before the files are closed
+pub record Copies (told : Bool) (mode : Mode) (names : List (List ℕ)) (pieces : List (List ℕ))
+    (messages : List (List ℕ)) (slots : List Slot) (known : List Bool) : Type 0 where
+  pub output : Slot
+  pub error : Slot
+  pub files : List Slot
+  pub first : Option ℕ
+  pub broke : List (Option ℕ)
+  pub are : slots ≡ output ∷ error ∷ files
+  pub output_has : OutputLeft told pieces first output
+  pub files_have : FilesHave told mode pieces names broke files
+  pub said : SaysAll told Tee (said_before (suc (length pieces)) (output_names names) (first ∷ broke) ++ messages)
+      standard_error error
+  pub known_are : known ≡ broken_of slots
+
+-- an input was read so, and all that came of it was copied
+pub record CopiesRead (told_in told : Bool) (mode : Mode) (names : List (List ℕ)) (content : Content) (source : Source)
+    (slots : List Slot) (known : List Bool) (fault : Option Fault) : Type 0 where
+  pub pieces : List (List ℕ)
+  pub read : IsRead content (LeavesOf told_in source) (concat pieces) fault
+  pub copies : Copies told mode names pieces [] slots known
+
+-- how a run leaves its outputs, once the files are closed
+pub record HasCopied (told : Bool) (mode : Mode) (names : List (List ℕ)) (pieces : List (List ℕ)) (fault : Option Fault)
+    (slots : List Slot) (known : List Bool) : Type 0 where
+  pub output : Slot
+  pub error : Slot
+  pub files : List Slot
+  pub first : Option ℕ
+  pub broke : List (Option ℕ)
+  pub are : slots ≡ output ∷ error ∷ files
+  pub output_left : OutputLeft told pieces first output
+  pub files_left : FilesLeft told mode pieces names broke files
+  pub said : SaysAll told Tee (messages_of names (first ∷ broke) (length pieces) fault) standard_error error
+  pub known_are : known ≡ map (λ when. not (is_sound when)) (first ∷ broke)
+
+-- the whole input was copied, and this tells whether a fault was met
+pub record CopiesInput (told_in told : Bool) (mode : Mode) (names : List (List ℕ)) (content : Content) (source : Source)
+    (slots : List Slot) (failed : Bool) : Type 0 where
+  pub pieces : List (List ℕ)
+  pub fault : Option Fault
+  pub known : List Bool
+  pub read : IsRead content (LeavesOf told_in source) (concat pieces) fault
+  pub copied : HasCopied told mode names pieces fault slots known
+  pub failed_is : failed ≡ (not (is_sound fault) || any_of known)

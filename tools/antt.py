@@ -1,0 +1,162 @@
+"""Reads what stands in `specs/`, `proofs/` and the contracts of `src/`: blocks, what they are called, and which others they name.
+
+It goes by the layout that `rt fmt` keeps, and by `use` lines. A word is a name of its own file, an imported one, or a member of
+an imported module (`law.name`). A name that the block binds itself, as a variable, is none of its file's.
+"""
+import os
+import re
+
+TOP = os.path.dirname(os.path.dirname(os.path.realpath(__file__)))
+CRATES = os.path.join(TOP, "crates")
+# What stands on nobody's way: tests, and what measures.
+NO_LIBRARIES = re.compile(r".*_tests$|match_time$|copy_example$")
+
+WORD = re.compile(r"[^\s(){}\[\],;λ`\"]+")
+BEGINS = re.compile(r"(?:(?:abbrev|unfoldable|pub)\s+)*(?:(?P<kind>data|record)\s+(?P<type>[^\s:({]+)|(?P<name>[^\s:({]+)\s+:(?:\s|$))")
+USE = re.compile(r"\s*(?:ghost )?use (Rattle\.[\w.-]+?)(?:\.\{(.*)\}| as (\w+))?;?\s*$")
+BINDERS = re.compile(r"λ ([^.]*)\.|[({]([^(){}:;]*?) :(?=\s)")
+
+
+class Block:
+    """A definition or a lemma, with the comment above it."""
+
+    def __init__(self, file, module, name, line, comment, kind):
+        self.file, self.module, self.name, self.line, self.comment, self.kind = file, module, name, line, comment, kind
+        self.code = []
+
+    @property
+    def key(self):
+        return self.module, self.name
+
+    @property
+    def is_public(self):
+        return bool(re.match(r"\s*(?:(?:abbrev|unfoldable)\s+)*pub\s", self.code[0]))
+
+    def constructors(self):
+        if self.kind != "data":
+            return []
+        return [found[1] for line in self.code[1:] if (found := re.match(r"\s+([^\s:(){}]+)\s+:\s", line))]
+
+
+class File:
+    """A file of definitions or lemmas."""
+
+    def __init__(self, path):
+        self.path = path
+        place = os.path.relpath(path, CRATES)
+        self.place, self.crate = place, place.split("/")[0]
+        self.module = "Rattle." + place.removesuffix(".antt").replace("/", ".")
+        with open(path, encoding="utf-8") as file:
+            self.lines = file.read().split("\n")
+        self.imports, self.blocks, self.comment = imports_of(self.lines), [], []
+        self.read()
+
+    def read(self):
+        comment, indent, abbrev = [], 0, ""
+        for number, line in enumerate(self.lines, 1):
+            if number == 1 and line.startswith("--"):
+                self.comment = [line]
+                continue
+            if not self.blocks and line.startswith("--") and len(self.comment) == number - 1:
+                self.comment.append(line)
+                continue
+            if re.match(r"((?:abbrev|unfoldable)\s+)?mutual$", line):
+                indent, comment = 2, []
+                continue
+            if indent and line.strip() and not line.startswith("  "):
+                indent = 0
+            inner = line[indent:] if line.startswith(" " * indent) else line
+            if not inner.strip():
+                comment = []
+            elif inner.startswith("--"):
+                comment.append(inner)
+            elif USE.match(inner):
+                comment = []
+            elif not inner.startswith(" ") and (found := BEGINS.match(inner)):
+                name = found["type"] or found["name"]
+                self.blocks.append(Block(self.place, self.module, name, number, comment, found["kind"]))
+                self.blocks[-1].code.append(inner)
+                comment = []
+            elif self.blocks:
+                self.blocks[-1].code.append(inner)
+                comment = []
+
+
+def imports_of(lines):
+    """What the file calls each name that it imports: `word` to `(module, name)`, or to `(module, None)` for a module."""
+    found = {}
+    for line in lines:
+        use = USE.match(line)
+        if not use:
+            continue
+        module, names, alias = use.groups()
+        if names is None:
+            found[alias or module.split(".")[-1]] = (module, None)
+            continue
+        for word in names.split(","):
+            name, _, other = word.strip().partition(" as ")
+            found[(other or name).strip()] = (module, name.strip())
+    return found
+
+
+def bound_by(code):
+    """The variables that a text binds."""
+    return {word for names in BINDERS.findall(code) for part in names for word in part.split()}
+
+
+class Names:
+    """All blocks under some folders of the crates, and which of them a text names."""
+
+    def __init__(self, files):
+        self.files = files
+        self.blocks = {block.key: block for file in files for block in file.blocks}
+        self.imports = {file.module: file.imports for file in files}
+        self.of_constructor = {}
+        for block in self.blocks.values():
+            for name in block.constructors():
+                self.of_constructor[block.module, name] = block.key
+
+    def named(self, text, imports, module=""):
+        """The blocks that a text of this module names."""
+        own, found = bound_by(text), set()
+        for word in set(WORD.findall(text)):
+            for part in {word, *word.split(".")[:1]}:
+                keys = [imports[part]] if part in imports else [] if part in own else [(module, part)]
+                for of, name in keys:
+                    # A member of a module: `law.name`.
+                    key = (of, word.split(".")[1] if name is None and "." in word else name)
+                    key = self.of_constructor.get(key, key)
+                    if key in self.blocks:
+                        found.add(key)
+        return found
+
+    def below(self, start):
+        """These blocks, and all that they rest on."""
+        seen, todo = set(), list(start)
+        while todo:
+            key = todo.pop()
+            if key not in seen:
+                seen.add(key)
+                todo += self.named_by(key)
+        return seen
+
+    def named_by(self, key):
+        block = self.blocks[key]
+        code = "\n".join(line for line in block.code if not line.strip().startswith("--"))
+        return self.named(code, self.imports[block.module], block.module)
+
+
+def libraries():
+    """The names of the library crates, lowest first, as crates.txt has them."""
+    with open(os.path.join(TOP, "crates.txt"), encoding="utf-8") as file:
+        names = re.findall(r"(?m)^([a-z0-9_]+):", file.read())
+    return [name for name in names if not NO_LIBRARIES.match(name)]
+
+
+def antt_files(crate, part):
+    """The files of a part of a crate, those of a folder after the file of its name."""
+    found = []
+    for at, folders, names in os.walk(os.path.join(CRATES, crate, part)):
+        folders.sort()
+        found += [os.path.join(at, name) for name in names if name.endswith(".antt") and name != "Lib.antt"]
+    return [File(path) for path in sorted(found)]
