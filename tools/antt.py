@@ -18,11 +18,11 @@ BINDERS = re.compile(r"λ ([^.]*)\.|[({]([^(){}:;]*?) :(?=\s)")
 
 
 class Block:
-    """A definition or a lemma, with the comment above it."""
+    """A definition or a lemma, with the comment above it, and the head of the section around it."""
 
     def __init__(self, file, module, name, line, comment, kind):
         self.file, self.module, self.name, self.line, self.comment, self.kind = file, module, name, line, comment, kind
-        self.code = []
+        self.code, self.around = [], ""
 
     @property
     def key(self):
@@ -52,7 +52,7 @@ class File:
         self.read()
 
     def read(self):
-        comment, indent, abbrev = [], 0, ""
+        comment, indent, around, is_head = [], 0, [], False
         for number, line in enumerate(self.lines, 1):
             if number == 1 and line.startswith("--"):
                 self.comment = [line]
@@ -61,10 +61,16 @@ class File:
                 self.comment.append(line)
                 continue
             if re.match(r"((?:abbrev|unfoldable)\s+)?mutual$", line):
-                indent, comment = 2, []
+                indent, around, comment = 2, [], []
+                continue
+            if line.startswith("module "):
+                indent, around, is_head = 2, [], True
+            if is_head:
+                around.append(line)
+                is_head, comment = not line.endswith(" where"), []
                 continue
             if indent and line.strip() and not line.startswith("  "):
-                indent = 0
+                indent, around = 0, []
             inner = line[indent:] if line.startswith(" " * indent) else line
             if not inner.strip():
                 comment = []
@@ -76,6 +82,7 @@ class File:
                 name = found["type"] or found["name"]
                 self.blocks.append(Block(self.place, self.module, name, number, comment, found["kind"]))
                 self.blocks[-1].code.append(inner)
+                self.blocks[-1].around = "\n".join(around)
                 comment = []
             elif self.blocks:
                 self.blocks[-1].code.append(inner)
@@ -142,7 +149,7 @@ class Names:
 
     def named_by(self, key):
         block = self.blocks[key]
-        code = "\n".join(line for line in block.code if not line.strip().startswith("--"))
+        code = "\n".join([block.around, *(line for line in block.code if not line.strip().startswith("--"))])
         return self.named(code, self.imports[block.module], block.module)
 
 
