@@ -1,11 +1,10 @@
 -- Lemmas on the copier.
-use Rattle.std.proofs.Common.{◌≡◌, ℕ, ◌+◌, ◌<◌, ◌≤◌, zero, suc, not, ◌||◌, ◌==◌, List, [], ◌∷◌, ◌++◌, length, take, Bool, true, false, IsTrue, ◌⊎◌, inl, inr, Some, None, if◌then◌else◌, refl, sym, ◌∙◌, ap, subst, arith, codes}
+use Rattle.std.proofs.Common.{◌≡◌, ℕ, ◌+◌, ◌<◌, ◌≤◌, zero, suc, not, List, [], ◌∷◌, ◌++◌, length, take, Bool, true, false, ◌⊎◌, inl, inr, Some, None, if◌then◌else◌, refl, sym, ◌∙◌, ap, subst, arith, codes}
 use Rattle.std.proofs.lemmas.Bool.{false≢true}
-use Rattle.std.proofs.lemmas.List.Folds.{list_any-append}
-use Rattle.ports_core.specs.Slot.{Slot, has_file, slot_at, changed_at, opened, adds, breaks, closes, with_written, with_broken, told_of, is_writable, FailsToOpen, broke, numberless}
+use Rattle.ports_core.specs.Slot.{Slot, has_file, slot_at, changed_at, opened, adds, breaks, closes, with_written, with_broken, told_of, FailsToOpen, broke, numberless}
 use Rattle.ports_core.specs.Write.{BrokeAfter}
 use Rattle.ports_core.specs.Part.{Part, Begins, IsBeginning, OutputsAt, StoppedBetween, nothing}
-use Rattle.ports_core.specs.Swept.{AreMade, Swept}
+use Rattle.ports_core.specs.Swept.{Swept}
 use Rattle.ports_core.specs.Engine.{Ended, IsMet, cut}
 use Rattle.ports_core.specs.Work.{no_needs}
 use Rattle.ports_core.specs.declared.fault.Fault.{Fault}
@@ -16,7 +15,7 @@ use Rattle.ports_core.specs.declared.slot.State.TheVariants.{Open, Closed}
 use Rattle.ports_core.proofs.SlotLemmas.{length-changed_at, slot_at-changed}
 use Rattle.ports_core.proofs.FileLemmas.{gets, ended, last_changes, write_makes, close_makes, file_more}
 use Rattle.ports_core.proofs.PartLemmas.{begins_itself, begins_more, nothing_begins, nothing_begins_part, nothing_out, out_more, outputs_count, sound_at, stopped_here, take_begins_behind}
-use Rattle.ports_core.proofs.SlotSteps.{open_has_file, none_past, none_opened, opened_last, opened_writable, writable_before, swept_none, written_last, written_writable, writable_elsewhere}
+use Rattle.ports_core.proofs.SlotSteps.{open_has_file, none_past, none_opened, swept_none, written_last, written_writable}
 use Rattle.run_core.specs.RunSteps.{OpensShort}
 use Rattle.copy_example.specs.Copy.{copied, copy_opening, copy_work, has_newline}
 use Rattle.copy_example.specs.Copying.{IsReady, OwnsFile}
@@ -113,10 +112,6 @@ ready_still slot bytes old new ready wrote = record {
   output = written_writable old new 0 slot bytes ready.output wrote;
 }
 
--- standard output can be written still once the file is closed
-pub output_still : (slot : ℕ) (old new : List Slot) → IsReady slot old → new ≡ changed_at slot closes old → IsTrue (is_writable new 0)
-output_still slot old new ready closed = writable_elsewhere old new 0 slot closes (λ same. let two = ready.streams in omega (arith, same, two)) closed ready.output
-
 -- changes that leave a file
 abbrev pub Leaves : (Slot → Slot) → Type 0
 Leaves change = (s : Slot) → has_file s.state ≡ true → has_file (change s).state ≡ true
@@ -146,13 +141,6 @@ owns_closed slot first old new own closed = owns_still slot first slot closes ol
 pub owns_ready : (slot : ℕ) (slots : List Slot) → IsReady slot slots → OwnsFile slot slot slots
 owns_ready slot slots ready = record { streams = ready.streams; last = ready.last; made = open_has_file (slot_at slots slot).state (slot_at slots slot).is_broken ready.file; only = refl }
 
--- the file, and none after it
-pub are_made : (slot first : ℕ) (slots : List Slot) → OwnsFile slot first slots → AreMade slot 1 slots
-are_made slot first slots own = record {
-  files = λ place above below. let same : slot ≡ place = omega (arith, above, below) in subst (λ n. has_file (slot_at slots n).state ≡ true) same own.made;
-  none_after = λ place past. none_past slots place (let last = own.last in omega (arith, last, past));
-}
-
 -- the file that was closed is owned, and what is written to standard output changes nothing in that
 pub owns_ended : (slot : ℕ) (bytes : List ℕ) (old mid new : List Slot) → IsReady slot old → mid ≡ changed_at slot closes old → new ≡ with_written 0 bytes mid → OwnsFile slot slot new
 owns_ended slot bytes old mid new ready closed wrote =
@@ -163,14 +151,6 @@ pub swept_own : (told keep : Bool) (before : List Slot) (x : List ℕ) (slot : �
 swept_own told keep before x slot old reached new last at swept = subst (λ first. Swept (not keep) first reached new) (file_place told before x slot old last at) swept
 
 -- opening
-
-pub ready_opened : (name : List ℕ) (slot : ℕ) (old new : List Slot) → 2 ≤ length old → IsTrue (is_writable old 0) → slot ≡ length old → new ≡ old ++ opened name Fresh ∷ [] → IsReady slot new
-ready_opened name slot old new two can number is = record {
-  streams = omega (arith, number);
-  last = opened_last old new slot name Fresh number is;
-  file = opened_writable old new slot name Fresh number is;
-  output = writable_before old new 0 (opened name Fresh) (omega (arith, two)) is can;
-}
 
 pub begins : (told : Bool) (old new : List Slot) → 2 ≤ length old → new ≡ old ++ opened (codes "copy") Fresh ∷ [] → OutputsAt told old (copied [] [] Open) new
 begins told old new two is = file_more told old nothing old new (codes "copy") Fresh (nothing_out told old (omega arith)) is
@@ -194,11 +174,5 @@ opens_short told keep old new _ two (numberless full same) = record {
 
 -- what came in has a newline, or not
 
-pub found_more : (found more : Bool) (x piece : List ℕ) → found ≡ has_newline x → more ≡ has_newline piece → (found || more) ≡ has_newline (x ++ piece)
-found_more found more x piece is also = ap (λ (b : Bool). b || more) is ∙ ap (λ (b : Bool). has_newline x || b) also ∙ sym (list_any-append (λ byte. byte == 10) x piece)
-
 pub goes_well : (keep found : Bool) (x : List ℕ) → found ≡ has_newline x → found ≡ true → (copy_work keep).verdict x ≡ None
 goes_well keep found x holds is = ap (λ (b : Bool). if b then None else Some (fault.NoMatch 0 0)) (sym holds ∙ is)
-
-pub is_judged : (keep found : Bool) (x : List ℕ) → found ≡ has_newline x → found ≡ false → (copy_work keep).verdict x ≡ Some (fault.NoMatch 0 0)
-is_judged keep found x holds is = ap (λ (b : Bool). if b then None else Some (fault.NoMatch 0 0)) (sym holds ∙ is)

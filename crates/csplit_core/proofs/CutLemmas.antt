@@ -22,9 +22,8 @@ use Rattle.csplit_core.specs.laws.PlanLaws.{plan_once, runs}
 use Rattle.csplit_core.specs.inner.Progress.{GoesPast}
 use Rattle.csplit_core.specs.Section.{Section, section, section_of, lines_between, bytes_of, is_last_kept, settled_end, settled_sections}
 use Rattle.csplit_core.specs.laws.SectionLaws.{part_grows, ends_as}
-use Rattle.csplit_core.specs.Writer.{WriterState, Writes, IsReady, size_of}
-use Rattle.csplit_core.specs.inner.Writer.{KeepsFiles, Halts, Went, Stopped, Goes}
-use Rattle.csplit_core.specs.inner.Writer.{Moves as Gets}
+use Rattle.csplit_core.specs.Writer.{WriterState, Writes, size_of}
+use Rattle.csplit_core.specs.inner.Writer.{KeepsFiles, Went, Stopped}
 use Rattle.csplit_core.specs.declared.line_cutter.Cut.{Cut}
 use Rattle.csplit_core.specs.Cutter.{CutterState, suppress_in, state_in, kept_by, text_from, Leads, draft_by, IsFit, IsAt}
 use Rattle.csplit_core.specs.inner.Cutter.{settled_part, part_at, search_after, CutsNow, PassesOn, IsAfter, CutAt, CutNot, WillCut}
@@ -165,9 +164,6 @@ pub record Passed (cutter mid : CutterState) (writer : WriterState) (cut : Cut) 
   pub fit : IsFit mid
   pub fewer : needed mid.lines (state_in mid) < needed cutter.lines (state_in cutter)
   pub state : PassesOn (record cutter { writer = writer }) cut mid
-
-passed_style : (told : Bool) (cutter mid : CutterState) (writer : WriterState) (cut : Cut) (before : List ℕ) (old new : List Slot) → Went told cutter.writer (with_bytes before) old new writer → Passed cutter mid writer cut → mid.writer.style ≡ cutter.writer.style
-passed_style told cutter mid writer cut before old new went passed = ap (λ (c : CutterState). c.writer.style) passed.same ∙ went.style
 
 -- where the run stands then
 passed_state : (told : Bool) (cutter mid : CutterState) (writer : WriterState) (cut : Cut) (before : List ℕ) (old new : List Slot) → Went told cutter.writer (with_bytes before) old new writer → Passed cutter mid writer cut → (operand : Operand) (operands : List Operand) → (state_in cutter).operands ≡ operand ∷ operands

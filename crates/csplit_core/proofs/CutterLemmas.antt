@@ -1,5 +1,5 @@
 -- Lemmas on the cutter of lines.
-use Rattle.std.proofs.Common.{◌≡◌, ◌⊎◌, inl, inr, ℕ, ◌+◌, ◌-◌, ◌<◌, ◌≤◌, ◌^◌, List, [], ◌++◌, sym, ◌∙◌, ap, subst, arith}
+use Rattle.std.proofs.Common.{◌≡◌, ◌⊎◌, inl, inr, ℕ, ◌+◌, ◌-◌, ◌≤◌, List, [], ◌++◌, sym, ◌∙◌, ap, subst, arith}
 use Rattle.std.proofs.lemmas.List.{append-nil}
 use Rattle.seg_core.specs.Line.{line_count, first_lines, after_lines}
 use Rattle.csplit_core.specs.Draft.{Draft, draft_part}
@@ -11,21 +11,10 @@ use Rattle.csplit_core.specs.laws.PlanLaws.{goes_on}
 use Rattle.csplit_core.specs.Section.{most_waiting}
 use Rattle.csplit_core.specs.declared.progress.Turn.{Turn}
 use Rattle.csplit_core.specs.Writer.{WriterState, Writes}
-use Rattle.csplit_core.specs.Cutter.{CutterState, suppress_in, state_in, kept_by, text_from, draft_by, settled_draft, IsFit, IsAt, EndsNow, IsLive, IsPast}
-use Rattle.csplit_core.specs.inner.Cutter.{settled_part, IsWhole, part_at, Arrives}
-use Rattle.csplit_core.proofs.MoveLemmas.{few_repetitions}
+use Rattle.csplit_core.specs.Cutter.{CutterState, suppress_in, state_in, kept_by, text_from, draft_by, IsAt, EndsNow, IsLive}
+use Rattle.csplit_core.specs.inner.Cutter.{settled_part, IsWhole, part_at}
 use Rattle.csplit_core.proofs.LineLemmas.{all_lines-append, count-append, count_from, first_still, rest_more, from_further, first_further}
 use Rattle.csplit_core.proofs.SettledLemmas.{settled_draft_is, settled_part_is, settled_count, ended_still}
-
--- the numbers are small
-pub small_current : (cutter : CutterState) → IsFit cutter → cutter.lines ≤ 2 ^ 63 → cutter.progress.current < 2 ^ 64 - 1
-small_current cutter fit few = let within : cutter.progress.current ≤ cutter.lines + 1 = fit.fits.current in omega (arith, within, few)
-
-pub small_matched : (cutter : CutterState) → IsFit cutter → cutter.lines ≤ 2 ^ 63 → cutter.progress.matched < 2 ^ 64 - 1
-small_matched cutter fit few = let within : cutter.progress.matched ≤ cutter.lines = fit.fits.matched in omega (arith, within, few)
-
-pub small_repetition : (cutter : CutterState) → IsFit cutter → cutter.lines ≤ 2 ^ 63 → cutter.progress.repetition < 2 ^ 64 - 1
-small_repetition cutter fit few = let within : cutter.progress.repetition ≤ cutter.lines = few_repetitions cutter.lines (state_in cutter) fit.fits in omega (arith, within, few)
 
 -- the plan up to where the cutter stands
 pub runs_to : (cutter : CutterState) (x left : List ℕ) (at : IsAt cutter x left) (ends : EndsNow cutter x) → Runs (suppress_in cutter) (all_lines x) (start cutter.operands) at.steps (state_in cutter) ends.ending

@@ -1,62 +1,18 @@
 -- A cut moves on, and the numbers stay small.
-use Rattle.std.proofs.Common.{◌≡◌, ℕ, zero, suc, ◌+◌, ◌-◌, ◌*◌, ◌^◌, ◌<◌, ◌≤◌, Bool, true, false, List, [], ◌∷◌, length, drop, get_or, refl, sym, ◌∙◌, subst, arith}
-use Rattle.std.specs.Prelude.{min}
-use Rattle.bre_core.specs.Pattern.{Pattern}
-use Rattle.csplit_core.specs.Operand.{Offset, Target, Number, Search, Operand, has_more, moved}
-use Rattle.csplit_core.specs.Plan.{State, search_line, line_after, operands_after, repetition_after, state_after}
+use Rattle.std.proofs.Common.{◌≡◌, ℕ, zero, suc, ◌+◌, ◌-◌, ◌*◌, ◌<◌, ◌≤◌, Bool, true, false, List, [], ◌∷◌, drop, get_or, refl, sym, ◌∙◌, subst, arith}
+use Rattle.csplit_core.specs.Operand.{Target, Number, Search, Operand, has_more}
+use Rattle.csplit_core.specs.Plan.{State, line_after, operands_after, repetition_after, state_after}
 use Rattle.csplit_core.specs.Progress.{state_of}
-use Rattle.csplit_core.specs.inner.Progress.{FallsAt, MovesOn}
+use Rattle.csplit_core.specs.inner.Progress.{MovesOn}
 use Rattle.csplit_core.specs.Measure.{Moves, IsRepeatedBy, IsRepeated, Fits}
 use Rattle.csplit_core.specs.declared.progress.Progress.{Progress}
 use Rattle.csplit_core.specs.declared.progress.Turn.{Turn}
-use Rattle.csplit_core.specs.declared.progress.Turn.TheVariants.{UsedUp, Missed, Above, Below, Cuts}
-use Rattle.csplit_core.specs.laws.MatchLaws.{search_past}
+use Rattle.csplit_core.specs.declared.progress.Turn.TheVariants.{Cuts}
 use Rattle.csplit_core.specs.laws.PlanLaws.{line_some, fewer_moves}
 use Rattle.csplit_core.specs.inner.PlanLaws.{needed}
 use Rattle.csplit_core.proofs.LastSectionLemmas.{after_within}
 use Rattle.csplit_core.specs.laws.SectionLaws.{front_of}
-use Rattle.csplit_core.proofs.TurnLemmas.{capped, left_is}
-
-pub moves_number : (operands rest : List Operand) (operand : Operand) (total : ℕ) (progress : Progress) (number most : ℕ) → progress.done < length operands → drop progress.done operands ≡ operand ∷ rest → operand.target ≡ Number number
-    → most ≡ min (number * (progress.repetition + 1)) (2 ^ 64 - 1) → total < 2 ^ 64 - 1 → (turn : Turn) → FallsAt total progress.current progress.matched most turn → progress.matched ≤ total → MovesOn operands total progress turn
-moves_number operands rest operand total progress number most within are target is few UsedUp at matched = tt
-moves_number operands rest operand total progress number most within are target is few Missed at matched = tt
-moves_number operands rest operand total progress number most within are target is few (Above line cap) at matched = record {
-  operand = operand;
-  rest = rest;
-  within = within;
-  left = are;
-  cut = number * (progress.repetition + 1);
-  moves = subst (λ t. Moves total (state_of operands progress) t line (number * (progress.repetition + 1))) (sym target) refl;
-  line_is = at.1 ∙ is;
-  matched_within = omega (arith, at.0, matched);
-  above = omega (arith, at.1, at.2);
-}
-moves_number operands rest operand total progress number most within are target is few Below at matched = tt
-moves_number operands rest operand total progress number most within are target is few (Cuts line cut) at matched =
-    let same : most ≡ number * (progress.repetition + 1) = capped (number * (progress.repetition + 1)) (2 ^ 64 - 1) most total is at.3 few in
-    (operand, rest, within, are, subst (λ t. Moves total (state_of operands progress) t line cut) (sym target) (at.1 ∙ same), omega (arith, at.0, matched), omega (arith, at.1, at.2), omega (arith, at.1, at.3))
-
-pub moves_search : (suppress : Bool) (operands rest : List Operand) (operand : Operand) (total : ℕ) (progress : Progress) (pattern : Pattern) (kept : Bool) (offset : Offset) (most : ℕ) → progress.done < length operands → drop progress.done operands ≡ operand ∷ rest
-    → operand.target ≡ Search pattern kept offset → search_line suppress (state_of operands progress) ≤ total → most ≡ min (moved offset total) (2 ^ 64 - 1) → (turn : Turn) → FallsAt total progress.current total most turn → MovesOn operands total progress turn
-moves_search suppress operands rest operand total progress pattern kept offset most within are target near is UsedUp at = tt
-moves_search suppress operands rest operand total progress pattern kept offset most within are target near is Missed at = tt
-moves_search suppress operands rest operand total progress pattern kept offset most within are target near is (Above line cap) at =
-    let less : progress.matched < search_line suppress (state_of operands progress) = search_past suppress (state_of operands progress) in record {
-      operand = operand;
-      rest = rest;
-      within = within;
-      left = are;
-      cut = moved offset total;
-      moves = subst (λ t. Moves total (state_of operands progress) t line (moved offset total)) (sym target) (omega (arith, less, near, at.0), omega (arith, at.0));
-      line_is = at.1 ∙ is;
-      matched_within = omega (arith, at.0);
-      above = omega (arith, at.1, at.2);
-    }
-moves_search suppress operands rest operand total progress pattern kept offset most within are target near is Below at = tt
-moves_search suppress operands rest operand total progress pattern kept offset most within are target near is (Cuts line cut) at =
-    let less : progress.matched < search_line suppress (state_of operands progress) = search_past suppress (state_of operands progress) in
-    (operand, rest, within, are, subst (λ t. Moves total (state_of operands progress) t line cut) (sym target) (omega (arith, less, near, at.0), omega (arith, at.0)), omega (arith, at.0), omega (arith, at.1, at.2), omega (arith, at.1, at.3))
+use Rattle.csplit_core.proofs.TurnLemmas.{left_is}
 
 repeated_again : (total : ℕ) (state next : State) (target : Target) (matched cut : ℕ) → Moves total state target matched cut → 1 ≤ cut → cut ≤ total → next.repetition ≡ state.repetition + 1 → next.matched ≡ matched
     → IsRepeatedBy total state target → IsRepeatedBy total next target
@@ -89,16 +45,6 @@ fits_after suppress total state operand operands matched cut fits are at few lea
   repeated = repeated_by total state operand operands matched cut at (omega (arith, fits.some, least)) within (subst (IsRepeated total state) are fits.repeated)
       (has_more operand.times state.repetition) (state_after suppress operand operands state.repetition matched cut) refl refl;
 }
-
-repeated_within : (total : ℕ) (state : State) (operands : List Operand) → IsRepeated total state operands → state.matched ≤ total → state.repetition ≤ total
-repeated_within total state [] none within = omega (arith, none)
-repeated_within total state (operand ∷ operands) few within = by operand.target few where
-  by : (target : Target) → IsRepeatedBy total state target → state.repetition ≤ total
-  by (Number n) few = few
-  by (Search pattern kept offset) few = omega (arith, few, within)
-
-pub few_repetitions : (total : ℕ) (state : State) → Fits total state → state.repetition ≤ total
-few_repetitions total state fits = repeated_within total state state.operands fits.repeated fits.matched
 
 pub passed : (suppress : Bool) (operands : List Operand) (total : ℕ) (old new : Progress) (operand : Operand) (matched cut : ℕ) (turn : Turn) → Fits total (state_of operands old) → MovesOn operands total old turn → turn ≡ Cuts matched cut
     → operand ≡ get_or operands old.done operand → ((rest : List Operand) → drop old.done operands ≡ operand ∷ rest → state_of operands new ≡ state_after suppress operand rest old.repetition matched cut)

@@ -1,5 +1,5 @@
 -- Going on after a cut.
-use Rattle.std.proofs.Common.{◌≡◌, ℕ, ◌<◌, ◌≤◌, Result, Ok, Err, OnOk, Some, None, List, [], ◌∷◌, length, drop, get_or, refl, sym, ◌∙◌, ap, subst}
+use Rattle.std.proofs.Common.{◌≡◌, ◌<◌, Result, Ok, Err, OnOk, List, [], ◌∷◌, drop, get_or, refl, sym, ◌∙◌, ap, subst}
 use Rattle.ports_core.specs.declared.fault.Fault.{Fault}
 use Rattle.csplit_core.specs.Input.{newline}
 use Rattle.csplit_core.specs.Measure.{Fits}
@@ -10,17 +10,9 @@ use Rattle.csplit_core.specs.Progress.{state_of}
 use Rattle.csplit_core.specs.declared.line_cutter.Cut.{Cut}
 use Rattle.csplit_core.specs.declared.progress.Progress.{Progress}
 use Rattle.csplit_core.specs.declared.progress.Turn.TheVariants.{Cuts}
-use Rattle.csplit_core.specs.Cutter.{CutterState, state_in, next_of, most_by, pattern_by, IsFit}
+use Rattle.csplit_core.specs.Cutter.{CutterState, state_in, most_by, pattern_by, IsFit}
 use Rattle.csplit_core.specs.inner.Cutter.{WillCut}
 use Rattle.csplit_core.proofs.MoveLemmas.{passed}
-use Rattle.csplit_core.proofs.TurnLemmas.{left_is, none_left}
-
--- the operand at a place is the next one
-pub next_there : (operands : List Operand) (at : ℕ) (operand : Operand) → at < length operands → operand ≡ get_or operands at operand → Some operand ≡ next_of (drop at operands)
-next_there operands at operand within is = sym (ap next_of (left_is operands at operand within is))
-
-pub next_none : (operands : List Operand) (at : ℕ) → length operands ≤ at → None ≡ next_of (drop at operands)
-next_none operands at beyond = sym (ap next_of (none_left operands at beyond))
 
 -- what is so of the state after a cut
 abbrev pub IsOn : CutterState → Progress → Type 0

@@ -10,9 +10,8 @@ use Rattle.ports_core.proofs.SlotSteps.{keeps_again}
 use Rattle.csplit_core.specs.Input.{all_lines}
 use Rattle.csplit_core.specs.Output.{Style}
 use Rattle.csplit_core.specs.inner.PlanLaws.{needed}
-use Rattle.csplit_core.specs.Writer.{WriterState, IsReady, size_of}
-use Rattle.csplit_core.specs.inner.Writer.{KeepsFiles, Halts}
-use Rattle.csplit_core.specs.inner.Writer.{Moves as Gets}
+use Rattle.csplit_core.specs.Writer.{IsReady, size_of}
+use Rattle.csplit_core.specs.inner.Writer.{KeepsFiles}
 use Rattle.csplit_core.specs.declared.line_cutter.Cut.{Cut}
 use Rattle.csplit_core.specs.declared.progress.Turn.{Turn}
 use Rattle.csplit_core.specs.Cutter.{CutterState, state_in, AimHolds, IsFit, IsSound, IsAt, EndsNow}
@@ -29,9 +28,6 @@ at_alike cutter aim window x left at = record { steps = at.steps; leads = at.lea
 
 pub fit_alike : (cutter : CutterState) (aim : Turn) → IsFit cutter → IsFit (record cutter { aim = aim })
 fit_alike cutter aim fit = record { fits = fit.fits; most = fit.most; delim = fit.delim; sought = fit.sought }
-
-pub will_alike : (cutter : CutterState) (aim : Turn) (window : Window) (cut : Cut) → WillCut cutter cut → WillCut (alike cutter aim window) cut
-will_alike cutter aim window cut will = record { operand = will.operand; operands = will.operands; some = will.some; left = will.left; moves = will.moves; matched = will.matched; from = will.from; within = will.within }
 
 -- The lines that are left have been cut so often.
 pub record Spreading (told : Bool) (cutter : CutterState) (cut : Cut) (place : ℕ) (waiting line : List ℕ) (old new : List Slot) (now : CutterState) (left : List ℕ) : Type 0 where

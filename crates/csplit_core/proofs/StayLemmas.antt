@@ -1,5 +1,5 @@
 -- What stays of a plan when more lines come, and which lines have to be looked at.
-use Rattle.std.proofs.Common.{◌≡◌, inl, inr, ℕ, suc, ◌+◌, ◌-◌, ◌<◌, ◌≤◌, max, eqb, ◌&&◌, Bool, true, false, cond, List, [], ◌∷◌, ◌++◌, length, get_or, refl, ◌∙◌, ap, arith, length-append}
+use Rattle.std.proofs.Common.{◌≡◌, inl, inr, ℕ, suc, ◌+◌, ◌-◌, ◌<◌, ◌≤◌, max, eqb, ◌&&◌, Bool, true, false, cond, List, [], ◌++◌, length, get_or, refl, ◌∙◌, ap, arith, length-append}
 use Rattle.std.proofs.lemmas.Bool.{false≢true, cases_lt, cases_eq}
 use Rattle.std.proofs.lemmas.Bool.Decides.{nat_tests}
 use Rattle.std.proofs.lemmas.List.{append-nil}
@@ -34,20 +34,6 @@ none_more operand a b from some none those line from_on within = elim (cases_lt 
       ap (λ (l : Line). l.marks operand) (get_or-append_right a b (line - 1) unmarked (omega (arith, beyond))) ∙ those (line - 1 - length a) (omega (arith, e, beyond, within))
   | inr here ↦ match_still operand a b line (omega (arith, some, from_on)) here ∙ none line from_on here
 ]
-
--- or the next one is
-pub first_more : (operand : Operand) (a b : List Line) (line : Line) (c : List Line) (from : ℕ) → 1 ≤ from → from ≤ suc (length a + length b) → MatchesNone operand a from → NoneMatch operand b → line.marks operand ≡ true
-    → IsFirst operand ((a ++ b) ++ line ∷ c) from (suc (length a + length b))
-first_more operand a b line c from some near none those here =
-    let both = none_more operand a b from some none those in
-    let e : length (a ++ b) ≡ length a + length b = length-append a b in
-    let all : length ((a ++ b) ++ line ∷ c) ≡ length (a ++ b) + suc (length c) = length-append (a ++ b) (line ∷ c) in record {
-      not_before = near;
-      within = omega (arith, e, all);
-      match = ap (λ (l : Line). l.marks operand) (get_or-append_right (a ++ b) (line ∷ c) (suc (length a + length b) - 1) unmarked (omega (arith, e))
-          ∙ ap (λ k. get_or (line ∷ c) k unmarked) (let k : suc (length a + length b) - 1 - length (a ++ b) ≡ 0 = omega (arith, e) in k)) ∙ here;
-      first = λ other from_on less. match_still operand (a ++ b) (line ∷ c) other (omega (arith, some, from_on)) (omega (arith, e, less)) ∙ both other from_on (omega (arith, e, less));
-    }
 
 -- After a cut, no line before the last one has to be looked at again
 

@@ -1,7 +1,7 @@
 -- Taking a text of complete lines in, stretch by stretch.
 use Rattle.std.proofs.Common.{◌≡◌, ◌⊎◌, inl, inr, ℕ, ◌+◌, ◌-◌, ◌<◌, ◌≤◌, eqb, Bool, true, false, List, [], ◌∷◌, ◌++◌, length, take, drop, refl, sym, ◌∙◌, ap, subst, arith, append_assoc, length-append}
 use Rattle.std.proofs.lemmas.Bool.{cases_lt}
-use Rattle.std.proofs.lemmas.List.{append-nil, take-append-drop, drop_all, drop_at, drop-drop, length-drop}
+use Rattle.std.proofs.lemmas.List.{append-nil, take-append-drop, drop_all, length-drop}
 use Rattle.std.proofs.Math.Seq.{take-add}
 use Rattle.seg_core.specs.Line.{lines_of, line_count, first_lines, joined, ends_with}
 use Rattle.seg_core.proofs.FirstLines.{lines_of-first_lines}
@@ -16,7 +16,7 @@ use Rattle.csplit_core.specs.laws.SectionLaws.{grows}
 use Rattle.csplit_core.specs.declared.progress.Turn.TheVariants.{Below}
 use Rattle.csplit_core.specs.Writer.{IsReady}
 use Rattle.csplit_core.specs.Cutter.{CutterState, load, IsFit, IsSound, IsLive, EndsNow}
-use Rattle.csplit_core.specs.inner.Cutter.{settled_part, IsSame, IsWhole, IsLine, Held, HeldNot, Holds, PassesOver, Took, TookNot, Takes}
+use Rattle.csplit_core.specs.inner.Cutter.{settled_part, IsSame, IsWhole, IsLine, Held, HeldNot, PassesOver, Took, TookNot}
 use Rattle.csplit_core.proofs.LineLemmas.{all_lines-append, whole-append}
 use Rattle.csplit_core.proofs.TakeLemmas.{took_held, took_not_held}
 use Rattle.csplit_core.proofs.WriterLemmas.{moves_again, moves_as, moves_same, halts_after, halts_wider, halts_as, breaks_later, owns_again}
@@ -107,9 +107,6 @@ rest_some n text within = let e : length (drop n text) ≡ length text - n = len
 
 pub stretch_line : (n : ℕ) (text line rest : List ℕ) → n < length text → (0 < length (drop n text) → lines_of newline (drop n text) ≡ line ∷ lines_of newline rest) → IsLine line
 stretch_line n text line rest within first = one_line (drop n text) line rest (first (rest_some n text within))
-
-after_line : (n : ℕ) (text line rest : List ℕ) → drop n text ≡ line ++ rest → drop (n + length line) text ≡ rest
-after_line n text line rest is = sym (drop-drop (length line) n text) ∙ ap (drop (length line)) is ∙ drop_at line rest (length line) refl
 
 joined_within : (n : ℕ) (text line rest : List ℕ) → n ≤ length text → drop n text ≡ line ++ rest → n + length line ≤ length text
 joined_within n text line rest within is =
@@ -209,7 +206,3 @@ takes_fewer n left some within = let e : length (take (length left - n) (drop n 
 
 pub none_left : (left : List ℕ) (empty : Bool) → empty ≡ eqb (length left) 0 → empty ≡ true → left ≡ []
 none_left left empty is true_is = Rattle.csplit_core.proofs.CutLineLemmas.none_there left empty is true_is
-
-pub some_left : (left : List ℕ) (empty : Bool) → empty ≡ eqb (length left) 0 → empty ≡ false → 0 < length left
-some_left [] empty is false_is = absurd (Rattle.std.proofs.lemmas.Bool.false≢true (sym false_is ∙ is))
-some_left (byte ∷ left) empty is false_is = omega arith

@@ -3,7 +3,7 @@ use Rattle.std.proofs.Common.{◌≡◌, inl, inr, ℕ, zero, suc, ◌+◌, ◌-
 use Rattle.std.specs.Prelude.{min}
 use Rattle.std.proofs.lemmas.Bool.{cases_lt}
 use Rattle.std.proofs.Math.Nat.{min-eq_left, min-eq_right}
-use Rattle.std.proofs.lemmas.List.{drop_more, drop_all}
+use Rattle.std.proofs.lemmas.List.{drop_more}
 use Rattle.bre_core.specs.Pattern.{Pattern}
 use Rattle.csplit_core.specs.Operand.{Offset, Number, Search, Operand, Line, is_match, moved, has_more}
 use Rattle.csplit_core.specs.Plan.{State, search_line, CutsAt, Misses, line_after, operands_after, repetition_after, state_after}
@@ -83,21 +83,8 @@ misses_search suppress all total state found operand operands pattern kept offse
       (λ near. let at : search_line suppress state ≤ total = omega (arith, seen.count, near) in ap (is_match operand all) seen.count ∙ seen.last operand operands are at ∙ none at));
 }
 
--- no operand is left
-pub none_left : (operands : List Operand) (at : ℕ) → length operands ≤ at → drop at operands ≡ []
-none_left operands at beyond = drop_all at operands beyond
-
 pub left_is : (operands : List Operand) (at : ℕ) (operand : Operand) → at < length operands → operand ≡ get_or operands at operand → drop at operands ≡ operand ∷ drop (at + 1) operands
 left_is operands at operand within is = drop_more operands at operand within ∙ ap (λ o. o ∷ drop (at + 1) operands) (sym is)
-
--- after a cut, where the operand is performed once more and where it is over
-pub passes_again : (suppress : Bool) (operands rest : List Operand) (operand : Operand) (at repetition matched cut current again : ℕ) → drop at operands ≡ operand ∷ rest → has_more operand.times repetition ≡ true → current ≡ line_after suppress cut → again ≡ repetition + 1
-    → state_of operands (record { done = at; repetition = again; current = current; matched = matched }) ≡ state_after suppress operand rest repetition matched cut
-passes_again suppress operands rest operand at repetition matched cut current again are more is next =
-    ap (λ (those : List Operand). record { operands = those; repetition = again; current = current; matched = matched }) are
-    ∙ ap (λ n. record { operands = operand ∷ rest; repetition = n; current = current; matched = matched }) next
-    ∙ ap (λ c. record { operands = operand ∷ rest; repetition = repetition + 1; current = c; matched = matched }) is
-    ∙ ap (λ b. record { operands = operands_after b operand rest; repetition = repetition_after b repetition; current = line_after suppress cut; matched = matched }) (sym more)
 
 nothing_left : (k : ℕ) (operand : Operand) (rest : List Operand) → drop k [] ≡ operand ∷ rest → ⊥
 nothing_left zero operand rest is = no_length (length rest) (ap length is) where

@@ -11,10 +11,6 @@ use Rattle.seg_core.specs.declared.unit.Unit.TheVariants.{Lines, Bytes}
 use Rattle.ends_core.specs.Ends.{size, measure, first_of, behind_of, last_of, but_last_of}
 use Rattle.ends_core.specs.laws.EndsLaws.{measure-append, first_then_behind, ends_together, last_of-append}
 
-pub measure-nil : (delim : ℕ) (unit : Counted) → measure delim unit [] ≡ 0
-measure-nil delim Lines = refl
-measure-nil delim Bytes = refl
-
 pub first_of-nil : (delim : ℕ) (unit : Counted) (n : ℕ) → first_of delim unit n [] ≡ []
 first_of-nil delim Lines n = first_lines-nil delim n
 first_of-nil delim Bytes zero = refl

@@ -85,14 +85,6 @@ pub record HoldsFrom (told : Bool) (text : List ℕ) (left place delim n : ℕ) 
   pub there : told ≡ true → held ≡ drop place text
   pub last : held ≡ last_lines delim n held
 
-pub holds_none : (told : Bool) (text : List ℕ) (left delim n : ℕ) (held : List ℕ) → (told ≡ true → left ≡ length text) → held ≡ [] → HoldsFrom told text left left delim n held
-holds_none told text left delim n held all none = record {
-  within = omega arith;
-  long = ap length none ∙ (let zero_left : 0 ≡ left - left = omega arith in zero_left);
-  there = λ tells. none ∙ sym (drop_all left text (omega (arith, all tells)));
-  last = none ∙ sym (nil_from_length (last_lines delim n held) (let nothing : length held ≡ 0 = ap length none in omega (arith, lengths delim n held, nothing)));
-}
-
 -- a block before what was seen from a place on
 seen_more : (told : Bool) (text : List ℕ) (place size : ℕ) (block rest : List ℕ) → size ≤ place → length block ≡ size → (told ≡ true → Shows text (place - size) block) → (told ≡ true → rest ≡ drop place text) → told ≡ true → block ++ rest ≡ drop (place - size) text
 seen_more told text place size block rest within long shows there tells =
@@ -129,28 +121,11 @@ holds_last told text left place size delim n block held new known holds within l
     seen_from told text left (place - size) delim Lines n (block ++ held) new known (omega (arith, here)) all (seen_more told text place size block held within long shows holds.there)
     (is ∙ sym (last_after delim Lines n (front_of told (place - size) text) (block ++ held) more))
 
-pub holds_all : (told : Bool) (text : List ℕ) (left place delim n : ℕ) (held : List ℕ) → HoldsFrom told text left place delim n held → place ≡ 0 → HasSeen told text left (λ x. held ≡ last_lines delim n x)
-holds_all told text left place delim n held holds none = record {
-  seen = held;
-  long = let there = holds.long in omega (arith, there, none);
-  there = λ tells. holds.there tells ∙ ap (λ k. drop k text) none;
-  keeps = holds.last;
-}
-
 -- a window over bytes holds what stands between two places
 pub record HoldsBetween (told : Bool) (text : List ℕ) (from place : ℕ) (held : List ℕ) : Type 0 where
   pub within : from ≤ place
   pub long : length held ≡ place - from
   pub there : told ≡ true → held ≡ take (place - from) (drop from text)
-
-pub between_none : (told : Bool) (text : List ℕ) (from : ℕ) (held : List ℕ) → held ≡ [] → HoldsBetween told text from from held
-between_none told text from held none =
-    let nothing : 0 ≡ from - from = omega arith in
-    record {
-      within = omega arith;
-      long = ap length none ∙ nothing;
-      there = λ tells. none ∙ ap (λ k. take k (drop from text)) nothing;
-    }
 
 pub between_more : (told : Bool) (text : List ℕ) (from place size : ℕ) (block held new : List ℕ) → HoldsBetween told text from place held → length block ≡ size → (told ≡ true → Shows text place block) → new ≡ held ++ block → HoldsBetween told text from (place + size) new
 between_more told text from place size block held new holds long shows is =

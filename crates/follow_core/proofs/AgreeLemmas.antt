@@ -23,9 +23,6 @@ use Rattle.watch_core.proofs.WorldLemmas.{append_leads, append_grows}
 same_file : (file : ℕ) → (file == file) ≡ true
 same_file file = eq-eqb file file refl
 
-at : ℕ → List ℕ → Entry
-at file contents = version (record { file = file; contents = contents })
-
 -- what an appended file adds
 pub grown : (file : ℕ) (front rest whole : List ℕ) → whole ≡ front ++ rest → gain_between (version (record { file = file; contents = front })) (version (record { file = file; contents = whole })) ≡ rest
 grown file front rest whole is = rw is (

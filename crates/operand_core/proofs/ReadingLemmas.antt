@@ -2,10 +2,10 @@
 use Rattle.std.proofs.Common.{◌≡◌, ℕ, suc, ◌+◌, ◌-◌, ◌<◌, ◌≤◌, Bor, get_or, List, [], ◌∷◌, ◌++◌, map, length, take, drop, length-drop, Option, Some, None, Result, Ok, Err, refl, sym, ◌∙◌, ap, subst, arith, append_assoc}
 use Rattle.std.proofs.lemmas.List.{append-nil, take_all, drop-map}
 use Rattle.std.proofs.lemmas.Bool.Decides.{nat_tests}
-use Rattle.std.specs.Prelude.{◌≢◌, ◌==◌, true}
+use Rattle.std.specs.Prelude.{◌==◌, true}
 use Rattle.operand_core.specs.Operand.{Target, Number, Search, Times, Count, Operand}
 use Rattle.operand_core.specs.Word.{spelling}
-use Rattle.operand_core.specs.Reading.{Aim, line, match, Spelled, Aimed, aims, fails, aim_of, least_after, times_by, Words, no_more, failed, with_operand, words_from, words_of, IsTarget, IsRead, AreRead, Asks, HasRefused, IsFault}
+use Rattle.operand_core.specs.Reading.{Aim, line, match, Spelled, aims, fails, aim_of, least_after, times_by, Words, no_more, failed, with_operand, words_from, words_of, IsTarget, IsRead, AreRead, IsFault}
 use Rattle.operand_core.specs.Reading as reading
 use Rattle.operand_core.specs.inner.Aiming.{IsAimed, is_target, is_wrong, is_refused, no_memory}
 use Rattle.operand_core.specs.inner.Repeating.{least_by, SayTimes, no_word, again, other}
@@ -80,15 +80,6 @@ pub record Reads (words : List (Bor (List ℕ))) (read : List Operand) (least : 
   pub within : length left ≤ length words
   pub asks : words_of (texts words) ≡ after_front front (words_from (length words - length left) least (texts left))
 
-pub reads_first : (words : List (Bor (List ℕ))) → length words ≢ 0 → Reads words [] 0 words
-reads_first [] some = absurd (some refl)
-reads_first (word ∷ words) some = record {
-  front = [];
-  are = tt;
-  within = omega arith;
-  asks = ap (λ n. words_from n 0 (texts (word ∷ words))) (let e : 0 ≡ suc (length words) - suc (length words) = omega arith in e);
-}
-
 -- what a word that is no operand makes of the list
 
 abbrev pub spelled_as : ℕ → Aim → Times → Spelled
@@ -96,13 +87,6 @@ spelled_as index aim times = record { index = index; aim = aim; times = times }
 
 all_read : (front : List Spelled) (read : List Operand) → AreRead front read → (words : List Spelled) → words ≡ front ++ [] → AreRead words read
 all_read front read are words is = subst (λ those. AreRead those read) (sym (is ∙ append-nil front)) are
-
-pub ends_well : (words : List (Bor (List ℕ))) (read : List Operand) (least : ℕ) (left : List (Bor (List ℕ))) → Reads words read least left → length left < 1 → Asks (texts words) read
-ends_well words read least [] reads none = record {
-  well = ap (λ (w : Words). w.fault) reads.asks;
-  read = all_read reads.front read reads.are (words_of (texts words)).operands (ap (λ (w : Words). w.operands) reads.asks);
-}
-ends_well words read least (word ∷ left) reads none = absurd (omega (arith, none))
 
 -- there is a time for each operand
 says_by : (next : List ℕ) (words : List (List ℕ)) (says : Option Times) → times_by (spelling next) ≡ says → (times : Times) × (said : ℕ) × SayTimes (next ∷ words) times said

@@ -11,23 +11,6 @@ abbrev pub last_of : (last : Option ℕ) (place : ℕ) → Option ℕ → Option
 last_of last place None = last
 last_of last place (Some further) = Some (place + further)
 
-abbrev pub nearer : Bool → ℕ → Option ℕ → Option ℕ
-nearer here place last = cond here (Some place) last
-
-last_next : (last : Option ℕ) (place : ℕ) (here : Bool) (rest : Option ℕ)
-    → last_of last place (elim rest [ Some further ↦ Some (suc further) | None ↦ cond here (Some 0) None ]) ≡ last_of (nearer here place last) (place + 1) rest
-last_next last place here (Some further) = ap Some (let e : place + suc further ≡ place + 1 + further = omega arith in e)
-last_next last place true None = ap Some (let e : place + 0 ≡ place = omega arith in e)
-last_next last place false None = refl
-
-pub closing_next : (delimiter : ℕ) (last : Option ℕ) (place : ℕ) (escaped : Bool) (byte : ℕ) (text : List ℕ)
-    → last_of last place (closing delimiter escaped (byte ∷ text)) ≡ last_of (nearer (byte == delimiter && not escaped) place last) (place + 1) (closing delimiter (is_escape escaped byte) text)
-closing_next delimiter last place escaped byte text = last_next last place (byte == delimiter && not escaped) (closing delimiter (is_escape escaped byte) text)
-
-pub closing_first : (rest : Option ℕ) → last_of None 0 rest ≡ rest
-closing_first None = refl
-closing_first (Some place) = ap Some (let e : 0 + place ≡ place = omega arith in e)
-
 within_next : (count : ℕ) (here : Bool) (rest : Option ℕ) → IfSome rest (λ place. place < count)
     → IfSome (elim rest [ Some place ↦ Some (suc place) | None ↦ cond here (Some 0) None ]) (λ place. place < suc count)
 within_next count here (Some place) less = omega (arith, less)

@@ -1,6 +1,6 @@
 -- Lemmas on messages.
-use Rattle.std.proofs.Common.{◌≡◌, ℕ, Bool, true, false, not, ◌&&◌, IsTrue, List, [], ◌∷◌, ◌++◌, take, Result, Ok, Err, OnOk, IfErr, inl, inr, refl, sym, ◌∙◌, ap, subst}
-use Rattle.ports_core.specs.Slot.{Slot, is_open, slot_at, is_writable, with_written, with_broken, adds, breaks, told_of}
+use Rattle.std.proofs.Common.{◌≡◌, ℕ, Bool, false, List, [], ◌∷◌, ◌++◌, take, Result, Ok, Err, OnOk, IfErr, inl, inr, refl, sym, ◌∙◌, ap, subst}
+use Rattle.ports_core.specs.Slot.{Slot, slot_at, with_written, with_broken, adds, breaks, told_of}
 use Rattle.ports_core.specs.Write.{BrokeAfter}
 use Rattle.ports_core.specs.Text.{message_of}
 use Rattle.ports_core.specs.declared.tool.Tool.{Tool}
@@ -8,20 +8,10 @@ use Rattle.ports_core.specs.declared.whole.WriteCut.{WriteCut}
 use Rattle.ports_core.specs.declared.fault.Fault.TheVariants.{Memory}
 use Rattle.ports_core.specs.Message.{Prints, whole, cut, passed, PrintsOn, Says, SaysAll, SaysOn}
 
-open_and_sound : (slots : List Slot) → is_open (slot_at slots 1).state ≡ true → (slot_at slots 1).is_broken ≡ false → is_writable slots 1 ≡ true
-open_and_sound slots opened sound = ap (λ (b : Bool). b && not (slot_at slots 1).is_broken) opened ∙ ap not sound
-
-pub can_print : (slots : List Slot) (broken : Bool) → is_open (slot_at slots 1).state ≡ true → broken ≡ (slot_at slots 1).is_broken → broken ≡ false → IsTrue (is_writable slots 1)
-can_print slots broken opened tells sound = open_and_sound slots opened (sym tells ∙ sound)
-
 pub prints_on : (told : Bool) (text : List ℕ) (old new : List Slot) (result : Result (Unit {0}) WriteCut) → (slot_at old 1).is_broken ≡ false → OnOk result (new ≡ with_written 1 (told_of told text) old) → IfErr result (λ at. BrokeAfter told old new 1 text at.written) → PrintsOn told text old new
 prints_on told text old new (Ok u) sound out broke output error since is = (adds (told_of told text) error, whole (sym (ap (λ slots. (slot_at slots 1).is_broken) is) ∙ sound) refl, out ∙ ap (with_written 1 (told_of told text)) is)
 prints_on told text old new (Err at) sound out broke output error since is =
     (breaks (adds (told_of told (take at.written text)) error), cut (sym (ap (λ slots. (slot_at slots 1).is_broken) is) ∙ sound) at.written broke.within refl, broke.slots ∙ ap (λ slots. with_broken 1 (with_written 1 (told_of told (take at.written text)) slots)) is)
-
-pub passes_on : (told : Bool) (text : List ℕ) (old : List Slot) (broken : Bool) → broken ≡ (slot_at old 1).is_broken → broken ≡ true → PrintsOn told text old old
-passes_on told text old broken tells is_broken output error since is =
-    (error, passed (sym (ap (λ slots. (slot_at slots 1).is_broken) is) ∙ sym tells ∙ is_broken) refl, is)
 
 pub says_on : (told : Bool) (tool : Tool) (text said : List ℕ) (old new : List Slot) → said ≡ text → PrintsOn told said old new → SaysOn told tool text old new
 says_on told tool text said old new is prints output error since shape =

@@ -27,9 +27,6 @@ nothing_begins bytes = (bytes, refl)
 pub begins_trans : (low middle high : List ℕ) → IsBeginning low middle → IsBeginning middle high → IsBeginning low high
 begins_trans low middle high (rest, is) (more, is_too) = (rest ++ more, is_too ∙ ap (λ bytes. bytes ++ more) is ∙ append_assoc low rest more)
 
-pub take_begins : (n : ℕ) (bytes : List ℕ) → IsBeginning (take n bytes) bytes
-take_begins n bytes = (drop n bytes, sym (take-append-drop n bytes))
-
 pub take_begins_behind : (n : ℕ) (before bytes : List ℕ) → IsBeginning (before ++ take n bytes) (before ++ bytes)
 take_begins_behind n before bytes = (drop n bytes, ap (λ rest. before ++ rest) (sym (take-append-drop n bytes)) ∙ sym (append_assoc before (take n bytes) (drop n bytes)))
 

@@ -14,14 +14,6 @@ pub record Sweeping (first place : ℕ) (old now : List Slot) : Type 0 where
   pub after : (other : ℕ) → place ≤ other → slot_at now other ≡ slot_at old other
   pub cleared : (other : ℕ) → first ≤ other → other < place → Cleared (slot_at old other) (slot_at now other)
 
-pub none_swept : (first : ℕ) (slots : List Slot) → Sweeping first first slots slots
-none_swept first slots = record {
-  size = refl;
-  before = λ other within. refl;
-  after = λ other within. refl;
-  cleared = λ other above below. absurd (omega (arith, above, below));
-}
-
 there : (place : ℕ) (change : Slot → Slot) (slots : List Slot) → has_file (slot_at slots place).state ≡ true → slot_at (changed_at place change slots) place ≡ change (slot_at slots place)
 there place change [] has = absurd (false≢true has)
 there zero change (slot ∷ slots) has = refl
@@ -60,6 +52,3 @@ swept_all first count place old now made so_far past = record {
   by : (other : ℕ) → first ≤ other → (other < place) ⊎ (place ≤ other) → Cleared (slot_at old other) (slot_at now other)
   by other above (inl less) = so_far.cleared other above less
   by other above (inr more) = subst (λ slot. Cleared (slot_at old other) slot) (sym (so_far.after other more)) (none (made.none_after other (omega (arith, past, more))))
-
-pub still_there : (first count place : ℕ) (old now : List Slot) → 2 ≤ first → AreMade first count old → Sweeping first place old now → first ≤ place → place < first + count → (2 ≤ place) × (has_file (slot_at now place).state ≡ true)
-still_there first count place old now streams made so_far above within = (omega (arith, streams, above), ap (λ (slot : Slot). has_file slot.state) (so_far.after place (omega arith)) ∙ made.files place above within)

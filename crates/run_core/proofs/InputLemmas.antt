@@ -15,8 +15,8 @@ use Rattle.ports_core.specs.declared.tool.Tool.{Tool}
 use Rattle.ports_core.specs.declared.fault.Fault.{Fault}
 use Rattle.ports_core.specs.declared.fault.Fault.TheVariants.{Memory, Write, Read, Open, Suffixes, NoMatch, Range, Usage, Failed, TooLong}
 use Rattle.ports_core.proofs.PartLemmas.{out_more, out_cut, part_begins_itself, stopped_here, broken_at, outputs_count}
-use Rattle.ports_core.proofs.WriteLemmas.{told_of-nil, writable-written}
-use Rattle.ports_core.proofs.SlotLemmas.{with_written-nil, length-changed_at}
+use Rattle.ports_core.proofs.WriteLemmas.{writable-written}
+use Rattle.ports_core.proofs.SlotLemmas.{length-changed_at}
 use Rattle.run_core.specs.declared.inputs.Progress.{Progress}
 use Rattle.run_core.specs.declared.feeding.Fed.{Fed}
 use Rattle.run_core.specs.declared.feeding.Fed.TheVariants.{Whole, Enough, Broken}
@@ -39,17 +39,9 @@ no_header told text old fault is = subst (HeaderFails told text old old) (sym is
 pub broken_header : (told : Bool) (text said : List ℕ) (old new : List Slot) (n : ℕ) → said ≡ text → BrokeAfter told old new 0 said n → HeaderFails told text old new (Write 0)
 broken_header told text said old new n is cut = broke n (subst (λ bytes. BrokeAfter told old new 0 bytes n) is cut)
 
-header_none : (is_first : Bool) (name : List ℕ) (with_header : Bool) → with_header ≡ false → header_text with_header is_first name ≡ []
-header_none is_first name false is = refl
-header_none is_first name true is = absurd (false≢true (sym is))
-
 pub header_some : (is_first : Bool) (name : List ℕ) (with_header : Bool) → with_header ≡ true → header_text true is_first name ≡ header_text with_header is_first name
 header_some is_first name true is = refl
 header_some is_first name false is = absurd (false≢true is)
-
-pub without_header : (told with_header is_first : Bool) (name : List ℕ) (slots : List Slot) → with_header ≡ false → slots ≡ with_written 0 (told_of told (header_text with_header is_first name)) slots
-without_header told with_header is_first name slots is =
-    sym (ap (λ text. with_written 0 (told_of told text) slots) (header_none is_first name with_header is) ∙ ap (λ bytes. with_written 0 bytes slots) (told_of-nil told) ∙ with_written-nil 0 slots)
 
 -- the streams
 

@@ -7,7 +7,7 @@ use Rattle.ports_core.specs.Part.{Part, File, only_out, OutputsAt, IsBeginning, 
 use Rattle.ports_core.specs.Swept.{Swept, SweptFrom, none}
 use Rattle.ports_core.specs.declared.fault.Fault.{Fault}
 use Rattle.ports_core.specs.declared.fault.Fault.TheVariants.{Memory, Write, Read, Open, Suffixes, NoMatch, Range, Usage, Failed, TooLong}
-use Rattle.ports_core.proofs.PartLemmas.{begins_itself, begins_more, marks_by, outputs_count}
+use Rattle.ports_core.proofs.PartLemmas.{begins_itself, marks_by, outputs_count}
 use Rattle.ports_core.proofs.SlotLemmas.{length-changed_at, changed_at-append}
 use Rattle.ports_core.proofs.WriteLemmas.{told_of-append, with_written-append}
 use Rattle.run_core.specs.Task.{after_part}
@@ -16,19 +16,11 @@ files_after : (first low high : List File) → FilesBegin low high → FilesBegi
 files_after [] low high begins = begins
 files_after (file ∷ first) low high begins = (refl, refl, refl, inr refl, begins_itself file.bytes, files_after first low high begins)
 
-files_on : (first next : List File) → FilesBegin first (first ++ next)
-files_on [] next = tt
-files_on (file ∷ first) next = (refl, refl, refl, inr refl, begins_itself file.bytes, files_on first next)
-
 out_after : (out low high : List ℕ) → IsBeginning low high → IsBeginning (out ++ low) (out ++ high)
 out_after out low high (rest, is) = (rest, ap (λ bytes. out ++ bytes) is ∙ sym (append_assoc out low rest))
 
 pub begins_after : (first low high : Part) → Begins low high → Begins (after_part first low) (after_part first high)
 begins_after first low high begins = record { out = out_after first.out low.out high.out begins.out; files = files_after first.files low.files high.files begins.files }
-
--- a part begins what goes on after it
-pub begins_on : (first next : Part) → Begins first (after_part first next)
-begins_on first next = record { out = begins_more first.out next.out; files = files_on first.files next.files }
 
 pub after_assoc : (first next last : Part) → after_part (after_part first next) last ≡ after_part first (after_part next last)
 after_assoc first next last =

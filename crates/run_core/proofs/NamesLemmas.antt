@@ -1,5 +1,5 @@
 -- Lemmas on taking the inputs for names, one after another.
-use Rattle.std.proofs.Common.{codes, ◌≡◌, ℕ, ◌+◌, ◌-◌, ◌<◌, ◌≤◌, Bool, true, false, not, ◌&&◌, ◌||◌, IsTrue, if◌then◌else◌, List, [], ◌∷◌, ◌++◌, length, take, drop, map, get_or, Bor, Option, Some, None, IfSome, Result, Ok, Err, ◌⊎◌, inl, inr, arith, append_assoc, refl, sym, ◌∙◌, ap, subst, lit<}
+use Rattle.std.proofs.Common.{codes, ◌≡◌, ℕ, ◌+◌, ◌-◌, ◌<◌, ◌≤◌, Bool, true, false, not, ◌&&◌, ◌||◌, IsTrue, if◌then◌else◌, List, [], ◌∷◌, ◌++◌, length, take, drop, map, get_or, Bor, Option, Some, None, Result, Ok, Err, ◌⊎◌, inl, inr, arith, append_assoc, refl, sym, ◌∙◌, ap, subst, lit<}
 use Rattle.std.proofs.lemmas.List.{append-nil, length-map, take_rest}
 use Rattle.std.proofs.lemmas.Bool.{false≢true}
 use Rattle.ports_core.specs.Slot.{Slot, is_open, streams}
@@ -47,18 +47,6 @@ neither false b is = (refl, is)
 neither true b is = absurd (false≢true (sym is))
 
 -- the inputs that were opened
-
-pub opened_readable : (told : Bool) (laid : ℕ → List ℕ → Option Content) (old new : List Source) (name : List ℕ) (slot : ℕ) → Opens told laid old new name slot → IsTrue (is_readable new slot)
-opened_readable told laid old new name slot opens =
-    ap (λ those. is_readable those slot) opens.sources ∙ ap (is_readable (old ++ source_of opens.content ∷ [])) opens.number
-    ∙ ap (λ (source : Source). source.is_open && not source.is_broken) (last_source old (source_of opens.content))
-
-readable_at : (was_read : Bool) (sources : List Source) → (was_read ≡ false → IsTrue (is_readable sources 0)) → IfSome (standard_source was_read) (λ slot. IsTrue (is_readable sources slot))
-readable_at true sources can = tt
-readable_at false sources can = can refl
-
-pub dash_readable : (was_read : Bool) (source : Option ℕ) (sources : List Source) → source ≡ standard_source was_read → (was_read ≡ false → IsTrue (is_readable sources 0)) → IfSome source (λ slot. IsTrue (is_readable sources slot))
-dash_readable was_read source sources is can = subst (λ from. IfSome from (λ slot. IsTrue (is_readable sources slot))) (sym is) (readable_at was_read sources can)
 
 -- which input a name stands for
 

@@ -37,9 +37,6 @@ error_open slots has = ap (λ those. is_open (slot_at those 1).state) has.are �
 shape_of : (output error : Slot) (since slots : List Slot) → is_open error.state ≡ true → slots ≡ output ∷ error ∷ since → HasError slots
 shape_of output error since slots opened are = record { output = output; error = error; since = since; are = are; opened = opened }
 
-pub part_error : (told : Bool) (output error : Slot) (part : Part) (slots : List Slot) → is_open error.state ≡ true → OutputsAt told (output ∷ error ∷ []) part slots → HasError slots
-part_error told output error part slots opened at = shape_of (adds (told_of told part.out) output) error at.since slots opened at.slots
-
 marked_error : (IsName : List ℕ → Type 0) (fault : Fault) (output error : Slot) (since now : List Slot) → is_open error.state ≡ true → Marks IsName fault (output ∷ error ∷ since) now → HasError now
 marked_error IsName (Write zero) output error since now opened marks = shape_of (breaks output) error since now opened marks.1
 marked_error IsName (Write (suc zero)) output error since now opened marks = shape_of output (breaks error) since now opened marks.1

@@ -123,16 +123,6 @@ gain_one code old new n r least e em el ec ep = record {
           ap (λ k. get_or new.marks.items k false) stays ∙ back (at_place old.list.items place) (inl (r.marks place (omega (arith, g, ec, other))))
     ]
 
--- it was in the set
-pub gain_none : {code : List Node} (old new : Reach) (n : ℕ) → IsReach code old → get_or old.marks.items n false ≡ true → new ≡ old → Gains code (λ other. other ≡ n) old new
-gain_none {code = code} old new n r e same = subst (Gains code (λ other. other ≡ n) old) (sym same) (record {
-  sound = r;
-  size = refl;
-  more = omega arith;
-  front = λ place g. refl;
-  exact = λ number. (λ h. inl h, elim [ inl h ↦ h | inr q ↦ ap (λ k. get_or old.marks.items k false) q ∙ e ]);
-})
-
 pub gain_nothing : {code : List Node} (old new : Reach) (Added : ℕ → Type 0) → IsReach code old → new ≡ old → ((n : ℕ) → Added n → ⊥) → Gains code Added old new
 gain_nothing {code = code} old new Added r same never = subst (Gains code Added old) (sym same) (record {
   sound = r;
@@ -256,15 +246,8 @@ takes_none code n byte to read h is (inr (inl e)) p = pass_never code n byte to 
 takes_none code n byte to read h is (inr (inr (inl (skip, e)))) p = pass_never code n byte to read (read_here code n read h is) (λ bytes q. cc) p
 takes_none code n byte to read h is (inr (inr (inr (by, e)))) p = pass_never code n byte to read (read_here code n read h is) (λ bytes q. cc) p
 
-pub is_set : {code : List Node} (reach : Reach) → IsReach code reach → IsSet reach
-is_set reach r = record { fits = r.fits; counted = r.counted; listed = r.listed; marks = r.marks }
-
 pub set_count_most : (reach : Reach) → IsSet reach → reach.count ≤ length reach.marks.items
 set_count_most reach r = let l = marked_most reach.marks.items in omega (arith, l, r.counted)
-
--- a set's positions are no more than the code's, with its end
-pub reach_most : (code : List Node) (reach : Reach) → IsReach code reach → reach.positions ≤ weight code + 1
-reach_most code reach r = let m = positions_most code reach.marks.items in omega (arith, m, r.weighed)
 
 pub weight_in : (code : List Node) (n : ℕ) (read : Node) → n < length code → read ≡ get_or code n read → weight_of read ≡ weight_at code n
 weight_in [] n read h e = absurd (omega (arith, h))

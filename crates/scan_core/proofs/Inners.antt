@@ -148,9 +148,6 @@ walked_stops code sets table line place state steps t w h b e = (
       (next_by code (slice_index line place) (InSets sets state) (Inner code line place) (λ n. (w.exact n).0) (length code) ((t.told state (slice_index line place) w.known b).stop e)),
 )
 
-pub walked_bound : (code : List Node) (sets : List (List Bool)) (line : List ℕ) (place state steps : ℕ) → Walked code sets line place state steps → steps ≤ (length line + 1) * (weight code + 1)
-walked_bound code sets line place state steps w = steps_wider place (length line + 1) steps (weight code + 1) w.bound (let h = w.within in omega (arith, h))
-
 -- the line's end
 pub record WalkEnds (code : List Node) (line : List ℕ) (found : Bool) (steps : ℕ) : Type 0 where
   pub exact : IsTrue found ↔ EndsIn code line

@@ -1,5 +1,5 @@
 -- What numbers lead to without a byte, ready to be looked up.
-use Rattle.std.proofs.Common.{rules, ◌≡◌, ◌⊎◌, ◌↔◌, inl, inr, ℕ, suc, ◌+◌, ◌*◌, ◌-◌, ◌/◌, ◌%◌, ◌^◌, ◌<◌, ◌≤◌, Bool, false, List, [], ◌∷◌, ◌++◌, length, get_or, min, max, refl, sym, ap, ◌∙◌, subst, arith, length-append, w64}
+use Rattle.std.proofs.Common.{rules, ◌≡◌, ◌⊎◌, ◌↔◌, inl, inr, ℕ, suc, ◌+◌, ◌*◌, ◌-◌, ◌/◌, ◌%◌, ◌^◌, ◌<◌, ◌≤◌, Bool, false, List, [], ◌∷◌, ◌++◌, length, get_or, min, max, sym, ap, ◌∙◌, subst, arith, length-append, w64}
 use Rattle.std.proofs.lemmas.Bool.{cases_eq, cases_lt, false≢true}
 use Rattle.std.proofs.lemmas.Nat.{and_le_l, le_or_l, or_lt}
 use Rattle.std.proofs.lemmas.Nat.Bits.{and_high, bit_at_and, bit_at_or, bit_at_not, bit_at-lt, bit_at-zero, bit_at_mask_inside, bit_at_ones, bit_at_above, bit_at_cat_low, bit_at_cat_high, bit_at_set_same, bit_at_set_other, same_from_bits_below}
@@ -71,9 +71,6 @@ leaving_skip code hops at bit word before here b at_first at_last to l f = elim 
 pub record Peering (code : List Node) (number bit word : ℕ) : Type 0 where
   pub own : number % 64 < bit → bit_at word (number % 64) ≡ 1
   pub others : (b : ℕ) (at_first at_last : Bool) (to : ℕ) → b < 64 → bit_at word b ≡ 1 → Flows code at_first at_last (number / 64 * 64 + b) to → Stays code (number / 64 * 64 + b) to ⊎ Flows code at_first at_last number to
-
-pub peer_starts : (code : List Node) (number : ℕ) → Peering code number 0 0
-peer_starts code number = record { own = λ h. absurd (omega (arith, h)); others = λ b f l to h k. let z = bit_at-zero b in absurd (omega (arith, z, k)) }
 
 pub peer_more : (code : List Node) (number bit word : ℕ) → Peering code number bit word → bit < 64 → ((at_first at_last : Bool) (to : ℕ) → Flows code at_first at_last (number / 64 * 64 + bit) to → Stays code (number / 64 * 64 + bit) to ⊎ Flows code at_first at_last number to)
     → Peering code number (bit + 1) (bit_or word (1 * 2 ^ bit % 2 ^ 64))
@@ -158,9 +155,6 @@ pub record Insiding (code : List Node) (at word all left : ℕ) : Type 0 where
   pub from_word : (number : ℕ) → number < 64 → bit_at all number ≡ 1 → (bit : ℕ) × (bit < 64) × (bit_at word bit ≡ 1) × FlowsOn code false false (at * 64 + bit) (at * 64 + number)
   pub within : (bit : ℕ) → bit < 64 → bit_at left bit ≡ 1 → bit_at all bit ≡ 1
   pub rest : (bit : ℕ) → bit < 64 → bit_at all bit ≡ 1 → (bit_at left bit ≡ 1) ⊎ ((to : ℕ) → to < 64 → Flows code false false (at * 64 + bit) (at * 64 + to) → bit_at all to ≡ 1)
-
-pub inside_starts : (code : List Node) (at word : ℕ) → Insiding code at word word word
-inside_starts code at word = record { kept = λ bit h k. k; from_word = λ number h k. (number, h, k, (0, refl)); within = λ bit h k. k; rest = λ bit h k. inl k }
 
 -- what isn't in a word yet
 pub fresh_bit : (found all bit : ℕ) → all < 2 ^ 64 → bit < 64 → bit_at (bit_and found (bit_not w64 all)) bit ≡ min (bit_at found bit) (1 - bit_at all bit)
@@ -262,13 +256,6 @@ pub record Joining (code : List Node) (at word eight all : ℕ) : Type 0 where
   pub kept : (bit : ℕ) → bit < eight * 8 → bit_at word bit ≡ 1 → bit_at all bit ≡ 1
   pub from_word : (number : ℕ) → number < 64 → bit_at all number ≡ 1 → (bit : ℕ) × (bit < 64) × (bit_at word bit ≡ 1) × FlowsOn code false false (at * 64 + bit) (at * 64 + number)
   pub closed : (number to : ℕ) → number < 64 → to < 64 → bit_at all number ≡ 1 → Flows code false false (at * 64 + number) (at * 64 + to) → bit_at all to ≡ 1
-
-pub join_starts : (code : List Node) (at word : ℕ) → Joining code at word 0 0
-join_starts code at word = record {
-  kept = λ bit h. absurd (omega (arith, h));
-  from_word = λ number l is. let z = bit_at-zero number in absurd (omega (arith, z, is));
-  closed = λ number to l m is. let z = bit_at-zero number in absurd (omega (arith, z, is));
-}
 
 -- the bits of eight numbers of a word
 eight_bits : (word eight bit : ℕ) → word < 2 ^ 64 → bit_at (word / 2 ^ (eight * 8) % 256 * 2 ^ (eight * 8) % 2 ^ 64) bit ≡ min (bit_at word bit) (bit_at (2 ^ (8 + eight * 8) - 2 ^ (eight * 8)) bit)

@@ -1,7 +1,7 @@
 -- The words of the numbers of a kind.
 use Rattle.std.proofs.Common.{◌≡◌, ◌↔◌, inl, inr, ℕ, zero, suc, ◌+◌, ◌*◌, ◌-◌, ◌/◌, ◌%◌, ◌^◌, ◌<◌, ◌≤◌, List, [], ◌∷◌, ◌++◌, length, get_or, refl, sym, ap, ◌∙◌, subst, arith, length-append, w64}
 use Rattle.std.proofs.lemmas.Bool.{cases_eq, cases_lt}
-use Rattle.std.proofs.lemmas.Nat.Bits.{bit_at_set_same, bit_at_set_other, bit_at-zero}
+use Rattle.std.proofs.lemmas.Nat.Bits.{bit_at_set_same, bit_at_set_other}
 use Rattle.std.specs.Prelude.{bit_or}
 use Rattle.std.specs.Int.{bit_at}
 use Rattle.scan_core.specs.declared.masks.Kind.{Kind}
@@ -15,9 +15,6 @@ use Rattle.scan_core.proofs.Tables.{get-front, get-last}
 pub record Wording (code : List Node) (kind : Kind) (from bit word : ℕ) : Type 0 where
   pub past : (b : ℕ) → b < bit → (bit_at word b ≡ 1) ↔ IsOf code kind (from + b)
   pub rest : (b : ℕ) → bit ≤ b → bit_at word b ≡ 0
-
-pub word_starts : (code : List Node) (kind : Kind) (from : ℕ) → Wording code kind from 0 0
-word_starts code kind from = record { past = λ b h. absurd (omega (arith, h)); rest = λ b h. bit_at-zero b }
 
 pub word_more : (code : List Node) (kind : Kind) (from bit word : ℕ) → Wording code kind from bit word → bit < 64 → IsOf code kind (from + bit) → Wording code kind from (bit + 1) (bit_or word (1 * 2 ^ bit % 2 ^ 64))
 word_more code kind from bit word w h is = record {
@@ -43,9 +40,6 @@ pub record Adding (code : List Node) (kind : Kind) (old now : List ℕ) (at : �
   pub kept : (n : ℕ) → n < length old → get_or now n 0 ≡ get_or old n 0
   pub exact : (number : ℕ) → number < 64 * at → (bit_at (get_or now (length old + number / 64) 0) (number % 64) ≡ 1) ↔ IsOf code kind number
 
-pub add_starts : (code : List Node) (kind : Kind) (old : List ℕ) → Adding code kind old old 0
-add_starts code kind old = record { size = omega arith; kept = λ n h. refl; exact = λ number h. absurd (omega (arith, h)) }
-
 pub add_more : (code : List Node) (kind : Kind) (old now new : List ℕ) (at word : ℕ) → Adding code kind old now at → ((bit : ℕ) → bit < 64 → (bit_at word bit ≡ 1) ↔ IsOf code kind (at * 64 + bit)) → new ≡ now ++ word ∷ [] → Adding code kind old new (at + 1)
 add_more code kind old now new at word a is e = record {
   size = let l = ap length e in let m = length-append now (word ∷ []) in let s = a.size in omega (arith, l, m, s);
@@ -65,16 +59,10 @@ add_more code kind old now new at word a is e = record {
   ];
 }
 
-pub add_ends : (code : List Node) (kind : Kind) (old now : List ℕ) (at : ℕ) → Adding code kind old now at → at ≡ width code → AddsMask code kind old now
-add_ends code kind old now at a e = record { size = let s = a.size in omega (arith, s, e); kept = a.kept; exact = λ number h. a.exact number (omega (arith, h, e)) }
-
 -- the numbers that take the first bytes
 pub record Taking (code : List Node) (words : List ℕ) (byte : ℕ) : Type 0 where
   pub size : length words ≡ byte * width code
   pub exact : (b : ℕ) → b < byte → IsMask code (Takes b) (b * width code) words
-
-pub take_starts : (code : List Node) → Taking code [] 0
-take_starts code = record { size = (let e : 0 ≡ 0 * width code = grind arith in e); exact = λ b h. absurd (omega (arith, h)) }
 
 pub take_more : (code : List Node) (old new : List ℕ) (byte : ℕ) → Taking code old byte → AddsMask code (Takes byte) old new → Taking code new (byte + 1)
 take_more code old new byte t a = record {

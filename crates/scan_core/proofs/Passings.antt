@@ -1,6 +1,6 @@
 -- A step of a set of words over a byte, word by word.
 use Rattle.std.proofs.Common.{◌≡◌, ◌⊎◌, ◌↔◌, inl, inr, ℕ, zero, suc, ◌+◌, ◌*◌, ◌/◌, ◌%◌, ◌^◌, ◌<◌, ◌≤◌, List, length, get_or, set, min, refl, sym, ap, ◌∙◌, subst, arith}
-use Rattle.std.proofs.lemmas.Bool.{cases_eq, cases_lt}
+use Rattle.std.proofs.lemmas.Bool.{cases_lt}
 use Rattle.std.proofs.lemmas.List.{get_or-set_same, get_or-set_other, length-set}
 use Rattle.std.proofs.lemmas.Nat.Bits.{bit_at_and, bit_at_or, bit_at_lowest, bit_at-suc, bit_at-zero, bit_at_above, bit_at_cat_low}
 use Rattle.std.specs.Prelude.{bit_and, bit_or}
@@ -171,9 +171,3 @@ none_in words at zeros h number k =
     let b = (is_in_word words (number / 64) (number % 64) (omega arith)).1 (subst (IsIn words) same k) in
     let z = ap (λ x. bit_at x (number % 64)) (zeros (number / 64) (omega (arith, l, h))) ∙ bit_at-zero (number % 64) in
     omega (arith, b, z)
-
-pub zero_more : (words new : List ℕ) (at : ℕ) → ((n : ℕ) → n < at → get_or words n 0 ≡ 0) → at < length words → new ≡ set words at 0 → (n : ℕ) → n < at + 1 → get_or new n 0 ≡ 0
-zero_more words new at zeros h e n l = elim (cases_eq n at) [
-  | inl same ↦ ap (λ w. get_or w n 0) e ∙ ap (λ k. get_or (set words at 0) k 0) same ∙ get_or-set_same words at 0 0 h
-  | inr other ↦ ap (λ w. get_or w n 0) e ∙ get_or-set_other words at n 0 0 other ∙ zeros n (omega (arith, l, other))
-]

@@ -9,7 +9,7 @@ use Rattle.scan_core.specs.declared.table.State.{State}
 use Rattle.scan_core.specs.declared.table.Table.{Table}
 use Rattle.scan_core.specs.Code.{weight}
 use Rattle.scan_core.specs.Counted.{set_at, EndsIn}
-use Rattle.scan_core.specs.inner.Shifts.{AreLight, IsAt, IsComplete, IsOffset, IsReached, IsShiftTable, IsShifted, IsSized, IsStateAt, IsWeight, IsWord, six_bits}
+use Rattle.scan_core.specs.inner.Shifts.{AreLight, IsAt, IsComplete, IsOffset, IsReached, IsShiftTable, IsShifted, IsStateAt, IsWeight, six_bits}
 use Rattle.scan_core.specs.Table.{IsFound, IsOutcome}
 use Rattle.scan_core.specs.inner.Table.{IsTable, IsTableOf, Walked, entry, no_state}
 use Rattle.scan_core.proofs.Along.{steps_more, steps_wider}
@@ -32,9 +32,6 @@ pub record IsBegun (rows : List ℕ) (count byte done word : ℕ) : Type 0 where
   pub small : word < 2 ^ (6 * done)
   pub told : (state place : ℕ) → state ≤ count → state + done ≡ count + 1 + place → IsOffset rows count state byte (six_bits word place)
 
-pub word_starts : (rows : List ℕ) (count byte : ℕ) → IsBegun rows count byte 0 0
-word_starts rows count byte = record { small = omega arith; told = λ state place h e. absurd (omega (arith, h, e)) }
-
 pub word_more : (rows : List ℕ) (count byte done word offset : ℕ) → IsBegun rows count byte done word → done ≤ count → offset < 64 → IsOffset rows count (count - done) byte offset → IsBegun rows count byte (done + 1) (word * 64 + offset)
 word_more rows count byte done word offset b h o i = record {
   small =
@@ -50,9 +47,6 @@ word_more rows count byte done word offset b h o i = record {
         let same : count - done ≡ state = omega (arith, l, e, h) in
         subst (IsOffset rows count state byte) (sym (six_first word offset o)) (subst (λ s. IsOffset rows count s byte offset) same i)
     told state (suc place) l e = subst (IsOffset rows count state byte) (sym (six_more word offset place o)) (b.told state place l (omega (arith, e)))
-
-pub word_ends : (rows : List ℕ) (count byte done word : ℕ) → IsBegun rows count byte done word → done ≡ count + 1 → IsWord rows count byte word
-word_ends rows count byte done word b e = λ state h. b.told state state h (omega (arith, e))
 
 pub word_fits : (rows : List ℕ) (count byte done word : ℕ) → IsBegun rows count byte done word → done ≤ 9 → word < 18014398509481984
 word_fits rows count byte done word b h =
@@ -70,9 +64,6 @@ states_are_light code table t state h =
     let f = t.1.few in
     let p = n.positions in
     omega (arith, m, w, f, p)
-
-pub is_sized : (code : List Node) (shifts : ShiftTable) → IsShiftTable code shifts → IsSized shifts
-is_sized code shifts t = record { words = t.2.words.all; weights = t.2.weights.all; light = λ low h. (t.2.weights.each low h).light }
 
 pub at_starts : (code : List Node) (shifts : ShiftTable) (line : List ℕ) → IsShiftTable code shifts → IsAt code shifts line 0 0 0
 at_starts code shifts line t = (
@@ -234,9 +225,6 @@ pub reached_more : (code : List Node) (shifts : ShiftTable) (line : List ℕ) (p
     → read ≡ get_or shifts.words.items (slice_index line place) d → word' ≡ read / 2 ^ (word % 64) → IsReached code shifts line (place + 1) word'
 reached_more code shifts line place word word' read d r h b e w =
     (r.0 + get_or shifts.weights.items (word % 256) 0, at_more code shifts line place word word' r.0 read d (get_or shifts.weights.items (word % 256) 0) 0 r.1 h b e w refl)
-
-pub reached_stop : (code : List Node) (shifts : ShiftTable) (line : List ℕ) (place word : ℕ) → IsReached code shifts line place word → word % 64 ≡ shifts.stop → IsFound code line true
-reached_stop code shifts line place word r e = (at_stop code shifts line place word r.0 r.1 e).exact
 
 pub reached_end : (code : List Node) (shifts : ShiftTable) (line : List ℕ) (place word : ℕ) (noted d : State) → IsReached code shifts line place word → (word % 64 ≡ shifts.stop → ⊥) → place ≡ length line → 0 < length line → noted ≡ get_or shifts.states.items (word % 64 / 6) d
     → IsFound code line noted.ends

@@ -5,7 +5,7 @@ use Rattle.bre_core.specs.Match.{Parts}
 use Rattle.scan_core.specs.declared.node.Node.{Node}
 use Rattle.scan_core.specs.declared.reach.Reach.{Reach}
 use Rattle.std.proofs.lemmas.List.{get_or-set_same, get_or-set_other, length-set}
-use Rattle.scan_core.proofs.Enterings.{gain_nothing, gain_by, gain_both, marks_within}
+use Rattle.scan_core.proofs.Enterings.{gain_by, gain_both, marks_within}
 use Rattle.scan_core.specs.Sets.{IsMarked, positions_among}
 use Rattle.scan_core.specs.inner.Sets.{IsSet, at_place, marked, IsReach, Has, Gains, Flows, FlowsOn, Spreads, Opens, Passes, PassesFrom, IsEmptied, Advances, Loaded}
 
@@ -17,16 +17,6 @@ pub record Spreading (code : List Node) (at_first at_last : Bool) (old now : Rea
   pub kept : (number : ℕ) → Has old number → Has now number
   pub from : (number : ℕ) → Has now number → (start : ℕ) × Has old start × FlowsOn code at_first at_last start number
   pub closed : (place to : ℕ) → place < done → Flows code at_first at_last (at_place now.list.items place) to → Has now to
-
-pub spread_starts : (code : List Node) (at_first at_last : Bool) (old : Reach) → IsReach code old → Spreading code at_first at_last old old 0
-spread_starts code at_first at_last old r = record {
-  sound = r;
-  size = refl;
-  order = omega arith;
-  kept = λ number h. h;
-  from = λ number h. (number, h, (0, refl));
-  closed = λ place to h. absurd (omega (arith, h));
-}
 
 pub spread_more : (code : List Node) (at_first at_last : Bool) (old now new : Reach) (done number : ℕ) → Spreading code at_first at_last old now done → done < now.count → number ≡ at_place now.list.items done
     → Gains code (Flows code at_first at_last number) now new → Spreading code at_first at_last old new (done + 1)
@@ -80,9 +70,6 @@ opened code at_first at_last old middle new g s = record {
 abbrev pub Past : Reach → List Node → ℕ → ℕ → ℕ → Type 0
 Past reach code byte below to = (place : ℕ) × (place < below) × Passes code byte (at_place reach.list.items place) to
 
-pub pass_starts : (reach : Reach) (code : List Node) (byte : ℕ) (old : Reach) → IsReach code old → Gains code (Past reach code byte 0) old old
-pass_starts reach code byte old r = gain_nothing old old (Past reach code byte 0) r refl (λ n p. omega (arith, p.1))
-
 pub pass_more : (reach : Reach) (code : List Node) (byte below number : ℕ) (old now new : Reach) → Gains code (Past reach code byte below) old now → number ≡ at_place reach.list.items below → Passes code byte number (number + 1)
     → Gains code (λ other. other ≡ number + 1) now new → Gains code (Past reach code byte (below + 1)) old new
 pass_more reach code byte below number old now new g e p h = gain_by old new (λ n. Past reach code byte below n ⊎ (n ≡ number + 1)) (Past reach code byte (below + 1)) (gain_both old now new (Past reach code byte below) (λ n. n ≡ number + 1) g h) there here
@@ -118,9 +105,6 @@ pub record Emptying (old now : Reach) (done : ℕ) : Type 0 where
   pub list : now.list.items ≡ old.list.items
   pub count : now.count ≡ old.count
   pub left : (number : ℕ) → Has now number → (place : ℕ) × (done ≤ place) × (place < old.count) × (at_place old.list.items place ≡ number)
-
-pub empty_starts : (old : Reach) → IsSet old → Emptying old old 0
-empty_starts old r = record { size = refl; list = refl; count = refl; left = λ n h. let was = r.listed n h in (was.0, omega arith, was.1, was.2) }
 
 pub empty_more : (old now new : Reach) (done number : ℕ) → IsSet old → Emptying old now done → done < old.count → number ≡ at_place old.list.items done → new.marks.items ≡ set now.marks.items number false → new.list.items ≡ now.list.items → new.count ≡ now.count
     → Emptying old new (done + 1)
@@ -205,9 +189,6 @@ pub record Loading (code : List Node) (flags : List Bool) (old : Reach) (done : 
   pub size : length now.marks.items ≡ length old.marks.items
   pub there : (number : ℕ) → Has now number → IsMarked flags number
   pub here : (number : ℕ) → number < done → IsMarked flags number → Has now number
-
-pub load_starts : {code : List Node} (flags : List Bool) (old now : Reach) → IsEmptied code old now → Loading code flags old 0 now
-load_starts flags old now e = record { sound = e.sound; size = e.size; there = λ n h. absurd (e.none n h); here = λ n l. absurd (omega (arith, l)) }
 
 pub load_more : {code : List Node} (flags : List Bool) (old now new : Reach) (done : ℕ) → Loading code flags old done now → IsMarked flags done → Gains code (λ n. n ≡ done) now new → Loading code flags old (done + 1) new
 load_more flags old now new done l m g = record {

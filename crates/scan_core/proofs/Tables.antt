@@ -8,13 +8,12 @@ use Rattle.scan_core.specs.declared.node.Node.{Node}
 use Rattle.scan_core.specs.declared.node.Node.TheVariants.{Take}
 use Rattle.scan_core.specs.declared.reach.Reach.{Reach}
 use Rattle.scan_core.specs.declared.table.State.{State}
-use Rattle.scan_core.specs.declared.table.Table.{Table}
 use Rattle.scan_core.specs.inner.Built.{AreAlike, Built, AreSized, IsBuilding, IsFilling, LeadsTo, AreNoted}
 use Rattle.scan_core.specs.Code.{At}
 use Rattle.scan_core.specs.Counted.{set_at}
 use Rattle.scan_core.specs.Sets.{IsMarked, positions_among}
 use Rattle.scan_core.specs.inner.Sets.{IsReach, Has, FlowsOn, Passes, PassesFrom, Advances, Loaded, Spreads}
-use Rattle.scan_core.specs.inner.Table.{Next, InSets, entry, Tells, IsState, no_state, IsTableOf}
+use Rattle.scan_core.specs.inner.Table.{Next, InSets, entry, Tells, IsState, no_state}
 use Rattle.scan_core.proofs.Enterings.{at_index, at_once, at_least}
 
 pub get-front : {X : Type 0} (xs ys : List X) (n : ℕ) (d : X) → n < length xs → get_or (xs ++ ys) n d ≡ get_or xs n d
@@ -269,13 +268,6 @@ state_is code sets rows number old loaded spread state sized size l s p f q e = 
   ends = e;
 }
 
--- no state is noted yet
-pub none_noted : (code : List Node) (sets : List (List Bool)) (rows : List ℕ) (states : List State) → states ≡ [] → AreNoted code sets rows states
-none_noted code sets rows states e = record {
-  some = let l = ap length e in omega (arith, l);
-  each = λ state h. let l = ap length e in absurd (omega (arith, l, h));
-}
-
 -- one state more
 pub one_noted : (code : List Node) (sets : List (List Bool)) (rows : List ℕ) (states new : List State) (number : ℕ) (noted : State) → AreNoted code sets rows states → number ≡ length states → number < length sets → IsState code sets rows number noted → new ≡ states ++ noted ∷ [] → AreNoted code sets rows new
 one_noted code sets rows states new number noted a e h s q = record {
@@ -286,19 +278,4 @@ one_noted code sets rows states new number noted a e h s q = record {
         let same : state ≡ number = omega (arith, g, l, m, fresh, e) in
         subst (IsState code sets rows state) (sym (ap (λ t. get_or t state no_state) q ∙ get-last states noted no_state state (same ∙ e))) (subst (λ k. IsState code sets rows k noted) (sym same) s)
   ];
-}
-
--- the table is complete
-pub is_table : (code : List Node) (most state : ℕ) (building : Building) (table : Table) → IsBuilding code most (state * 256) building → state ≡ length building.sets.items → length code ≤ 65536 → most < 65534 → table.rows.items ≡ building.rows.items
-    → AreNoted code building.sets.items building.rows.items table.states.items → length table.states.items ≡ length building.sets.items → IsTableOf code building.sets.items table
-is_table code most state building table b e few m er n l = record {
-  few = few;
-  some = b.built.some;
-  most = let r = b.room in omega (arith, r, m);
-  rows = let q = ap length er in let f = b.filled in omega (arith, q, f, e);
-  states = l;
-  front = b.built.front;
-  none = b.built.none;
-  told = λ s k h b256. subst (λ rows. Tells code building.sets.items s k (entry rows s k)) (sym er) (b.built.told s k h b256 (let f = b.filled in omega (arith, f, e, h, b256)));
-  noted = λ s h. subst (λ rows. IsState code building.sets.items rows s (get_or table.states.items s no_state)) (sym er) (n.each s (omega (arith, h, l)));
 }

@@ -75,9 +75,6 @@ pub record Spreading (code : List Node) (at_first at_last : Bool) (old now : Lis
   pub from : (number : ℕ) → IsIn now number → (start : ℕ) × IsIn old start × FlowsOn code at_first at_last start number
   pub closed : (start to : ℕ) → start < 64 * at → IsIn now start → Flows code at_first at_last start to → IsIn now to
 
-pub spreading_starts : (code : List Node) (at_first at_last : Bool) (old : List ℕ) → Spreading code at_first at_last old old 0
-spreading_starts code at_first at_last old = record { size = refl; kept = λ n h. h; from = λ n h. (n, h, (0, refl)); closed = λ start to l. absurd (omega (arith, l)) }
-
 pub flows_join : (code : List Node) (at_first at_last : Bool) (count start middle number : ℕ) → FlowsOn code at_first at_last start middle → Parts (Flows code at_first at_last) count middle number → FlowsOn code at_first at_last start number
 flows_join code at_first at_last zero start middle number f p = subst (FlowsOn code at_first at_last start) p f
 flows_join code at_first at_last (suc count) start middle number f p = let r = flows_join code at_first at_last count start middle p.0 f p.1 in (suc r.0, (p.0, r.1, p.2))

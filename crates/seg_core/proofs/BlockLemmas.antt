@@ -1,11 +1,11 @@
 -- A text in blocks.
 use Rattle.std.proofs.Common.{◌≡◌, ℕ, zero, suc, ◌+◌, ◌-◌, ◌^◌, ◌<◌, ◌≤◌, List, [], ◌∷◌, ◌++◌, length, take, drop, get_or, set, refl, sym, ap, subst, ◌∙◌, arith, drop-cons, add-one}
-use Rattle.std.proofs.lemmas.List.{append-nil, append_assoc, length-append, length-drop, drop-append-le, take-append-le, drop-drop, take-append-drop, take_at, drop_at}
+use Rattle.std.proofs.lemmas.List.{append-nil, append_assoc, length-append, length-drop, drop-drop, take-append-drop, take_at, drop_at}
 use Rattle.std.proofs.lemmas.List.Elements.{All-get_or, All-set, All-append, All-take, All-drop}
 use Rattle.std.proofs.Math.Seq.{drop-append-add, take-append-add}
 use Rattle.seg_core.specs.Line.{delimiters, ends_with, first_lines, line_count, after_lines, last_lines, but_last_lines}
 use Rattle.seg_core.specs.Blocks.{BlockState, text_of, HasCount, HaveCounts, IsCounted}
-use Rattle.seg_core.specs.inner.Blocks.{count_of, Gone, first_of}
+use Rattle.seg_core.specs.inner.Blocks.{count_of, Gone}
 use Rattle.seg_core.proofs.Delimiters.{delimiters-append, delimiters-take-drop}
 use Rattle.seg_core.proofs.LineCounts.{line_count-drop, ends_with-append}
 use Rattle.seg_core.proofs.LastLines.{few_from_nothing}
@@ -67,23 +67,6 @@ all_counted delim (block ∷ blocks) each =
     let both = delimiters-append delim block.bytes (text_of blocks) in
     omega arith
 
--- the first block
-pub text_first : (blocks : List BlockState) → text_of blocks ≡ first_of blocks ++ text_of (drop 1 blocks)
-text_first [] = refl
-text_first (block ∷ blocks) = refl
-
--- bytes that go at the front of the first block
-pub text_set_first : (blocks : List BlockState) (first new : BlockState) (n : ℕ) → 0 < length blocks → first ≡ get_or blocks 0 first → n ≤ length first.bytes → new.bytes ≡ drop n first.bytes → text_of (set blocks 0 new) ≡ drop n (text_of blocks)
-text_set_first [] first new n some is fits left = absurd (omega arith)
-text_set_first (block ∷ blocks) first new n some is fits left =
-    ap (λ x. x ++ text_of blocks) left
-    ∙ sym (ap (λ (b : BlockState). drop n (b.bytes ++ text_of blocks)) (sym is) ∙ drop-append-le n first.bytes (text_of blocks) fits)
-
-pub taken_first : (delim : ℕ) (blocks : List BlockState) (first : BlockState) (n : ℕ) → 0 < length blocks → first ≡ get_or blocks 0 first → n ≤ length first.bytes → delimiters delim (take n first.bytes) ≡ delimiters delim (take n (text_of blocks))
-taken_first delim [] first n some is fits = absurd (omega arith)
-taken_first delim (block ∷ blocks) first n some is fits =
-    sym (ap (λ (b : BlockState). delimiters delim (take n (b.bytes ++ text_of blocks))) (sym is) ∙ ap (delimiters delim) (take-append-le n first.bytes (text_of blocks) fits))
-
 -- the counts stay right, once bytes went at the front of the first block, once some came to the last, and once there is one block more at the end
 pub dropped_counts : (delim n gone : ℕ) (blocks : List BlockState) (first new : BlockState) → 0 < length blocks → first ≡ get_or blocks 0 first → new ≡ record { bytes = drop n first.bytes; count = first.count - gone } → gone ≡ delimiters delim (take n first.bytes) → HaveCounts delim blocks
     → HaveCounts delim (set blocks 0 new)
@@ -122,10 +105,6 @@ lines_pass delim n block rest fewer =
 pub lines_end : (delim n : ℕ) (block rest : List ℕ) → n ≤ delimiters delim block → length (first_lines delim n (block ++ rest)) ≡ length (first_lines delim n block)
 lines_end delim n block rest enough = ap length (first_lines-full delim n block rest enough)
 
--- no block is gone yet
-pub none_gone : (n : ℕ) (blocks : List BlockState) → Gone n blocks blocks n 0
-none_gone n blocks = record { gone = []; whole = refl; long = omega arith; counted = refl }
-
 -- the first block goes too
 pub first_goes : (n : ℕ) (blocks : List BlockState) (first : BlockState) (left : List BlockState) (bytes count : ℕ) → 0 < length left → first ≡ get_or left 0 first → length first.bytes ≤ bytes → Gone n blocks left bytes count
     → Gone n blocks (drop 1 left) (bytes - length first.bytes) (count + first.count)
@@ -157,14 +136,6 @@ gone_fits n blocks first left bytes count some is so_far =
 
 text_whole : (n : ℕ) (blocks left : List BlockState) (bytes count : ℕ) (so_far : Gone n blocks left bytes count) → text_of blocks ≡ text_of so_far.gone ++ text_of left
 text_whole n blocks left bytes count so_far = ap text_of so_far.whole ∙ text_of-append so_far.gone left
-
--- all blocks are gone: nothing more is to go
-pub all_gone : (n : ℕ) (blocks left : List BlockState) (bytes count : ℕ) → Gone n blocks left bytes count → length left ≡ 0 → n ≤ length (text_of blocks) → bytes ≤ length (first_of left)
-all_gone n blocks [] bytes count so_far none fits =
-    let long = so_far.long in
-    let whole = ap length (text_whole n blocks [] bytes count so_far) ∙ length-append (text_of so_far.gone) [] in
-    omega arith
-all_gone n blocks (block ∷ left) bytes count so_far none fits = absurd (omega arith)
 
 -- what is left once the rest of the n bytes goes too
 pub rest_goes : (n : ℕ) (blocks left : List BlockState) (bytes count : ℕ) → Gone n blocks left bytes count → drop bytes (text_of left) ≡ drop n (text_of blocks)
@@ -206,10 +177,6 @@ block_grows x part new start count more within few no_more grown =
     let old = length-drop start x in
     let all = length-drop start new in
     (omega arith, omega arith)
-
-pub first_is : (blocks : List BlockState) (first : BlockState) → 0 < length blocks → first ≡ get_or blocks 0 first → first_of blocks ≡ first.bytes
-first_is [] first some is = absurd (omega arith)
-first_is (block ∷ blocks) first some is = ap (λ (b : BlockState). b.bytes) (sym is)
 
 -- what a window knows of its blocks, once bytes go at the front
 pub counted_drop : (delim most n : ℕ) (blocks new : List BlockState) (len count gone : ℕ) → IsCounted delim most blocks len count → n ≤ length (text_of blocks) → text_of new ≡ drop n (text_of blocks) → gone ≡ delimiters delim (take n (text_of blocks)) → HaveCounts delim new

@@ -1,6 +1,6 @@
 -- The last lines of a text, and of a text that goes on.
 use Rattle.std.proofs.Common.{◌≡◌, ℕ, zero, suc, ◌+◌, ◌-◌, ◌<◌, ◌≤◌, true, List, [], ◌∷◌, ◌++◌, length, take, drop, refl, sym, ap, ◌∙◌, arith}
-use Rattle.std.proofs.lemmas.List.{take-append-drop, take_all, take-take, append-nil, append_assoc, length-append, length-take-le}
+use Rattle.std.proofs.lemmas.List.{take-append-drop, take_all, take-take, append_assoc, length-append, length-take-le}
 use Rattle.seg_core.specs.Line.{joined, lines_of, delimiters, ends_with, first_lines, line_count, last_lines, but_last_lines, BeginsAt}
 use Rattle.seg_core.proofs.Delimiters.{delimiters-append, delimiters-take-drop}
 use Rattle.seg_core.proofs.LinesOf.{joined-lines_of}
@@ -42,11 +42,6 @@ few_from_nothing delim n x none = few_step delim n (line_count delim x - n) x re
 pub first_lines-whole : (delim : ℕ) (x y : List ℕ) (n : ℕ) → ends_with delim x ≡ true → n ≡ delimiters delim x → first_lines delim n (x ++ y) ≡ x
 first_lines-whole delim x y n ends is =
     first_lines-full delim n x y (omega arith) ∙ first_lines-all delim n x (omega (arith, line_count-closed delim x ends))
-
--- the number of bytes before the last n lines of what is held and a piece after it, where the piece is empty
-pub over_none : (delim n : ℕ) (held piece : List ℕ) → length piece ≡ 0 → line_count delim held ≤ n → 0 ≡ length (but_last_lines delim n (held ++ piece))
-over_none delim n held [] none few = sym (ap (λ x. length (but_last_lines delim n x)) (append-nil held) ∙ ap length (but_last_lines-few delim n held few))
-over_none delim n held (byte ∷ piece) none few = absurd (omega arith)
 
 -- the piece has the last n lines by itself; `front` is the piece without its last delimiter
 pub over_begins : (delim n : ℕ) (held piece front : List ℕ) (at : ℕ) → front ≡ take (length front) piece → line_count delim (held ++ piece) ≡ delimiters delim held + delimiters delim front + 1 → BeginsAt delim n front at

@@ -92,9 +92,6 @@ first_line delim x at first = record {
 
 -- Looking further
 
-pub sees_nothing : (delim : ℕ) (x : List ℕ) → Sees delim x (record { passed = 0; width = 0; mask = 0 })
-sees_nothing delim x = record { within = omega arith; narrow = omega arith; none = tt; marked = refl }
-
 -- none of the known bytes is a delimiter
 all_passed : (delim : ℕ) (x : List ℕ) (ahead : Ahead) → Sees delim x ahead → ahead.mask ≡ 0 → HasNone delim (take (ahead.passed + ahead.width) x)
 all_passed delim x ahead sees none =

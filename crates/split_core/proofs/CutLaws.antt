@@ -1,13 +1,13 @@
 -- Laws of parts that follow one another: what a text that goes on is cut into.
 use Rattle.std.proofs.Common.{◌≡◌, ℕ, ◌+◌, ◌-◌, ◌<◌, ◌≤◌, zero, suc, List, [], ◌∷◌, ◌++◌, length, take, drop, Bool, true, false, cond, ◌&&◌, nat_lt, nat_le, refl, sym, ◌∙◌, ap, subst, arith, append_assoc}
 use Rattle.std.proofs.lemmas.Bool.Decides.{nat_tests}
-use Rattle.std.proofs.lemmas.List.{append-nil, take_all, take-append-drop, drop-append-le}
+use Rattle.std.proofs.lemmas.List.{take_all, take-append-drop, drop-append-le}
 use Rattle.seg_core.specs.Line.{joined, delimiters, first_lines, after_lines}
 use Rattle.seg_core.proofs.FirstLines.{first_lines-is_take}
 use Rattle.split_core.specs.declared.limit.Limit.{Limit}
 use Rattle.split_core.specs.declared.limit.Limit.TheVariants.{Lines, Bytes, LineBytes}
 use Rattle.split_core.specs.Parts.{whole_lines, open_line, most, measure, is_full, first_part, behind_first, cut_up}
-use Rattle.split_core.specs.laws.CutLaws.{nothing_short, has_lines, without_lines, whole_within, cuts_up, cut_once}
+use Rattle.split_core.specs.laws.CutLaws.{has_lines, without_lines, whole_within, cuts_up, cut_once}
 use Rattle.split_core.specs.inner.CutLaws.{Cuts, stops, goes, cut_so}
 
 short_from_test : (most measure : ℕ) → measure < most → (nat_lt 0 most && nat_le most measure) ≡ false
@@ -17,12 +17,6 @@ pub short_from : (limit : Limit) (x : List ℕ) → measure limit x < most limit
 short_from limit x less = short_from_test (most limit) (measure limit x) less
 
 -- whole lines
-
-whole_by : ℕ → Bool → List ℕ → List ℕ
-whole_by delim has x = cond has (first_lines delim (delimiters delim x) x) x
-
-no_lines : (n : ℕ) → nat_lt 0 n ≡ false → n ≡ 0
-no_lines n is = grind (arith, nat_tests, is)
 
 pub open_of_lines : (delim : ℕ) (x : List ℕ) → 0 < delimiters delim x → open_line delim x ≡ after_lines delim (delimiters delim x) x
 open_of_lines delim x some = ap (λ has. cond has (after_lines delim (delimiters delim x) x) []) (has_lines (delimiters delim x) some)
@@ -75,6 +69,3 @@ cut_two limit x first next full is both short =
       dropped : (xs : List ℕ) → drop (length xs) xs ≡ []
       dropped [] = refl
       dropped (byte ∷ xs) = dropped xs
-
-pub cut_one : (limit : Limit) (x : List ℕ) → is_full limit x ≡ true → first_part limit x ≡ x → cut_up limit x ≡ cut_so (x ∷ []) []
-cut_one limit x full is = cut_two limit x x [] full is (sym (append-nil x)) (nothing_short limit [] refl)

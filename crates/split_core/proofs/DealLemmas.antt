@@ -34,17 +34,6 @@ has_none delim (byte ∷ x) none =
     let first = none_first (eqb byte delim) (delimiters delim x) none in
     ((λ is. false≢true (sym first.0 ∙ eq-eqb byte delim is)), has_none delim x first.1)
 
-pub starts : (delim n start : ℕ) (piece : List ℕ) (gathered : List (List ℕ)) → length gathered ≡ n → start < n → ((file : ℕ) → get_or gathered file [] ≡ []) → Dealing delim n start piece gathered start start piece
-starts delim n start piece gathered count within none = record {
-  count = count;
-  within = within;
-  shares = λ file inside. ap (λ had. had ++ dealt n file start (lines_of delim piece)) (none file);
-  ends = refl;
-  reaches = omega arith;
-  few = omega arith;
-  over = omega arith;
-}
-
 get_or-changed : (place : ℕ) (line : List ℕ) (xs : List (List ℕ)) (file : ℕ) → file < length xs → get_or (changed_at place (λ had. had ++ line) xs) file [] ≡ cond (eqb place file) (get_or xs file [] ++ line) (get_or xs file [])
 get_or-changed place line [] file inside = absurd (omega arith)
 get_or-changed zero line (x ∷ xs) zero inside = refl

@@ -1,5 +1,5 @@
 -- One file is opened, written or closed.
-use Rattle.std.proofs.Common.{◌≡◌, ◌≢◌, ℕ, ◌+◌, ◌-◌, ◌<◌, ◌≤◌, zero, suc, max, Bool, true, List, [], ◌∷◌, ◌++◌, length, map, take, drop, get_or, ◌⊎◌, inl, inr, IsTrue, refl, sym, ◌∙◌, ap, subst, arith, length-append, Ok, Err, Result, OnOk, IfErr}
+use Rattle.std.proofs.Common.{◌≡◌, ◌≢◌, ℕ, ◌+◌, ◌-◌, ◌<◌, ◌≤◌, zero, suc, max, Bool, true, List, [], ◌∷◌, ◌++◌, length, map, take, drop, get_or, ◌⊎◌, inl, inr, refl, sym, ◌∙◌, ap, subst, arith, length-append, Ok, Err, Result, OnOk, IfErr}
 use Rattle.std.proofs.lemmas.Bool.{cases_lt}
 use Rattle.std.proofs.lemmas.List.{map-append, length-map, length-take-le, get_or-append_right, get_or_append_left, get_or_past}
 use Rattle.ports_core.specs.Name.{Naming, next_name, with_one_drawn}
@@ -21,7 +21,7 @@ use Rattle.split_core.specs.Round.{AreReady, OwnsFiles, output_at}
 use Rattle.split_core.specs.laws.RoundLaws.{all_begin_themselves}
 use Rattle.split_core.specs.inner.Sharing.{AllBegin, added, filled, filed, closed_first, open_part, closing_part, StayBroken, StandAt, KeepsFiles, Became, IsDue, StopsAt, StopsShort, HaveClosed, ClosesShort, with_opened, FailsToFollow, CannotClose, could_not, unnamed, IsOfFiles}
 use Rattle.split_core.specs.Sharing.{CannotOpen}
-use Rattle.split_core.proofs.FilesLemmas.{filled_begin, filled_next, filled_same, length-filled, filed_more, open_length, length-filed, filed_gets, filed_ends, changed_begin, cut_begin, parts_begin, closed_shares, stay_broken, stay_later, stay_changed, stay_opened, became_then, halts_then, stops_in_order, caused_later, added_next, added_begin, added_fewer, filled_again, filled_further, length-added, added_before, added_past, take_changed, drop_changed, take_filled, take_further, drop_filled, drop_past_filled, take_filed, drop_filed}
+use Rattle.split_core.proofs.FilesLemmas.{filled_begin, filled_next, filled_same, length-filled, filed_more, filed_gets, filed_ends, changed_begin, cut_begin, parts_begin, closed_shares, stay_broken, stay_later, stay_changed, stay_opened, became_then, halts_then, stops_in_order, caused_later, added_next, added_begin, added_fewer, filled_again, filled_further, length-added, added_before, added_past, take_changed, drop_changed, take_filled, take_further, drop_filled, drop_past_filled, take_filed, drop_filed}
 
 -- Opening
 
@@ -245,14 +245,6 @@ pub record Closing (told : Bool) (files : FilesState) (place : ℕ) (old now : L
   pub closed : HaveClosed told files place old now
   pub sound : StayBroken old now
 
-pub none_closed : (told : Bool) (files : FilesState) (slots : List Slot) → AreReady files slots → Closing told files 0 slots slots
-none_closed told files slots ready = record {
-  size = refl;
-  left = λ other past within. ready.closable other within;
-  closed = λ before these at. at.outputs;
-  sound = stay_broken slots;
-}
-
 writable_other : (slots : List Slot) (place other : ℕ) → place ≢ other → is_writable (changed_at place closes slots) other ≡ is_writable slots other
 writable_other [] place other differs = refl
 writable_other (one ∷ slots) zero zero differs = absurd (differs refl)
@@ -293,11 +285,6 @@ drop_closed : (n : ℕ) (these : List (List ℕ)) → drop n (closed_first n the
 drop_closed zero these = refl
 drop_closed (suc n) [] = refl
 drop_closed (suc n) (bytes ∷ these) = drop_closed n these
-
-count_closed : (n : ℕ) (these : List (List ℕ)) → length (closed_first n these) ≡ length these
-count_closed zero these = length-map these (share Open)
-count_closed (suc n) [] = refl
-count_closed (suc n) (bytes ∷ these) = ap suc (count_closed n these)
 
 pub stops_closing : (told : Bool) (files : FilesState) (place : ℕ) (old now new : List Slot) → AreReady files old → place < length files.outputs → Closing told files place old now
     → new ≡ with_broken (output_at files place) (changed_at (output_at files place) closes now) → ClosesShort told files (length files.outputs) old new (fault.Write (output_at files place))
@@ -365,9 +352,6 @@ sent told files between old mid new place slot bytes before slot_is is =
 -- there is such a file once it was reached
 pub sent_within : (told : Bool) (files between : FilesState) (old mid : List Slot) (place : ℕ) → Became told files (filled (place + 1)) (place + 1) old between mid → place < length between.outputs
 sent_within told files between old mid place before = let count : length between.outputs ≡ max (length files.outputs) (place + 1) = before.opened in omega arith
-
-pub sent_writable : (told : Bool) (files between : FilesState) (old mid : List Slot) (place slot : ℕ) → Became told files (filled (place + 1)) (place + 1) old between mid → slot ≡ output_at between place → IsTrue (is_writable mid slot)
-sent_writable told files between old mid place slot before slot_is = subst (λ at. IsTrue (is_writable mid at)) (sym slot_is) (before.ready.closable place (sent_within told files between old mid place before)).1
 
 pub sent_short : (told : Bool) (files between : FilesState) (old mid new : List Slot) (place slot : ℕ) (bytes : List ℕ) (n : ℕ) → place ≤ length files.outputs → Became told files (filled (place + 1)) (place + 1) old between mid → slot ≡ output_at between place
     → BrokeAfter told mid new slot bytes n → StopsAt told files (λ these. changed_at place (λ had. had ++ bytes) (filled (place + 1) these)) place old new (fault.Write slot)
@@ -446,9 +430,6 @@ closes_caused told files place slot old now new why ready within so_far slot_is 
 
 pub closes_owned : (told : Bool) (files : FilesState) (place slot : ℕ) (old now new : List Slot) → Closing told files place old now → new ≡ with_broken slot (changed_at slot closes now) → KeepsFiles files old files new
 closes_owned told files place slot old now new so_far is = owned_same files old new (ap length is ∙ length-changed_at slot breaks _ ∙ length-changed_at slot closes now ∙ so_far.size)
-
-pub closable_next : (told : Bool) (files : FilesState) (place slot : ℕ) (old now : List Slot) → place < length files.outputs → Closing told files place old now → slot ≡ output_at files place → is_closable now slot
-closable_next told files place slot old now within so_far slot_is = subst (is_closable now) (sym slot_is) (so_far.left place (omega arith) within)
 
 -- what a field of the list of outputs shows
 

@@ -99,9 +99,6 @@ passed_more told state mid next piece left rest n old wet new (done, split, took
 pub behind_taken : (n : ℕ) (left : List ℕ) → take (length left - n) (drop n left) ≡ drop n left
 behind_taken n left = take_all (length left - n) (drop n left) (omega (arith, length-drop n left))
 
-pub passed_all : (told : Bool) (state next : PartsState) (piece left : List ℕ) (old new : List Slot) → Passed told state piece left old new next → left ≡ [] → Took told state piece old new next
-passed_all told state next piece left old new (done, split, took) none = subst (λ those. Took told state those old new next) (sym (split ∙ ap (λ those. done ++ those) none ∙ append-nil done)) took
-
 pub passed_stopped : (told : Bool) (state mid next : PartsState) (piece left : List ℕ) (old wet new : List Slot) (f : Fault) → Passed told state piece left old wet mid → Stopped told mid left wet new next f → Stopped told state piece old new next f
 passed_stopped told state mid next piece left old wet new f (done, split, took) stop = subst (λ those. Stopped told state those old new next f) (sym split) (stopped_again told state mid next done left old wet new f took stop)
 

@@ -152,10 +152,6 @@ pub record InTurn (Change : Slot → Slot → Type 0) (first n : ℕ) (old now :
 pub none_in_turn : {Change : Slot → Slot → Type 0} (first : ℕ) (slots : List Slot) → InTurn Change first 0 slots slots 0
 none_in_turn first slots = record { turned = turned_none slots (λ place is. omega (arith, is.0, is.1)); few = omega arith }
 
--- the next is as it was
-pub not_reached : {Change : Slot → Slot → Type 0} (first n broke : ℕ) (old now : List Slot) → InTurn Change first n old now broke → slot_at now (first + n) ≡ slot_at old (first + n)
-not_reached first n broke old now so_far = so_far.turned.changes.others (first + n) (λ is. omega (arith, is.1))
-
 pub next_in_turn : {Change : Slot → Slot → Type 0} (first n broke more : ℕ) (old now new : List Slot) → ((before after : Slot) → Change before after → before.is_broken ≡ true → after.is_broken ≡ true) → InTurn Change first n old now broke → ChangesEach Change (λ place. place ≡ first + n) now new → more ≡ newly_broken now new → more ≤ 1 → InTurn Change first (n + 1) old new (broke + more)
 next_in_turn first n broke more old now new stays so_far changes are one = record {
   turned = turned_both old now new broke more stays (is_between first (first + n)) (is_place (first + n))
@@ -171,7 +167,3 @@ next_in_turn first n broke more old now new stays so_far changes are one = recor
     | inl within ↦ inl (is.0, within)
     | inr past ↦ inr (omega (arith, past, is.1))
   ]
-
--- all were reached
-pub all_in_turn : {Change : Slot → Slot → Type 0} (first n count broke : ℕ) (old now : List Slot) → InTurn Change first n old now broke → n ≡ count → Turns Change (λ place. (first ≤ place) × (place < first + count)) old now broke
-all_in_turn {Change} first n count broke old now so_far all = subst (λ k. Turns Change (λ place. (first ≤ place) × (place < first + k)) old now broke) all so_far.turned

@@ -2,7 +2,7 @@
 use Rattle.std.proofs.Common.{length, ◌≡◌, ℕ, zero, suc, List, [], ◌∷◌, ◌++◌, map, Bool, true, false, not, ◌&&◌, ◌||◌, if◌then◌else◌, Option, Some, None, refl, sym, ◌∙◌, ap, subst, arith}
 use Rattle.std.specs.List.{concat}
 use Rattle.std.proofs.lemmas.Bool.{false≢true}
-use Rattle.ports_core.specs.Slot.{Slot, slot_at, is_open, adds, closes, opened, streams, told_of}
+use Rattle.ports_core.specs.Slot.{Slot, adds, closes, opened, streams, told_of}
 use Rattle.ports_core.specs.Source.{Content, Source, source_at}
 use Rattle.ports_core.specs.Text.{message_of}
 use Rattle.ports_core.specs.Message.{SaysAll, SaysOn, output_named}
@@ -46,9 +46,6 @@ pub of_content_too : (told : Bool) (there : Content) (P Q : Content → Type 0) 
 of_content_too told there P Q more (content, is, holds) = (content, is, more content holds)
 
 -- there was no memory
-
-pub memory_open : (slots old : List Slot) → old ≡ streams → slots ≡ old → is_open (slot_at slots 1).state ≡ true
-memory_open slots old is same = ap (λ those. is_open (slot_at those 1).state) (same ∙ is)
 
 ends_nowhere : (told_in told : Bool) (mode : Mode) (names : List (List ℕ)) (content : Content) (source : Source) (mid new : List Slot) (fault : Fault) → fault ≡ Memory → mid ≡ streams → LeavesOf told_in source content.bytes → SaysOn told Tee (message_of Tee fault (output_named mid fault)) mid new → EndsAs told_in told mode names content source new 1
 ends_nowhere told_in told mode names content source mid new fault is at left says =

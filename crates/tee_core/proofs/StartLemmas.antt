@@ -1,8 +1,7 @@
 -- Lemmas on a run's start: the files that were opened, and the messages for those that could not be.
-use Rattle.std.proofs.Common.{◌≡◌, ℕ, ◌+◌, ◌<◌, suc, List, [], ◌∷◌, length, map, replicate, Bool, true, false, Option, Some, None, Bor, refl, sym, ◌∙◌, ap, subst, arith}
+use Rattle.std.proofs.Common.{◌≡◌, ℕ, ◌+◌, ◌<◌, suc, List, [], ◌∷◌, length, map, replicate, Bool, false, Option, Some, None, Bor, refl, sym, ◌∙◌, ap, subst, arith}
 use Rattle.std.proofs.lemmas.List.{append-nil, length-map}
 use Rattle.ports_core.specs.Slot.{Slot, slot_at, changed_at, opened, adds, streams, told_of}
-use Rattle.ports_core.specs.Source.{Source, IsFresh, is_readable}
 use Rattle.ports_core.specs.Message.{SaysAll}
 use Rattle.ports_core.specs.declared.slot.Mode.{Mode}
 use Rattle.ports_core.specs.declared.tool.Tool.TheVariants.{Tee}
@@ -76,6 +75,3 @@ length-names names known is = is ∙ ap (λ n. replicate (n + 1) false) (sym (le
 
 pub is_tee_of : (names : List (Bor (List ℕ))) (old : List Slot) (tee : TeeState) → old ≡ streams → tee.is_over ≡ false → tee.count ≡ length names → (0 < tee.count → tee.first ≡ length old) → IsTeeOf (map (λ (name : Bor (List ℕ)). name.now) names) tee
 is_tee_of names old tee is live count first = record { live = live; count = count ∙ sym (length-map names (λ (name : Bor (List ℕ)). name.now)); first = λ some. first some ∙ ap length is }
-
-pub fresh_readable : (sources : List Source) → IsFresh sources → is_readable sources 0 ≡ true
-fresh_readable sources fresh = ap (λ those. is_readable those 0) fresh.only

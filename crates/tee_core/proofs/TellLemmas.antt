@@ -1,6 +1,6 @@
 -- Lemmas on the messages for outputs that broke.
-use Rattle.std.proofs.Common.{◌≡◌, ℕ, ◌+◌, ◌<◌, ◌≤◌, zero, suc, List, [], ◌∷◌, ◌++◌, length, map, take, drop, get_or, set, Bor, Bool, true, false, not, ◌&&◌, if◌then◌else◌, refl, sym, ◌∙◌, ap, subst, arith, append_assoc}
-use Rattle.std.proofs.lemmas.List.{append-nil, length-map}
+use Rattle.std.proofs.Common.{◌≡◌, ℕ, ◌+◌, ◌<◌, zero, suc, List, [], ◌∷◌, ◌++◌, length, map, take, drop, get_or, set, Bor, Bool, true, false, not, ◌&&◌, if◌then◌else◌, refl, sym, ◌∙◌, ap, subst, arith, append_assoc}
+use Rattle.std.proofs.lemmas.List.{length-map}
 use Rattle.ports_core.specs.Slot.{Slot, slot_at, changed_at, is_open}
 use Rattle.ports_core.specs.Text.{message_of}
 use Rattle.ports_core.specs.Message.{SaysOn}
@@ -40,16 +40,6 @@ get_next n [] broken other within many = absurd (omega arith)
 get_next n (was ∷ known) [] other within many = absurd (omega (arith, many))
 get_next zero (was ∷ known) (now ∷ broken) other within many = refl
 get_next (suc n) (was ∷ known) (now ∷ broken) other within many = get_next n known broken other (omega arith) (omega (arith, many))
-
-all_set : (n : ℕ) (known broken : List Bool) → length known ≤ n → length broken ≡ length known → take n broken ++ drop n known ≡ broken
-all_set n [] [] past many = nothing n where
-  nothing : (n : ℕ) → take {A = Bool} n [] ++ drop n [] ≡ []
-  nothing zero = refl
-  nothing (suc n) = refl
-all_set n [] (now ∷ broken) past many = absurd (omega (arith, many))
-all_set n (was ∷ known) [] past many = absurd (omega (arith, many))
-all_set zero (was ∷ known) (now ∷ broken) past many = absurd (omega arith)
-all_set (suc n) (was ∷ known) (now ∷ broken) past many = ap (λ rest. now ∷ rest) (all_set n known broken (omega arith) (omega (arith, many)))
 
 -- where outputs stand
 
@@ -97,9 +87,6 @@ pub record Telling (told : Bool) (fault : Fault) (names : List (List ℕ)) (know
   pub rest : so_far ++ said_since fault (drop n names) (drop n known_before) (drop n (broken_of old)) ≡ said_since fault names known_before (broken_of old)
   pub known_are : known ≡ take n (broken_of old) ++ drop n known_before
 
-pub begins_telling : (told : Bool) (fault : Fault) (names : List (List ℕ)) (known : List Bool) (slots : List Slot) → Telling told fault names known 0 slots slots known
-begins_telling told fault names known slots = record { so_far = []; said = says_nothing told slots; rest = refl; known_are = refl }
-
 pub error_open : (told : Bool) (fault : Fault) (names : List (List ℕ)) (before known : List Bool) (n count : ℕ) (old now : List Slot) → HasStreams old count → Telling told fault names before n old now known → is_open (slot_at now 1).state ≡ true
 error_open told fault names before known n count old now has so_far = still_open told so_far.so_far has.output has.error has.files now has.opened (subst (λ those. SaysTo told so_far.so_far those now) has.are so_far.said)
 
@@ -139,19 +126,6 @@ tells_next told fault names before known other n count old now new name broken h
         rest = ap (λ texts. so_far.so_far ++ texts) (sym (step ∙ ap (λ (flag : Bool). (if flag then message_of Tee fault name ∷ [] else []) ++ said_since fault (drop (suc n) names) (drop (suc n) before) (drop (suc n) (broken_of old))) is)) ∙ so_far.rest;
         known_are = flags;
       }
-
-none_said : (fault : Fault) (names : List (List ℕ)) (known broken : List Bool) (n : ℕ) → length names ≤ n → said_since fault (drop n names) known broken ≡ []
-none_said fault [] known broken zero past = refl
-none_said fault [] known broken (suc n) past = refl
-none_said fault (name ∷ names) known broken zero past = absurd (omega arith)
-none_said fault (name ∷ names) known broken (suc n) past = none_said fault names known broken n (omega arith)
-
-pub told_all : (told : Bool) (fault : Fault) (names : List (List ℕ)) (before known : List Bool) (n : ℕ) (old now : List Slot) → length names ≤ n → Telling told fault names before n old now known → SaysTo told (said_since fault names before (broken_of old)) old now
-told_all told fault names before known n old now past so_far =
-    subst (λ texts. SaysTo told texts old now) (sym (append-nil so_far.so_far) ∙ ap (λ texts. so_far.so_far ++ texts) (sym (none_said fault names (drop n before) (drop n (broken_of old)) n past)) ∙ so_far.rest) so_far.said
-
-pub known_all : (told : Bool) (fault : Fault) (names : List (List ℕ)) (before known : List Bool) (n count : ℕ) (old now : List Slot) → HasStreams old count → length before ≡ count + 1 → length before ≤ n → Telling told fault names before n old now known → known ≡ broken_of old
-known_all told fault names before known n count old now has many past so_far = so_far.known_are ∙ all_set n before (broken_of old) past (count_broken old count has ∙ sym many)
 
 pub count_names : (names : List (Bor (List ℕ))) → length (output_names (map (λ name. name.now) names)) ≡ length names + 1
 count_names names = let many : length (map (λ (name : Bor (List ℕ)). name.now) names) ≡ length names = length-map names _ in let e : suc (length (map (λ (name : Bor (List ℕ)). name.now) names)) ≡ length names + 1 = omega arith in e

@@ -1,31 +1,17 @@
 -- Which of both runs the words ask for.
-use Rattle.std.proofs.Common.{◌≡◌, ℕ, Bool, List, [], Option, Some, None, Result, Ok, Err, refl}
+use Rattle.std.proofs.Common.{◌≡◌, ℕ, Bool, List, [], Option, Some, None, refl}
 use Rattle.ports_core.specs.Slot.{Slot}
 use Rattle.ports_core.specs.Source.{Content, Source, IsFresh}
 use Rattle.ports_core.specs.declared.fault.Fault.{Fault}
 use Rattle.ports_core.specs.declared.tool.Tool.TheVariants as tool
 use Rattle.watch_core.specs.Snapshot.{Snapshot}
 use Rattle.watch_core.specs.Watched.{Watched}
-use Rattle.words_core.specs.declared.settings.Settings.{Settings}
-use Rattle.words_core.specs.declared.settings.Settings.TheVariants.{Head, Tail, Split, Csplit, Tee}
 use Rattle.words_core.specs.Spelling.{IsRefused}
 use Rattle.words_core.specs.Words.{HasBadOperands, looks, settings_of}
-use Rattle.tools_core.specs.Outcome.{RefusesFor, speaker}
+use Rattle.tools_core.specs.Outcome.{RefusesFor}
 use Rattle.tools_core.specs.Program.{ProgramEnds, ProgramEndsAt, looks_at}
 use Rattle.tools_core.proofs.FollowingLemmas.{refused_words}
 use Rattle.tools_core.proofs.RunLemmas.{refused_or_memory}
-use Rattle.tools_core.proofs.SpeakerLemmas.{runs_as_named}
-
--- only `tail` follows
-pub only_tail : (words : List (List ℕ)) → (speaker words ≡ tool.Tail → ⊥) → looks_at (settings_of words) ≡ None
-only_tail words other = by (settings_of words) refl where
-  by : (meant : Result Settings Fault) → settings_of words ≡ meant → looks_at meant ≡ None
-  by (Ok (Head asked)) is = refl
-  by (Ok (Tail asked)) is = absurd (other (runs_as_named words (Tail asked) is))
-  by (Ok (Split asked)) is = refl
-  by (Ok (Csplit asked)) is = refl
-  by (Ok (Tee asked)) is = refl
-  by (Err fault) is = refl
 
 -- what words leave that are refused, whichever run they ask for
 pub program_refuses : (told_in told_watched told : Bool) (words : List (List ℕ)) (laid : ℕ → List ℕ → Option Content) (sources : List Source) (shows : ℕ → Snapshot) (seen : List Snapshot) (watched : List Watched) (fault : Fault) (new : List Slot) (status : ℕ) → IsFresh sources → seen ≡ [] → watched ≡ [] → IsRefused HasBadOperands (settings_of words) fault → RefusesFor told words fault new status

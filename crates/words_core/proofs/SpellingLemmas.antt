@@ -1,13 +1,13 @@
 -- Lemmas on what words spell, word after word.
-use Rattle.std.proofs.Common.{◌≡◌, ℕ, ◌+◌, ◌-◌, ◌<◌, ◌≤◌, Bor, get_or, take, drop, length, map, arith, List, [], ◌∷◌, ◌++◌, Result, Ok, Err, append_assoc, refl, sym, ◌∙◌, ap, inl, inr, ◌⊎◌}
-use Rattle.std.proofs.lemmas.List.{append-nil, take_rest}
+use Rattle.std.proofs.Common.{◌≡◌, ℕ, ◌+◌, ◌-◌, ◌<◌, ◌≤◌, Bor, get_or, take, drop, length, map, arith, List, [], ◌∷◌, ◌++◌, Result, Ok, Err, append_assoc, refl, sym, ◌∙◌, ap, inr}
+use Rattle.std.proofs.lemmas.List.{take_rest}
 use Rattle.ports_core.specs.declared.fault.Fault.{Fault}
 use Rattle.ports_core.specs.declared.fault.Fault.TheVariants.{Usage}
 use Rattle.ports_core.specs.declared.fault.UsageKind.TheVariants.{MissingValue}
 use Rattle.words_core.specs.declared.table.Choice.{Choice}
 use Rattle.words_core.specs.declared.table.Kind.{Kind}
 use Rattle.words_core.specs.declared.spelling.State.{State}
-use Rattle.words_core.specs.declared.spelling.State.TheVariants.{First, Reading, Awaiting, OnlyOperands}
+use Rattle.words_core.specs.declared.spelling.State.TheVariants.{Awaiting}
 use Rattle.words_core.specs.Table.{OptionRow}
 use Rattle.words_core.specs.Given.{Given, GivenOption, GivenOperand, nothing, joined}
 use Rattle.words_core.specs.Spelling.{Meaning, before, behind, onward, meaning_of, spelled, ended, Reads}
@@ -20,16 +20,6 @@ joined-assoc a b c =
     let with_operands : List GivenOperand → Given = λ operands. record { options = (a.options ++ b.options) ++ c.options; operands = operands } in
     ap with_options (sym (append_assoc a.options b.options c.options)) ∙ ap with_operands (sym (append_assoc a.operands b.operands c.operands))
 
-pub joined-nothing : (a : Given) → joined a nothing ≡ a
-joined-nothing a =
-    let with_options : List GivenOption → Given = λ options. record { options = options; operands = a.operands ++ [] } in
-    let with_operands : List GivenOperand → Given = λ operands. record { options = a.options; operands = operands } in
-    ap with_options (append-nil a.options) ∙ ap with_operands (append-nil a.operands)
-
-pub before-joined : (front given : Given) (meant : Result Meaning Fault) → before front (before given meant) ≡ before (joined front given) meant
-before-joined front given (Ok meaning) = ap (λ all. Ok (record { given = all; next = meaning.next })) (joined-assoc front given meaning.given)
-before-joined front given (Err fault) = refl
-
 pub behind-joined : (front given : Given) (meant : Result Given Fault) → behind front (behind given meant) ≡ behind (joined front given) meant
 behind-joined front given (Ok more) = ap (λ all. Ok all) (joined-assoc front given more)
 behind-joined front given (Err fault) = refl
@@ -38,9 +28,6 @@ behind-joined front given (Err fault) = refl
 pub behind-onward : (front : Given) (rest : State → Result Given Fault) (meant : Result Meaning Fault) → behind front (onward rest meant) ≡ onward rest (before front meant)
 behind-onward front rest (Ok meaning) = behind-joined front meaning.given (rest meaning.next)
 behind-onward front rest (Err fault) = refl
-
-pub behind-none : (given : Given) → behind given (Ok nothing) ≡ Ok given
-behind-none given = ap (λ all. Ok all) (joined-nothing given)
 
 -- one word more was read
 pub went_on : (front given : Given) (rest : State → Result Given Fault) (meant : Result Meaning Fault) (next : State) → before front meant ≡ Ok (record { given = given; next = next })
@@ -74,21 +61,11 @@ pub lacks_value : (rows : List OptionRow) (left : List (Bor (List ℕ))) (place 
     → behind given (spelled rows (map (λ word. word.now) left) place state) ≡ whole → state ≡ Awaiting choice kind option → Reads whole (Err (Usage MissingValue option))
 lacks_value rows left place state given whole choice kind option none spells is = inr (at_end rows left place state given whole none spells ∙ ap (λ those. behind given (ended those)) is)
 
-pub ends_well : (rows : List OptionRow) (left : List (Bor (List ℕ))) (place : ℕ) (state : State) (given : Given) (whole : Result Given Fault) → length left < 1
-    → behind given (spelled rows (map (λ word. word.now) left) place state) ≡ whole → ended state ≡ Ok nothing → whole ≡ Ok given
-ends_well rows left place state given whole none spells is = at_end rows left place state given whole none spells ∙ ap (behind given) is ∙ behind-none given
-
 pub behind-nothing : (given : Given) (meant : Result Given Fault) → given ≡ nothing → behind given meant ≡ meant
 behind-nothing given meant none = ap (λ front. behind front meant) none ∙ same meant where
   same : (meant : Result Given Fault) → behind nothing meant ≡ meant
   same (Ok more) = refl
   same (Err fault) = refl
-
--- every state but one that awaits an option's value ends well
-pub takes_no_value : (state : State) → ((choice : Choice) × (kind : Kind) × (state ≡ First choice kind)) ⊎ ((state ≡ Reading) ⊎ (state ≡ OnlyOperands)) → ended state ≡ Ok nothing
-takes_no_value state (inl first) = ap ended first.2
-takes_no_value state (inr (inl is)) = ap ended is
-takes_no_value state (inr (inr is)) = ap ended is
 
 pub one_place_more : (left : List (Bor (List ℕ))) (place total : ℕ) → 1 ≤ length left → place + length left ≡ total → place + 1 + length (take (length left - 1) (drop 1 left)) ≡ total
 one_place_more [] place total some is = absurd (omega arith)
