@@ -31,13 +31,13 @@ pub record Step : Type 0 where
 -- how the steps end
 pub data Ending : Type 0 where
   -- no operand is left
-  pub used_up : Ending
+  used_up : Ending
   -- the pattern of this operand, at this repetition, matches no line from its search line on
-  pub missed : Operand → ℕ → Ending
+  missed : Operand → ℕ → Ending
   -- the cut is above the last line
-  pub above : Operand → ℕ → (matched cut : ℕ) → Ending
+  above : Operand → ℕ → (matched cut : ℕ) → Ending
   -- the cut is below the current line
-  pub below : Operand → ℕ → Ending
+  below : Operand → ℕ → Ending
 
 -- The line at which a search begins. It is line 1 where the current line is 1 and no pattern was performed. Else it is
 -- one past the current line, or one past the line that was matched last, whichever is greater. With `suppress` the line
@@ -103,19 +103,19 @@ step_of state operand matched cut = record { operand = operand; repetition = sta
 -- The plan from a state on: each operand cuts in its turn, and as often as it is to be performed, until one can't. Then
 -- it says where the run stands, and why it ends there.
 pub data Runs (suppress : Bool) (lines : List Line) : State → List Step → State → Ending → Type 0 where
-  pub is_used_up : (state : State) → state.operands ≡ [] → Runs suppress lines state [] state used_up
-  pub misses : (state : State) (operand : Operand) (operands : List Operand) → state.operands ≡ operand ∷ operands
+  is_used_up : (state : State) → state.operands ≡ [] → Runs suppress lines state [] state used_up
+  misses : (state : State) (operand : Operand) (operands : List Operand) → state.operands ≡ operand ∷ operands
       → Misses suppress lines state operand operand.target
       → Runs suppress lines state [] state (missed operand state.repetition)
-  pub is_above : (state : State) (operand : Operand) (operands : List Operand) (matched cut : ℕ)
+  is_above : (state : State) (operand : Operand) (operands : List Operand) (matched cut : ℕ)
       → state.operands ≡ operand ∷ operands
       → CutsAt suppress lines state operand operand.target matched cut → length lines < cut
       → Runs suppress lines state [] state (above operand state.repetition matched cut)
-  pub is_below : (state : State) (operand : Operand) (operands : List Operand) (matched cut : ℕ)
+  is_below : (state : State) (operand : Operand) (operands : List Operand) (matched cut : ℕ)
       → state.operands ≡ operand ∷ operands
       → CutsAt suppress lines state operand operand.target matched cut → cut ≤ length lines → cut < state.current
       → Runs suppress lines state [] state (below operand state.repetition)
-  pub cuts : (state : State) (operand : Operand) (operands : List Operand) (matched cut : ℕ) (steps : List Step)
+  cuts : (state : State) (operand : Operand) (operands : List Operand) (matched cut : ℕ) (steps : List Step)
       (last : State) (ending : Ending)
       → state.operands ≡ operand ∷ operands
       → CutsAt suppress lines state operand operand.target matched cut → state.current ≤ cut → cut ≤ length lines

@@ -21,8 +21,8 @@ first_match operand lines from = first_among operand from (drop (from - 1) lines
 
 -- what the next operand does: the run ends, or it makes a step and stands elsewhere
 pub data Turn : Type 0 where
-  pub ends : Ending → Turn
-  pub goes : Step → State → Turn
+  ends : Ending → Turn
+  goes : Step → State → Turn
 
 -- the turn of an operand whose cut is known, where there are `total` lines
 abbrev pub turn_at : Bool → (total : ℕ) → State → Operand → List Operand → (matched cut : ℕ) → Turn

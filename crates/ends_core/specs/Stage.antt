@@ -16,10 +16,10 @@ use Rattle.ends_core.specs.Kept.{held_of, most_of, may_lack_of, delim_of as kept
 
 -- which part of an input is written
 pub data Stretch : Type 0 where
-  pub the_first : Stretch
-  pub all_but_last : Stretch
-  pub from_the_nth : Stretch
-  pub the_last : Stretch
+  the_first : Stretch
+  all_but_last : Stretch
+  from_the_nth : Stretch
+  the_last : Stretch
 
 -- the last are kept
 abbrev pub keeps : Stretch → Bool

@@ -22,8 +22,8 @@ pub record Spelled : Type 0 where
   pub times : Times
 
 pub data Aimed : Type 0 where
-  pub aims : Aim → Aimed
-  pub fails : OperandFaultKind → Aimed
+  aims : Aim → Aimed
+  fails : OperandFaultKind → Aimed
 
 -- What a word aims at that no repetition before it takes in. `least` is the nearest line number before it, 0 where
 -- there is none. Only a pattern between `/` and `/` is kept.

@@ -9,13 +9,13 @@ use Rattle.operand_core.specs.declared.operand_fault.OperandFaultKind.TheVariant
 
 pub data Spelling : Type 0 where
   -- a line number
-  pub number : ℕ → Spelling
+  number : ℕ → Spelling
   -- a delimiter, the text between it and the closing one as it stands, and the offset
-  pub search : (delimiter : ℕ) (text : List ℕ) → Offset → Spelling
+  search : (delimiter : ℕ) (text : List ℕ) → Offset → Spelling
   -- how often an operand is performed again
-  pub again : Times → Spelling
+  again : Times → Spelling
   -- it is none of these
-  pub wrong : OperandFaultKind → Spelling
+  wrong : OperandFaultKind → Spelling
 
 -- one or more digits, at most 2^63-1
 abbrev pub number_of : List ℕ → Option ℕ

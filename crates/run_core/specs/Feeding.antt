@@ -93,7 +93,7 @@ pub data FedAs (told : Bool) (before : List Slot) (work : Work) (opening : Needs
       → (reached : List Slot) → OutputsAt told before (work.whole content.bytes) reached
       → Swept work.clears (length before) reached new
       → FedAs told before work opening most content WasRead new (Err fault)
-  pub stopped : (fault : Fault) → is_verdict fault ≡ false → (call : Step) → IsCall work opening most content call
+  stopped : (fault : Fault) → is_verdict fault ≡ false → (call : Step) → IsCall work opening most content call
       → WasRead call.read → (reached : List Slot) → Stops call reached fault
       → StoppedBetween told before call.low call.high fault reached → Swept work.clears (length before) reached new
       → FedAs told before work opening most content WasRead new (Err fault)

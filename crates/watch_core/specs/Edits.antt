@@ -6,13 +6,13 @@ use Rattle.watch_core.specs.Snapshot.{Snapshot}
 
 pub data Edit : Type 0 where
   -- bytes come to the end of the name's file
-  pub append : List ℕ → List ℕ → Edit
+  append : List ℕ → List ℕ → Edit
   -- of the name's file the first n bytes are left, or all where it has no more
-  pub truncate : List ℕ → ℕ → Edit
+  truncate : List ℕ → ℕ → Edit
   -- the name leads to a new file, which holds these bytes
-  pub replace : List ℕ → List ℕ → Edit
+  replace : List ℕ → List ℕ → Edit
   -- the name leads nowhere
-  pub remove : List ℕ → Edit
+  remove : List ℕ → Edit
 
 pub record Link : Type 0 where
   pub name : List ℕ

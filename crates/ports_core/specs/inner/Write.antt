@@ -7,4 +7,4 @@ use Rattle.ports_core.specs.Write.{BrokeAfter}
 
 -- the slot broke among these bytes, and the fault says so
 pub data WritesShort (told : Bool) (slot : ℕ) (bytes : List ℕ) (old new : List Slot) : Fault → Type 0 where
-  pub broke : (n : ℕ) → BrokeAfter told old new slot bytes n → WritesShort told slot bytes old new (Write slot)
+  broke : (n : ℕ) → BrokeAfter told old new slot bytes n → WritesShort told slot bytes old new (Write slot)

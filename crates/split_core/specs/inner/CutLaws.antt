@@ -6,8 +6,8 @@ use Rattle.split_core.specs.Parts.{is_full, first_part, behind_first, CutUp}
 -- the parts of a text, one after another
 
 pub data Cuts (limit : Limit) : List ℕ → List (List ℕ) → List ℕ → Type 0 where
-  pub stops : (x : List ℕ) → is_full limit x ≡ false → Cuts limit x [] x
-  pub goes : (x : List ℕ) (parts : List (List ℕ)) (rest : List ℕ) → is_full limit x ≡ true
+  stops : (x : List ℕ) → is_full limit x ≡ false → Cuts limit x [] x
+  goes : (x : List ℕ) (parts : List (List ℕ)) (rest : List ℕ) → is_full limit x ≡ true
       → Cuts limit (behind_first limit x) parts rest → Cuts limit x (first_part limit x ∷ parts) rest
 
 abbrev pub cut_so : List (List ℕ) → List ℕ → CutUp
