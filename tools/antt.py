@@ -14,7 +14,7 @@ NO_LIBRARIES = re.compile(r".*_tests$|match_time$|copy_example$")
 WORD = re.compile(r"[^\s(){}\[\],;λ`\"]+")
 BEGINS = re.compile(r"(?:(?:abbrev|unfoldable|pub)\s+)*(?:(?P<kind>data|record)\s+(?P<type>[^\s:({]+)|(?P<name>[^\s:({]+)\s+:(?:\s|$))")
 USE = re.compile(r"\s*(?:ghost )?use (Rattle\.[\w.-]+?)(?:\.\{(.*)\}| as (\w+))?;?\s*$")
-BINDERS = re.compile(r"λ ([^.]*)\.|[({]([^(){}:;]*?) :(?=\s)")
+BINDERS = re.compile(r"λ ([^.()]*)\.|[({]((?:[^\s(){}:;=]+ )+):(?=\s)")
 
 
 class Block:

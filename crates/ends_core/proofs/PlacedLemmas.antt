@@ -1,6 +1,6 @@
 -- The spots of heads and tails are right.
-use Rattle.std.proofs.Common.{◌≡◌, ℕ, ◌+◌, ◌-◌, ◌<◌, ◌≤◌, zero, suc, List, [], ◌∷◌, ◌++◌, length, get_or, Bool, true, false, inl, inr, refl, sym, ◌∙◌, ap, subst, arith, length-append}
-use Rattle.std.proofs.lemmas.Bool.{cases_lt}
+use Rattle.std.proofs.Common.{◌≡◌, ℕ, ◌+◌, ◌-◌, ◌<◌, ◌≤◌, zero, suc, List, [], ◌∷◌, ◌++◌, length, get_or, Bool, true, false, cond, inl, inr, refl, sym, ◌∙◌, ap, subst, arith, length-append}
+use Rattle.std.proofs.lemmas.Bool.{cases_lt, le-ltb}
 use Rattle.std.proofs.lemmas.List.{get_or_append_left}
 use Rattle.std.proofs.Math.Seq.{get_or-append_right}
 use Rattle.ports_core.specs.Part.{only_out}
@@ -12,7 +12,7 @@ use Rattle.ends_core.specs.laws.EndsLaws.{first_then_behind, ends_together}
 use Rattle.ends_core.specs.Head.{head_work}
 use Rattle.ends_core.specs.Tail.{tail_work}
 use Rattle.ends_core.specs.Place.{head_spots, skipped, tail_spots}
-use Rattle.ends_core.proofs.AgreedLemmas.{tail_first, tail_together, tail_long, skipped_is, tail_somewhere}
+use Rattle.ends_core.proofs.AgreedLemmas.{tail_first, tail_together, tail_long, skipped_is, tail_nowhere, tail_somewhere}
 
 -- one output alone
 
@@ -56,6 +56,15 @@ head_placed delim unit but_last n = record {
 }
 
 -- tails
+
+tail_goes : (delim : ℕ) (unit : Counted) (from_nth : Bool) (n : ℕ) (x : List ℕ) (i : ℕ) (at : Spot) → GoesTo at (tail_spots delim unit from_nth n x i)
+    → (skipped delim unit from_nth n x ≤ i) × (i - skipped delim unit from_nth n x < length (tail_of delim unit from_nth n x)) × (at ≡ spot 0 (i - skipped delim unit from_nth n x))
+tail_goes delim unit from_nth n x i at goes = elim (cases_lt i (skipped delim unit from_nth n x)) [
+  | inl before ↦ absurd (subst (GoesTo at) (tail_nowhere delim unit from_nth n x i before) goes)
+  | inr past ↦ (let one = one_spot (tail_of delim unit from_nth n x) (i - skipped delim unit from_nth n x) at (subst (GoesTo at) (after past) goes) in (past, one.0, one.1))
+] where
+  after : skipped delim unit from_nth n x ≤ i → tail_spots delim unit from_nth n x i ≡ spots_from 0 (tail_of delim unit from_nth n x ∷ []) (i - skipped delim unit from_nth n x)
+  after past = ap (λ before. cond before [] (spots_from 0 (tail_of delim unit from_nth n x ∷ []) (i - skipped delim unit from_nth n x))) (le-ltb i (skipped delim unit from_nth n x) past)
 
 tail_byte : (delim : ℕ) (unit : Counted) (from_nth : Bool) (n : ℕ) (x : List ℕ) (i : ℕ) → skipped delim unit from_nth n x ≤ i → get_or (tail_of delim unit from_nth n x) (i - skipped delim unit from_nth n x) 0 ≡ get_or x i 0
 tail_byte delim unit from_nth n x i past =

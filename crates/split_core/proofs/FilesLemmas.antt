@@ -216,6 +216,11 @@ caused_later old mid new fault.TooLong stay caused = caused
 
 -- Files in order
 
+pub length_begin : (these those : List (List ℕ)) → AllBegin these those → length these ≤ length those
+length_begin [] those begin = omega arith
+length_begin (bytes ∷ these) [] begin = absurd begin
+length_begin (bytes ∷ these) (whole ∷ those) begin = let rest = length_begin these those begin.1 in omega arith
+
 abbrev no_lists : List (List ℕ)
 no_lists = []
 
