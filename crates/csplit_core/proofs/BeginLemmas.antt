@@ -137,7 +137,7 @@ put_unmade told writer next bytes old new f is some ready (same, none) = record 
   halts = λ draft writes. halts_as told _ _ _ _ old new f (part_none writer.style draft.ended (last_contents false draft) (unwritten writer bytes draft is some writes).none) refl
       (made_halts told writer draft.ended (last_contents false (with_bytes bytes draft)) old new f (unwritten writer bytes draft is some writes).makes writes.closed (unwritten writer bytes draft is some writes).count none);
   breaks = make_breaks writer.style (next_name writer) old new f none;
-  owns = subst (λ those. Rattle.csplit_core.specs.Writer.KeepsFiles writer those old new) (sym same) (owned_unopened writer (next_name writer) old new f (ready_could writer old ready) none);
+  owns = subst (λ those. Rattle.csplit_core.specs.inner.Writer.KeepsFiles writer those old new) (sym same) (owned_unopened writer (next_name writer) old new f (ready_could writer old ready) none);
 }
 
 -- A section begins
@@ -198,7 +198,7 @@ begin_not told writer next kept old new f is elide ready (same, none) = record {
   halts = λ ended pauses. made_halts told writer ended (begun kept) old new f (begun_makes writer.style kept is elide) pauses.closed pauses.made none;
   none_made = ap (λ (those : WriterState). those.made) same;
   breaks = make_breaks writer.style (next_name writer) old new f none;
-  owns = subst (λ those. Rattle.csplit_core.specs.Writer.KeepsFiles writer those old new) (sym same) (owned_unopened writer (next_name writer) old new f (ready_could writer old ready) none);
+  owns = subst (λ those. Rattle.csplit_core.specs.inner.Writer.KeepsFiles writer those old new) (sym same) (owned_unopened writer (next_name writer) old new f (ready_could writer old ready) none);
 }
 
 -- The first section

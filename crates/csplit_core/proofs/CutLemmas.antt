@@ -107,7 +107,7 @@ pub cut_begins : (cutter : CutterState) (x left line before : List ℕ) (at : Is
 cut_begins cutter x left line before at cut place now fit will before_is =
     let state = state_after (suppress_in cutter) now.goes.operand now.goes.operands cutter.progress.repetition cut.matched cut.line in
     let on : cutter.progress.current + at.taken ≤ cut.line = (let p = now.place_is in let b = now.before in omega (arith, p, b)) in
-    let some : 1 ≤ state.current = (let least = Rattle.csplit_core.specs.PlanLaws.line_some (suppress_in cutter) cut.line in let s = fit.fits.some in let f = will.from in omega (arith, least, s, f)) in
+    let some : 1 ≤ state.current = (let least = Rattle.csplit_core.specs.laws.PlanLaws.line_some (suppress_in cutter) cut.line in let s = fit.fits.some in let f = will.from in omega (arith, least, s, f)) in
     subst (λ draft. Begins (draft_part cutter.writer.style draft) (settled_part cutter x))
     (sym (cut_draft cutter x left before at cut now.goes.operand now.goes.operands (kept_by state.operands) now.goes.are fit.fits.some on (before_is ∙ ap (λ n. first_lines newline (cut.line - n) left) now.place_is)))
     (begun_begins cutter.writer.style cutter.operands (all_lines x) (at.steps ++ step_at cutter now.goes.operand cut ∷ []) state (leads_on cutter x left at cut now.goes) some)

@@ -193,7 +193,7 @@ module _ (told : Bool) (state : PartsState) (old : List Slot) (ready : IsReady s
         (last_grows (full_shares x) [] (share file_state.Open (rest_bytes x)) (share file_state.Closed (rest_bytes x)) (inl refl) (begins_itself (rest_bytes x)))),
   ) where
     slot_of : (slot : ℕ) (new : List Slot) (f : Fault) → WritesShort told slot state.waiting old new f → Breaks old new f → (at : ℕ) × (f ≡ fault.Write at) × (2 ≤ at) × Rose at old new
-    slot_of slot new _ (Rattle.ports_core.specs.Write.broke n cut) breaks = (slot, refl, breaks.0, breaks.1)
+    slot_of slot new _ (Rattle.ports_core.specs.inner.Write.broke n cut) breaks = (slot, refl, breaks.0, breaks.1)
 
   pub close_ends : (slot : ℕ) (wet new : List Slot) (result : Result (Unit {0}) Fault) → state.current ≡ Some slot → wet ≡ with_written slot (told_of told state.waiting) old → OnOk result (new ≡ changed_at slot closes wet)
       → IfErr result (λ f. (f ≡ fault.Write slot) × (new ≡ with_broken slot (changed_at slot closes wet))) → Finishes told state old new result
