@@ -33,7 +33,7 @@ use std::alloc::Global;
 use std::marker::Model;
 
 /// A cut: the line that the last pattern matched, and the line of the cut.
-#[derive(Clone, Copy, Debug, PartialEq, Eq)]
+#[derive(Clone, Copy)]
 pub struct Cut {
     /// The line that the last pattern matched, 0 where none was performed.
     pub matched: u64,

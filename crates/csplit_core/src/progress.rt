@@ -10,7 +10,7 @@ ghost use Rattle.operand_core.specs.declared.operand.Operand.{Operand};
 use crate::{Offset, Operand, Target, Times};
 
 /// What the next operand does.
-#[derive(Clone, Copy, Debug, PartialEq, Eq)]
+#[derive(Clone, Copy, PartialEq, Eq)]
 pub enum Turn {
     /// None is left.
     UsedUp,
@@ -26,7 +26,7 @@ pub enum Turn {
 }
 
 /// Where a run stands after some steps.
-#[derive(Clone, Copy, Debug)]
+#[derive(Clone, Copy)]
 pub struct Progress {
     /// How many operands are done.
     pub done: usize,

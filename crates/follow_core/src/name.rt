@@ -17,7 +17,7 @@ use std::marker::Model;
 use watch_core::Watch;
 
 /// How a name stands between two looks.
-#[derive(Clone, Copy, Debug, PartialEq, Eq)]
+#[derive(Clone, Copy)]
 pub enum Standing {
     /// It was not looked at yet.
     New,

@@ -8,7 +8,7 @@ use crate::{Offset, OperandFaultKind, Times};
 use seg_core::digits::read_digits;
 
 /// What a word spells. The text of a pattern stands as it is written, with its escapes.
-#[derive(Clone, Copy, Debug)]
+#[derive(Clone, Copy)]
 pub enum Word<'a> {
     /// A line number, at least 1.
     Number(u64),

@@ -14,7 +14,7 @@ use bre_core::{BreFault, Expression, Token};
 use std::alloc::Global;
 
 /// What waits for an item while tokens are read from the last to the first.
-#[derive(Clone, Copy, Debug)]
+#[derive(Clone, Copy)]
 pub enum Pending {
     /// A group whose `\(` is still to come.
     Group,

@@ -12,7 +12,7 @@ use bre_core::BreFault;
 
 /// A duplication whose item is written out: the item's nodes stand from a place on, after a node's room for the step back
 /// where there is no bound.
-#[derive(Clone, Copy, Debug)]
+#[derive(Clone, Copy)]
 pub struct Duplication {
     /// How many nodes stand before those of the item.
     pub start: usize,

@@ -15,7 +15,7 @@ use std::alloc::Global;
 pub const HOPS: usize = 3;
 
 /// Numbers of a word that lead to the same one beyond it.
-#[derive(Clone, Copy, Debug)]
+#[derive(Clone, Copy)]
 pub struct Hop {
     /// The numbers, as the bits of their word: none where the word has fewer hops.
     pub from: u64,

@@ -13,7 +13,7 @@ use crate::words::{enter_if, has};
 use bre_core::BreFault;
 
 /// Numbers of a word that lead to the same one beyond it, which leads nowhere without a byte.
-#[derive(Clone, Copy, Debug)]
+#[derive(Clone, Copy)]
 pub struct Landing {
     /// The word.
     pub at: usize,

@@ -12,7 +12,7 @@ use bre_core::BreFault;
 use std::alloc::Global;
 
 /// What is asked of a number of a code.
-#[derive(Clone, Copy, Debug)]
+#[derive(Clone, Copy)]
 pub enum Kind {
     /// Its node takes this byte.
     Takes(u8),

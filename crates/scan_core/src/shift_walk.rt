@@ -12,7 +12,7 @@ use crate::walk::Outcome;
 const STRIDE: usize = 16;
 
 /// What some bytes lead to.
-#[derive(Clone, Copy, Debug)]
+#[derive(Clone, Copy)]
 pub struct Strode {
     /// The state, in the low six bits.
     pub word: u64,

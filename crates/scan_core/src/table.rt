@@ -7,7 +7,7 @@ pub const STOP: u16 = 65_535;
 pub const UNKNOWN: u16 = 65_534;
 
 /// What is noted of a set of the table.
-#[derive(Clone, Copy, Debug)]
+#[derive(Clone, Copy)]
 pub struct State {
     /// How many positions it has.
     pub positions: usize,

@@ -17,7 +17,7 @@ use std::alloc::Global;
 const PREFIX: &str = "xx";
 
 /// What the options of `csplit` ask for, but for the prefix.
-#[derive(Clone, Copy, Debug, PartialEq, Eq)]
+#[derive(Clone, Copy)]
 pub struct CsplitOptions {
     /// How many digits names have at least.
     pub digits: u8,

@@ -17,7 +17,7 @@ use seg_core::unit::Unit;
 use std::alloc::Global;
 
 /// What the options of `head` or `tail` ask for.
-#[derive(Clone, Copy, Debug, PartialEq, Eq)]
+#[derive(Clone, Copy)]
 pub struct EndsOptions {
     /// What is counted: lines or bytes.
     pub unit: Unit,

@@ -14,7 +14,7 @@ use ports_core::{Fault, UsageKind};
 use std::alloc::Global;
 
 /// What may stand in the next word.
-#[derive(Clone, Copy, Debug, PartialEq, Eq)]
+#[derive(Clone, Copy)]
 pub enum State {
     /// Options and operands, or a hyphen and digits, which are then the value of this option.
     First(Choice, Kind),

@@ -21,7 +21,7 @@ const THOUSAND_LINES: Cut = Cut::Lines(1000);
 const PREFIX: &str = "x";
 
 /// What the options of `split` ask for.
-#[derive(Clone, Copy, Debug, PartialEq, Eq)]
+#[derive(Clone, Copy)]
 pub struct SplitOptions {
     /// The way to split, where one is given.
     pub cut: Option<Cut>,
@@ -109,7 +109,7 @@ fn way_in(choice: Choice, value: Value<'_>) -> Cut
 }
 
 /// What stands after the prefix of a name.
-#[derive(Clone, Copy, Debug, PartialEq, Eq)]
+#[derive(Clone, Copy)]
 pub struct Suffix {
     /// How many characters it has, or at first has.
     pub width: u32,

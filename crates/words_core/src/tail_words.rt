@@ -14,7 +14,7 @@ use ports_core::{Fault, STANDARD_INPUT, UsageKind};
 use std::alloc::Global;
 
 /// What the options of `tail` ask for after the last part of each input.
-#[derive(Clone, Copy, Debug, PartialEq, Eq)]
+#[derive(Clone, Copy)]
 pub struct FollowOptions {
     /// What is followed, if anything is.
     pub followed: Option<Followed>,
