@@ -34,7 +34,7 @@ abbrev mutual
   matches_item (group pattern) line from to = matches pattern line from to
   matches_item (repeat item low high) line from to =
       any_below (suc (low + to)) (λ count. nat_le low count
-          && (is_at_most high count && has_parts (matches_item item line) count from to))
+      && (is_at_most high count && has_parts (matches_item item line) count from to))
 
 -- whether some stretch of the line matches
 abbrev pub contains : Pattern → List ℕ → Bool

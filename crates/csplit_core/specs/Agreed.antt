@@ -39,4 +39,4 @@ pub record IsAgreed (outputs : List Line → List (List Line)) (x : List Line) (
   -- at each place two continuations have no more in common
   pub longest : (place : ℕ) → place < length agreed → (y : List Line) × (z : List Line)
       × ((front : List Line) → IsFront front (output_at (outputs (x ++ y)) place)
-          → IsFront front (output_at (outputs (x ++ z)) place) → length front ≤ length (output_at agreed place))
+      → IsFront front (output_at (outputs (x ++ z)) place) → length front ≤ length (output_at agreed place))

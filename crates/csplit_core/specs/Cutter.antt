@@ -101,15 +101,18 @@ Leads suppress lines operands steps state = (more : List Step) (last : State) (e
 
 -- the sections of these steps, and an open one with these bytes
 abbrev pub draft_by : List Line → List Step → Bool → List ℕ → Draft
-draft_by lines steps kept bytes = record { ended = map contents_of (map (section_of lines) steps); is_kept = kept;
-    bytes = bytes }
+draft_by lines steps kept bytes = record {
+  ended = map contents_of (map (section_of lines) steps);
+  is_kept = kept;
+  bytes = bytes;
+}
 
 -- what is settled of complete lines
 abbrev pub settled_draft : Bool → List Operand → List Line → Draft
 settled_draft suppress operands lines =
     draft_by lines (plan suppress operands lines).steps (is_last_kept (plan suppress operands lines).ending)
     (bytes_of (lines_between (plan suppress operands lines).last.current
-        (settled_end (length lines) (plan suppress operands lines).ending) lines))
+    (settled_end (length lines) (plan suppress operands lines).ending) lines))
 
 -- The lines x came in. Of those from the current line on, the first ones are written, and these are left.
 pub record IsAt (cutter : CutterState) (x left : List ℕ) : Type 0 where

@@ -18,8 +18,11 @@ pub record Contents : Type 0 where
   pub bytes : List ℕ
 
 abbrev pub contents_of : Section → Contents
-contents_of section = record { is_kept = section.is_kept; is_closed = section.is_closed;
-    bytes = bytes_of section.lines }
+contents_of section = record {
+  is_kept = section.is_kept;
+  is_closed = section.is_closed;
+  bytes = bytes_of section.lines;
+}
 
 abbrev pub is_empty : List ℕ → Bool
 is_empty [] = true

@@ -97,8 +97,13 @@ state_after suppress operand operands repetition matched cut = record {
 }
 
 abbrev pub step_of : State → Operand → (matched cut : ℕ) → Step
-step_of state operand matched cut = record { operand = operand; repetition = state.repetition; current = state.current;
-    matched = matched; cut = cut }
+step_of state operand matched cut = record {
+  operand = operand;
+  repetition = state.repetition;
+  current = state.current;
+  matched = matched;
+  cut = cut;
+}
 
 -- The plan from a state on: each operand cuts in its turn, and as often as it is to be performed, until one can't. Then
 -- it says where the run stands, and why it ends there.

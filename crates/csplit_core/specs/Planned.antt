@@ -41,7 +41,7 @@ turn_to suppress lines state operand operands (Number n) =
     turn_at suppress (length lines) state operand operands state.matched (n * (state.repetition + 1))
 turn_to suppress lines state operand operands (Search pattern kept offset) =
     turn_from suppress (length lines) state operand operands offset
-        (first_match operand lines (search_line suppress state))
+    (first_match operand lines (search_line suppress state))
 
 abbrev pub turn_of : Bool → List Line → State → List Operand → Turn
 turn_of suppress lines state [] = ends used_up

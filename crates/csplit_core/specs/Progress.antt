@@ -8,8 +8,12 @@ use Rattle.csplit_core.specs.declared.progress.Turn.{Turn}
 use Rattle.csplit_core.specs.declared.progress.Turn.TheVariants.{UsedUp, Missed, Above, Below}
 
 abbrev pub state_of : List Operand → Progress → State
-state_of operands progress = record { operands = drop progress.done operands; repetition = progress.repetition;
-    current = progress.current; matched = progress.matched }
+state_of operands progress = record {
+  operands = drop progress.done operands;
+  repetition = progress.repetition;
+  current = progress.current;
+  matched = progress.matched;
+}
 
 -- the cut that is above the last line will move on once that line is there
 pub record WillMove (operands : List Operand) (total : ℕ) (progress : Progress) (matched line : ℕ) : Type 0 where

@@ -50,7 +50,7 @@ settled_end total (below operand repetition) = 0
 abbrev pub sections_by : Bool → (ℕ → Ending → ℕ) → List Line → Plan → List Section
 sections_by closed end_of lines plan = map (section_of lines) plan.steps
     ++ section (is_last_kept plan.ending) closed
-        (lines_between plan.last.current (end_of (length lines) plan.ending) lines) ∷ []
+    (lines_between plan.last.current (end_of (length lines) plan.ending) lines) ∷ []
 
 -- where the input ends after these lines
 abbrev pub whole_sections : List Line → Plan → List Section

@@ -15,4 +15,4 @@ skipped delim unit from_nth n x = length x - length (tail_of delim unit from_nth
 abbrev pub tail_spots : ℕ → Counted → Bool → ℕ → List ℕ → ℕ → List Spot
 tail_spots delim unit from_nth n x i =
     if nat_lt i (skipped delim unit from_nth n x) then []
-        else spots_from 0 (tail_of delim unit from_nth n x ∷ []) (i - skipped delim unit from_nth n x)
+    else spots_from 0 (tail_of delim unit from_nth n x ∷ []) (i - skipped delim unit from_nth n x)

@@ -117,5 +117,5 @@ pub record Holds (ends : Ends) (x : List ℕ) : Type 0 where
 abbrev pub IsRefused : GuardState Ends → List ℕ → List Slot → List Slot → Fault → Type 0
 IsRefused engine piece old new fault =
     IsCaused (IsMet (work engine.stage).means (work engine.stage).means.feeding (may_lack engine.stage ≡ true)
-        (EndsWith Holds work engine.stage piece) old new)
+    (EndsWith Holds work engine.stage piece) old new)
     engine.is_over engine.fed (length piece) old new fault

@@ -32,8 +32,14 @@ new_state name = record { text = name; standing = New }
 -- these names are to be followed; no look was made yet
 abbrev pub opened_follow : Bool → Start → Bool → List (List ℕ) → FollowState
 opened_follow by_name start headers names =
-    record { by_name = by_name; start = start; names = map new_state names; printer = fresh_printer headers;
-    stage = Fresh; has_failed = false }
+    record {
+      by_name = by_name;
+      start = start;
+      names = map new_state names;
+      printer = fresh_printer headers;
+      stage = Fresh;
+      has_failed = false;
+    }
 
 -- each name can be looked at
 abbrev pub AllReady : List NameState → List Watched → Type 0
@@ -72,9 +78,9 @@ pub data Begun (told_in : Bool) (ways : Ways) (names : List (List ℕ)) (looks :
   nothing : Begun told_in ways names looks snapshot []
   up_to : (fates : List Fate) (place : ℕ) (shares : List Share) (share : Share) → place < length names
       → (told_in ≡ true → shares ≡ shares_at_look_from ways looks (record { snapshot = snapshot; fates = fates }) 0
-          (take place names))
+      (take place names))
       → (told_in ≡ true → BeginsShare share
-          (share_of ways looks (record { snapshot = snapshot; fates = fates }) place (slice_index_or names place [])))
+      (share_of ways looks (record { snapshot = snapshot; fates = fates }) place (slice_index_or names place [])))
       → Begun told_in ways names looks snapshot (shares ++ share ∷ [])
 
 -- Following ended in the look after these: the outputs had all that these give, and got a beginning of what that one
@@ -101,7 +107,7 @@ LooksOn told_in told snapshot old watched slots new watched_new slots_new =
     (ways : Ways) (headers : Bool) (names : List (List ℕ)) (looks : List Look) (first : List Slot)
     → Holds told_in told ways headers names looks first old watched slots → AllKeep told_in ways looks snapshot names
     → (fates : List Fate) × Holds told_in told ways headers names
-        (looks ++ record { snapshot = snapshot; fates = fates } ∷ []) first new watched_new slots_new
+    (looks ++ record { snapshot = snapshot; fates = fates } ∷ []) first new watched_new slots_new
 
 -- whatever looks were made before, the next one was stopped
 abbrev pub StopsOn : (told_in told : Bool) → Snapshot → FollowState → List Watched → List Slot → List Slot → Fault

@@ -59,8 +59,11 @@ pub record Followed : Type 0 where
   pub has_failed : Bool
 
 abbrev pub made_of : Bool → List Share → Followed
-made_of headers shares = record { out = text_from headers None shares; messages = messages_of shares;
-    has_failed = any_failed shares }
+made_of headers shares = record {
+  out = text_from headers None shares;
+  messages = messages_of shares;
+  has_failed = any_failed shares;
+}
 
 -- what following these names through these looks writes and says
 abbrev pub followed : Ways → Bool → List (List ℕ) → List Look → Followed

@@ -19,14 +19,14 @@ pub record Share : Type 0 where
 abbrev pub gain : Ways → List ℕ → List Look → Look → List ℕ
 gain ways name before look =
     drop (length (name_text ways.start (entries_in ways name before)))
-        (name_text ways.start (entries_in ways name (before ++ look ∷ [])))
+    (name_text ways.start (entries_in ways name (before ++ look ∷ [])))
 
 -- what is told of the name at that look
 abbrev pub told_at_look : Ways → List ℕ → List Look → Look → List (List ℕ)
 told_at_look ways name before look =
     map (λ notice. notice_of notice name)
-        (drop (length (notices_of (entries_in ways name before)))
-        (notices_of (entries_in ways name (before ++ look ∷ []))))
+    (drop (length (notices_of (entries_in ways name before)))
+    (notices_of (entries_in ways name (before ++ look ∷ []))))
 
 -- a name that was dropped gives nothing
 abbrev pub no_share : List ℕ → Share
@@ -34,14 +34,24 @@ no_share name = record { name = name; is_opened = false; bytes = []; messages = 
 
 -- one that leads nowhere at the first look is told as one that can't be opened
 abbrev pub missing_share : List ℕ → Share
-missing_share name = record { name = name; is_opened = false; bytes = []; messages = message_of Tail (Open 0) name ∷ [];
-    has_failed = true }
+missing_share name = record {
+  name = name;
+  is_opened = false;
+  bytes = [];
+  messages = message_of Tail (Open 0) name ∷ [];
+  has_failed = true;
+}
 
 abbrev pub share_by : Ways → List ℕ → List Look → Look → Fate → Share
 share_by ways name before look sound =
     if is_first before && is_missing (entries_in ways name (before ++ look ∷ [])) then missing_share name
-    else record { name = name; is_opened = is_first before; bytes = gain ways name before look;
-        messages = told_at_look ways name before look; has_failed = false }
+    else record {
+      name = name;
+      is_opened = is_first before;
+      bytes = gain ways name before look;
+      messages = told_at_look ways name before look;
+      has_failed = false;
+    }
 share_by ways name before look (unopened notices bytes) = record {
   name = name;
   is_opened = false;

@@ -12,13 +12,13 @@ use Rattle.ports_core.specs.declared.fault.Fault.{Fault}
 abbrev pub Wrote : Bool → List ℕ → List (List ℕ) → List Slot → List Slot → Type 0
 Wrote told text lines old new = (output error : Slot) (others : List Slot) → old ≡ output ∷ error ∷ others
     → (error_after : Slot) × TellsAll told lines error error_after
-        × (new ≡ adds (told_of told text) output ∷ error_after ∷ others)
+    × (new ≡ adds (told_of told text) output ∷ error_after ∷ others)
 
 -- these lines did, and a beginning of the text, before standard output broke or memory was wanting
 abbrev pub WroteShort : Bool → List ℕ → List (List ℕ) → List Slot → List Slot → Fault → Type 0
 WroteShort told text lines old new fault = (output error : Slot) (others : List Slot) → old ≡ output ∷ error ∷ others
     → (error_after : Slot) × TellsAll told lines error error_after
-        × Short told text (output ∷ error_after ∷ others) new fault
+    × Short told text (output ∷ error_after ∷ others) new fault
 
 -- all shares came there, one after another
 pub record AllShared (told : Bool) (printer : PrinterState) (shares : List Share) (old : List Slot)

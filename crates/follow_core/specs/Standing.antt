@@ -67,7 +67,7 @@ Stands told ways looks place name watched Left = IsLeft told ways looks place na
 abbrev pub AllStand : Bool → Ways → List Look → List NameState → List Watched → Type 0
 AllStand told ways looks names watched = (place : ℕ) → place < length names
     → Stands told ways looks place (state_at names place).text (watched_at watched place)
-        (state_at names place).standing
+    (state_at names place).standing
 
 -- a file that is appended to keeps its bytes, in these looks and one more
 abbrev pub KeepsBytes : Bool → Ways → List Look → Snapshot → List ℕ → Type 0

@@ -48,7 +48,7 @@ abbrev pub entries_later : Bool → List ℕ → Option ℕ → List Snapshot �
 entries_later by_name name opened [] = []
 entries_later by_name name opened (snapshot ∷ snapshots) =
     entries_at_look by_name name opened snapshot
-        ++ entries_later by_name name (open_after_look by_name name opened snapshot) snapshots
+    ++ entries_later by_name name (open_after_look by_name name opened snapshot) snapshots
 
 -- The first look opens the file that the name leads to, if there is one.
 abbrev pub entries_of : Bool → List ℕ → List Snapshot → List Entry

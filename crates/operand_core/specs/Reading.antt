@@ -58,7 +58,9 @@ failed what index = record { operands = []; fault = Some (record { kind = what; 
 
 abbrev pub with_operand : ℕ → Aim → Times → Words → Words
 with_operand index aim times words = record {
-    operands = record { index = index; aim = aim; times = times } ∷ words.operands; fault = words.fault }
+  operands = record { index = index; aim = aim; times = times } ∷ words.operands;
+  fault = words.fault;
+}
 
 -- What words ask for, of which the first has this index. A repetition belongs to the operand directly before it.
 abbrev pub words_from : (index least : ℕ) → List (List ℕ) → Words

@@ -48,7 +48,7 @@ unescaped delimiter [] = []
 unescaped delimiter (byte ∷ []) = byte ∷ []
 unescaped delimiter (byte ∷ next ∷ text) =
     if byte == 92 then (if next == delimiter then delimiter ∷ unescaped delimiter text
-        else byte ∷ next ∷ unescaped delimiter text)
+    else byte ∷ next ∷ unescaped delimiter text)
     else byte ∷ unescaped delimiter (next ∷ text)
 
 -- nothing, or digits with a sign or without one

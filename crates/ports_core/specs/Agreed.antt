@@ -28,7 +28,7 @@ pub record IsAgreed (work : Work) (x : List ℕ) (agreed : Part) : Type 0 where
   -- at each place two continuations have no more in common
   pub longest : (place : ℕ) → place < length (outputs_of agreed) → (y : List ℕ) × (z : List ℕ) × CanCome y × CanCome z
       × ((bytes : List ℕ) → IsBeginning bytes (output_at (work.whole (x ++ y)) place)
-          → IsBeginning bytes (output_at (work.whole (x ++ z)) place) → length bytes ≤ length (output_at agreed place))
+      → IsBeginning bytes (output_at (work.whole (x ++ z)) place) → length bytes ≤ length (output_at agreed place))
 
 -- where a byte goes: to the output at this place, after this many bytes of it
 pub record Spot : Type 0 where
@@ -67,7 +67,7 @@ pub record ArePlaced (work : Work) (spots_of : List ℕ → ℕ → List Spot) :
   -- a byte that goes to a spot stands there
   pub stands : (x : List ℕ) (i : ℕ) (at : Spot) → i < length x → GoesTo at (spots_of x i)
       → (at.offset < length (output_at (work.whole x) at.place))
-          × (get_or (output_at (work.whole x) at.place) at.offset 0 ≡ get_or x i 0)
+      × (get_or (output_at (work.whole x) at.place) at.offset 0 ≡ get_or x i 0)
   -- one goes to each spot of the outputs
   pub filled : (x : List ℕ) (at : Spot) → at.offset < length (output_at (work.whole x) at.place) → (i : ℕ)
       × (i < length x) × GoesTo at (spots_of x i)

@@ -26,8 +26,13 @@ abbrev pub only_out : List ℕ → Part
 only_out bytes = record { out = bytes; files = [] }
 
 abbrev pub file_of : Slot → File
-file_of slot = record { name = slot.name; mode = slot.mode; bytes = slot.written; state = slot.state;
-    is_broken = slot.is_broken }
+file_of slot = record {
+  name = slot.name;
+  mode = slot.mode;
+  bytes = slot.written;
+  state = slot.state;
+  is_broken = slot.is_broken;
+}
 
 abbrev pub told_file : Bool → File → File
 told_file told file = record file { bytes = told_of told file.bytes }

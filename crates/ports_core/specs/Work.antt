@@ -25,8 +25,12 @@ no_needs = record { memory = false; files = false }
 
 -- an engine that writes to standard output alone
 abbrev pub on_output : Bool → Means
-on_output memory = record { output = true; files = false; feeding = record { memory = memory; files = false };
-    closing = no_needs }
+on_output memory = record {
+  output = true;
+  files = false;
+  feeding = record { memory = memory; files = false };
+  closing = no_needs;
+}
 
 pub record Work : Type 0 where
   -- what is written once these bytes came in

@@ -60,8 +60,14 @@ IsNeeded is_complete most x = (x ≡ [])
 
 -- a call of an engine, which may need this
 abbrev pub call_of : Work → Needs → List ℕ → Part → Part → Step
-call_of work needs read low high = record { low = low; high = high; output = work.means.output;
-    files = work.means.files; needs = needs; read = read }
+call_of work needs read low high = record {
+  low = low;
+  high = high;
+  output = work.means.output;
+  files = work.means.files;
+  needs = needs;
+  read = read;
+}
 
 -- One call of an engine over this input, fed by pieces of at most `most` bytes: it is opened, takes a piece, or is
 -- closed.
@@ -70,7 +76,7 @@ pub data IsCall (work : Work) (opening : Needs) (most : ℕ) (content : Content)
   feeds : (x piece rest : List ℕ) → content.bytes ≡ (x ++ piece) ++ rest → length piece ≤ most
       → work.is_complete x ≡ false
       → IsCall work opening most content (call_of work work.means.feeding (x ++ piece) (work.settled x)
-          (work.settled (x ++ piece)))
+      (work.settled (x ++ piece)))
   closes : (x : List ℕ) → HasAll work content x → IsNeeded work.is_complete most x
       → IsCall work opening most content (call_of work work.means.closing x (work.settled x) (work.whole x))
 

@@ -39,8 +39,14 @@ step_after first step = record step { low = after_part first step.low; high = af
 
 -- a step that writes nothing, and may want memory
 abbrev pub memory_step : Part → Step
-memory_step so_far = record { low = so_far; high = so_far; output = false; files = false; needs = needs_memory;
-    read = [] }
+memory_step so_far = record {
+  low = so_far;
+  high = so_far;
+  output = false;
+  files = false;
+  needs = needs_memory;
+  read = [];
+}
 
 -- One step at an input, after what was written before it: there is no room to open it; or none for its header, where
 -- headers are; or that is written; or its engine is called. The input didn't break, and no byte of it was taken but
@@ -53,12 +59,18 @@ pub data RunStep (told : Bool) (task : Task) (most : ℕ) (so_far : Part) (heade
       → RunStep told task most so_far header slot sources (Some content) (memory_step so_far)
   heading : (content : Content) → task.with_header ≡ true → Leaves told content slot sources []
       → RunStep told task most so_far header slot sources (Some content)
-          (record { low = so_far; high = after_part so_far (only_out header); output = true; files = false;
-          needs = no_needs; read = [] })
+      (record {
+        low = so_far;
+        high = after_part so_far (only_out header);
+        output = true;
+        files = false;
+        needs = no_needs;
+        read = [];
+      })
   calling : (content : Content) (call : Step) → IsCall task.work task.opening most content call
       → Leaves told content slot sources call.read
       → RunStep told task most so_far header slot sources (Some content)
-          (step_after (after_part so_far (only_out header)) call)
+      (step_after (after_part so_far (only_out header)) call)
 
 -- A run ended so: its inputs were done, its outcome is written, its files were removed if that is due, and standard
 -- error was left as `error`; or a fault
@@ -71,19 +83,19 @@ pub data EndsAs (told_in told : Bool) (task : Task) (inputs : List Input) (sourc
   as_defined : (error : Slot) (reached : List Slot)
       → SaysAll told task.tool (made_by task inputs).messages standard_error error
       → OutputsAt told (streams_with error) (made_by task inputs).part reached
-          → Swept (made_by task inputs).sweeps 2 reached new
+      → Swept (made_by task inputs).sweeps 2 reached new
       → AreDone told_in task.work.is_complete largest_piece inputs sources → status ≡ status_of (made_by task inputs)
       → EndsAs told_in told task inputs sources new status
   stopped : (fault : Fault) (before : List Input) (input : Input) (after : List Input) (error : Slot) (step : Step)
       (reached : List Slot)
       → inputs ≡ before ++ input ∷ after → AreDone told_in task.work.is_complete largest_piece before sources
-          → AreUntouched after sources
+      → AreUntouched after sources
       → RunStep told_in task largest_piece (made_by task before).part
-          (header_text task.with_header (are_missing before) input.name) input.slot sources input.content step
+      (header_text task.with_header (are_missing before) input.name) input.slot sources input.content step
       → Stops step reached fault → StoppedBetween told (streams_with error) step.low step.high fault reached
-          → Swept task.work.clears 2 reached new
+      → Swept task.work.clears 2 reached new
       → SaysAll told task.tool ((made_by task before).messages
-          ++ message_of task.tool fault (output_named new fault) ∷ []) standard_error error → status ≡ 1
+      ++ message_of task.tool fault (output_named new fault) ∷ []) standard_error error → status ≡ 1
       → EndsAs told_in told task inputs sources new status
   no_room : (error : Slot) → SaysAll told task.tool (message_of task.tool Memory [] ∷ []) standard_error error
       → new ≡ streams_with error → AreUntouched inputs sources → status ≡ 1

@@ -71,8 +71,12 @@ ends_badly work content = if is_enough work content then is_given (work.verdict 
 -- of it, and a message for the fault with which its work ends, or where the input breaks off. After such a fault the
 -- files go if the work clears them.
 abbrev pub of_content : Task → Bool → List ℕ → Option Content → Outcome
-of_content task is_first name None = record { part = nothing; messages = message_of task.tool (Open 0) name ∷ [];
-    failed = true; sweeps = false }
+of_content task is_first name None = record {
+  part = nothing;
+  messages = message_of task.tool (Open 0) name ∷ [];
+  failed = true;
+  sweeps = false;
+}
 of_content task is_first name (Some content) = record {
   part = after_part (only_out (header_text task.with_header is_first name)) (made_of task.work content);
   messages = if is_enough task.work content then verdict_messages task (task.work.verdict content.bytes)

@@ -16,8 +16,8 @@ dealt_to delim n x i = delimiters delim (take i x) % n
 abbrev pub dealt_spots : ℕ → ℕ → Naming → List ℕ → ℕ → List Spot
 dealt_spots delim n names x i =
     if nat_lt i (length x) && is_named names (dealt_to delim n x i)
-        then spot (dealt_to delim n x i + 1) (length
-        (dealt n (dealt_to delim n x i) 0 (lines_of delim (take i x)))) ∷ [] else []
+    then spot (dealt_to delim n x i + 1) (length
+    (dealt n (dealt_to delim n x i) 0 (lines_of delim (take i x)))) ∷ [] else []
 
 -- parts that follow one another are together the text, as far as there are names
 abbrev pub spots_by : Cut → Plan → List ℕ → ℕ → List Spot

@@ -49,7 +49,7 @@ said_of_input (Some fault) = message_of Tee fault (codes "standard input") ∷ [
 abbrev pub messages_of : List (List ℕ) → List (Option ℕ) → ℕ → Option Fault → List (List ℕ)
 messages_of names broke pieces fault =
     said_before (suc pieces) (output_names names) broke ++ said_of_input fault
-        ++ said_in (suc pieces) (output_names names) broke
+    ++ said_in (suc pieces) (output_names names) broke
 
 abbrev pub is_sound : {X : Type 0} → Option X → Bool
 is_sound None = true
@@ -81,7 +81,7 @@ pub data OutputLeft (told : Bool) (pieces : List (List ℕ)) : Option ℕ → Sl
   output_cut : (before : List (List ℕ)) (piece : List ℕ) (after : List (List ℕ)) (n : ℕ)
       → pieces ≡ before ++ piece ∷ after → n < length piece
       → OutputLeft told pieces (Some (suc (length before)))
-          (breaks (adds (told_of told (concat before ++ take n piece)) standard_output))
+      (breaks (adds (told_of told (concat before ++ take n piece)) standard_output))
 
 -- A file: it has all that was copied, and was closed; or it couldn't be opened, and its name is lost where there was no
 -- memory to keep it; or it broke in a piece, and has a beginning; or it has all, and broke as it was closed.
@@ -92,7 +92,7 @@ pub data FileLeft (told : Bool) (mode : Mode) (pieces : List (List ℕ)) (name :
   file_cut : (before : List (List ℕ)) (piece : List ℕ) (after : List (List ℕ)) (n : ℕ)
       → pieces ≡ before ++ piece ∷ after → n < length piece
       → FileLeft told mode pieces name (Some (suc (length before)))
-          (breaks (adds (told_of told (concat before ++ take n piece)) (opened name mode)))
+      (breaks (adds (told_of told (concat before ++ take n piece)) (opened name mode)))
   file_unclosed : FileLeft told mode pieces name (Some (suc (length pieces)))
       (breaks (closes (adds (told_of told (concat pieces)) (opened name mode))))
 
@@ -103,7 +103,7 @@ pub data FilesLeft (told : Bool) (mode : Mode) (pieces : List (List ℕ)) : List
   one_file : (name : List ℕ) (names : List (List ℕ)) (first : Option ℕ) (broke : List (Option ℕ)) (file : Slot)
       (files : List Slot)
       → FileLeft told mode pieces name first file → FilesLeft told mode pieces names broke files
-          → FilesLeft told mode pieces (name ∷ names) (first ∷ broke) (file ∷ files)
+      → FilesLeft told mode pieces (name ∷ names) (first ∷ broke) (file ∷ files)
 
 -- A run ended so: standard output and each file were left as they must be by what broke when, the messages for that
 -- were said, and the status tells whether anything went wrong; or there was no memory for the run at all, and nothing
@@ -113,7 +113,7 @@ pub data EndsAs (told_in told : Bool) (mode : Mode) (names : List (List ℕ)) (c
   copied : (pieces : List (List ℕ)) (fault : Option Fault) (first : Option ℕ) (broke : List (Option ℕ))
       (output error : Slot) (files : List Slot)
       → IsRead content (LeavesOf told_in source) (concat pieces) fault → OutputLeft told pieces first output
-          → FilesLeft told mode pieces names broke files
+      → FilesLeft told mode pieces names broke files
       → SaysAll told Tee (messages_of names (first ∷ broke) (length pieces) fault) standard_error error
       → new ≡ output ∷ error ∷ files → status ≡ status_of (first ∷ broke) fault
       → EndsAs told_in told mode names content source new status
@@ -125,4 +125,4 @@ pub data EndsAs (told_in told : Bool) (mode : Mode) (names : List (List ℕ)) (c
 abbrev pub all_copied : Bool → Mode → List (List ℕ) → List ℕ → List Slot
 all_copied told mode names bytes =
     adds (told_of told bytes) standard_output ∷ standard_error ∷ map
-        (λ name. closes (adds (told_of told bytes) (opened name mode))) names
+    (λ name. closes (adds (told_of told bytes) (opened name mode))) names

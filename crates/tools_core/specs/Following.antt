@@ -21,8 +21,12 @@ use Rattle.tools_core.specs.Tasks.{has_headers, is_plus}
 
 -- the part of a file that the first look writes
 abbrev pub start_of : EndsAsked → Start
-start_of asked = record { unit = asked.unit; from_nth = is_plus asked.count.sign; count = asked.count.amount;
-    delim = asked.delim }
+start_of asked = record {
+  unit = asked.unit;
+  from_nth = is_plus asked.count.sign;
+  count = asked.count.amount;
+  delim = asked.delim;
+}
 
 abbrev pub is_name : Followed → Bool
 is_name Descriptor = false
@@ -35,7 +39,7 @@ abbrev pub FollowsAs : (told_in told : Bool) → EndsAsked → Followed → (loo
 FollowsAs told_in told asked followed looks shows seen watched new status =
     KeptSoLong told_in (is_name followed) shows looks seen asked.names
     → FollowEndsAs told_in told (ways_of (is_name followed) (start_of asked)) (has_headers asked.headers asked.names)
-        asked.names looks shows streams seen watched new status
+    asked.names looks shows streams seen watched new status
 
 -- the words are refused for this, and no name was watched and no look made
 abbrev pub RefusesUnseen : Bool → List (List ℕ) → Fault → List Snapshot → List Watched → List Slot → ℕ → Type 0

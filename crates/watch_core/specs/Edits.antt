@@ -43,7 +43,9 @@ abbrev pub edited : Edit → World → World
 edited (append name bytes) world = with_file (led_to world.links name) (λ held. held ++ bytes) world
 edited (truncate name n) world = with_file (led_to world.links name) (λ held. take n held) world
 edited (replace name bytes) world = record {
-    links = record { name = name; file = Some (length world.files) } ∷ world.links; files = world.files ++ bytes ∷ [] }
+  links = record { name = name; file = Some (length world.files) } ∷ world.links;
+  files = world.files ++ bytes ∷ [];
+}
 edited (remove name) world = record world { links = record { name = name; file = None } ∷ world.links }
 
 abbrev pub edited_by : List Edit → World → World

@@ -39,8 +39,10 @@ shows watch n = seen_in (world_at watch.worlds (n + 1))
 
 -- one more look is planned, after these edits
 abbrev pub with_look : List Edit → MemWatchState → MemWatchState
-with_look edits watch = record watch { worlds = watch.worlds
-    ++ edited_by edits (world_at watch.worlds (length watch.worlds)) ∷ [] }
+with_look edits watch = record watch {
+  worlds = watch.worlds
+      ++ edited_by edits (world_at watch.worlds (length watch.worlds)) ∷ [];
+}
 
 -- no name, no file and no look
 abbrev pub no_looks : MemWatchState

@@ -50,12 +50,22 @@ with_prefix prefix option = prefix_by prefix option.choice option.value
 abbrev pub style_of : List GivenOption → Style
 style_of options =
     let asked = fold csplit_after two_digits options in
-    record { prefix = fold with_prefix (codes "xx") options; digits = asked.digits; keep = asked.keep;
-        quiet = asked.quiet; elide = asked.elide; suppress = asked.suppress }
+    record {
+      prefix = fold with_prefix (codes "xx") options;
+      digits = asked.digits;
+      keep = asked.keep;
+      quiet = asked.quiet;
+      elide = asked.elide;
+      suppress = asked.suppress;
+    }
 
 abbrev pub asked_with : Style → List ℕ → List GivenOperand → CsplitAsked
-asked_with style input operands = record { style = style; input = input; operands = texts_of operands;
-    places = places_of operands }
+asked_with style input operands = record {
+  style = style;
+  input = input;
+  operands = texts_of operands;
+  places = places_of operands;
+}
 
 -- the file and at least one operand
 abbrev pub asked_of : Style → List GivenOperand → Result CsplitAsked Fault

@@ -44,5 +44,10 @@ names_asked operands = or_dash (texts_of operands)
 abbrev pub ends_asked : Given → EndsAsked
 ends_asked given =
     let asked = fold ends_after ten_lines given.options in
-    record { unit = asked.unit; count = asked.count; headers = asked.headers; delim = asked.delim;
-        names = names_asked given.operands }
+    record {
+      unit = asked.unit;
+      count = asked.count;
+      headers = asked.headers;
+      delim = asked.delim;
+      names = names_asked given.operands;
+    }

@@ -38,8 +38,10 @@ abbrev pub nothing : Given
 nothing = record { options = []; operands = [] }
 
 abbrev pub one_option : Choice → Meant → ℕ → Given
-one_option choice value word = record { options = record { choice = choice; value = value; word = word } ∷ [];
-    operands = [] }
+one_option choice value word = record {
+  options = record { choice = choice; value = value; word = word } ∷ [];
+  operands = [];
+}
 
 -- an option without a value
 abbrev pub bare : Choice → ℕ → Given

@@ -106,7 +106,7 @@ abbrev pub foremost : List OptionRow → Choice → Kind → ℕ → List ℕ �
 foremost rows choice kind place [] = mixed rows place []
 foremost rows choice kind place (byte ∷ text) =
     if byte == 45 then numbered choice kind place text (mixed rows place (byte ∷ text))
-        else mixed rows place (byte ∷ text)
+    else mixed rows place (byte ∷ text)
 
 -- a word at this place; one that an option awaits is its value, whatever it begins with
 abbrev pub meaning_of : List OptionRow → State → ℕ → List ℕ → Result Meaning Fault

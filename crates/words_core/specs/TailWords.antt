@@ -69,4 +69,4 @@ abbrev pub tail_asked : Given → Result TailSettings Fault
 tail_asked given =
     let asked = fold follow_after no_following given.options in
     then_check (followed_in asked.followed asked.retry (texts_of given.operands))
-        (λ followed. Ok (record { ends = ends_asked given; followed = followed; looks = asked.looks }))
+    (λ followed. Ok (record { ends = ends_asked given; followed = followed; looks = asked.looks }))

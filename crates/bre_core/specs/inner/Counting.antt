@@ -22,10 +22,10 @@ Took End groups count groups' count' = (groups' ≡ groups) × (count'.before �
     × (count'.last ≡ 1)
 Took Open groups count groups' count' =
     (group : Group) × (groups' ≡ groups ++ group ∷ []) × (group.before ≡ capped (count.before + count.last))
-        × (length groups < 255) × (count'.before ≡ 0) × (count'.last ≡ 0)
+    × (length groups < 255) × (count'.before ≡ 0) × (count'.last ≡ 0)
 Took Close groups count groups' count' =
     (group : Group) × (groups ≡ groups' ++ group ∷ []) × (count'.before ≡ group.before)
-        × (count'.last ≡ capped (count.before + count.last))
+    × (count'.last ≡ capped (count.before + count.last))
 Took (Repeat low high) groups count groups' count' =
     (groups' ≡ groups) × (count'.before ≡ count.before) × (count'.last ≡ capped (repeated count.last low high))
 

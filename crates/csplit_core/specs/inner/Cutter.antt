@@ -128,7 +128,7 @@ pub record Looked (cutter : CutterState) (x line : List ℕ) : Type 0 where
   pub last : IsLastLine x line
   pub others : (operand : Operand) (operands : List Operand) → (state_in cutter).operands ≡ operand ∷ operands
       → (other : ℕ) → search_line (suppress_in cutter) (state_in cutter) ≤ other → other < cutter.lines
-          → is_match operand (all_lines x) other ≡ false
+      → is_match operand (all_lines x) other ≡ false
 
 -- The next operand cuts at this line, which is among those that came in.
 pub record WillCut (cutter : CutterState) (cut : Cut) : Type 0 where
@@ -163,7 +163,7 @@ abbrev pub TriesNext : CutterState → List ℕ → CutterState → Option Cut �
 TriesNext cutter line next None = (x : List ℕ) → IsWhole x → IsLive cutter x → EndsNow next (x ++ line)
 TriesNext cutter line next (Some cut) = (x : List ℕ) → IsWhole x → IsLive cutter x
     → GoesPast (suppress_in cutter) (all_lines (x ++ line)) (state_in cutter) cut.matched cut.line
-        × (next.lines ≤ search_after (suppress_in cutter) cut)
+    × (next.lines ≤ search_after (suppress_in cutter) cut)
 
 -- The plan over x cuts there, and no line of it before the last one is to be looked at again. The lines that are left
 -- begin with number `place`.

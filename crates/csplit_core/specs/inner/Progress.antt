@@ -61,7 +61,7 @@ MovesOn operands total progress Below = Unit {0}
 MovesOn operands total progress (Cuts matched line) = (operand : Operand) × (rest : List Operand)
     × (progress.done < length operands) × (drop progress.done operands ≡ operand ∷ rest)
     × Moves total (state_of operands progress) operand.target matched line × (matched ≤ total)
-        × (progress.current ≤ line) × (line ≤ total)
+    × (progress.current ≤ line) × (line ≤ total)
 
 -- The plan has this step, and goes on from the state after it.
 pub record GoesPast (suppress : Bool) (lines : List Line) (state : State) (matched cut : ℕ) : Type 0 where

@@ -22,30 +22,35 @@ same_lines x y = sym (lines_of-first_lines newline (delimiters newline x) (x ++ 
 pub complete_grow : (x y : List ℕ) → (more : List Line) × (complete_lines (x ++ y) ≡ complete_lines x ++ more)
 complete_grow x y =
     let less : delimiters newline x ≤ delimiters newline (x ++ y) =
-        (let sum : delimiters newline (x ++ y)
-        ≡ delimiters newline x + delimiters newline y = delimiters-append newline x y in omega (arith, sum)) in
-    let rest = take_begins (delimiters newline x) (delimiters newline (x ++ y)) (lines_of newline (x ++ y)) less in
-    (map marked rest.0, ap (map marked) (rest.1 ∙ ap (λ those. those ++ rest.0) (same_lines x y))
-        ∙ map-append marked (take (delimiters newline x) (lines_of newline x)) rest.0)
+    (let sum : delimiters newline (x ++ y)
+    ≡ delimiters newline x + delimiters newline y = delimiters-append newline x y in omega (arith, sum)) in
+    let rest = take_begins (delimiters newline x) (delimiters newline (x ++ y)) (lines_of newline (x ++ y)) less in (
+      map marked rest.0,
+      ap (map marked) (rest.1 ∙ ap (λ those. those ++ rest.0) (same_lines x y))
+          ∙ map-append marked (take (delimiters newline x) (lines_of newline x)) rest.0,
+    )
 
 pub all_grow : (x : List ℕ) → (more : List Line) × (all_lines x ≡ complete_lines x ++ more)
-all_grow x = (map marked (drop (delimiters newline x) (lines_of newline x)), ap (map marked)
-    (sym (take-append-drop (delimiters newline x) (lines_of newline x)))
-    ∙ map-append marked (take (delimiters newline x) (lines_of newline x))
-    (drop (delimiters newline x) (lines_of newline x)))
+all_grow x = (
+  map marked (drop (delimiters newline x) (lines_of newline x)),
+  ap (map marked)
+      (sym (take-append-drop (delimiters newline x) (lines_of newline x)))
+      ∙ map-append marked (take (delimiters newline x) (lines_of newline x))
+      (drop (delimiters newline x) (lines_of newline x)),
+)
 
 pub settled_grows : (style : Style) (operands : List Operand) (x y : List ℕ)
     → Begins (settled_by style operands x) (settled_by style operands (x ++ y))
 settled_grows style operands x y =
     let more = complete_grow x y in subst
-        (λ those. Begins (settled_by style operands x) (settled_of style operands those)) (sym more.1)
-        (grows style operands (complete_lines x) more.0)
+    (λ those. Begins (settled_by style operands x) (settled_of style operands those)) (sym more.1)
+    (grows style operands (complete_lines x) more.0)
 
 pub settled_ends : (style : Style) (operands : List Operand) (x : List ℕ)
     → Begins (settled_by style operands x) (whole_by style operands x)
 settled_ends style operands x =
     let more = all_grow x in subst (λ those. Begins (settled_by style operands x) (whole_of style operands those))
-        (sym more.1) (ends_with style operands (complete_lines x) more.0)
+    (sym more.1) (ends_with style operands (complete_lines x) more.0)
 
 pub lawful : (style : Style) (operands : List Operand) → IsLawful (csplit_work style operands)
 lawful style operands = record {

@@ -16,9 +16,9 @@ later operand at line lines is None none = λ k less. each k less where
   each (suc k) less = none k (omega arith)
 later operand at line lines is (Some number) some =
     (suc some.0, omega (arith, some.1), omega (arith, some.2), some.3, λ j less. each j less) where
-  each : (j : ℕ) → j < suc some.0 → (get_or (line ∷ lines) j unmarked).marks operand ≡ false
-  each zero less = is
-  each (suc j) less = some.4 j (omega arith)
+      each : (j : ℕ) → j < suc some.0 → (get_or (line ∷ lines) j unmarked).marks operand ≡ false
+      each zero less = is
+      each (suc j) less = some.4 j (omega arith)
 
 from_by : (operand : Operand) (at : ℕ) (line : Line) (lines : List Line) (has : Bool) → line.marks operand ≡ has
     → FromAs operand (suc at) lines (first_among operand (suc at) lines)
@@ -36,14 +36,14 @@ dropped : (operand : Operand) (lines : List Line) (from line k : ℕ) → 1 ≤ 
     → (get_or (drop (from - 1) lines) k unmarked).marks operand ≡ is_match operand lines line
 dropped operand lines from line k some is =
     ap (λ (l : Line). l.marks operand) (get_or-drop (from - 1) lines k unmarked
-        ∙ ap (λ i. get_or lines i unmarked) (let e : from - 1 + k ≡ line - 1 = omega (arith, some, is) in e))
+    ∙ ap (λ i. get_or lines i unmarked) (let e : from - 1 + k ≡ line - 1 = omega (arith, some, is) in e))
 
 matched_by : (operand : Operand) (lines : List Line) (from : ℕ) → 1 ≤ from → (matched : Option ℕ)
     → FromAs operand from (drop (from - 1) lines) matched → MatchesAs operand lines from matched
 matched_by operand lines from some None none = λ line from_on within.
     sym (dropped operand lines from line (line - from) some (omega (arith, from_on)))
     ∙ none (line - from) (let e : length (drop (from - 1) lines)
-        ≡ length lines - (from - 1) = length-drop (from - 1) lines in omega (arith, e, from_on, within, some))
+    ≡ length lines - (from - 1) = length-drop (from - 1) lines in omega (arith, e, from_on, within, some))
 matched_by operand lines from some (Some line) (k, is, within, here, before) = record {
   not_before = omega (arith, is);
   within = let e : length (drop (from - 1) lines) ≡ length lines - (from - 1) =
@@ -64,9 +64,11 @@ pub one_first : (operand : Operand) (lines : List Line) (from one other : ℕ) �
     → IsFirst operand lines from other → one ≡ other
 one_first operand lines from one other is are = elim (cases_lt one other) [
   | inl less ↦ absurd (false≢true (sym (are.first one is.not_before less) ∙ is.match))
-  | inr most ↦ elim (cases_lt other one)
-      [ inl less ↦ absurd (false≢true (sym (is.first other are.not_before less) ∙ are.match)) | inr least ↦ omega
-      (arith, most, least) ]
+  | inr most ↦ elim (cases_lt other one) [
+    | inl less ↦ absurd (false≢true (sym (is.first other are.not_before less) ∙ are.match))
+    | inr least ↦ omega
+        (arith, most, least)
+  ]
 ]
 
 some_by : (operand : Operand) (lines : List Line) (from line : ℕ) → IsFirst operand lines from line

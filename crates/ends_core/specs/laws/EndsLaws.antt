@@ -45,8 +45,8 @@ pub first_of-full : (delim : ℕ) (unit : Counted) (n : ℕ) (x y : List ℕ) �
 first_of-full delim unit n x y full =
     let none : n - measure delim unit x ≡ 0 = omega arith in
     first_of-append delim unit n x y ∙ ap (λ left. first_of delim unit n x ++ first_of delim unit left y) none
-        ∙ ap (λ more. first_of delim unit n x ++ more) (first_of-zero delim unit y)
-        ∙ append-nil (first_of delim unit n x)
+    ∙ ap (λ more. first_of delim unit n x ++ more) (first_of-zero delim unit y)
+    ∙ append-nil (first_of delim unit n x)
 
 -- the first of a text and what stands after them are the text
 pub first_then_behind : (delim : ℕ) (unit : Counted) (n : ℕ) (x : List ℕ)
@@ -74,27 +74,27 @@ behind_of-append delim unit n x y = elim (cases_lt (measure delim unit x) n) [
   behind_full full =
       let none : n - measure delim unit x ≡ 0 = omega arith in
       let all : behind_of delim unit 0 y ≡ y =
-          sym (ap (λ z. z ++ behind_of delim unit 0 y) (first_of-zero delim unit y))
-          ∙ first_then_behind delim unit 0 y in
+      sym (ap (λ z. z ++ behind_of delim unit 0 y) (first_of-zero delim unit y))
+      ∙ first_then_behind delim unit 0 y in
       append_cancel_left (first_of delim unit n x) _ _
-          (ap (λ z. z ++ behind_of delim unit n (x ++ y)) (sym (first_of-full delim unit n x y full)) ∙ split)
+      (ap (λ z. z ++ behind_of delim unit n (x ++ y)) (sym (first_of-full delim unit n x y full)) ∙ split)
       ∙ ap (λ z. behind_of delim unit n x ++ z) (sym all)
-          ∙ ap (λ left. behind_of delim unit n x ++ behind_of delim unit left y) (sym none)
+      ∙ ap (λ left. behind_of delim unit n x ++ behind_of delim unit left y) (sym none)
 
   behind_short : measure delim unit x < n
       → behind_of delim unit n (x ++ y) ≡ behind_of delim unit n x ++ behind_of delim unit (n - measure delim unit x) y
   behind_short short =
       let nothing : behind_of delim unit n x ≡ [] =
-          append_cancel_left x _ _ (ap (λ z. z ++ behind_of delim unit n x) (sym (first_of-short delim unit n x short))
-          ∙ first_then_behind delim unit n x ∙ sym (append-nil x)) in
+      append_cancel_left x _ _ (ap (λ z. z ++ behind_of delim unit n x) (sym (first_of-short delim unit n x short))
+      ∙ first_then_behind delim unit n x ∙ sym (append-nil x)) in
       let front : first_of delim unit n (x ++ y) ≡ x ++ first_of delim unit (n - measure delim unit x) y =
-          first_of-append delim unit n x y ∙ ap (λ z. z ++ first_of delim unit (n - measure delim unit x) y)
-          (first_of-short delim unit n x short) in
+      first_of-append delim unit n x y ∙ ap (λ z. z ++ first_of delim unit (n - measure delim unit x) y)
+      (first_of-short delim unit n x short) in
       append_cancel_left (first_of delim unit n (x ++ y)) _ _
       (first_then_behind delim unit n (x ++ y)
-          ∙ ap (λ z. x ++ z) (sym (first_then_behind delim unit (n - measure delim unit x) y))
+      ∙ ap (λ z. x ++ z) (sym (first_then_behind delim unit (n - measure delim unit x) y))
       ∙ sym (append_assoc x (first_of delim unit (n - measure delim unit x) y)
-          (behind_of delim unit (n - measure delim unit x) y))
+      (behind_of delim unit (n - measure delim unit x) y))
       ∙ ap (λ z. z ++ behind_of delim unit (n - measure delim unit x) y) (sym front))
       ∙ ap (λ z. z ++ behind_of delim unit (n - measure delim unit x) y) (sym nothing)
 
@@ -114,7 +114,7 @@ last_bytes-append n x y =
     let short : length (drop k x ++ y) ≡ length (x ++ y) - k = ap length (sym here) ∙ length-drop k (x ++ y) in
     let both : k + (length (drop k x ++ y) - n) ≡ length (x ++ y) - n = omega arith in
     sym (ap (drop (length (drop k x ++ y) - n)) (sym here) ∙ drop-drop (length (drop k x ++ y) - n) k (x ++ y)
-        ∙ ap (λ m. drop m (x ++ y)) both)
+    ∙ ap (λ m. drop m (x ++ y)) both)
 
 -- the last of a text that goes on are among its last and what follows: nothing else need be kept
 pub last_of-append : (delim : ℕ) (unit : Counted) (n : ℕ) (x y : List ℕ)
@@ -129,7 +129,7 @@ pub but_last_of-append : (delim : ℕ) (unit : Counted) (n : ℕ) (x y : List �
 but_last_of-append delim unit n x y =
     let z = last_of delim unit n x ++ y in
     append_cancel_right (but_last_of delim unit n (x ++ y)) (but_last_of delim unit n x ++ but_last_of delim unit n z)
-        (last_of delim unit n z)
+    (last_of delim unit n z)
     (ap (λ last. but_last_of delim unit n (x ++ y) ++ last) (sym (last_of-append delim unit n x y))
     ∙ ends_together delim unit n (x ++ y)
     ∙ ap (λ w. w ++ y) (sym (ends_together delim unit n x))

@@ -24,12 +24,14 @@ head_of-grows delim unit true n x y =
 pub full_head : (delim : ℕ) (unit : Counted) (but_last : Bool) (n : ℕ) (x y : List ℕ)
     → (not but_last && nat_le n (measure delim unit x)) ≡ true
     → ((not but_last && nat_le n (measure delim unit (x ++ y))) ≡ true)
-        × (head_of delim unit but_last n (x ++ y) ≡ head_of delim unit but_last n x)
+    × (head_of delim unit but_last n (x ++ y) ≡ head_of delim unit but_last n x)
 full_head delim unit true n x y full = absurd (false≢true full)
 full_head delim unit false n x y full =
-    let enough : n ≤ measure delim unit x = leb-true n (measure delim unit x) full in
-    (le-leb n (measure delim unit (x ++ y)) (let more = measure-append delim unit x y in omega arith), first_of-full
-        delim unit n x y enough)
+    let enough : n ≤ measure delim unit x = leb-true n (measure delim unit x) full in (
+      le-leb n (measure delim unit (x ++ y)) (let more = measure-append delim unit x y in omega arith),
+      first_of-full
+          delim unit n x y enough,
+    )
 
 stays : (delim : ℕ) (unit : Counted) (but_last : Bool) (n : ℕ) (x y : List ℕ)
     → (head_work delim unit but_last n).is_complete x ≡ true → IsComplete (head_work delim unit but_last n) x y

@@ -103,11 +103,11 @@ lines_again by_name name last snapshot opened =
 -- what came to the open file of a name that stood at some entry was given, and how long it is
 pub record Catches (told_in told : Bool) (snapshot : Snapshot) (place : ℕ) (name : List ℕ) (position : ℕ)
     (watched : List Watched) (printer : PrinterState) (slots : List Slot) (watched_new : List Watched)
-        (after : PrinterState) (slots_new : List Slot)
+    (after : PrinterState) (slots_new : List Slot)
     (result : Result ℕ Stop) : Type 0 where
   pub ends : (last : Entry) → (told_in ≡ true → StandsAt last (watched_at watched place).opened position)
       → Ends {T = ℕ} told_in told printer name (bytes_open last snapshot (watched_at watched place).opened)
-          (lines_open name last snapshot (watched_at watched place).opened) slots after slots_new result
+      (lines_open name last snapshot (watched_at watched place).opened) slots after slots_new result
   pub len : IfOk result (λ len. told_in ≡ true → (last : Entry)
       → StandsAt last (watched_at watched place).opened position
       → len ≡ length (held_at snapshot (watched_at watched place).opened))
@@ -116,7 +116,7 @@ pub record Catches (told_in told : Bool) (snapshot : Snapshot) (place : ℕ) (na
 -- the name was followed to where it leads, and what is due of that was given
 pub record Leads (told_in told : Bool) (snapshot : Snapshot) (place : ℕ) (name : List ℕ) (position : ℕ)
     (watched : List Watched) (printer : PrinterState) (slots : List Slot) (watched_new : List Watched)
-        (after : PrinterState) (slots_new : List Slot)
+    (after : PrinterState) (slots_new : List Slot)
     (result : Result ℕ Stop) : Type 0 where
   pub ends : Ends {T = ℕ} told_in told printer name
       (bytes_led snapshot (watched_at watched place).opened (snapshot.leads name))

@@ -42,14 +42,14 @@ pub record Gives (told : Bool) (printer : PrinterState) (name bytes : List ℕ) 
   pub printer_is : after ≡ printer_under printer name bytes
   pub slots : (output error : Slot) (others : List Slot) → old ≡ output ∷ error ∷ others
       → (error_after : Slot) × TellsAll told lines error error_after
-          × (new ≡ adds (told_of told (text_under printer name bytes)) output ∷ error_after ∷ others)
+      × (new ≡ adds (told_of told (text_under printer name bytes)) output ∷ error_after ∷ others)
 
 -- the same, but standard output broke among these bytes, or memory was wanting: a beginning of them was written
 pub record Halts (told : Bool) (printer : PrinterState) (name bytes : List ℕ) (lines : List (List ℕ))
     (old new : List Slot) (fault : Fault) : Type 0 where
   pub slots : (output error : Slot) (others : List Slot) → old ≡ output ∷ error ∷ others
       → (error_after : Slot) × TellsAll told lines error error_after
-          × Short told (text_under printer name bytes) (output ∷ error_after ∷ others) new fault
+      × Short told (text_under printer name bytes) (output ∷ error_after ∷ others) new fault
 
 -- How giving what is due of a name ends: all was given; or a call on the name failed, or following ends, and a
 -- beginning was. Where the files don't tell their bytes, something was given.
@@ -58,15 +58,15 @@ pub data Ends {T : Type 0} (told_in told : Bool) (printer : PrinterState) (name 
     → Type 0 where
   whole : (value : T) (bytes : List ℕ) (lines : List (List ℕ)) → (told_in ≡ true → (bytes ≡ due) × (lines ≡ lines_due))
       → Gives told printer name bytes lines old after new
-          → Ends told_in told printer name due lines_due old after new (Ok value)
+      → Ends told_in told printer name due lines_due old after new (Ok value)
   broke : (why : Fault) (bytes : List ℕ) (lines : List (List ℕ))
       → (told_in ≡ true → IsFront bytes due × IsFront lines lines_due)
       → Gives told printer name bytes lines old after new
-          → Ends told_in told printer name due lines_due old after new (Err (Broke why))
+      → Ends told_in told printer name due lines_due old after new (Err (Broke why))
   over : (why : Fault) (bytes : List ℕ) (lines : List (List ℕ))
       → (told_in ≡ true → IsFront bytes due × IsFront lines lines_due)
       → Halts told printer name bytes lines old new why
-          → Ends told_in told printer name due lines_due old after new (Err (Over why))
+      → Ends told_in told printer name due lines_due old after new (Err (Over why))
 
 -- the header that stands before a file as it is opened first
 abbrev pub opening_under : PrinterState → List ℕ → List ℕ

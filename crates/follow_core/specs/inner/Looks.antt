@@ -26,13 +26,13 @@ pub record Begins (told_in : Bool) (old : FollowState) (watched : List Watched) 
   pub holds : (told : Bool) (ways : Ways) (headers : Bool) (names : List (List ℕ)) (looks : List Look)
       (first slots : List Slot)
       → Holds told_in told ways headers names looks first old watched slots
-          → Holds told_in told ways headers names looks first new watched_new slots
+      → Holds told_in told ways headers names looks first new watched_new slots
 
 -- one more look was made, which saw this; or it was stopped
 pub record MakesLook (told_in told : Bool) (snapshot : Snapshot) (seen : List Snapshot) (old : FollowState)
     (watched : List Watched) (slots : List Slot)
     (seen_new : List Snapshot) (new : FollowState) (watched_new : List Watched) (slots_new : List Slot)
-        (result : Result (Unit {0}) Fault) : Type 0 where
+    (result : Result (Unit {0}) Fault) : Type 0 where
   pub looked : OnOk result (LooksOn told_in told snapshot old watched slots new watched_new slots_new)
   pub stopped : IfErr result (StopsOn told_in told snapshot old watched slots slots_new)
   pub seen_is : OnOk result (seen_new ≡ seen ++ snapshot ∷ [])

@@ -97,7 +97,7 @@ VisitsOn told_in told ways snapshot place old watched printer slots new watched_
     (looks : List Look) → Stands told_in ways looks place old.text watched old.standing
     → KeepsBytes told_in ways looks snapshot old.text
     → Visited told_in told ways looks snapshot place old.text printer slots printer_new slots_new watched_new
-        new.standing failed
+    new.standing failed
 
 -- whatever looks were made before, the next one was stopped
 abbrev pub StopsVisit : (told_in told : Bool) → Ways → Snapshot → ℕ → NameState → Watched → PrinterState → List Slot
@@ -110,12 +110,12 @@ StopsVisit told_in told ways snapshot place name watched printer slots slots_new
 pub record Looks (told_in told : Bool) (ways : Ways) (snapshot : Snapshot) (place : ℕ) (name : List ℕ)
     (standing : Standing)
     (watched : List Watched) (printer : PrinterState) (slots : List Slot) (watched_new : List Watched)
-        (printer_new : PrinterState) (slots_new : List Slot)
+    (printer_new : PrinterState) (slots_new : List Slot)
     (result : Result Came Fault) : Type 0 where
   pub visited : IfOk result (λ came. VisitsOn told_in told ways snapshot place
       (record { text = name; standing = standing }) (watched_at watched place) printer slots
       (record { text = name; standing = standing_after ways.by_name came }) (watched_at watched_new place) printer_new
-          slots_new (has_failed came))
+      slots_new (has_failed came))
   pub stopped : IfErr result (StopsVisit told_in told ways snapshot place (record { text = name; standing = standing })
       (watched_at watched place) printer slots slots_new)
   pub leaves : IfOk result (Leaves false snapshot (snapshot.leads name) place watched watched_new)
@@ -124,7 +124,7 @@ pub record Looks (told_in told : Bool) (ways : Ways) (snapshot : Snapshot) (plac
 pub record Visits (told_in told : Bool) (ways : Ways) (snapshot : Snapshot) (place : ℕ) (old : NameState)
     (watched : List Watched) (printer : PrinterState) (slots : List Slot)
     (new : NameState) (watched_new : List Watched) (printer_new : PrinterState) (slots_new : List Slot)
-        (result : Result Bool Fault) : Type 0 where
+    (result : Result Bool Fault) : Type 0 where
   pub visited : IfOk result (VisitsOn told_in told ways snapshot place old (watched_at watched place) printer slots new
       (watched_at watched_new place) printer_new slots_new)
   pub stopped : IfErr result (StopsVisit told_in told ways snapshot place old (watched_at watched place) printer slots

@@ -17,8 +17,8 @@ pub data EndsSo {S : Type 0} (Holds : S → List ℕ → Type 0) (Owns : S → �
       → EndsSo Holds Owns work told engine fed old new (Ok fed)
   fell_short : (fault : Fault) (reached : List Slot) → EndsShort Holds Owns work engine.stage told old reached fault
       → IsCaused (IsMet (work engine.stage).means (work engine.stage).means.closing (Unit {0})
-          (EndsThere Holds work engine.stage) old reached) engine.is_over engine.fed 0 old reached fault
+      (EndsThere Holds work engine.stage) old reached) engine.is_over engine.fed 0 old reached fault
       → (is_verdict fault ≡ true → new ≡ reached)
       → (is_verdict fault ≡ false → (first : ℕ) → Owns engine.stage first old
-          → Swept (work engine.stage).clears first reached new)
+      → Swept (work engine.stage).clears first reached new)
       → EndsSo Holds Owns work told engine fed old new (Err fault)

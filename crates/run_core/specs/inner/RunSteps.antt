@@ -43,8 +43,11 @@ is_unopened TooLong = false
 -- what an input leaves to the next one
 abbrev pub after_input : Progress → Bool → Bool → Option Content → Progress
 after_input progress was_read failed content =
-    record { was_read = was_read; is_first = progress.is_first && is_missing content;
-    failed = progress.failed || failed }
+    record {
+      was_read = was_read;
+      is_first = progress.is_first && is_missing content;
+      failed = progress.failed || failed;
+    }
 
 -- one input was done, or a fault stopped the run there; the files that may be removed are those from `first` on
 pub data TookInput (told_in told : Bool) (task : Task) (most : ℕ) (outcome : Outcome) (header : List ℕ)
@@ -54,16 +57,16 @@ pub data TookInput (told_in told : Bool) (task : Task) (most : ℕ) (outcome : O
       → next ≡ after_input progress was_read outcome.failed content
       → IsDone told_in task.work.is_complete most slot content sources
       → SaysAll told task.tool outcome.messages error after
-          → OutputsAt told (streams_with after) (after_part so_far outcome.part) reached
-          → Swept outcome.sweeps first reached new
+      → OutputsAt told (streams_with after) (after_part so_far outcome.part) reached
+      → Swept outcome.sweeps first reached new
       → TookInput told_in told task most outcome header slot content progress was_read so_far error first sources new
-          (Ok next)
+      (Ok next)
   cut_off : (fault : Fault) (step : Step) (reached : List Slot)
       → RunStep told_in task most so_far header slot sources content step → Stops step reached fault
       → StoppedBetween told (streams_with error) step.low step.high fault reached
-          → Swept task.work.clears first reached new
+      → Swept task.work.clears first reached new
       → TookInput told_in told task most outcome header slot content progress was_read so_far error first sources new
-          (Err fault)
+      (Err fault)
 
 -- all inputs were done, or a fault stopped the run at one of them, or before the first
 pub data TookAll (told_in told : Bool) (task : Task) (inputs : List Input) (sources : List Source)
@@ -71,15 +74,15 @@ pub data TookAll (told_in told : Bool) (task : Task) (inputs : List Input) (sour
   all : (failed : Bool) (error : Slot) (reached : List Slot) → failed ≡ (made_by task inputs).failed
       → SaysAll told task.tool (made_by task inputs).messages standard_error error
       → OutputsAt told (streams_with error) (made_by task inputs).part reached
-          → Swept (made_by task inputs).sweeps 2 reached new
-          → AreDone told_in task.work.is_complete largest_piece inputs sources
+      → Swept (made_by task inputs).sweeps 2 reached new
+      → AreDone told_in task.work.is_complete largest_piece inputs sources
       → TookAll told_in told task inputs sources new (Ok failed)
   stopped_at : (fault : Fault) (before : List Input) (input : Input) (after : List Input) (error : Slot) (step : Step)
       (reached : List Slot)
       → inputs ≡ before ++ input ∷ after → AreDone told_in task.work.is_complete largest_piece before sources
-          → AreUntouched after sources
+      → AreUntouched after sources
       → RunStep told_in task largest_piece (made_by task before).part
-          (header_text task.with_header (are_missing before) input.name) input.slot sources input.content step
+      (header_text task.with_header (are_missing before) input.name) input.slot sources input.content step
       → Stops step reached fault → SaysAll told task.tool (made_by task before).messages standard_error error
       → StoppedBetween told (streams_with error) step.low step.high fault reached → Swept task.work.clears 2 reached new
       → TookAll told_in told task inputs sources new (Err fault)

@@ -76,8 +76,8 @@ pub record Took (told : Bool) (parts : PartsState) (bytes : List ℕ) (old new :
 abbrev pub RunsShort : Bool → PartsState → List ℕ → List Slot → List Slot → Type 0
 RunsShort told state bytes old new = (x : List ℕ) → Stands state x
     → (are_named state.names (length (parts state.limit (x ++ bytes))) ≡ false)
-        × (IsAtEnd state.current old → Moves told state.names (settled_parts state.limit x)
-        (settled_parts state.limit (x ++ bytes)) old new)
+    × (IsAtEnd state.current old → Moves told state.names (settled_parts state.limit x)
+    (settled_parts state.limit (x ++ bytes)) old new)
 
 -- a fault came among these bytes
 pub record Stopped (told : Bool) (parts : PartsState) (bytes : List ℕ) (old new : List Slot) (next : PartsState)
@@ -176,17 +176,22 @@ pub data EndsFile (parts : PartsState) (old new : List Slot) (next : PartsState)
 -- The part that was begun ended, and what waits and these bytes begin the next, if there are any.
 pub record Turned (told : Bool) (parts : PartsState) (bytes : List ℕ) (old new : List Slot)
     (next : PartsState) : Type 0 where
-  pub same : next ≡ record parts { names = next.names; left = most parts.limit - length (parts.waiting ++ bytes);
-      has_line = false; waiting = []; current = next.current }
+  pub same : next ≡ record parts {
+    names = next.names;
+    left = most parts.limit - length (parts.waiting ++ bytes);
+    has_line = false;
+    waiting = [];
+    current = next.current;
+  }
   pub names_same : next.names ≡ record parts.names { drawn = next.names.drawn }
   pub moves : (shares : List Share) (begun : List ℕ) → IsLast parts shares → is_given parts.current ≡ true
       → IsAtEnd parts.current old
       → Moves told parts.names (shares ++ share state.Open begun ∷ [])
-          (shares ++ share state.Closed begun ∷ begun_share (parts.waiting ++ bytes)) old new
+      (shares ++ share state.Closed begun ∷ begun_share (parts.waiting ++ bytes)) old new
   pub drawn : (shares : List Share) (begun : List ℕ) → IsLast parts shares → is_given parts.current ≡ true
       → (next.names.drawn ≡ length (shares ++ share state.Closed begun ∷ begun_share (parts.waiting ++ bytes)))
-          × (are_named parts.names (length (shares ++ share state.Closed begun ∷ begun_share (parts.waiting ++ bytes)))
-          ≡ true)
+      × (are_named parts.names (length (shares ++ share state.Closed begun ∷ begun_share (parts.waiting ++ bytes)))
+      ≡ true)
   pub given : is_given next.current ≡ is_some (parts.waiting ++ bytes)
   pub keeps : KeepsBroken old new
   pub owned : KeepsFile parts.current old next.current new
@@ -200,14 +205,14 @@ pub record TurnsNot (told : Bool) (parts : PartsState) (bytes : List ℕ) (old n
   pub halts : (shares : List Share) (begun : List ℕ) → IsLast parts shares → is_given parts.current ≡ true
       → IsAtEnd parts.current old
       → Halts told parts.names (shares ++ share state.Open begun ∷ [])
-          (shares ++ share state.Closed begun ∷ begun_share (parts.waiting ++ bytes)) old new fault
+      (shares ++ share state.Closed begun ∷ begun_share (parts.waiting ++ bytes)) old new fault
   pub breaks : Breaks old new fault
   pub owned : KeepsFile parts.current old next.current new
   pub short : fault ≡ Suffixes → (is_some (parts.waiting ++ bytes) ≡ true)
       × ((shares : List Share) (begun : List ℕ) → IsLast parts shares → is_given parts.current ≡ true
       → (is_named parts.names (suc (length shares)) ≡ false)
-          × (IsAtEnd parts.current old → Moves told parts.names (shares ++ share state.Open begun ∷ [])
-          (shares ++ share state.Closed begun ∷ []) old new))
+      × (IsAtEnd parts.current old → Moves told parts.names (shares ++ share state.Open begun ∷ [])
+      (shares ++ share state.Closed begun ∷ []) old new))
 
 abbrev pub Turns : Bool → PartsState → List ℕ → List Slot → List Slot → PartsState → Result (Unit {0}) Fault → Type 0
 Turns told parts bytes old new next (Ok done) = Turned told parts bytes old new next
@@ -219,4 +224,4 @@ Finishes told parts old new (Ok done) = (x : List ℕ) → Stands parts x → Is
     → Moves told parts.names (settled_parts parts.limit x) (whole_parts parts.limit x) old new
 Finishes told parts old new (Err fault) = ((slot : ℕ) × (fault ≡ Write slot) × (2 ≤ slot) × Rose slot old new)
     × ((x : List ℕ) → Stands parts x → IsAtEnd parts.current old
-        → Halts told parts.names (settled_parts parts.limit x) (whole_parts parts.limit x) old new fault)
+    → Halts told parts.names (settled_parts parts.limit x) (whole_parts parts.limit x) old new fault)

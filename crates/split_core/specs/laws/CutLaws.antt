@@ -46,7 +46,7 @@ pub full-append : (limit : Limit) (x y : List ℕ) → is_full limit x ≡ true 
 full-append limit x y full =
     let is = full_some limit x full in
     full_from limit (x ++ y) is.0 (let sum : measure limit (x ++ y)
-        ≡ measure limit x + measure limit y = measure-append limit x y in
+    ≡ measure limit x + measure limit y = measure-append limit x y in
     let enough : most limit ≤ measure limit x = is.1 in omega arith)
 
 pub nothing_short : (limit : Limit) (x : List ℕ) → length x ≡ 0 → is_full limit x ≡ false
@@ -57,7 +57,7 @@ nothing_short limit x none = is_short (is_full limit x) refl where
       let full = full_some limit x is in
       let few : measure limit x ≤ length x = measure-le-length limit x in
       let some : 0 < most limit = full.0 in let enough : most limit ≤ measure limit x =
-          full.1 in absurd (none_of some enough few) where
+      full.1 in absurd (none_of some enough few) where
         none_of : 0 < most limit → most limit ≤ measure limit x → measure limit x ≤ length x → ⊥
         none_of some enough few = omega (arith, none)
 
@@ -98,10 +98,10 @@ whole_some delim x some = by (nat_lt 0 (delimiters delim x)) refl where
       → 0 < length (cond has (first_lines delim (delimiters delim x) x) x)
   by true is =
       let lines : delimiters delim (first_lines delim (delimiters delim x) x) ≡ delimiters delim x =
-          delimiters-first_lines delim (delimiters delim x) x (omega arith) in
+      delimiters-first_lines delim (delimiters delim x) x (omega arith) in
       let few : delimiters delim (first_lines delim (delimiters delim x) x)
-          ≤ length (first_lines delim (delimiters delim x) x) =
-          delimiters-le-length delim (first_lines delim (delimiters delim x) x) in
+      ≤ length (first_lines delim (delimiters delim x) x) =
+      delimiters-le-length delim (first_lines delim (delimiters delim x) x) in
       let has_one : 0 < delimiters delim x = some_lines (delimiters delim x) is in omega arith
   by false is = some
 
@@ -122,7 +122,7 @@ first_some_by : (limit : Limit) (x : List ℕ) → 0 < most limit → most limit
 first_some_by (Lines n delim) x some enough =
     let lines : delimiters delim (first_lines delim n x) ≡ n = delimiters-first_lines delim n x enough in
     let few : delimiters delim (first_lines delim n x) ≤ length (first_lines delim n x) =
-        delimiters-le-length delim (first_lines delim n x) in omega arith
+    delimiters-le-length delim (first_lines delim n x) in omega arith
 first_some_by (Bytes n) x some enough = let all : length (take n x) ≡ n = length-take-le n x enough in omega arith
 first_some_by (LineBytes n delim) x some enough =
     whole_some delim (take n x) (let all : length (take n x) ≡ n = length-take-le n x enough in omega arith)
@@ -144,14 +144,14 @@ pub behind-append : (limit : Limit) (x y : List ℕ) → is_full limit x ≡ tru
     → behind_first limit (x ++ y) ≡ behind_first limit x ++ y
 behind-append limit x y full =
     ap (λ (first : List ℕ). drop (length first) (x ++ y)) (first-append limit x y full)
-        ∙ drop-append-le (length (first_part limit x)) x y (first_within limit x)
+    ∙ drop-append-le (length (first_part limit x)) x y (first_within limit x)
 
 behind_less : (limit : Limit) (x : List ℕ) (bound : ℕ) → is_full limit x ≡ true → length x ≤ suc bound
     → length (behind_first limit x) ≤ bound
 behind_less limit x bound full within =
     let some : 0 < length (first_part limit x) = first_some limit x full in
     let left : length (behind_first limit x) ≡ length x - length (first_part limit x) =
-        length-drop (length (first_part limit x)) x in omega arith
+    length-drop (length (first_part limit x)) x in omega arith
 
 cuts_within : (limit : Limit) (bound : ℕ) (x : List ℕ) → length x ≤ bound
     → Cuts limit x (cut_within bound limit x).full (cut_within bound limit x).rest
@@ -159,14 +159,14 @@ cuts_within limit zero x within = stops x (nothing_short limit x (omega arith))
 cuts_within limit (suc bound) x within =
     by (is_full limit x) refl (λ full. cuts_within limit bound (behind_first limit x)
     (behind_less limit x bound full within)) where
-  by : (full : Bool) → is_full limit x ≡ full
-      → (is_full limit x ≡ true → Cuts limit (behind_first limit x) (cut_within bound limit (behind_first limit x)).full
-      (cut_within bound limit (behind_first limit x)).rest)
-      → Cuts limit x (cond full (behind_part (first_part limit x) (cut_within bound limit (behind_first limit x)))
+      by : (full : Bool) → is_full limit x ≡ full
+          → (is_full limit x ≡ true → Cuts limit (behind_first limit x) (cut_within bound limit (behind_first limit x)).full
+          (cut_within bound limit (behind_first limit x)).rest)
+          → Cuts limit x (cond full (behind_part (first_part limit x) (cut_within bound limit (behind_first limit x)))
           (uncut x)).full (cond full (behind_part (first_part limit x) (cut_within bound limit (behind_first limit x)))
           (uncut x)).rest
-  by true is more = goes x _ _ is (more is)
-  by false is more = stops x is
+      by true is more = goes x _ _ is (more is)
+      by false is more = stops x is
 
 pub cuts_up : (limit : Limit) (x : List ℕ) → Cuts limit x (cut_up limit x).full (cut_up limit x).rest
 cuts_up limit x = cuts_within limit (length x) x (omega arith)
@@ -178,11 +178,11 @@ once_within limit zero x _ _ within (goes _ parts rest full more) =
     absurd (false≢true (sym (nothing_short limit x (omega arith)) ∙ full))
 once_within limit (suc bound) x _ _ within (stops _ short) =
     ap (λ full. cond full (behind_part (first_part limit x) (cut_within bound limit (behind_first limit x))) (uncut x))
-        short
+    short
 once_within limit (suc bound) x _ _ within (goes _ parts rest full more) =
     ap (λ is. cond is (behind_part (first_part limit x) (cut_within bound limit (behind_first limit x))) (uncut x)) full
     ∙ ap (behind_part (first_part limit x))
-        (once_within limit bound (behind_first limit x) parts rest (behind_less limit x bound full within) more)
+    (once_within limit bound (behind_first limit x) parts rest (behind_less limit x bound full within) more)
 
 -- a text is cut in one way
 pub cut_once : (limit : Limit) (x : List ℕ) (parts : List (List ℕ)) (rest : List ℕ) → Cuts limit x parts rest

@@ -29,7 +29,7 @@ dealt_onto n file place byte (line ∷ lines) =
 pub dealt_first : (ends : Bool) (n file place byte : ℕ) (lines : List (List ℕ))
     → dealt n file place (cond ends ((byte ∷ []) ∷ lines) (onto_first byte lines))
     ≡ cond (eqb (place % n) file) (byte ∷ dealt n file (cond ends (place + 1) place) lines)
-        (dealt n file (cond ends (place + 1) place) lines)
+    (dealt n file (cond ends (place + 1) place) lines)
 dealt_first true n file place byte lines = refl
 dealt_first false n file place byte lines = dealt_onto n file place byte lines
 
@@ -54,11 +54,11 @@ dealt_append delim n file place (byte ∷ x) y =
     dealt_first (eqb byte delim) n file place byte (lines_of delim (x ++ y))
     ∙ ap (λ those. cond (eqb (place % n) file) (byte ∷ those) those) (dealt_append delim n file next x y)
     ∙ goes_on (eqb (place % n) file) byte (dealt n file next (lines_of delim x))
-        (dealt n file (next + delimiters delim x) (lines_of delim y))
+    (dealt n file (next + delimiters delim x) (lines_of delim y))
     ∙ ap (λ those. those ++ dealt n file (next + delimiters delim x) (lines_of delim y))
-        (sym (dealt_first (eqb byte delim) n file place byte (lines_of delim x)))
+    (sym (dealt_first (eqb byte delim) n file place byte (lines_of delim x)))
     ∙ ap (λ at. dealt n file place (lines_of delim (byte ∷ x)) ++ dealt n file at (lines_of delim y))
-        (next_place (eqb byte delim) place (delimiters delim x))
+    (next_place (eqb byte delim) place (delimiters delim x))
 
 -- Which files have a line
 
@@ -71,7 +71,7 @@ pub dealt_none : (n file place : ℕ) (lines : List (List ℕ)) → place + leng
 dealt_none n file place [] short within = refl
 dealt_none n file place (line ∷ lines) short within =
     ap (λ gets. cond gets (line ++ dealt n file (place + 1) lines) (dealt n file (place + 1) lines))
-        (differs n file place (omega arith) within)
+    (differs n file place (omega arith) within)
     ∙ dealt_none n file (place + 1) lines (omega arith) within
 
 some_line : (line rest : List ℕ) → 0 < length line → 0 < length (line ++ rest)
@@ -124,7 +124,7 @@ share_some delim n x file before within =
 filter_next : (f : ℕ → List ℕ) (start n end : ℕ) → (start < end → is_some (f start) ≡ true)
     → (end ≤ start → f start ≡ []) → (rest : List (List ℕ))
     → rest ≡ map f (range_with_len (start + 1) (min n (end - (start + 1))))
-        → cond (is_some (f start)) (f start ∷ rest) rest ≡ map f (range_with_len start (min (suc n) (end - start)))
+    → cond (is_some (f start)) (f start ∷ rest) rest ≡ map f (range_with_len start (min (suc n) (end - start)))
 filter_next f start n end some none rest are = elim (cases_lt start end) [
   | inl before ↦ kept before
   | inr past ↦ left_out past
@@ -134,7 +134,7 @@ filter_next f start n end some none rest are = elim (cases_lt start end) [
   kept before =
       let count : suc (min n (end - (start + 1))) ≡ min (suc n) (end - start) = omega arith in
       ap (λ is. cond is (f start ∷ rest) rest) (some before) ∙ ap (λ those. f start ∷ those) are
-          ∙ ap (λ k. map f (range_with_len start k)) count
+      ∙ ap (λ k. map f (range_with_len start k)) count
 
   left_out : end ≤ start → cond (is_some (f start)) (f start ∷ rest) rest
       ≡ map f (range_with_len start (min (suc n) (end - start)))
@@ -143,7 +143,7 @@ filter_next f start n end some none rest are = elim (cases_lt start end) [
       let count : min (suc n) (end - start) ≡ 0 = omega arith in
       ap (λ bytes. cond (is_some bytes) (f start ∷ rest) rest) (none past)
       ∙ are ∙ ap (λ k. map f (range_with_len (start + 1) k)) no_more
-          ∙ sym (ap (λ k. map f (range_with_len start k)) count)
+      ∙ sym (ap (λ k. map f (range_with_len start k)) count)
 
 filter_first : (f : ℕ → List ℕ) (start n end : ℕ)
     → ((file : ℕ) → file < start + n → file < end → is_some (f file) ≡ true)
@@ -153,9 +153,9 @@ filter_first f start zero end some none = let no_more : 0 ≡ min 0 (end - start
     omega arith in ap (λ k. map f (range_with_len start k)) no_more
 filter_first f start (suc n) end some none =
     filter_next f start n end (λ before. some start (omega arith) before) (λ past. none start (omega arith) past)
-        (filter is_some (map f (range_with_len (start + 1) n)))
+    (filter is_some (map f (range_with_len (start + 1) n)))
     (filter_first f (start + 1) n end (λ file within before. some file (omega arith) before)
-        (λ file within past. none file (omega arith) past))
+    (λ file within past. none file (omega arith) past))
 
 -- the files that have a line are the first ones
 pub dealt_files_are : (delim : ℕ) (elide : Bool) (n : ℕ) (x : List ℕ)
@@ -163,8 +163,8 @@ pub dealt_files_are : (delim : ℕ) (elide : Bool) (n : ℕ) (x : List ℕ)
 dealt_files_are delim true n x =
     let all : line_count delim x - 0 ≡ line_count delim x = omega arith in
     filter_first (share_of delim n x) 0 n (line_count delim x)
-        (λ file within before. share_some delim n x file before (omega arith))
-        (λ file within past. share_none delim n x file past (omega arith))
+    (λ file within before. share_some delim n x file before (omega arith))
+    (λ file within past. share_none delim n x file past (omega arith))
     ∙ ap (λ lines. map (share_of delim n x) (range_with_len 0 (min n lines))) all
 dealt_files_are delim false n x = refl
 
@@ -185,7 +185,7 @@ pub line_count-append : (delim : ℕ) (x y : List ℕ) → 0 < length y
 line_count-append delim [] y some = omega arith
 line_count-append delim (byte ∷ x) y some =
     count_step (eqb byte delim) byte (delimiters delim x) (line_count delim y) (lines_of delim (x ++ y))
-        (line_count-some delim (x ++ y) (omega (arith, length-append x y))) (line_count-append delim x y some)
+    (line_count-some delim (x ++ y) (omega (arith, length-append x y))) (line_count-append delim x y some)
 
 pub line_count-grows : (delim : ℕ) (x y : List ℕ) → line_count delim x ≤ line_count delim (x ++ y)
 line_count-grows delim x [] = let same : line_count delim (x ++ []) ≡ line_count delim x =

@@ -28,7 +28,7 @@ named_begin names place high [] those begin = tt
 named_begin names place high (bytes ∷ these) [] begin = absurd begin
 named_begin names place high (bytes ∷ these) (whole ∷ those) begin =
     begin_step (is_named names place) (file_at names place (share Open bytes)) (file_at names place (share high whole))
-        _ _ refl refl refl refl begin.0 (named_begin names (place + 1) high these those begin.1)
+    _ _ refl refl refl refl begin.0 (named_begin names (place + 1) high these those begin.1)
 
 maps_begin : (f g : ℕ → List ℕ) (start m n : ℕ) → m ≤ n → ((file : ℕ) → IsBeginning (f file) (g file))
     → AllBegin (map f (range_with_len start m)) (map g (range_with_len start n))
@@ -46,17 +46,21 @@ pub dealt_begin : (delim : ℕ) (elide : Bool) (n : ℕ) (x y : List ℕ)
 dealt_begin delim elide n x y =
     subst (λ those. AllBegin (dealt_files delim elide n x) those) (sym (dealt_files_are delim elide n (x ++ y)))
     (subst (λ these. AllBegin these (map (share_of delim n (x ++ y))
-        (range_with_len 0 (opened_by delim elide n (x ++ y))))) (sym (dealt_files_are delim elide n x))
+    (range_with_len 0 (opened_by delim elide n (x ++ y))))) (sym (dealt_files_are delim elide n x))
     (maps_begin (share_of delim n x) (share_of delim n (x ++ y)) 0 (opened_by delim elide n x)
-        (opened_by delim elide n (x ++ y)) (opened_by-grows delim elide n x y)
-        (λ file. (_, dealt_append delim n file 0 x y))))
+    (opened_by delim elide n (x ++ y)) (opened_by-grows delim elide n x y)
+    (λ file. (_, dealt_append delim n file 0 x y))))
 
 pub lawful : (delim count : ℕ) (elide : Bool) (names : Naming)
     → IsLawful (round_work (round_plan delim count elide names))
 lawful delim count elide names = record {
-  grows = λ x y. record { out = nothing_begins [];
-      files = named_begin names 0 Open _ _ (dealt_begin delim elide count x y) };
-  ends = λ x. record { out = nothing_begins [];
-      files = named_begin names 0 Closed _ _ (all_begin_themselves (dealt_files delim elide count x)) };
+  grows = λ x y. record {
+    out = nothing_begins [];
+    files = named_begin names 0 Open _ _ (dealt_begin delim elide count x y);
+  };
+  ends = λ x. record {
+    out = nothing_begins [];
+    files = named_begin names 0 Closed _ _ (all_begin_themselves (dealt_files delim elide count x));
+  };
   stays = λ x y never. absurd (false≢true never);
 }

@@ -44,7 +44,7 @@ files_begin names place [] high begins = tt
 files_begin names place (share ∷ low) [] begins = absurd begins
 files_begin names place (share ∷ low) (whole ∷ high) begins =
     files_by names (is_named names place) place share whole (named names (place + 1) low) (named names (place + 1) high)
-        begins.0 begins.1 (files_begin names (place + 1) low high begins.2)
+    begins.0 begins.1 (files_begin names (place + 1) low high begins.2)
 
 pub part_begins : (names : Naming) (low high : List Share) → SharesBegin low high
     → Begins (only_files (named names 0 low)) (only_files (named names 0 high))
@@ -67,13 +67,13 @@ pub named_short : (names : Naming) (place : ℕ) (front rest : List Share) → i
 named_short names place [] [] none = refl
 named_short names place [] (share ∷ rest) none =
     ap (λ has. cond has (file_at names place share ∷ named names (place + 1) rest) [])
-        (subst (λ n. is_named names n ≡ false) (same place) none) where
+    (subst (λ n. is_named names n ≡ false) (same place) none) where
       same : (n : ℕ) → n + 0 ≡ n
       same n = omega arith
 named_short names place (share ∷ front) rest none =
     ap (λ files. cond (is_named names place) (file_at names place share ∷ files) [])
-        (named_short names (place + 1) front rest
-        (subst (λ n. is_named names n ≡ false) (moved place (length front)) none)) where
+    (named_short names (place + 1) front rest
+    (subst (λ n. is_named names n ≡ false) (moved place (length front)) none)) where
       moved : (n m : ℕ) → n + suc m ≡ n + 1 + m
       moved n m = omega arith
 
@@ -90,28 +90,30 @@ first_lines_begin delim k n x less = (
   joined (drop k (lines_of delim (first_lines delim n x))),
   sym (first_lines_then_rest delim k (first_lines delim n x))
       ∙ ap (λ (lines : List (List ℕ)). joined lines ++ joined (drop k (lines_of delim (first_lines delim n x))))
-          (ap (take k) (lines_of-first_lines delim n x) ∙ take_less k n (lines_of delim x) less),
+      (ap (take k) (lines_of-first_lines delim n x) ∙ take_less k n (lines_of delim x) less),
 )
 
 whole_begins_by : (delim : ℕ) (x y : List ℕ) (k m : ℕ) → delimiters delim x ≡ k → delimiters delim (x ++ y) ≡ m
     → IsBeginning (whole_lines delim x) (whole_lines delim (x ++ y))
 whole_begins_by delim x y (suc k) (suc m) here all =
     subst (λ low. IsBeginning low (whole_lines delim (x ++ y)))
-        (sym (whole_of_lines delim x (omega arith)
-        ∙ sym (first_lines-full delim (delimiters delim x) x y (omega arith))))
+    (sym (whole_of_lines delim x (omega arith)
+    ∙ sym (first_lines-full delim (delimiters delim x) x y (omega arith))))
     (subst (λ high. IsBeginning (first_lines delim (delimiters delim x) (x ++ y)) high)
-        (sym (whole_of_lines delim (x ++ y) (omega arith)))
+    (sym (whole_of_lines delim (x ++ y) (omega arith)))
     (first_lines_begin delim (delimiters delim x) (delimiters delim (x ++ y)) (x ++ y)
-        (let sum : delimiters delim (x ++ y) ≡ delimiters delim x + delimiters delim y = delimiters-append delim x y
-        in omega arith)))
+    (let sum : delimiters delim (x ++ y) ≡ delimiters delim x + delimiters delim y = delimiters-append delim x y
+    in omega arith)))
 whole_begins_by delim x y zero (suc m) here all =
-    subst (λ low. IsBeginning low (whole_lines delim (x ++ y))) (sym (whole_of_none delim x here))
-    (_, whole_of_lines delim (x ++ y) (omega arith) ∙ first_lines-append delim (delimiters delim (x ++ y)) x y
-        ∙ ap (λ front. front ++ first_lines delim (delimiters delim (x ++ y) - delimiters delim x) y)
-        (first_lines-short delim (delimiters delim (x ++ y)) x (omega arith)))
+    subst (λ low. IsBeginning low (whole_lines delim (x ++ y))) (sym (whole_of_none delim x here)) (
+      _,
+      whole_of_lines delim (x ++ y) (omega arith) ∙ first_lines-append delim (delimiters delim (x ++ y)) x y
+          ∙ ap (λ front. front ++ first_lines delim (delimiters delim (x ++ y) - delimiters delim x) y)
+          (first_lines-short delim (delimiters delim (x ++ y)) x (omega arith)),
+    )
 whole_begins_by delim x y zero zero here all =
     subst (λ low. IsBeginning low (whole_lines delim (x ++ y))) (sym (whole_of_none delim x here))
-        (y, whole_of_none delim (x ++ y) all)
+    (y, whole_of_none delim (x ++ y) all)
 whole_begins_by delim x y (suc k) zero here all =
     absurd (let sum : delimiters delim (x ++ y)
     ≡ delimiters delim x + delimiters delim y = delimiters-append delim x y in omega arith)
@@ -129,14 +131,16 @@ take_begins_long (suc n) (byte ∷ x) y short = let behind =
 
 settled_in_full : (limit : Limit) (x y : List ℕ) → measure limit x < most limit
     → IsBeginning (settled_rest limit x) (first_part limit (x ++ y))
-settled_in_full (Lines n delim) x y short =
-    (_, first_lines-append delim n x y ∙ ap (λ front. front ++ first_lines delim (n - delimiters delim x) y)
-    (first_lines-short delim n x short))
+settled_in_full (Lines n delim) x y short = (
+  _,
+  first_lines-append delim n x y ∙ ap (λ front. front ++ first_lines delim (n - delimiters delim x) y)
+      (first_lines-short delim n x short),
+)
 settled_in_full (Bytes n) x y short = take_begins_long n x y short
 settled_in_full (LineBytes n delim) x y short =
     let taken = take_begins_long n x y short in subst
-        (λ those. IsBeginning (whole_lines delim x) (whole_lines delim those)) (sym taken.1)
-        (whole_begins delim x taken.0)
+    (λ those. IsBeginning (whole_lines delim x) (whole_lines delim those)) (sym taken.1)
+    (whole_begins delim x taken.0)
 
 settled_in_rest : (limit : Limit) (x y : List ℕ) → IsBeginning (settled_rest limit x) (settled_rest limit (x ++ y))
 settled_in_rest (Lines n delim) x y = begins_more x y
@@ -154,10 +158,10 @@ pub settled_on : (limit : Limit) (x y : List ℕ)
     ++ settled_parts limit ((cut_up limit x).rest ++ y)
 settled_on limit x y =
     ap (λ cut. map (share Closed) cut.full ++ map (share Open) (unless_empty (settled_rest limit cut.rest)))
-        (cut_on limit x y)
+    (cut_on limit x y)
     ∙ ap (λ front. front ++ map (share Open)
-        (unless_empty (settled_rest limit (cut_up limit ((cut_up limit x).rest ++ y)).rest)))
-        (map-append (share Closed) (cut_up limit x).full (cut_up limit ((cut_up limit x).rest ++ y)).full)
+    (unless_empty (settled_rest limit (cut_up limit ((cut_up limit x).rest ++ y)).rest)))
+    (map-append (share Closed) (cut_up limit x).full (cut_up limit ((cut_up limit x).rest ++ y)).full)
     ∙ append_assoc (map (share Closed) (cut_up limit x).full) _ _
 
 pub parts_on : (limit : Limit) (x y : List ℕ)
@@ -176,18 +180,18 @@ rest_begins_by : (limit : Limit) (rest y : List ℕ) (full : Bool) → is_full l
     (settled_parts limit (rest ++ y))
 rest_begins_by limit rest y true full short =
     subst (λ cut. SharesBegin (map (share Open) (unless_empty (settled_rest limit rest)))
-        (map (share Closed) cut.full ++ map (share Open) (unless_empty (settled_rest limit cut.rest))))
-        (sym (cut_first limit (rest ++ y) full))
+    (map (share Closed) cut.full ++ map (share Open) (unless_empty (settled_rest limit cut.rest))))
+    (sym (cut_first limit (rest ++ y) full))
     (in_first (settled_rest limit rest) _
-        (settled_in_full limit rest y (short_some limit rest short (full_some limit (rest ++ y) full).0))) where
+    (settled_in_full limit rest y (short_some limit rest short (full_some limit (rest ++ y) full).0))) where
       in_first : (low : List ℕ) (more : List Share) → IsBeginning low (first_part limit (rest ++ y))
           → SharesBegin (map (share Open) (unless_empty low)) (share Closed (first_part limit (rest ++ y)) ∷ more)
       in_first [] more begins = tt
       in_first (byte ∷ low) more begins = (inl refl, begins, tt)
 rest_begins_by limit rest y false full short =
     subst (λ cut. SharesBegin (map (share Open) (unless_empty (settled_rest limit rest)))
-        (map (share Closed) cut.full ++ map (share Open) (unless_empty (settled_rest limit cut.rest))))
-        (sym (cut_none limit (rest ++ y) full))
+    (map (share Closed) cut.full ++ map (share Open) (unless_empty (settled_rest limit cut.rest))))
+    (sym (cut_none limit (rest ++ y) full))
     (in_next (settled_rest limit rest) (settled_rest limit (rest ++ y)) (settled_in_rest limit rest y)) where
       in_next : (low high : List ℕ) → IsBeginning low high
           → SharesBegin (map (share Open) (unless_empty low)) (map (share Open) (unless_empty high))
@@ -206,15 +210,15 @@ pub settled_grow : (limit : Limit) (x y : List ℕ) → SharesBegin (settled_par
 settled_grow limit x y =
     subst (SharesBegin (settled_parts limit x)) (sym (settled_on limit x y))
     (shares_behind (map (share Closed) (cut_up limit x).full) _ _
-        (rest_begins limit (cut_up limit x).rest y (rest_short limit x)))
+    (rest_begins limit (cut_up limit x).rest y (rest_short limit x)))
 
 pub settled_end : (limit : Limit) (x : List ℕ) → SharesBegin (settled_parts limit x) (whole_parts limit x)
 settled_end limit x =
     subst (SharesBegin (settled_parts limit x))
-        (sym (map-append (share Closed) (cut_up limit x).full (unless_empty (cut_up limit x).rest)))
+    (sym (map-append (share Closed) (cut_up limit x).full (unless_empty (cut_up limit x).rest)))
     (shares_behind (map (share Closed) (cut_up limit x).full) _ _
-        (closes (settled_rest limit (cut_up limit x).rest) (cut_up limit x).rest
-        (settled_in_whole limit (cut_up limit x).rest))) where
+    (closes (settled_rest limit (cut_up limit x).rest) (cut_up limit x).rest
+    (settled_in_whole limit (cut_up limit x).rest))) where
       closes : (low high : List ℕ) → IsBeginning low high
           → SharesBegin (map (share Open) (unless_empty low)) (map (share Closed) (unless_empty high))
       closes [] high begins = tt
@@ -240,16 +244,16 @@ pub settled_count : (limit : Limit) (x : List ℕ) → length (settled_parts lim
 settled_count limit x =
     length-append (map (share Closed) (cut_up limit x).full) _
     ∙ ap (λ n. n + length (map (share Open) (unless_empty (settled_rest limit (cut_up limit x).rest))))
-        (length-map (cut_up limit x).full (share Closed))
+    (length-map (cut_up limit x).full (share Closed))
     ∙ ap (λ n. length (cut_up limit x).full + n)
-        (length-map (unless_empty (settled_rest limit (cut_up limit x).rest)) (share Open)
-        ∙ unless_count _ _ (settled_some limit (cut_up limit x).rest) few)
+    (length-map (unless_empty (settled_rest limit (cut_up limit x).rest)) (share Open)
+    ∙ unless_count _ _ (settled_some limit (cut_up limit x).rest) few)
     ∙ sym (length-append (cut_up limit x).full (unless_empty (cut_up limit x).rest)) where
       few : 0 < length (settled_rest limit (cut_up limit x).rest) → 0 < length (cut_up limit x).rest
       few some = let begins = settled_in_whole limit (cut_up limit x).rest in
           let size : length (cut_up limit x).rest
-              ≡ length (settled_rest limit (cut_up limit x).rest) + length begins.0 = ap length begins.1
-              ∙ length-append (settled_rest limit (cut_up limit x).rest) begins.0 in omega (arith, some)
+          ≡ length (settled_rest limit (cut_up limit x).rest) + length begins.0 = ap length begins.1
+          ∙ length-append (settled_rest limit (cut_up limit x).rest) begins.0 in omega (arith, some)
 
 -- Once names ran out, nothing more is written.
 
@@ -277,7 +281,7 @@ place_nameless : (names : Naming) (limit : Limit) (x : List ℕ) → are_named n
     → is_named names (0 + length (map (share Closed) (cut_up limit x).full)) ≡ false
 place_nameless names limit x short = are_named_by names (length (parts limit x)) _ short
     (let size : length (map (share Closed) (cut_up limit x).full)
-        ≡ length (cut_up limit x).full = length-map (cut_up limit x).full (share Closed) in
+    ≡ length (cut_up limit x).full = length-map (cut_up limit x).full (share Closed) in
     let few : length (parts limit x) ≤ length (cut_up limit x).full + 1 = parts_few limit x in omega arith)
 
 -- the files are those of the full parts alone
@@ -285,13 +289,13 @@ pub files_settled : (names : Naming) (limit : Limit) (x y : List ℕ) → are_na
     → named names 0 (settled_parts limit (x ++ y)) ≡ named names 0 (map (share Closed) (cut_up limit x).full)
 files_settled names limit x y short =
     ap (named names 0) (settled_on limit x y)
-        ∙ named_short names 0 (map (share Closed) (cut_up limit x).full) _ (place_nameless names limit x short)
+    ∙ named_short names 0 (map (share Closed) (cut_up limit x).full) _ (place_nameless names limit x short)
 
 pub files_whole : (names : Naming) (limit : Limit) (x y : List ℕ) → are_named names (length (parts limit x)) ≡ false
     → named names 0 (whole_parts limit (x ++ y)) ≡ named names 0 (map (share Closed) (cut_up limit x).full)
 files_whole names limit x y short =
     ap (λ those. named names 0 (map (share Closed) those)) (parts_on limit x y)
-        ∙ ap (named names 0) (map-append (share Closed) (cut_up limit x).full _)
+    ∙ ap (named names 0) (map-append (share Closed) (cut_up limit x).full _)
     ∙ named_short names 0 (map (share Closed) (cut_up limit x).full) _ (place_nameless names limit x short)
 
 -- a text that goes on has no fewer parts
@@ -299,8 +303,8 @@ pub parts_grow : (limit : Limit) (x y : List ℕ) → length (parts limit x) ≤
 parts_grow limit x y = subst (λ n. n ≤ length (parts limit (x ++ y))) (settled_count limit x)
     (subst (λ n. length (settled_parts limit x) ≤ n) (settled_count limit (x ++ y))
     (shares_fewer _ _ (settled_grow limit x y))) where
-  shares_fewer : (low high : List Share) → SharesBegin low high → length low ≤ length high
-  shares_fewer [] high begins = omega arith
-  shares_fewer (share ∷ low) [] begins = absurd begins
-  shares_fewer (share ∷ low) (whole ∷ high) begins = let few : length low ≤ length high =
-      shares_fewer low high begins.2 in omega arith
+      shares_fewer : (low high : List Share) → SharesBegin low high → length low ≤ length high
+      shares_fewer [] high begins = omega arith
+      shares_fewer (share ∷ low) [] begins = absurd begins
+      shares_fewer (share ∷ low) (whole ∷ high) begins = let few : length low ≤ length high =
+          shares_fewer low high begins.2 in omega arith

@@ -62,7 +62,7 @@ pub data FileHas (told : Bool) (mode : Mode) (pieces : List (List ℕ)) (name : 
   has_begun : (before : List (List ℕ)) (piece : List ℕ) (after : List (List ℕ)) (n : ℕ)
       → pieces ≡ before ++ piece ∷ after → n < length piece
       → FileHas told mode pieces name (Some (suc (length before)))
-          (breaks (adds (told_of told (concat before ++ take n piece)) (opened name mode)))
+      (breaks (adds (told_of told (concat before ++ take n piece)) (opened name mode)))
 
 pub data FilesHave (told : Bool) (mode : Mode) (pieces : List (List ℕ)) : List (List ℕ) → List (Option ℕ) → List Slot
     → Type 0 where
@@ -70,7 +70,7 @@ pub data FilesHave (told : Bool) (mode : Mode) (pieces : List (List ℕ)) : List
   one_more : (name : List ℕ) (names : List (List ℕ)) (first : Option ℕ) (broke : List (Option ℕ)) (file : Slot)
       (files : List Slot)
       → FileHas told mode pieces name first file → FilesHave told mode pieces names broke files
-          → FilesHave told mode pieces (name ∷ names) (first ∷ broke) (file ∷ files)
+      → FilesHave told mode pieces (name ∷ names) (first ∷ broke) (file ∷ files)
 
 -- these pieces were copied, before the files are closed
 pub record Copies (told : Bool) (mode : Mode) (names : List (List ℕ)) (pieces : List (List ℕ))
