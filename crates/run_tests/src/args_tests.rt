@@ -65,6 +65,46 @@ fn reads_words(rt: HostRuntime) -> Result<(), Fail> {
     Ok(())
 }
 
+/// The program's own name, and the first of its words where `x` follows it.
+const CALLS: &[(&[u8], &str)] = &[
+    (b"cutters", "x"),
+    (b"head", "head"),
+    (b"/usr/bin/tail", "tail"),
+    (b"./split", "split"),
+    (b"no \xff text/csplit", "csplit"),
+    (b"//tee", "tee"),
+    (b"tee/", "x"),
+    (b"tee/cutters", "x"),
+    (b"header", "x"),
+    (b"a-head", "x"),
+    (b"", "x"),
+    (b"head\xff", "x"),
+];
+
+#[test]
+fn is_called_by_a_tool(rt: HostRuntime) {
+    for (name, first) in CALLS {
+        begins(&rt, rt.alloc(), name, first);
+    }
+}
+
+fn begins(rt: &impl Abort, alloc: Global, name: &[u8], first: &str) {
+    match read_args(
+        &Args {
+            words: &[name, b"x"],
+        },
+        alloc,
+    ) {
+        Ok(words) => {
+            assert!(rt; !words.is_empty());
+            assert_eq!(rt; words[0].as_str(), first);
+            assert_eq!(rt; words[words.len() - 1].as_str(), "x");
+            assert_eq!(rt; words.len(), if first == "x" { 1 } else { 2 });
+        }
+        Err(fault) => assert!(rt; false, "{fault:?}"),
+    }
+}
+
 #[test]
 fn tells_the_word_that_is_no_text(rt: HostRuntime) {
     refuses(&rt, rt.alloc(), &[b"cutters", b"head\xff"], 0);
@@ -75,4 +115,5 @@ fn tells_the_word_that_is_no_text(rt: HostRuntime) {
         3,
     );
     refuses(&rt, rt.alloc(), &[b"\xff", b"head", b"\xfe", b"\xff"], 1);
+    refuses(&rt, rt.alloc(), &[b"/bin/head", b"-n", b"\xfe"], 2);
 }

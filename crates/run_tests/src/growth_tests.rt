@@ -469,9 +469,9 @@ const FOLLOWED: &[Followed<'static>] = &[
     },
 ];
 
-/// The program's own words, and one that needs more room than words are first given.
+/// A tool's name by which the program is called, and a word that needs more room than words are first given.
 const ARGS: Args<'static> = Args {
-    words: &[b"cutters", b"head", &[b'a'; 300]],
+    words: &[b"bin/head", &[b'a'; 300]],
 };
 
 #[test]
@@ -487,7 +487,7 @@ fn args_are_read_or_are_refused(rt: HostRuntime) {
     }
 }
 
-/// Whether these are the two words after the program's name.
+/// Whether these are the tool's name and the word after it.
 fn has_args(read: &Result<Vec<String>, ArgsFault>) -> bool {
     match read {
         Ok(words) => words.len() == 2,

@@ -4,3 +4,4 @@ pub mod RunLemmas
 pub mod SpeakerLemmas
 pub mod FollowingLemmas
 pub mod ProgramLemmas
+pub mod CalledLemmas

@@ -3,3 +3,4 @@ pub mod Outcome
 pub mod Following
 pub mod Program
 pub mod laws
+pub mod inner

@@ -1,8 +1,13 @@
 //! The words that the program was started with. The system gives them as bytes.
-ghost use Rattle.std.specs.Prelude.{◌-◌, ◌<◌, ◌^◌};
+ghost use Rattle.std.specs.Prelude.{◌≡◌, ℕ, List, [], ◌∷◌, ◌++◌, None, map, string_bytes, IfOk, IsUtf8};
+ghost use Rattle.words_core.specs.Words.{tool_named};
+ghost use Rattle.tools_core.specs.inner.Called.{last_part, words_called};
 
+use ports_core::Tool;
 use std::alloc::{AllocError, Global};
 use std::env::{Env, FillError};
+use std::str;
+use words_core::find_tool;
 
 /// Why there are no words.
 #[derive(Clone, Copy, Debug, PartialEq, Eq)]
@@ -16,37 +21,87 @@ pub enum ArgsFault {
 /// How long a word is first taken to be.
 const SHORT: usize = 256;
 
-/// The program's words, from the tool's name on.
+/// The program's words, from the tool's name on. Where the program itself is called by a tool's name, as through a link, that name
+/// is the first word. What the system's arguments are no clause of the library says, so none here says more of the words.
 ///
 /// # Errors
 ///
 /// `NotUtf8`: the first word that isn't text. `Memory` where there is no room for the words.
 pub fn read_args(env: &impl Env, alloc: Global) -> Result<Vec<String>, ArgsFault> {
+    let tool = match read_bytes(env, alloc, 0) {
+        Ok(Some(name)) => called_tool(&name),
+        Ok(None) => None,
+        Err(AllocError) => return Err(ArgsFault::Memory),
+    };
+    match first_words(alloc, tool) {
+        Ok(words) => read_rest(env, alloc, words),
+        Err(AllocError) => Err(ArgsFault::Memory),
+    }
+}
+
+/// The tool that a program's own name calls: the one whose name is its last part.
+fn called_tool(name: &[u8]) -> Option<Tool>
+    ensures text { IsUtf8 (last_part name.now) → result ≡ tool_named (last_part name.now) }
+    ensures other { (IsUtf8 (last_part name.now) → ⊥) → result ≡ None }
+{
+    match str::from_utf8(last_part(name)) {
+        Ok(part) => find_tool(part),
+        Err(_) => None,
+    }
+}
+
+/// What follows the last `/` of a path: all of it where there is none.
+fn last_part(path: &[u8]) -> &[u8]
+    ensures { result.now ≡ last_part path.now }
+{
+    let mut part = path;
+    let mut left = path;
+    while let [byte, rest @ ..] = left {
+        if *byte == b'/' {
+            part = rest;
+        }
+        left = rest;
+    }
+    part
+}
+
+/// The words before all others: the name of the tool that is called by it.
+fn first_words(alloc: Global, tool: Option<Tool>) -> Result<Vec<String>, AllocError>
+    ensures { IfOk result (λ words. map string_bytes words.items ≡ words_called tool) }
+{
     let mut words = Vec::new(alloc);
-    for place in 0..usize::MAX {
-        match read_word(env, alloc, place)? {
-            Some(word) => match words.push(word) {
-                Ok(()) => {}
-                Err(_) => return Err(ArgsFault::Memory),
-            },
-            None => break,
+    if let Some(tool) = tool {
+        words.push(String::from_str(alloc, tool.name())?)?;
+    }
+    Ok(words)
+}
+
+/// These words, and after them those that follow the program's own name.
+fn read_rest(env: &impl Env, alloc: Global, first: Vec<String>) -> Result<Vec<String>, ArgsFault>
+    ensures { IfOk result (λ words. (rest : List (List ℕ)) × (map string_bytes words.items ≡ map string_bytes first.items ++ rest)) }
+{
+    let mut words = first;
+    for index in 1..usize::MAX {
+        match read_bytes(env, alloc, index) {
+            Ok(Some(bytes)) => push_text(&mut words, bytes)?,
+            Ok(None) => break,
+            Err(AllocError) => return Err(ArgsFault::Memory),
         }
     }
     Ok(words)
 }
 
-/// The word at a place; none where there are no more.
-fn read_word(env: &impl Env, alloc: Global, place: usize) -> Result<Option<String>, ArgsFault>
-    requires { place < 2 ^ 64 - 1 }
+/// Puts an argument after the words, where it is text.
+fn push_text(words: &mut Vec<String>, bytes: Vec<u8>) -> Result<(), ArgsFault>
+    ensures { IfOk result (λ _. map string_bytes words.new.items ≡ map string_bytes words.old.items ++ bytes.items ∷ []) }
 {
-    // The program's own name stands before the tool's.
-    match read_bytes(env, alloc, place + 1) {
-        Ok(Some(bytes)) => match String::from_utf8(bytes) {
-            Ok(word) => Ok(Some(word)),
-            Err(_) => Err(ArgsFault::NotUtf8(place)),
+    let place = words.len();
+    match String::from_utf8(bytes) {
+        Ok(word) => match words.push(word) {
+            Ok(()) => Ok(()),
+            Err(_) => Err(ArgsFault::Memory),
         },
-        Ok(None) => Ok(None),
-        Err(AllocError) => Err(ArgsFault::Memory),
+        Err(_) => Err(ArgsFault::NotUtf8(place)),
     }
 }
 
