@@ -1,5 +1,5 @@
 -- The last part of a path, looked for from its front.
-use Rattle.std.proofs.Common.{◌≡◌, ℕ, ◌==◌, Bool, true, false, List, [], ◌∷◌, if◌then◌else◌, refl, sym}
+use Rattle.std.proofs.Common.{◌≡◌, ℕ, Bool, true, false, List, [], ◌∷◌, if◌then◌else◌, refl}
 use Rattle.tools_core.specs.inner.Called.{has_slash, last_part}
 
 -- the last part of a path, of which this is left, where it is this unless a `/` follows
@@ -14,9 +14,3 @@ twice false one other third = refl
 pub whole_part : (path : List ℕ) → part_among path path ≡ last_part path
 whole_part [] = refl
 whole_part (byte ∷ rest) = twice (has_slash (byte ∷ rest)) (last_part rest) (byte ∷ rest) (byte ∷ rest)
-
-pub after_slash : (part : List ℕ) (byte : ℕ) (rest : List ℕ) → (byte == 47) ≡ true → part_among rest rest ≡ part_among part (byte ∷ rest)
-after_slash part byte rest is = rw is (whole_part rest)
-
-pub after_other : (part : List ℕ) (byte : ℕ) (rest : List ℕ) → (byte == 47) ≡ false → part_among part rest ≡ part_among part (byte ∷ rest)
-after_other part byte rest is = rw is (sym (twice (has_slash rest) (last_part rest) (byte ∷ rest) part))
