@@ -7,7 +7,7 @@ use Rattle.std.proofs.Math.Seq.{take-add, take-append-add}
 use Rattle.seg_core.specs.Line.{line_count, but_last_lines, last_lines}
 use Rattle.seg_core.specs.Window.{Window, without_first}
 use Rattle.seg_core.proofs.FirstLines.{first_lines-is_take}
-use Rattle.seg_core.proofs.Carried.{left_behind, left_alone, but_last_lines-last, over-le-length}
+use Rattle.seg_core.proofs.Carried.{left_after, left_alone, but_last_lines-last, over-le-length}
 use Rattle.ports_core.specs.Slot.{Slot}
 use Rattle.ports_core.proofs.SlotSteps.{keeps_again}
 use Rattle.ports_core.specs.Part.{Part}
@@ -227,7 +227,7 @@ leaves_front delim most over front held text is at =
 stays_by : (delim most over front : ℕ) (held text : List ℕ) → over ≡ length (but_last_lines delim most (held ++ text)) → ((over ≤ length held) × (front ≡ over)) ⊎ ((length held ≤ over) × (front ≡ length held))
     → drop front held ++ drop (over - front) text ≡ last_lines delim most (held ++ text)
 stays_by delim most over front held text is (inl (less, same)) =
-    ap (λ n. drop front held ++ drop n text) (let e : over - front ≡ 0 = omega (arith, same) in e) ∙ ap (λ n. drop n held ++ text) same ∙ left_behind delim most held text over is less
+    ap (λ n. drop front held ++ drop n text) (let e : over - front ≡ 0 = omega (arith, same) in e) ∙ ap (λ n. drop n held ++ text) same ∙ left_after delim most held text over is less
 stays_by delim most over front held text is (inr (more, same)) =
     ap (λ bytes. bytes ++ drop (over - front) text) (ap (λ n. drop n held) same ∙ drop_all (length held) held (omega arith)) ∙ left_alone delim most held text over (over - front) is (omega (arith, more, same))
 

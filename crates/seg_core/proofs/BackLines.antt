@@ -35,8 +35,8 @@ count_back delim x i n one here so_far is =
     omega arith
 
 -- the byte that brings the count to n is a delimiter
-pub begins_behind : (delim : ℕ) (x : List ℕ) (i n seen one : ℕ) → i < length x → seen ≡ delimiters delim (drop (i + 1) x) → one ≡ bool_byte (eqb (get_or x i 0) delim) → seen < n → seen + one ≡ n → BeginsAt delim n x (i + 1)
-begins_behind delim x i n seen one here so_far is fewer full =
+pub begins_after : (delim : ℕ) (x : List ℕ) (i n seen one : ℕ) → i < length x → seen ≡ delimiters delim (drop (i + 1) x) → one ≡ bool_byte (eqb (get_or x i 0) delim) → seen < n → seen + one ≡ n → BeginsAt delim n x (i + 1)
+begins_after delim x i n seen one here so_far is fewer full =
     let most = at_most_one (eqb (get_or x i 0) delim) in
     let yes_it_is : eqb (get_or x i 0) delim ≡ true = is_one (eqb (get_or x i 0) delim) (omega arith) in
     record {
@@ -51,6 +51,6 @@ stretch_back delim x end width n more fits so_far is =
     let all : end - (end - width) ≡ width = omega arith in
     let at : end - width + width ≡ end = omega arith in
     let here = is ∙ ap (λ k. delimiters delim (take k (drop (end - width) x))) all in
-    let behind = so_far ∙ ap (λ k. delimiters delim (drop k x)) (sym at) ∙ ap (delimiters delim) (sym (drop-drop width (end - width) x)) in
+    let after = so_far ∙ ap (λ k. delimiters delim (drop k x)) (sym at) ∙ ap (delimiters delim) (sym (drop-drop width (end - width) x)) in
     let both = delimiters-take-drop delim width (drop (end - width) x) in
     omega arith

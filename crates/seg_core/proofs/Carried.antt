@@ -2,10 +2,11 @@
 use Rattle.std.proofs.Common.{◌≡◌, ℕ, zero, suc, ◌+◌, ◌-◌, ◌≤◌, min, List, [], ◌∷◌, ◌++◌, length, drop, refl, sym, ap, ◌∙◌, arith}
 use Rattle.std.proofs.lemmas.List.{length-append, length-drop, drop_at, drop-append-le}
 use Rattle.std.proofs.Math.Seq.{drop-append-add}
-use Rattle.seg_core.specs.Line.{lines_of, AreLines, after_lines, line_count, last_lines, but_last_lines}
-use Rattle.seg_core.proofs.LinesOf.{AreLines-lines_of, lines_of-joined}
-use Rattle.seg_core.proofs.FirstLines.{length-first_lines-le}
-use Rattle.seg_core.proofs.LastLines.{but_last_then_last, but_last_lines-few}
+use Rattle.seg_core.specs.Line.{joined, lines_of, delimiters, ends_with, AreLines, first_lines, after_lines, line_count, last_lines, but_last_lines}
+use Rattle.seg_core.proofs.LinesOf.{AreLines-lines_of, lines_of-append, lines_of-joined}
+use Rattle.seg_core.proofs.FirstLines.{first_lines-append, length-first_lines-le, lines_of-first_lines, delimiters-first_lines}
+use Rattle.seg_core.proofs.LineCounts.{line_count-open, line_count-closed}
+use Rattle.seg_core.proofs.LastLines.{but_last_then_last, but_last_lines-few, but_last_lines-zero, first_lines-all}
 
 AreLines-drop : (delim k : ℕ) (lines : List (List ℕ)) → AreLines delim lines → AreLines delim (drop k lines)
 AreLines-drop delim zero lines each = each
@@ -35,8 +36,8 @@ pub but_last_lines-last : (delim n : ℕ) (x : List ℕ) → but_last_lines deli
 but_last_lines-last delim n x = but_last_lines-few delim n (last_lines delim n x) (omega (arith, line_count-last delim n x))
 
 -- what a window that holds `held` keeps of it and a piece: the end of what is held, and the piece
-pub left_behind : (delim n : ℕ) (held piece : List ℕ) (over : ℕ) → over ≡ length (but_last_lines delim n (held ++ piece)) → over ≤ length held → drop over held ++ piece ≡ last_lines delim n (held ++ piece)
-left_behind delim n held piece over is within =
+pub left_after : (delim n : ℕ) (held piece : List ℕ) (over : ℕ) → over ≡ length (but_last_lines delim n (held ++ piece)) → over ≤ length held → drop over held ++ piece ≡ last_lines delim n (held ++ piece)
+left_after delim n held piece over is within =
     sym (drop-append-le over held piece within) ∙ ap (λ k. drop k (held ++ piece)) is ∙ last_lines-is_drop delim n (held ++ piece)
 
 -- or the end of the piece alone
@@ -45,8 +46,8 @@ left_alone delim n held piece over more is beyond =
     sym (drop-append-add held piece more) ∙ ap (λ k. drop k (held ++ piece)) (sym beyond ∙ is) ∙ last_lines-is_drop delim n (held ++ piece)
 
 -- so it has room for the piece, or for the end of the piece, once what is over has left at the front
-pub fits_behind : (delim n : ℕ) (held piece : List ℕ) (over : ℕ) → over ≡ length (but_last_lines delim n (held ++ piece)) → over ≤ length held → but_last_lines delim n (drop over held ++ piece) ≡ []
-fits_behind delim n held piece over is within = ap (but_last_lines delim n) (left_behind delim n held piece over is within) ∙ but_last_lines-last delim n (held ++ piece)
+pub fits_after : (delim n : ℕ) (held piece : List ℕ) (over : ℕ) → over ≡ length (but_last_lines delim n (held ++ piece)) → over ≤ length held → but_last_lines delim n (drop over held ++ piece) ≡ []
+fits_after delim n held piece over is within = ap (but_last_lines delim n) (left_after delim n held piece over is within) ∙ but_last_lines-last delim n (held ++ piece)
 
 pub fits_alone : (delim n : ℕ) (held piece : List ℕ) (over more : ℕ) → over ≡ length (but_last_lines delim n (held ++ piece)) → over ≡ length held + more → but_last_lines delim n (drop more piece) ≡ []
 fits_alone delim n held piece over more is beyond = ap (but_last_lines delim n) (left_alone delim n held piece over more is beyond) ∙ but_last_lines-last delim n (held ++ piece)

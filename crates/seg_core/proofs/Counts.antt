@@ -9,9 +9,9 @@ use Rattle.std.proofs.lemmas.List.Sums.{prefix_len-le-length}
 use Rattle.std.proofs.Math.Nat.{mul-le-mul_left, mul-le-mul_right}
 use Rattle.seg_core.specs.declared.count.Sign.{Sign}
 use Rattle.seg_core.specs.declared.count.CountFault.TheVariants.{NoDigits, TooLarge}
-use Rattle.seg_core.specs.Count.{value_of, factor_of, leading_digits, greatest, sign_of, behind_sign, sized, scaled, unsigned, count_of, digits_of}
+use Rattle.seg_core.specs.Count.{value_of, factor_of, leading_digits, greatest, sign_of, after_sign, sized, scaled, unsigned, count_of, digits_of}
 
-pub count_of-parts : (text : List ℕ) (sign : Sign) (rest : List ℕ) → sign ≡ sign_of text → rest ≡ behind_sign text → count_of text ≡ unsigned sign rest
+pub count_of-parts : (text : List ℕ) (sign : Sign) (rest : List ℕ) → sign ≡ sign_of text → rest ≡ after_sign text → count_of text ≡ unsigned sign rest
 unfolding count_of
 count_of-parts text sign rest a b = sym (ap (λ s. unsigned s rest) a ∙ ap (unsigned (sign_of text)) b)
 
@@ -28,7 +28,7 @@ unsigned-some sign rest end is some =
 
 -- a count with digits, whose suffix was looked up in the table
 pub count_of-scaled : (text : List ℕ) (sign : Sign) (rest : List ℕ) (end : ℕ) (found : Option ℕ)
-    → sign ≡ sign_of text → rest ≡ behind_sign text → end ≡ prefix_len is_ascii_digit rest → (end ≡ 0 → ⊥) → found ≡ factor_of (take (length rest - end) (drop end rest))
+    → sign ≡ sign_of text → rest ≡ after_sign text → end ≡ prefix_len is_ascii_digit rest → (end ≡ 0 → ⊥) → found ≡ factor_of (take (length rest - end) (drop end rest))
     → count_of text ≡ scaled sign (take end rest) found
 count_of-scaled text sign rest end found a b is some looked_up =
     count_of-parts text sign rest a b

@@ -4,7 +4,7 @@ use Rattle.std.specs.List.{onto_first}
 use Rattle.std.proofs.lemmas.List.{append-nil, append_assoc, drop_all, drop_at, drop-drop}
 use Rattle.seg_core.specs.Line.{joined, lines_of, delimiters, line_count, first_lines, after_lines, last_lines}
 use Rattle.seg_core.proofs.LinesOf.{joined-lines_of}
-use Rattle.seg_core.proofs.FirstLines.{first_lines-full, first_lines_then_rest, lines_of-behind}
+use Rattle.seg_core.proofs.FirstLines.{first_lines-full, first_lines_then_rest, lines_of-after}
 use Rattle.seg_core.proofs.Delimiters.{delimiters-append}
 
 -- how many lines a byte adds
@@ -27,7 +27,7 @@ lines_of-after_lines delim n x y enough =
     let whole : first_lines delim n x ++ (after_lines delim n x ++ y) ≡ x ++ y = sym (append_assoc (first_lines delim n x) (after_lines delim n x) y) ∙ ap (λ z. z ++ y) (first_lines_then_rest delim n x) in
     ap (lines_of delim) (sym (drop_at (first_lines delim n x) (after_lines delim n x ++ y) (length (first_lines delim n x)) refl) ∙ ap (drop (length (first_lines delim n x))) whole)
     ∙ ap (λ z. lines_of delim (drop (length z) (x ++ y))) (sym (first_lines-full delim n x y enough))
-    ∙ lines_of-behind delim n (x ++ y) more
+    ∙ lines_of-after delim n (x ++ y) more
 
 -- once n lines are complete, what follows the text is added to what stands after them
 pub after_lines-append : (delim n : ℕ) (x y : List ℕ) → n ≤ delimiters delim x → after_lines delim n x ++ y ≡ after_lines delim n (x ++ y)
@@ -54,8 +54,8 @@ pub after_lines-past : (delim n : ℕ) (x : List ℕ) → delimiters delim x < n
 after_lines-past delim n x past = ap joined (drop_all n (lines_of delim x) (let near = (line_count_near delim x).1 in omega arith))
 
 -- how many lines stand after n complete ones
-count_behind : (delim n : ℕ) (x y : List ℕ) → n ≤ delimiters delim x → line_count delim (after_lines delim n x ++ y) ≡ line_count delim (x ++ y) - n
-count_behind delim n x y enough = ap length (lines_of-after_lines delim n x y enough) ∙ length-drop n (lines_of delim (x ++ y))
+count_after : (delim n : ℕ) (x y : List ℕ) → n ≤ delimiters delim x → line_count delim (after_lines delim n x ++ y) ≡ line_count delim (x ++ y) - n
+count_after delim n x y enough = ap length (lines_of-after_lines delim n x y enough) ∙ length-drop n (lines_of delim (x ++ y))
 
 -- the last lines of a text that goes on are among its last lines and what follows
 pub last_lines-append : (delim n : ℕ) (x y : List ℕ) → last_lines delim n (x ++ y) ≡ last_lines delim n (last_lines delim n x ++ y)
@@ -66,7 +66,7 @@ last_lines-append delim (suc n) x y =
     let grew : line_count delim x ≤ line_count delim (x ++ y) = line_count-grows delim x y in
     let both : k + (line_count delim (x ++ y) - k - suc n) ≡ line_count delim (x ++ y) - suc n = omega arith in
     sym (ap (λ lines. joined (drop (line_count delim (after_lines delim k x ++ y) - suc n) lines)) (lines_of-after_lines delim k x y enough)
-    ∙ ap (λ count. joined (drop (count - suc n) (drop k (lines_of delim (x ++ y))))) (count_behind delim k x y enough)
+    ∙ ap (λ count. joined (drop (count - suc n) (drop k (lines_of delim (x ++ y))))) (count_after delim k x y enough)
     ∙ ap joined (drop-drop (line_count delim (x ++ y) - k - suc n) k (lines_of delim (x ++ y)))
     ∙ ap (λ m. joined (drop m (lines_of delim (x ++ y)))) both)
 
@@ -77,5 +77,5 @@ count_last delim (suc n) x =
     let k = line_count delim x - suc n in
     let enough : k ≤ delimiters delim x = (let near = (line_count_near delim x).1 in omega arith) in
     let same : line_count delim (after_lines delim k x) ≡ line_count delim x - k
-    = ap (line_count delim) (sym (append-nil (after_lines delim k x))) ∙ count_behind delim k x [] enough ∙ ap (λ z. line_count delim z - k) (append-nil x) in
+    = ap (line_count delim) (sym (append-nil (after_lines delim k x))) ∙ count_after delim k x [] enough ∙ ap (λ z. line_count delim z - k) (append-nil x) in
     omega arith

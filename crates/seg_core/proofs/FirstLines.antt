@@ -178,15 +178,15 @@ rest_step delim true byte n x h here there = here (omega arith)
 rest_step delim false byte n x h here there = there h ∙ sym (drop_onto byte n (lines_of delim x))
 
 -- the lines of what follows them, where they are complete
-pub lines_of-behind : (delim n : ℕ) (x : List ℕ) → n ≤ delimiters delim x → lines_of delim (drop (length (first_lines delim n x)) x) ≡ drop n (lines_of delim x)
-lines_of-behind delim zero x h = refl
-lines_of-behind delim (suc n) [] h = absurd (omega arith)
-lines_of-behind delim (suc n) (byte ∷ x) h =
+pub lines_of-after : (delim n : ℕ) (x : List ℕ) → n ≤ delimiters delim x → lines_of delim (drop (length (first_lines delim n x)) x) ≡ drop n (lines_of delim x)
+lines_of-after delim zero x h = refl
+lines_of-after delim (suc n) [] h = absurd (omega arith)
+lines_of-after delim (suc n) (byte ∷ x) h =
     ap (λ z. lines_of delim (drop (length z) (byte ∷ x))) (first_lines-cons delim byte n x)
-    ∙ rest_step delim (eqb byte delim) byte n x h (lines_of-behind delim n x) (lines_of-behind delim (suc n) x)
+    ∙ rest_step delim (eqb byte delim) byte n x h (lines_of-after delim n x) (lines_of-after delim (suc n) x)
 
 -- the same, with the place where they end
 pub EndsAt-rest : (delim n : ℕ) (x : List ℕ) (end : ℕ) → EndsAt delim n x end → lines_of delim (drop end x) ≡ drop n (lines_of delim x)
 EndsAt-rest delim n x end ends =
     let long : end ≡ length (first_lines delim n x) = sym (length-take-le end x ends.within) ∙ ap length ends.lines in
-    ap (λ k. lines_of delim (drop k x)) long ∙ lines_of-behind delim n x (EndsAt-enough delim n x end ends)
+    ap (λ k. lines_of delim (drop k x)) long ∙ lines_of-after delim n x (EndsAt-enough delim n x end ends)

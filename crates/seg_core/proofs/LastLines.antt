@@ -54,7 +54,7 @@ over_begins delim n held piece front at is lines begins =
     let ends = ends_with-append delim held (take at front) some ∙ begins.after in
     let cut = delimiters-take-drop delim at front in
     let both = delimiters-append delim held (take at front) in
-    let behind = begins.counted in
+    let after = begins.counted in
     let count : line_count delim (held ++ piece) - n ≡ delimiters delim (held ++ take at front) = omega arith in
     sym (
     ap (λ x. length (first_lines delim (line_count delim (held ++ piece) - n) x)) split
@@ -73,7 +73,7 @@ over_short delim n held piece lines is enough =
 pub begins_first : (delim n lines : ℕ) (x : List ℕ) (at : ℕ) → n + lines ≡ delimiters delim x + 1 → BeginsAt delim n x at → at ≡ length (first_lines delim lines x)
 begins_first delim n lines x at is begins =
     let cut = delimiters-take-drop delim at x in
-    let behind = begins.counted in
+    let after = begins.counted in
     let count : lines ≡ delimiters delim (take at x) = omega arith in
     sym (
     ap (λ y. length (first_lines delim lines y)) (sym (take-append-drop at x))

@@ -53,9 +53,9 @@ open_cut delim x none = record {
   last = λ no. refl;
 }
 
-pub cut_behind : (delim : ℕ) (x : List ℕ) (k : ℕ) → k < length x → Passes (is_byte delim) x k → Nowhere (Passes (is_byte delim) x) 0 k
+pub cut_after : (delim : ℕ) (x : List ℕ) (k : ℕ) → k < length x → Passes (is_byte delim) x k → Nowhere (Passes (is_byte delim) x) 0 k
     → IsCutFrom delim x (take (k + 1) x) (drop (k + 1) x)
-cut_behind delim x k h here none =
+cut_after delim x k h here none =
     let line : take (k + 1) x ≡ take k x ++ delim ∷ [] = take_more x k 0 h ∙ ap (λ byte. take k x ++ byte ∷ []) (eqb-true (get_or x k 0) delim here) in
     let whole : (take k x ++ delim ∷ []) ++ drop (k + 1) x ≡ x = ap (λ z. z ++ drop (k + 1) x) (sym line) ∙ take-append-drop (k + 1) x in
     let cut = complete_cut delim (take k x) (drop (k + 1) x) (HasNone-take delim k x (omega arith) none) in

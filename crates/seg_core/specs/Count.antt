@@ -18,8 +18,8 @@ value_of (digit ∷ digits) = (digit - 48) * 10 ^ length digits + value_of digit
 abbrev pub leading_digits : List ℕ → List ℕ
 leading_digits text = take_while is_ascii_digit text
 
-abbrev pub behind_digits : List ℕ → List ℕ
-behind_digits text = drop (prefix_len is_ascii_digit text) text
+abbrev pub after_digits : List ℕ → List ℕ
+after_digits text = drop (prefix_len is_ascii_digit text) text
 
 -- each suffix and its factor
 abbrev pub suffixes : List (List ℕ × ℕ)
@@ -53,9 +53,9 @@ abbrev pub sign_of : List ℕ → Sign
 sign_of [] = Plain
 sign_of (byte ∷ text) = if byte == 43 then Plus else (if byte == 45 then Minus else Plain)
 
-abbrev pub behind_sign : List ℕ → List ℕ
-behind_sign [] = []
-behind_sign (byte ∷ text) = if byte == 43 then text else (if byte == 45 then text else byte ∷ text)
+abbrev pub after_sign : List ℕ → List ℕ
+after_sign [] = []
+after_sign (byte ∷ text) = if byte == 43 then text else (if byte == 45 then text else byte ∷ text)
 
 -- a sign and an amount, unless that is too large
 abbrev pub sized : Sign → ℕ → Result Count CountFault
@@ -69,11 +69,11 @@ scaled sign digits (Some factor) = sized sign (value_of digits * factor)
 -- the count of a text that follows its sign
 abbrev pub unsigned : Sign → List ℕ → Result Count CountFault
 unsigned sign text = if length (leading_digits text) == 0 then Err NoDigits
-    else scaled sign (leading_digits text) (factor_of (behind_digits text))
+    else scaled sign (leading_digits text) (factor_of (after_digits text))
 
 -- the count that a text writes, or the first reason why it writes none: no digits, no such suffix, too large
 unfoldable pub count_of : List ℕ → Result Count CountFault
-count_of text = unsigned (sign_of text) (behind_sign text)
+count_of text = unsigned (sign_of text) (after_sign text)
 
 -- one or more digits, and nothing else
 abbrev pub is_number : List ℕ → Bool

@@ -1,7 +1,7 @@
 //! Counts, as options take them: an optional sign, digits, and a suffix that stands for a factor.
 //! One table serves all counts, with GNU coreutils' suffixes up to T (its manual, "Block size").
 ghost use Rattle.std.specs.Prelude.{◌≡◌, map, ◌≤◌, IfSome};
-ghost use Rattle.seg_core.specs.Count.{behind_sign, beside, count_of, factor_of, sign_of};
+ghost use Rattle.seg_core.specs.Count.{after_sign, beside, count_of, factor_of, sign_of};
 
 use crate::digits::{GREATEST, leading_number};
 use thiserror::Error;
@@ -90,7 +90,7 @@ pub fn read_count(text: &[u8]) -> Result<Count, CountFault>
 
 fn split_sign(text: &[u8]) -> (Sign, &[u8])
     ensures sign { result.0 ≡ sign_of text.now }
-    ensures rest { result.1.now ≡ behind_sign text.now }
+    ensures rest { result.1.now ≡ after_sign text.now }
 {
     match text {
         [b'+', rest @ ..] => (Sign::Plus, rest),

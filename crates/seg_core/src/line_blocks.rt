@@ -36,7 +36,7 @@ pub(crate) fn extend(
     ensures each { OnOk result (HaveCounts delim queue.new.items) }
     ensures err { OnErr result (queue.new.items ≡ queue.old.items) }
 {
-    let (near, far) = piece.split_at(room_behind(queue).min(piece.len()));
+    let (near, far) = piece.split_at(room_after(queue).min(piece.len()));
     let near_count = count_first(near, far, count, delim);
     let mut fresh = blocks_of(alloc, far, count - near_count, delim)?;
     queue.reserve(fresh.len())?;
@@ -48,7 +48,7 @@ pub(crate) fn extend(
 }
 
 // How many more bytes the last block has room for.
-fn room_behind(queue: &VecDeque<Block>) -> usize
+fn room_after(queue: &VecDeque<Block>) -> usize
     ensures { deque_len queue.now ≡ 0 → result ≡ 0 }
 {
     match queue.back() {

@@ -1,6 +1,6 @@
 use Rattle.std.proofs.Common.{◌-◌, ◌+◌, ◌≡◌, subst, ap, ◌∙◌, drop, arith}
 use Rattle.seg_core.specs.Line.{delimiters, BeginsAt}
-use Rattle.seg_core.proofs.BackLines.{begins_behind, count_back, most_one}
+use Rattle.seg_core.proofs.BackLines.{begins_after, count_back, most_one}
 use Rattle.seg_core.proofs.line_back.reach_back_from.Goals as goal
 
 pub returns-then-seen-wanted : goal.returns-then-seen-wanted
@@ -8,7 +8,7 @@ returns-then-seen-wanted c =
     let x = c.args.bytes.now in
     let at : c.loop-at.at - 1 + 1 ≡ c.loop-at.at = let some = c.loop-at-test.true in omega arith in
     subst (λ k. BeginsAt c.args.delim c.args.wanted x k) at
-    (begins_behind c.args.delim x (c.loop-at.at - 1) c.args.wanted c.loop-at.seen c.from-seen.result (omega arith)
+    (begins_after c.args.delim x (c.loop-at.at - 1) c.args.wanted c.loop-at.seen c.from-seen.result (omega arith)
     (c.loop-at.invariant.counted ∙ ap (λ k. delimiters c.args.delim (drop k x)) (omega arith)) c.from-seen.ensures c.loop-at.invariant.fewer c.if-seen-wanted.true)
 
 pub loop-at-preserved : goal.loop-at-preserved

@@ -3,21 +3,21 @@ use Rattle.std.proofs.lemmas.Result.{on_ok_weaker}
 use Rattle.std.proofs.lemmas.List.{drop_all}
 use Rattle.seg_core.specs.Line.{but_last_lines}
 use Rattle.seg_core.specs.Window.{Window}
-use Rattle.seg_core.proofs.Carried.{left_behind, left_alone, fits_behind, fits_alone, over-le-length}
+use Rattle.seg_core.proofs.Carried.{left_after, left_alone, fits_after, fits_alone, over-le-length}
 use Rattle.text_tests.proofs.window_tests.keep_lines.Goals as goal
 
 pub put-requires : goal.put-requires
 put-requires c =
     let within : c.over-over.result ≤ length c.args.window.now.held = let t = c.if-over-held.true in let e = c.len-held.ensures.len in omega arith in
     subst (λ (w : Window). but_last_lines w.delim w.most (w.held ++ c.args.piece.now) ≡ []) (sym c.drop_front.ensures)
-    (fits_behind c.args.window.now.delim c.args.window.now.most c.args.window.now.held c.args.piece.now c.over-over.result c.over-over.ensures within)
+    (fits_after c.args.window.now.delim c.args.window.now.most c.args.window.now.held c.args.piece.now c.over-over.result c.over-over.ensures within)
 
 pub returns-then-over-held : goal.returns-then-over-held
 returns-then-over-held c =
     let within : c.over-over.result ≤ length c.args.window.now.held = let t = c.if-over-held.true in let e = c.len-held.ensures.len in omega arith in
     on_ok_weaker c.put.result
     (λ is. ap (λ (w : Window). w.held) is ∙ ap (λ (w : Window). w.held ++ c.args.piece.now) c.drop_front.ensures
-    ∙ left_behind c.args.window.now.delim c.args.window.now.most c.args.window.now.held c.args.piece.now c.over-over.result c.over-over.ensures within)
+    ∙ left_after c.args.window.now.delim c.args.window.now.most c.args.window.now.held c.args.piece.now c.over-over.result c.over-over.ensures within)
     c.put.ensures.ok
 
 pub split_at-requires : goal.split_at-requires
