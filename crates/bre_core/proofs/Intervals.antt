@@ -1,5 +1,5 @@
 -- A text is read as an interval where it is spelled as one, and only there.
-use Rattle.std.proofs.Common.{◌≡◌, ◌≢◌, ◌↔◌, ◌⊎◌, inl, inr, ℕ, ◌+◌, ◌-◌, ◌*◌, ◌≤◌, true, false, eqb, cond, List, [], ◌∷◌, ◌++◌, drop, Option, Some, None, refl, sym, ap, ◌∙◌, subst, arith, append_assoc}
+use Rattle.std.proofs.Common.{◌≡◌, ◌≢◌, ◌↔◌, ◌⊎◌, inl, inr, ℕ, ◌+◌, ◌-◌, ◌*◌, ◌≤◌, true, false, ◌&&◌, eqb, cond, List, [], ◌∷◌, ◌++◌, drop, Option, Some, None, refl, sym, ap, ◌∙◌, subst, arith, append_assoc}
 use Rattle.std.specs.Prelude.{fold, option_map, option_and_then, nat_le}
 use Rattle.std.specs.List.{list_all}
 use Rattle.std.proofs.lemmas.Bool.{cond-true, cond-false, cond_both, cases_Bool, and_parts, and_from, eqb-true, leb-true, le-leb, false≢true}
@@ -72,16 +72,13 @@ number_found text number rest e =
 closed : (text rest : List ℕ) → after_close text ≡ Some rest → text ≡ close rest
 closed [] rest e = absurd (none-some _ e)
 closed (byte ∷ []) rest e = absurd (none-some _ e)
-closed (byte ∷ brace ∷ text) rest e = go (cases_Bool (eqb byte 92))
-  where
-    go : (eqb byte 92 ≡ true) ⊎ (eqb byte 92 ≡ false) → byte ∷ brace ∷ text ≡ close rest
-    go (inl b) =
-        let inner = cond_some (eqb brace 125) text rest (sym (cond-true _ _ _ b) ∙ e) in
-        let f : byte ≡ 92 = eqb-true byte 92 b in
-        let g : brace ≡ 125 = eqb-true brace 125 inner.0 in
-        let h : text ≡ rest = inner.1 in
-        cc (f, g, h)
-    go (inr b) = absurd (none-some _ (sym (cond-false _ _ _ b) ∙ e))
+closed (byte ∷ brace ∷ text) rest e =
+    let inner = cond_some (eqb byte 92 && eqb brace 125) text rest e in
+    let tests = and_parts (eqb byte 92) (eqb brace 125) inner.0 in
+    let f : byte ≡ 92 = eqb-true byte 92 tests.0 in
+    let g : brace ≡ 125 = eqb-true brace 125 tests.1 in
+    let h : text ≡ rest = inner.1 in
+    cc (f, g, h)
 
 -- bounds that are spelled are read
 pub bounds_read : (text rest : List ℕ) (low : ℕ) (high : Option ℕ) → AreBounds text low high → interval_at (text ++ close rest) ≡ Some ((low, high), rest)
@@ -114,15 +111,15 @@ record Found (text : List ℕ) (low : ℕ) (high : Option ℕ) (rest : List ℕ)
   bounds : AreBounds inner low high
   whole : text ≡ inner ++ close rest
 
-second_found : (digits : List ℕ) (low : ℕ) → IsNumber digits low → (text : List ℕ) (high : Option ℕ) (rest : List ℕ) (most : ℕ) (behind : List ℕ)
-    → number_at text ≡ Some (most, behind) → cond (nat_le low most) (option_map {U = Option ℕ × List ℕ} (λ r. (Some most, r)) (after_close behind)) None ≡ Some (high, rest) → Found (digits ++ (44 ∷ text)) low high rest
-second_found digits low n text high rest most behind e f = go (cases_Bool (nat_le low most))
+second_found : (digits : List ℕ) (low : ℕ) → IsNumber digits low → (text : List ℕ) (high : Option ℕ) (rest : List ℕ) (most : ℕ) (after : List ℕ)
+    → number_at text ≡ Some (most, after) → cond (nat_le low most) (option_map {U = Option ℕ × List ℕ} (λ r. (Some most, r)) (after_close after)) None ≡ Some (high, rest) → Found (digits ++ (44 ∷ text)) low high rest
+second_found digits low n text high rest most after e f = go (cases_Bool (nat_le low most))
   where
     go : (nat_le low most ≡ true) ⊎ (nat_le low most ≡ false) → Found (digits ++ (44 ∷ text)) low high rest
     go (inl ordered) =
-        let second = number_found text most behind e in
-        let end = mapped {B = Option ℕ × List ℕ} (λ r. (Some most, r)) (after_close behind) (high, rest) (sym (cond-true _ _ _ ordered) ∙ f) in
-        let closes : behind ≡ close rest = closed behind rest (end.1 ∙ ap (λ p. Some p.1) end.2) in
+        let second = number_found text most after e in
+        let end = mapped {B = Option ℕ × List ℕ} (λ r. (Some most, r)) (after_close after) (high, rest) (sym (cond-true _ _ _ ordered) ∙ f) in
+        let closes : after ≡ close rest = closed after rest (end.1 ∙ ap (λ p. Some p.1) end.2) in
         record {
           inner = digits ++ (44 ∷ second.0);
           bounds = subst (AreBounds (digits ++ (44 ∷ second.0)) low) (ap (λ p. p.0) end.2) (between digits second.0 low most n second.1 (leb-true low most ordered));

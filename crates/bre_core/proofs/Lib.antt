@@ -2,7 +2,6 @@ pub mod Chains
 pub mod Counts
 pub mod Existence
 pub mod Intervals
-pub mod Leaves
 pub mod Lists
 pub mod Matching
 pub mod Members

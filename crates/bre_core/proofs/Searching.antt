@@ -1,19 +1,11 @@
 -- The truth value says what is contained.
 use Rattle.std.proofs.Common.{◌≡◌, ◌⊎◌, ◌↔◌, inl, inr, ℕ, zero, suc, ◌+◌, ◌<◌, ◌≤◌, Bool, true, false, leb, ◌&&◌, List, length, Option, Some, None, refl, sym, ap, ◌∙◌, subst, arith}
 use Rattle.std.specs.Prelude.{IsTrue}
-use Rattle.std.proofs.lemmas.Bool.{cases_eq, cases_lt, false≢true, or_cases, or_left, or_right, eqb-true, eq-eqb, leb-true, le-leb, lt-ltb}
+use Rattle.std.proofs.lemmas.Bool.{cases_eq, cases_lt, false≢true, or_cases, or_left, or_right, and_parts, and_from, eqb-true, eq-eqb, leb-true, le-leb, lt-ltb}
 use borrow.Author.Tests.{ltb-true}
 use Rattle.bre_core.specs.Match.{Parts, IsAtMost, Matches, MatchesItem, Contains}
 use Rattle.bre_core.specs.Pattern.{Pattern, nothing, append, Item, set, front, end, group, repeat}
 use Rattle.bre_core.specs.Search.{any_below, has_parts, is_at_most, matches, matches_item, contains}
-
-both_true : (a b : Bool) → (a && b) ≡ true → (a ≡ true) × (b ≡ true)
-both_true true b e = (refl, e)
-both_true false b e = absurd (false≢true e)
-
-and_true : (a b : Bool) → a ≡ true → b ≡ true → (a && b) ≡ true
-and_true true b e f = f
-and_true false b e f = absurd (false≢true e)
 
 any_found : (bound : ℕ) (test : ℕ → Bool) → any_below bound test ≡ true → (number : ℕ) × (number < bound) × (test number ≡ true)
 any_found zero test e = absurd (false≢true e)
@@ -50,12 +42,12 @@ parts_tell test Kind t zero = record {
 parts_tell test Kind t (suc count) = let before = parts_tell test Kind t count in record {
   yes = λ from to e.
       let found = any_found (suc to) (λ middle. has_parts test count from middle && test middle to) e in
-      let both = both_true (has_parts test count from found.0) (test found.0 to) found.2 in
+      let both = and_parts (has_parts test count from found.0) (test found.0 to) found.2 in
       (found.0, before.yes from found.0 both.0, t.yes found.0 to both.1);
   no = λ from to p.
       let small = t.forward p.0 to p.2 in
       any_there (suc to) (λ middle. has_parts test count from middle && test middle to) p.0 (omega (arith, small))
-      (and_true (has_parts test count from p.0) (test p.0 to) (before.no from p.0 p.1) (t.no p.0 to p.2));
+      (and_from (has_parts test count from p.0) (test p.0 to) (before.no from p.0 p.1) (t.no p.0 to p.2));
   forward = λ from to p. parts_forward Kind t.forward (suc count) from to p;
 }
 
@@ -97,42 +89,42 @@ mutual
   tells (append pattern item) line = let one = tells pattern line in let other = item_tells item line in record {
     yes = λ from to e.
         let found = any_found (suc to) (λ middle. matches pattern line from middle && matches_item item line middle to) e in
-        let both = both_true (matches pattern line from found.0) (matches_item item line found.0 to) found.2 in
+        let both = and_parts (matches pattern line from found.0) (matches_item item line found.0 to) found.2 in
         (found.0, one.yes from found.0 both.0, other.yes found.0 to both.1);
     no = λ from to m.
         let small = other.forward m.0 to m.2 in
         any_there (suc to) (λ middle. matches pattern line from middle && matches_item item line middle to) m.0 (omega (arith, small))
-        (and_true (matches pattern line from m.0) (matches_item item line m.0 to) (one.no from m.0 m.1) (other.no m.0 to m.2));
+        (and_from (matches pattern line from m.0) (matches_item item line m.0 to) (one.no from m.0 m.1) (other.no m.0 to m.2));
     forward = λ from to m. let first = one.forward from m.0 m.1 in let second = other.forward m.0 to m.2 in omega (arith, first, second);
   }
 
   item_tells : (item : Item) (line : List ℕ) → Tells (matches_item item line) (MatchesItem item line)
   item_tells (set bytes) line = record {
-    yes = λ from to e. let a = both_true _ _ e in let b = both_true _ _ a.1 in (eqb-true to (from + 1) a.0, ltb-true from (length line) b.0, b.1);
-    no = λ from to m. and_true _ _ (eq-eqb to (from + 1) m.0) (and_true _ _ (lt-ltb from (length line) m.1) m.2);
+    yes = λ from to e. let a = and_parts _ _ e in let b = and_parts _ _ a.1 in (eqb-true to (from + 1) a.0, ltb-true from (length line) b.0, b.1);
+    no = λ from to m. and_from _ _ (eq-eqb to (from + 1) m.0) (and_from _ _ (lt-ltb from (length line) m.1) m.2);
     forward = λ from to m. omega (arith, m.0);
   }
   item_tells front line = record {
-    yes = λ from to e. let a = both_true _ _ e in (eqb-true from 0 a.0, eqb-true to 0 a.1);
-    no = λ from to m. and_true _ _ (eq-eqb from 0 m.0) (eq-eqb to 0 m.1);
+    yes = λ from to e. let a = and_parts _ _ e in (eqb-true from 0 a.0, eqb-true to 0 a.1);
+    no = λ from to m. and_from _ _ (eq-eqb from 0 m.0) (eq-eqb to 0 m.1);
     forward = λ from to m. omega (arith, m.0, m.1);
   }
   item_tells end line = record {
-    yes = λ from to e. let a = both_true _ _ e in (eqb-true from (length line) a.0, eqb-true to (length line) a.1);
-    no = λ from to m. and_true _ _ (eq-eqb from (length line) m.0) (eq-eqb to (length line) m.1);
+    yes = λ from to e. let a = and_parts _ _ e in (eqb-true from (length line) a.0, eqb-true to (length line) a.1);
+    no = λ from to m. and_from _ _ (eq-eqb from (length line) m.0) (eq-eqb to (length line) m.1);
     forward = λ from to m. omega (arith, m.0, m.1);
   }
   item_tells (group pattern) line = let inner = tells pattern line in record { yes = inner.yes; no = inner.no; forward = inner.forward }
   item_tells (repeat item low high) line = let one = item_tells item line in record {
     yes = λ from to e.
         let found = any_found (suc (low + to)) (λ count. leb low count && (is_at_most high count && has_parts (matches_item item line) count from to)) e in
-        let a = both_true (leb low found.0) _ found.2 in
-        let b = both_true (is_at_most high found.0) _ a.1 in
+        let a = and_parts (leb low found.0) _ found.2 in
+        let b = and_parts (is_at_most high found.0) _ a.1 in
         (found.0, leb-true low found.0 a.0, at_most_yes high found.0 b.0, (parts_tell (matches_item item line) (MatchesItem item line) one found.0).yes from to b.1);
     no = λ from to m.
         let few = few_parts (MatchesItem item line) one.forward low high m.0 from to m.1 m.2 m.3 in
         any_there (suc (low + to)) (λ count. leb low count && (is_at_most high count && has_parts (matches_item item line) count from to)) few.0 few.1
-        (and_true _ _ (le-leb low few.0 few.2) (and_true _ _ (at_most_no high few.0 few.3) ((parts_tell (matches_item item line) (MatchesItem item line) one few.0).no from to few.4)));
+        (and_from _ _ (le-leb low few.0 few.2) (and_from _ _ (at_most_no high few.0 few.3) ((parts_tell (matches_item item line) (MatchesItem item line) one few.0).no from to few.4)));
     forward = λ from to m. parts_forward (MatchesItem item line) one.forward m.0 from to m.3;
   }
 

@@ -12,7 +12,7 @@ use Rattle.bre_core.specs.declared.member.Element.{Element}
 use Rattle.bre_core.specs.declared.member.Element.TheVariants.{Point, Same, Named}
 use Rattle.bre_core.specs.declared.member.Member.{Member}
 use Rattle.bre_core.specs.declared.member.Member.TheVariants.{Range, Class as InClass}
-use Rattle.bre_core.specs.Bracket.{IsBracket, ReadsMember, begins_with, behind_complement, class_at, element_at, enclosed, inner_at, is_dash_inside, matched_bytes, member_at, member_from, name_at, range_to}
+use Rattle.bre_core.specs.Bracket.{IsBracket, ReadsMember, begins_with, after_complement, class_at, element_at, enclosed, inner_at, is_dash_inside, matched_bytes, member_at, member_from, name_at, range_to}
 use Rattle.bre_core.specs.Class.{class_named}
 use Rattle.bre_core.specs.Spelled.{Spelling, plain, symbol, Part, single, range, equivalents, class, byte_of, member_of, name_of, byte_before, part_before, parts_before, list_before, is_opening, IsItself, MayBegin, Stand, IsBracketList, IsSpelled, in_symbols, is_ordered}
 use Rattle.bre_core.specs.Steps.{Steps}
@@ -71,7 +71,7 @@ part_read (class name) text itself = ap (option_and_then (λ found. member_from 
 
 at_place : (first : Bool) (text : List ℕ) → MayBegin first text → member_at first text ≡ option_and_then (λ found. member_from found.0 found.1) (element_at text)
 at_place true text may = refl
-at_place false text may = cond-false _ _ _ may.0 ∙ cond-false _ _ _ may.1
+at_place false text may = cond-false _ _ _ (or_from _ _ may.0 may.1)
 
 one_read : (first : Bool) (part : Part) (text : List ℕ) → MayBegin first (part_before part text) → IsItself part text
     → ReadsMember (first, part_before part text) (member_of part) (false, text)
@@ -85,9 +85,9 @@ parts_read : (parts : List Part) (text : List ℕ) → parts ≢ [] → Stand tr
 parts_read [] text some stand = absurd (some refl)
 parts_read (part ∷ parts) text some stand = ((false, parts_before parts text), one_read true part (parts_before parts text) stand.0 stand.1, others_read parts text stand.2)
 
-behind_caret : (complemented : Bool) (parts : List Part) (rest : List ℕ) → IsBracketList complemented parts rest → behind_complement (list_before complemented parts rest) ≡ parts_before parts (93 ∷ rest)
-behind_caret true parts rest list = refl
-behind_caret false parts rest list = cond-false _ _ _ list.caret
+after_caret : (complemented : Bool) (parts : List Part) (rest : List ℕ) → IsBracketList complemented parts rest → after_complement (list_before complemented parts rest) ≡ parts_before parts (93 ∷ rest)
+after_caret true parts rest list = refl
+after_caret false parts rest list = cond-false _ _ _ list.caret
 
 -- a list that is spelled by the rules is read as its members
 pub list_read : (complemented : Bool) (parts : List Part) (rest : List ℕ) → IsBracketList complemented parts rest
@@ -95,7 +95,7 @@ pub list_read : (complemented : Bool) (parts : List Part) (rest : List ℕ) → 
 list_read complemented parts rest list = (
   record {
     members = map member_of parts;
-    way = subst (λ t. Steps ReadsMember (true, t) (map member_of parts) (false, 93 ∷ rest)) (sym (behind_caret complemented parts rest list)) (parts_read parts (93 ∷ rest) list.some list.stand);
+    way = subst (λ t. Steps ReadsMember (true, t) (map member_of parts) (false, 93 ∷ rest)) (sym (after_caret complemented parts rest list)) (parts_read parts (93 ∷ rest) list.some list.stand);
     bytes = ap (λ b. matched_bytes b (map member_of parts)) (sym list.caret);
   },
   refl,
@@ -252,14 +252,14 @@ dash_inside (byte ∷ text) e =
     let tests = and_parts (eqb byte 45) (not (begins_with 93 text)) e in
     (ap (λ b. b ∷ text) (eqb-true byte 45 tests.0), not-true (begins_with 93 text) tests.1)
 
-range_found : (text : List ℕ) (low : Spelling) (behind : List ℕ) (element : Element) (member : Member) (left rest : List ℕ)
-    → text ≡ byte_before low (45 ∷ behind) → begins_with 93 behind ≡ false → ElementIs element behind left → range_to (byte_of low) element left ≡ Some (member, rest) → Spells text member rest
-range_found text low behind (Same byte) member left rest whole unclosed high e = absurd (none-some _ e)
-range_found text low behind (Named name) member left rest whole unclosed high e = absurd (none-some _ e)
-range_found text low behind (Point byte) member left rest whole unclosed high e =
+range_found : (text : List ℕ) (low : Spelling) (after : List ℕ) (element : Element) (member : Member) (left rest : List ℕ)
+    → text ≡ byte_before low (45 ∷ after) → begins_with 93 after ≡ false → ElementIs element after left → range_to (byte_of low) element left ≡ Some (member, rest) → Spells text member rest
+range_found text low after (Same byte) member left rest whole unclosed high e = absurd (none-some _ e)
+range_found text low after (Named name) member left rest whole unclosed high e = absurd (none-some _ e)
+range_found text low after (Point byte) member left rest whole unclosed high e =
     let found = cond_some (nat_le (byte_of low) byte) (Range (byte_of low) byte, left) (member, rest) e in
     let ends : left ≡ rest = ap (λ p. p.1) found.1 in
-    let spelled : behind ≡ byte_before high.0 rest = high.2 ∙ ap (byte_before high.0) ends in
+    let spelled : after ≡ byte_before high.0 rest = high.2 ∙ ap (byte_before high.0) ends in
     record {
       part = range low high.0;
       itself = (
@@ -271,24 +271,24 @@ range_found text low behind (Point byte) member left rest whole unclosed high e 
       same = sym (ap (λ p. p.0) found.1) ∙ ap (λ b. Range (byte_of low) b) (sym high.1);
     }
 
-from_found : (text : List ℕ) (element : Element) (behind : List ℕ) (member : Member) (rest : List ℕ) → ElementIs element text behind → member_from element behind ≡ Some (member, rest) → Spells text member rest
-from_found text (Same byte) behind member rest is e =
-    let same : ◌≡◌ {A = Member × List ℕ} (Range byte byte, behind) (member, rest) = same_Some _ _ e in
+from_found : (text : List ℕ) (element : Element) (after : List ℕ) (member : Member) (rest : List ℕ) → ElementIs element text after → member_from element after ≡ Some (member, rest) → Spells text member rest
+from_found text (Same byte) after member rest is e =
+    let same : ◌≡◌ {A = Member × List ℕ} (Range byte byte, after) (member, rest) = same_Some _ _ e in
     record { part = equivalents byte; itself = tt; whole = is ∙ ap (part_before (equivalents byte)) (ap (λ p. p.1) same); same = sym (ap (λ p. p.0) same) }
-from_found text (Named name) behind member rest is e =
-    let same : ◌≡◌ {A = Member × List ℕ} (InClass name, behind) (member, rest) = same_Some _ _ e in
+from_found text (Named name) after member rest is e =
+    let same : ◌≡◌ {A = Member × List ℕ} (InClass name, after) (member, rest) = same_Some _ _ e in
     record { part = class name; itself = tt; whole = is ∙ ap (part_before (class name)) (ap (λ p. p.1) same); same = sym (ap (λ p. p.0) same) }
-from_found text (Point byte) behind member rest is e = go (cases_Bool (is_dash_inside behind))
+from_found text (Point byte) after member rest is e = go (cases_Bool (is_dash_inside after))
   where
-    go : (is_dash_inside behind ≡ true) ⊎ (is_dash_inside behind ≡ false) → Spells text member rest
+    go : (is_dash_inside after ≡ true) ⊎ (is_dash_inside after ≡ false) → Spells text member rest
     go (inl dash) =
-        let inside = dash_inside behind dash in
-        option_and_then_some _ (element_at (drop 1 behind)) (member, rest) (sym (cond-true _ _ _ dash) ∙ e) (λ found ends to.
-        range_found text is.0 (drop 1 behind) found.0 member found.1 rest (is.2 ∙ ap (byte_before is.0) inside.0) inside.1
-        (element_found (drop 1 behind) found.0 found.1 ends) (ap (λ b. range_to b found.0 found.1) is.1 ∙ to))
+        let inside = dash_inside after dash in
+        option_and_then_some _ (element_at (drop 1 after)) (member, rest) (sym (cond-true _ _ _ dash) ∙ e) (λ found ends to.
+        range_found text is.0 (drop 1 after) found.0 member found.1 rest (is.2 ∙ ap (byte_before is.0) inside.0) inside.1
+        (element_found (drop 1 after) found.0 found.1 ends) (ap (λ b. range_to b found.0 found.1) is.1 ∙ to))
     go (inr alone) =
-        let same : ◌≡◌ {A = Member × List ℕ} (Range byte byte, behind) (member, rest) = same_Some _ _ (sym (cond-false _ _ _ alone) ∙ e) in
-        let ends : behind ≡ rest = ap (λ p. p.1) same in
+        let same : ◌≡◌ {A = Member × List ℕ} (Range byte byte, after) (member, rest) = same_Some _ _ (sym (cond-false _ _ _ alone) ∙ e) in
+        let ends : after ≡ rest = ap (λ p. p.1) same in
         record {
           part = single is.0;
           itself = (subst (λ t. is_opening is.0 t ≡ false) ends is.3, subst (λ t. is_dash_inside t ≡ false) ends alone);
@@ -298,12 +298,10 @@ from_found text (Point byte) behind member rest is e = go (cases_Bool (is_dash_i
 
 may_begin : (first : Bool) (text : List ℕ) (found : Member × List ℕ) → member_at first text ≡ Some found → MayBegin first text
 may_begin true text found e = tt
-may_begin false text found e = go (cases_Bool (begins_with 93 text)) (cases_Bool (is_dash_inside text))
-  where
-    go : (begins_with 93 text ≡ true) ⊎ (begins_with 93 text ≡ false) → (is_dash_inside text ≡ true) ⊎ (is_dash_inside text ≡ false) → MayBegin false text
-    go (inl closes) dash = absurd (none-some _ (sym (cond-true _ _ _ closes) ∙ e))
-    go (inr unclosed) (inl inside) = absurd (none-some _ (sym (cond-false _ _ _ unclosed ∙ cond-true _ _ _ inside) ∙ e))
-    go (inr unclosed) (inr alone) = (unclosed, alone)
+may_begin false text found e = elim (cases_Bool (begins_with 93 text || is_dash_inside text)) [
+  | inl closes ↦ absurd (none-some _ (sym (cond-true _ _ _ closes) ∙ e))
+  | inr goes ↦ or_parts _ _ goes
+]
 
 member_found : (first : Bool) (text : List ℕ) (member : Member) (rest : List ℕ) → member_at first text ≡ Some (member, rest) → Spells text member rest
 member_found first text member rest e =

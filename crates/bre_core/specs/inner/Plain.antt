@@ -4,7 +4,7 @@ use Rattle.std.specs.Option.{MatchOption}
 use Rattle.bre_core.specs.declared.ends.Times.TheVariants.{Once}
 use Rattle.bre_core.specs.declared.token.Token.{Token}
 use Rattle.bre_core.specs.declared.token.Token.TheVariants.{Set, Front, End, Open, Close, Repeat}
-use Rattle.bre_core.specs.inner.Spans.{StandBehind, AreLeaf, AreRepeated}
+use Rattle.bre_core.specs.inner.Spans.{StandAfter, AreLeaf, AreRepeated}
 
 -- the stretches of a concatenation, its last item apart, and those of the concatenations around, the innermost last
 pub record State : Type 0 where
@@ -15,7 +15,7 @@ pub record State : Type 0 where
 -- the stretches of the whole concatenation
 abbrev pub IsSettled : List (List Bool) → Option (List (List Bool)) → List (List Bool) → Type 0
 IsSettled before None whole = whole ≡ before
-IsSettled before (Some item) whole = StandBehind Once before item whole
+IsSettled before (Some item) whole = StandAfter Once before item whole
 
 -- an item of one token follows the others
 pub record TookLeaf (token : Token) (line : List ℕ) (old new : State) : Type 0 where

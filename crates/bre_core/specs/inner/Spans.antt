@@ -42,15 +42,15 @@ abbrev pub Run : List (List Bool) → ℕ → ℕ → ℕ → Type 0
 Run item count from to = Parts (IsSpan item) count from to
 
 -- from a place of the set, followed by the item once, at most once or any number of times, to the end
-abbrev pub EndsBehind : Times → List Bool → List (List Bool) → ℕ → Type 0
-EndsBehind Once ends item to = GoesOn ends item to
-EndsBehind AtMostOnce ends item to = EndsAt ends to ⊎ GoesOn ends item to
-EndsBehind AnyTimes ends item to = (start : ℕ) × (count : ℕ) × EndsAt ends start × Run item count start to
+abbrev pub EndsAfter : Times → List Bool → List (List Bool) → ℕ → Type 0
+EndsAfter Once ends item to = GoesOn ends item to
+EndsAfter AtMostOnce ends item to = EndsAt ends to ⊎ GoesOn ends item to
+EndsAfter AnyTimes ends item to = (start : ℕ) × (count : ℕ) × EndsAt ends start × Run item count start to
 
 -- the stretches of one kind, each followed by an item
-pub record StandBehind (times : Times) (first item both : List (List Bool)) : Type 0 where
+pub record StandAfter (times : Times) (first item both : List (List Bool)) : Type 0 where
   pub places : length both ≡ length first
-  pub exact : (from to : ℕ) → IsSpan both from to ↔ EndsBehind times (ends_from first from) item to
+  pub exact : (from to : ℕ) → IsSpan both from to ↔ EndsAfter times (ends_from first from) item to
 
 -- the stretches of one token
 pub record AreLeaf (token : Token) (line : List ℕ) (spans : List (List Bool)) : Type 0 where
