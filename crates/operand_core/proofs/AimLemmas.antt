@@ -19,10 +19,10 @@ use Rattle.operand_core.specs.declared.word.Word.TheVariants as word_is
 use Rattle.operand_core.specs.declared.operand_fault.OperandFaultKind.{OperandFaultKind}
 use Rattle.operand_core.specs.declared.operand_fault.OperandFaultKind.TheVariants as kind
 
-less_test : (a b : ℕ) → a < b → nat_lt a b ≡ true
+pub less_test : (a b : ℕ) → a < b → nat_lt a b ≡ true
 less_test a b less = grind (arith, nat_tests, less)
 
-not_less_test : (a b : ℕ) → b ≤ a → nat_lt a b ≡ false
+pub not_less_test : (a b : ℕ) → b ≤ a → nat_lt a b ≡ false
 not_less_test a b less = grind (arith, nat_tests, less)
 
 pub below_last : (least n : ℕ) → n < least → IsAimed (aim_of least (number n)) (Err kind.LineOrder)

@@ -40,10 +40,8 @@ least_after least (match kept text offset) = least
 
 -- how often the operand before this word is performed again, if the word says it
 abbrev pub times_by : Spelling → Option Times
-times_by (number n) = None
-times_by (search delimiter text offset) = None
 times_by (again times) = Some times
-times_by (wrong fault) = None
+times_by spelled = None
 
 -- the operands before the first word that is wrong, and what is wrong with that one
 pub record Words : Type 0 where
@@ -96,10 +94,9 @@ IsRefused text _ = (pattern : Pattern) → Reads text pattern → ⊥
 
 abbrev pub IsTarget : Aim → Target → Type 0
 IsTarget (line n) (Number m) = m ≡ n
-IsTarget (line n) (Search pattern kept offset) = ⊥
-IsTarget (match is_kept text offset) (Number m) = ⊥
 IsTarget (match is_kept text offset) (Search pattern kept moved) = IsPattern text pattern × (kept ≡ is_kept)
     × (moved ≡ offset)
+IsTarget aim target = ⊥
 
 -- the pattern of an operand is read, and all else is as it was spelled
 pub record IsRead (spelled : Spelled) (operand : Operand) : Type 0 where
@@ -109,9 +106,8 @@ pub record IsRead (spelled : Spelled) (operand : Operand) : Type 0 where
 
 abbrev pub AreRead : List Spelled → List Operand → Type 0
 AreRead [] [] = Unit {0}
-AreRead [] (operand ∷ operands) = ⊥
-AreRead (spelled ∷ more) [] = ⊥
 AreRead (spelled ∷ more) (operand ∷ operands) = IsRead spelled operand × AreRead more operands
+AreRead spelled operands = ⊥
 
 -- the words ask for these operands
 pub record Asks (words : List (List ℕ)) (operands : List Operand) : Type 0 where

@@ -16,7 +16,7 @@ use Rattle.scan_core.specs.declared.hops.Hop.{Hop}
 use Rattle.scan_core.specs.inner.Hops.{AreHops, Hopped, HopsTo, no_hop}
 use Rattle.scan_core.specs.inner.Sets.{LeadsOn, Flows, FlowsOn}
 use Rattle.scan_core.specs.inner.Words.{IsIn, unset, Grows, Visits, width}
-use Rattle.scan_core.proofs.Insides.{left_bit, right_bit, either_bit}
+use Rattle.scan_core.proofs.Insides.{fresh_bit, left_bit, right_bit, either_bit}
 use Rattle.scan_core.proofs.Passings.{set_elsewhere}
 use Rattle.scan_core.proofs.Visitings.{Visiting, is_in_word}
 
@@ -88,14 +88,11 @@ close_word code at word all old now h ew c en = record {
         side (inl w) = c.kept bit l w
         side (inr a) = a
 
-masked : (left mask bit : ℕ) → mask < 2 ^ 64 → bit < 64 → bit_at (bit_and left (bit_not w64 mask)) bit ≡ min (bit_at left bit) (1 - bit_at mask bit)
-masked left mask bit m l = bit_at_and left (bit_not w64 mask) bit ∙ ap (min (bit_at left bit)) (bit_at_not w64 mask bit m l)
-
 pub peers_smaller : (code : List Node) (at left mask bit : ℕ) → mask < 2 ^ 64 → bit < 64 → bit_at left bit ≡ 1 → ArePeers code (at * 64 + bit) mask → bit_and left (bit_not w64 mask) < left
 peers_smaller code at left mask bit m l is p =
     let e : (at * 64 + bit) % 64 ≡ bit = omega (arith, l) in
     let own = ap (bit_at mask) (sym e) ∙ p.own in
-    let b = masked left mask bit m l in
+    let b = fresh_bit left mask bit m l in
     elim (cases_eq (bit_and left (bit_not w64 mask)) left) [
       | inl same ↦ let q = ap (λ w. bit_at w bit) same in absurd (omega (arith, q, b, own, is))
       | inr other ↦ let s = and_le_l left (bit_not w64 mask) in omega (arith, s, other)
@@ -128,10 +125,10 @@ pub close_more : (code : List Node) (at_first at_last : Bool) (at leaves left ma
 close_more code at_first at_last at leaves left mask bit start old now new on on' closed v small here m p g =
     visit_more code at_first at_last at (bit_and (get_or old at 0) leaves) left (bit_and left (bit_not w64 mask)) (Flows code at_first at_last (at * 64 + bit)) old now new on on' v g
     (λ number f. (at * 64 + bit, in_old bit small (v.within bit small here), f))
-    (λ k s h. let b = masked left mask k m s in v.within k s (let l = bit_at-lt left k in omega (arith, h, b, l)))
+    (λ k s h. let b = fresh_bit left mask k m s in v.within k s (let l = bit_at-lt left k in omega (arith, h, b, l)))
     (λ k s h. elim (cases_eq (bit_at mask k) 1) [
       | inl peer ↦ inr (λ to f. peer_led k s h to (others k s peer to f))
-      | inr other ↦ left_or k s (let b = masked left mask k m s in let l = bit_at-lt mask k in omega (arith, b, l, other)) (v.rest k s h)
+      | inr other ↦ left_or k s (let b = fresh_bit left mask k m s in let l = bit_at-lt mask k in omega (arith, b, l, other)) (v.rest k s h)
     ])
   where
     in_old : (k : ℕ) → k < 64 → bit_at (bit_and (get_or old at 0) leaves) k ≡ 1 → IsIn old (at * 64 + k)

@@ -210,11 +210,6 @@ flow_two code n skip at_first at_last old middle new here f g = gain_by old new 
 pub target_in : (code : List Node) (n skip : ℕ) → IsCode code → At code n (Choose skip) → n + skip ≤ length code
 target_in code n skip c here = c.ends n (n + skip) (Choose skip, here, inr refl)
 
-pub no_default : (l : List ℕ) (n d e : ℕ) → n < length l → get_or l n d ≡ get_or l n e
-no_default [] n d e h = absurd (omega (arith, h))
-no_default (x ∷ l) zero d e h = refl
-no_default (x ∷ l) (suc n) d e h = no_default l n d e (omega (arith, h))
-
 pub count_most : {code : List Node} (reach : Reach) → IsReach code reach → reach.count ≤ length reach.marks.items
 count_most reach r = let l = marked_most reach.marks.items in omega (arith, l, r.counted)
 

@@ -1,5 +1,6 @@
 -- What numbers lead to without a byte, ready to be looked up.
-use Rattle.std.proofs.Common.{rules, ◌≡◌, ◌⊎◌, ◌↔◌, inl, inr, ℕ, suc, ◌+◌, ◌*◌, ◌-◌, ◌/◌, ◌%◌, ◌^◌, ◌<◌, ◌≤◌, Bool, false, List, [], ◌∷◌, ◌++◌, length, get_or, min, max, sym, ap, ◌∙◌, subst, arith, length-append, w64}
+use Rattle.std.proofs.Common.{rules, ◌≡◌, ◌⊎◌, ◌↔◌, inl, inr, ℕ, suc, ◌+◌, ◌*◌, ◌-◌, ◌/◌, ◌%◌, ◌^◌, ◌<◌, ◌≤◌, Bool, false, List, [], ◌∷◌, ◌++◌, length, get_or, min, max, refl, sym, ap, ◌∙◌, subst, arith, length-append, w64}
+use Rattle.std.proofs.lemmas.List.{get_or_append_left}
 use Rattle.std.proofs.lemmas.Bool.{cases_eq, cases_lt, false≢true}
 use Rattle.std.proofs.lemmas.Nat.{and_le_l, le_or_l, or_lt}
 use Rattle.std.proofs.lemmas.Nat.Bits.{and_high, bit_at_and, bit_at_or, bit_at_not, bit_at-lt, bit_at-zero, bit_at_mask_inside, bit_at_ones, bit_at_above, bit_at_cat_low, bit_at_cat_high, bit_at_set_same, bit_at_set_other, same_from_bits_below}
@@ -15,7 +16,7 @@ use Rattle.scan_core.specs.inner.Hops.{HopsTo}
 use Rattle.scan_core.specs.inner.Sets.{LeadsOn, Flows, FlowsOn}
 use Rattle.scan_core.specs.inner.Words.{width}
 use Rattle.scan_core.proofs.Enterings.{flows_of}
-use Rattle.scan_core.proofs.Tables.{get-front, get-last}
+use Rattle.scan_core.proofs.Tables.{get-last}
 use Rattle.scan_core.proofs.Visitings.{cleared}
 
 pub choose_stays : (code : List Node) (hops : List Hop) (at bit skip : ℕ) (at_first at_last : Bool) (to : ℕ) → At code (at * 64 + bit) (Choose skip) → bit < 64
@@ -408,7 +409,7 @@ entry_of_halves code inside place i low high = closes_both code (place / 2048) _
 pub pushed : {X : Type 0} (d : X) (So : ℕ → X → Type 0) (list new : List X) (count : ℕ) (entry : X) → length list ≡ count → ((k : ℕ) → k < count → So k (get_or list k d)) → So count entry → new ≡ list ++ entry ∷ [] → (k : ℕ) → k < count + 1 → So k (get_or new k d)
 pushed d So list new count entry size before here e k h = elim (cases_eq k count) [
   | inl same ↦ subst (So k) (sym (ap (λ l. get_or l k d) e ∙ get-last list entry d k (same ∙ sym size))) (subst (λ n. So n entry) (sym same) here)
-  | inr other ↦ subst (So k) (sym (ap (λ l. get_or l k d) e ∙ get-front list (entry ∷ []) k d (omega (arith, h, other, size)))) (before k (omega (arith, h, other)))
+  | inr other ↦ subst (So k) (sym (ap (λ l. get_or l k d) e ∙ get_or_append_left list (entry ∷ []) d k (omega (arith, h, other, size)))) (before k (omega (arith, h, other)))
 ]
 
 pub one_longer : {X : Type 0} (list new : List X) (count : ℕ) (entry : X) → length list ≡ count → new ≡ list ++ entry ∷ [] → length new ≡ count + 1

@@ -1,7 +1,7 @@
 -- Entering what landings lead to.
 use Rattle.std.proofs.Common.{◌≡◌, ◌⊎◌, ◌↔◌, inl, inr, ℕ, zero, suc, ◌+◌, ◌*◌, ◌-◌, ◌/◌, ◌%◌, ◌^◌, ◌<◌, ◌≤◌, Bool, true, false, IsTrue, List, [], ◌∷◌, ◌++◌, length, get_or, set, eqb, not, refl, sym, ap, ◌∙◌, subst, arith, length-append, eqb-true, w64}
 use Rattle.std.proofs.lemmas.Bool.{cases_eq, false≢true}
-use Rattle.std.proofs.lemmas.List.{get_or-set_same}
+use Rattle.std.proofs.lemmas.List.{get_or-set_same, get_or_append_left}
 use Rattle.std.proofs.lemmas.Nat.Bits.{bit_at-zero, bit_at_set_same, bit_at_set_other}
 use Rattle.std.specs.Prelude.{bit_and, bit_or}
 use Rattle.std.specs.Int.{bit_at}
@@ -19,7 +19,7 @@ use Rattle.scan_core.proofs.Enterings.{flows_of}
 use Rattle.scan_core.proofs.Hoppings.{one_of, none_of}
 use Rattle.scan_core.proofs.Insides.{bit_is, left_bit, right_bit, either_bit}
 use Rattle.scan_core.proofs.Passings.{set_elsewhere}
-use Rattle.scan_core.proofs.Tables.{get-front, get-last}
+use Rattle.scan_core.proofs.Tables.{get-last}
 use Rattle.scan_core.proofs.Visitings.{is_in_word}
 
 -- a number's bit where something holds
@@ -137,7 +137,7 @@ adding_more code old now new landing a is e = record {
     one = ap length e ∙ length-append now (landing ∷ [])
 
     kept : (place : ℕ) → place < length now → get_or new place no_landing ≡ get_or now place no_landing
-    kept place h = ap (λ l. get_or l place no_landing) e ∙ get-front now (landing ∷ []) place no_landing h
+    kept place h = ap (λ l. get_or l place no_landing) e ∙ get_or_append_left now (landing ∷ []) no_landing place h
 
 pub hop_lands : (code : List Node) (hops : List Hop) (at which : ℕ) (hop : Hop) → AreHops code (width code * 3) hops → at < width code → which < 3 → hop ≡ get_or hops (at * 3 + which) no_hop → Ends code hop.to → IsLanding code (record { at = at; from = hop.from; to = hop.to })
 hop_lands code hops at which hop are h l e ends =

@@ -1,5 +1,6 @@
 -- The words of the numbers of a kind.
 use Rattle.std.proofs.Common.{◌≡◌, ◌↔◌, inl, inr, ℕ, zero, suc, ◌+◌, ◌*◌, ◌-◌, ◌/◌, ◌%◌, ◌^◌, ◌<◌, ◌≤◌, List, [], ◌∷◌, ◌++◌, length, get_or, refl, sym, ap, ◌∙◌, subst, arith, length-append, w64}
+use Rattle.std.proofs.lemmas.List.{get_or_append_left}
 use Rattle.std.proofs.lemmas.Bool.{cases_eq, cases_lt}
 use Rattle.std.proofs.lemmas.Nat.Bits.{bit_at_set_same, bit_at_set_other}
 use Rattle.std.specs.Prelude.{bit_or}
@@ -9,7 +10,7 @@ use Rattle.scan_core.specs.declared.masks.Kind.TheVariants.{Takes}
 use Rattle.scan_core.specs.declared.node.Node.{Node}
 use Rattle.scan_core.specs.Code.{At, weight_of}
 use Rattle.scan_core.specs.inner.Words.{AddsMask, IsMask, IsOf, counted_at, width}
-use Rattle.scan_core.proofs.Tables.{get-front, get-last}
+use Rattle.scan_core.proofs.Tables.{get-last}
 
 -- the first bits of a word are those of a kind
 pub record Wording (code : List Node) (kind : Kind) (from bit word : ℕ) : Type 0 where
@@ -43,11 +44,11 @@ pub record Adding (code : List Node) (kind : Kind) (old now : List ℕ) (at : �
 pub add_more : (code : List Node) (kind : Kind) (old now new : List ℕ) (at word : ℕ) → Adding code kind old now at → ((bit : ℕ) → bit < 64 → (bit_at word bit ≡ 1) ↔ IsOf code kind (at * 64 + bit)) → new ≡ now ++ word ∷ [] → Adding code kind old new (at + 1)
 add_more code kind old now new at word a is e = record {
   size = let l = ap length e in let m = length-append now (word ∷ []) in let s = a.size in omega (arith, l, m, s);
-  kept = λ n h. let s = a.size in ap (λ w. get_or w n 0) e ∙ get-front now (word ∷ []) n 0 (omega (arith, s, h)) ∙ a.kept n h;
+  kept = λ n h. let s = a.size in ap (λ w. get_or w n 0) e ∙ get_or_append_left now (word ∷ []) 0 n (omega (arith, s, h)) ∙ a.kept n h;
   exact = λ number h. elim (cases_lt number (64 * at)) [
     | inl before ↦
         let s = a.size in
-        let q = ap (λ w. bit_at (get_or w (length old + number / 64) 0) (number % 64)) e ∙ ap (λ x. bit_at x (number % 64)) (get-front now (word ∷ []) (length old + number / 64) 0 (omega (arith, s, before))) in
+        let q = ap (λ w. bit_at (get_or w (length old + number / 64) 0) (number % 64)) e ∙ ap (λ x. bit_at x (number % 64)) (get_or_append_left now (word ∷ []) 0 (length old + number / 64) (omega (arith, s, before))) in
         let p = a.exact number before in
         (λ k. p.0 (sym q ∙ k), λ k. q ∙ p.1 k)
     | inr here ↦

@@ -1,20 +1,15 @@
 -- Stretches of nodes, and their copies.
 use Rattle.std.proofs.Common.{◌≡◌, ℕ, zero, suc, ◌+◌, ◌<◌, ◌≤◌, List, [], ◌∷◌, ◌++◌, length, take, drop, get_or, reverse, refl, sym, ap, ◌∙◌, subst, arith, append_assoc, append-nil, add-one, length-drop}
-use Rattle.std.proofs.lemmas.List.{take_more, get_or-drop, take-append-le, drop-append-le, reverse-append}
+use Rattle.std.proofs.lemmas.List.{take_more, get_or-drop, take-append-le, drop-append-le, reverse-append, get_or_append_left}
 use Rattle.scan_core.specs.declared.node.Node.{Node}
 use Rattle.scan_core.specs.Code.{copies}
 use Rattle.scan_core.specs.inner.Backwards.{stretch}
-
-front_of : {X : Type 0} (xs ys : List X) (n : ℕ) (d : X) → n < length xs → get_or (xs ++ ys) n d ≡ get_or xs n d
-front_of [] ys n d h = absurd (omega (arith, h))
-front_of (x ∷ xs) ys zero d h = refl
-front_of (x ∷ xs) ys (suc n) d h = front_of xs ys n d (omega (arith, h))
 
 -- one node more of a stretch
 pub stretch_more : (old now new : List Node) (from k : ℕ) (node : Node) → now ≡ old ++ take k (drop from old) → from + k < length old → node ≡ get_or now (from + k) node → new ≡ now ++ node ∷ []
     → new ≡ old ++ take (k + 1) (drop from old)
 stretch_more old now new from k node e h is m =
-    let here : node ≡ get_or (drop from old) k node = is ∙ ap (λ l. get_or l (from + k) node) e ∙ front_of old (take k (drop from old)) (from + k) node h ∙ sym (get_or-drop from old k node) in
+    let here : node ≡ get_or (drop from old) k node = is ∙ ap (λ l. get_or l (from + k) node) e ∙ get_or_append_left old (take k (drop from old)) node (from + k) h ∙ sym (get_or-drop from old k node) in
     let size = length-drop from old in
     let more : take (k + 1) (drop from old) ≡ take k (drop from old) ++ node ∷ [] = take_more (drop from old) k node (omega (arith, size, h)) ∙ ap (λ n. take k (drop from old) ++ n ∷ []) (sym here) in
     m ∙ ap (λ l. l ++ node ∷ []) e ∙ append_assoc old (take k (drop from old)) (node ∷ []) ∙ ap (λ l. old ++ l) (sym more)

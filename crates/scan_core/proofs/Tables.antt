@@ -1,7 +1,7 @@
 -- A table that is built set by set and entry by entry.
 use Rattle.std.proofs.Common.{◌≡◌, ◌⊎◌, ◌↔◌, inl, inr, ℕ, zero, suc, ◌+◌, ◌*◌, ◌<◌, ◌≤◌, Bool, true, false, IsTrue, List, [], ◌∷◌, ◌++◌, length, get_or, refl, sym, ap, ◌∙◌, subst, arith}
 use Rattle.std.proofs.lemmas.Bool.{cases_eq, cases_lt}
-use Rattle.std.proofs.lemmas.List.{length-append}
+use Rattle.std.proofs.lemmas.List.{length-append, get_or_append_left}
 use Rattle.bre_core.specs.ByteSet.{has}
 use Rattle.scan_core.specs.declared.build.Building.{Building}
 use Rattle.scan_core.specs.declared.node.Node.{Node}
@@ -16,11 +16,6 @@ use Rattle.scan_core.specs.inner.Sets.{IsReach, Has, FlowsOn, Passes, PassesFrom
 use Rattle.scan_core.specs.inner.Table.{Next, InSets, entry, Tells, IsState, no_state}
 use Rattle.scan_core.proofs.Enterings.{at_index, at_once, at_least}
 
-pub get-front : {X : Type 0} (xs ys : List X) (n : ℕ) (d : X) → n < length xs → get_or (xs ++ ys) n d ≡ get_or xs n d
-get-front [] ys n d h = absurd (omega (arith, h))
-get-front (x ∷ xs) ys zero d h = refl
-get-front (x ∷ xs) ys (suc n) d h = get-front xs ys n d (omega (arith, h))
-
 pub get-last : {X : Type 0} (xs : List X) (y d : X) (n : ℕ) → n ≡ length xs → get_or (xs ++ y ∷ []) n d ≡ y
 get-last [] y d zero e = refl
 get-last [] y d (suc n) e = absurd (omega (arith, e))
@@ -33,19 +28,19 @@ tells_more code sets set state byte read h t = record {
       let n = t.next small in
       let l = length-append sets (set ∷ []) in (
         omega (arith, n.0, l),
-        λ number. subst (λ s. IsMarked s number ↔ Next code byte (InSets (sets ++ set ∷ []) state) number) (sym (get-front sets (set ∷ []) read [] n.0))
-            (subst (λ s. InSets sets read number ↔ Next code byte (IsMarked s) number) (sym (get-front sets (set ∷ []) state [] h)) (n.1 number)),
+        λ number. subst (λ s. IsMarked s number ↔ Next code byte (InSets (sets ++ set ∷ []) state) number) (sym (get_or_append_left sets (set ∷ []) [] read n.0))
+            (subst (λ s. InSets sets read number ↔ Next code byte (IsMarked s) number) (sym (get_or_append_left sets (set ∷ []) [] state h)) (n.1 number)),
       );
-  stop = λ e. subst (λ s. Next code byte (IsMarked s) (length code)) (sym (get-front sets (set ∷ []) state [] h)) (t.stop e);
+  stop = λ e. subst (λ s. Next code byte (IsMarked s) (length code)) (sym (get_or_append_left sets (set ∷ []) [] state h)) (t.stop e);
 }
 
 -- one more set; no entries of it are there yet
 pub built_set : (code : List Node) (sets : List (List Bool)) (rows : List ℕ) (set : List Bool) → Built code sets rows → length rows ≤ length sets * 256 → (IsMarked set (length code) → ⊥) → Built code (sets ++ set ∷ []) rows
 built_set code sets rows set b small none = record {
   some = let l = length-append sets (set ∷ []) in omega (arith, l);
-  front = λ number. subst (λ s. IsMarked s number ↔ FlowsOn code true false 0 number) (sym (get-front sets (set ∷ []) 0 [] b.some)) (b.front number);
+  front = λ number. subst (λ s. IsMarked s number ↔ FlowsOn code true false 0 number) (sym (get_or_append_left sets (set ∷ []) [] 0 b.some)) (b.front number);
   none = λ state h k. let l = length-append sets (set ∷ []) in elim (cases_lt state (length sets)) [
-    | inl old ↦ b.none state old (subst (λ s. IsMarked s (length code)) (get-front sets (set ∷ []) state [] old) k)
+    | inl old ↦ b.none state old (subst (λ s. IsMarked s (length code)) (get_or_append_left sets (set ∷ []) [] state old) k)
     | inr new ↦ none (subst (λ s. IsMarked s (length code)) (get-last sets set [] state (omega (arith, h, new, l))) k)
   ];
   told = λ state byte h b256 r. let l = length-append sets (set ∷ []) in
@@ -60,7 +55,7 @@ built_entry code sets rows state byte read b h e t = record {
   front = b.front;
   none = b.none;
   told = λ s k g b256 r. let l = length-append rows (read ∷ []) in elim (cases_lt (s * 256 + k) (length rows)) [
-    | inl old ↦ subst (Tells code sets s k) (sym (get-front rows (read ∷ []) (s * 256 + k) 0 old)) (b.told s k g b256 old)
+    | inl old ↦ subst (Tells code sets s k) (sym (get_or_append_left rows (read ∷ []) 0 (s * 256 + k) old)) (b.told s k g b256 old)
     | inr new ↦
         let same_state : s ≡ state = omega (arith, r, new, l, e, h, b256) in
         let same_byte : k ≡ byte = omega (arith, r, new, l, e, same_state) in
@@ -91,10 +86,10 @@ grown code state sets sets' rows marks b r k s m (inr e) = subst (λ t. Grown co
   built = built_set code sets rows marks b r e.1;
   known = let l = length-append sets (marks ∷ []) in omega (arith, k, l);
   sized = λ n h. let l = length-append sets (marks ∷ []) in elim (cases_lt n (length sets)) [
-    | inl old ↦ ap length (get-front sets (marks ∷ []) n [] old) ∙ s n old
+    | inl old ↦ ap length (get_or_append_left sets (marks ∷ []) [] n old) ∙ s n old
     | inr new ↦ ap length (get-last sets marks [] n (omega (arith, h, new, l))) ∙ m
   ];
-  same = get-front sets (marks ∷ []) state [] k;
+  same = get_or_append_left sets (marks ∷ []) [] state k;
 })
 
 -- two bytes that every node treats alike lead alike
@@ -273,7 +268,7 @@ pub one_noted : (code : List Node) (sets : List (List Bool)) (rows : List ℕ) (
 one_noted code sets rows states new number noted a e h s q = record {
   some = let l = ap length q in let m = length-append states (noted ∷ []) in omega (arith, l, m, e, h);
   each = λ state g. let l = ap length q in let m = length-append states (noted ∷ []) in elim (cases_lt state (length states)) [
-    | inl old ↦ subst (IsState code sets rows state) (sym (ap (λ t. get_or t state no_state) q ∙ get-front states (noted ∷ []) state no_state old)) (a.each state old)
+    | inl old ↦ subst (IsState code sets rows state) (sym (ap (λ t. get_or t state no_state) q ∙ get_or_append_left states (noted ∷ []) no_state state old)) (a.each state old)
     | inr fresh ↦
         let same : state ≡ number = omega (arith, g, l, m, fresh, e) in
         subst (IsState code sets rows state) (sym (ap (λ t. get_or t state no_state) q ∙ get-last states noted no_state state (same ∙ e))) (subst (λ k. IsState code sets rows k noted) (sym same) s)

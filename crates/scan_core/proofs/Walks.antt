@@ -5,6 +5,7 @@ use Rattle.std.proofs.lemmas.List.{length-append}
 use Rattle.scan_core.specs.declared.node.Node.{Node}
 use Rattle.scan_core.specs.declared.node.Node.TheVariants.{Take, First, Last, Choose, Back}
 use Rattle.scan_core.specs.Code.{At, Leads, Goes, Walks, Path}
+use Rattle.scan_core.proofs.Enterings.{at_least}
 
 pub at-left : (a b : List Node) (n : ℕ) (node : Node) → At a n node → At (a ++ b) n node
 at-left [] b n node h = absurd h
@@ -19,11 +20,6 @@ at-right [] b n node h = at_at b n (0 + n) node (omega arith) h
 at-right (x ∷ a) b n node h =
     let e : suc (length a + n) ≡ suc (length a) + n = omega arith in
     at_at (x ∷ (a ++ b)) (suc (length a + n)) (suc (length a) + n) node e (at-right a b n node h)
-
-pub at_within : (a : List Node) (n : ℕ) (node : Node) → At a n node → n < length a
-at_within [] n node h = absurd h
-at_within (x ∷ a) zero node h = omega arith
-at_within (x ∷ a) (suc n) node h = let l = at_within a n node h in omega (arith, l)
 
 -- a node of two parts is one of the first's or of the second's
 pub at-split : (a b : List Node) (n : ℕ) (node : Node) → At (a ++ b) n node → (At a n node) ⊎ ((k : ℕ) × (n ≡ length a + k) × At b k node)
@@ -97,7 +93,7 @@ in_second a b line f zero at k place stop e w = let l = length-append a b in (om
 in_second a b line f (suc count) at k place stop e w = there (λ k' e'. in_second a b line f count w.0 k' w.1 stop e' w.3) (at-split a b at w.2.0 w.2.1)
   where
     there : ((k' : ℕ) → w.0 ≡ length a + k' → Walks b line count k' w.1 (length b) stop) → (At a at w.2.0) ⊎ ((j : ℕ) × (at ≡ length a + j) × At b j w.2.0) → Walks b line (suc count) k place (length b) stop
-    there again (inl h) = let l = at_within a at w.2.0 h in absurd (omega (arith, l, e))
+    there again (inl h) = let l = at_least a at w.2.0 h in absurd (omega (arith, l, e))
     there again (inr h) =
         let same : h.0 ≡ k = omega (arith, e, h.1) in
         let here : At b k w.2.0 = at_at b h.0 k w.2.0 same h.2 in
@@ -125,4 +121,4 @@ through a b line f g (suc count) at place stop h w = elim (cases_eq at (length a
 
 pub ended : (code : List Node) (line : List ℕ) (count at place to stop : ℕ) → at ≡ length code → Walks code line count at place to stop → place ≡ stop
 ended code line zero at place to stop e w = w.1
-ended code line (suc count) at place to stop e w = let l = at_within code at w.2.0 w.2.1 in absurd (omega (arith, l, e))
+ended code line (suc count) at place to stop e w = let l = at_least code at w.2.0 w.2.1 in absurd (omega (arith, l, e))

@@ -38,10 +38,7 @@ fn wait(pending: &mut Vec<Pending>, last: Pending) -> Result<(), BreFault>
     ensures ok { OnOk result (pending.new.items ≡ pending.old.items ++ last ∷ []) }
     ensures err { IfErr result (λ fault. fault ≡ Memory) }
 {
-    match pending.push(last) {
-        Ok(()) => Ok(()),
-        Err(_) => Err(BreFault::Memory),
-    }
+    Ok(pending.push(last)?)
 }
 
 impl Compiling {

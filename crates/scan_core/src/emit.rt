@@ -27,10 +27,7 @@ pub fn keep(nodes: &mut Vec<Node>, node: Node) -> Result<(), BreFault>
     ensures ok { OnOk result (nodes.new.items ≡ nodes.old.items ++ node ∷ []) }
     ensures err { IfErr result (λ fault. fault ≡ Memory) }
 {
-    match nodes.push(node) {
-        Ok(()) => Ok(()),
-        Err(_) => Err(BreFault::Memory),
-    }
+    Ok(nodes.push(node)?)
 }
 
 /// Writes the choice between what stands from a place on and what follows it.

@@ -1,17 +1,16 @@
 use Rattle.std.proofs.Common.{◌≡◌, ◌+◌, ◌<◌, ℕ, List, get_or, set, length, refl, sym, ap, ◌∙◌, subst, arith}
-use Rattle.std.proofs.lemmas.List.{get_or-set_same}
+use Rattle.std.proofs.lemmas.List.{get_or-set_same, get_or_default}
 use Rattle.std.specs.Prelude.{bit_and, bit_or}
 use Rattle.scan_core.specs.inner.Hops.{Hopped}
 use Rattle.scan_core.specs.inner.Words.{Grows}
 use Rattle.scan_core.proofs.Closings.{close_none, close_word, close_ends}
-use Rattle.scan_core.proofs.Enterings.{no_default}
 use Rattle.scan_core.proofs.Visitings.{visit_starts}
 use Rattle.scan_core.proofs.closing.close_some.Goals as goal
 
 pub returns-then-word-index-eq0 : goal.returns-then-word-index-eq0
 returns-then-word-index-eq0 c =
     let leads = c.args.base.now.leads.items in
-    let e = c.index.ensures ∙ no_default leads c.args.at _ 0 (let s = c.requires.base.leads.size in omega (arith, s, c.requires.within)) in
+    let e = c.index.ensures ∙ get_or_default leads c.args.at _ 0 (let s = c.requires.base.leads.size in omega (arith, s, c.requires.within)) in
     close_none c.args.nodes.now c.args.base.now c.args.at_first c.args.at_last c.args.at c.args.words.now c.requires.base c.requires.begun c.requires.within (ap (bit_and (get_or c.args.words.now c.args.at 0)) (sym e) ∙ c.if-word-index-eq0.true)
 
 pub returns : goal.returns
@@ -26,7 +25,7 @@ returns c =
     let sets = c.requires.closures in
     let hopped = subst (λ hops. Grows (Hopped hops at all 3) now c.hop.new.words (at + 1) c.hop.result) c.deref-2.ensures.value c.hop.ensures in
     let same : all ≡ get_or now at 0 = sym (get_or-set_same before at all 0 inside) in
-    let e = c.index-2.ensures ∙ no_default leaves at _ 0 (let s = sets.leaves.size in omega (arith, s, c.requires.within)) in
+    let e = c.index-2.ensures ∙ get_or_default leaves at _ 0 (let s = sets.leaves.size in omega (arith, s, c.requires.within)) in
     let none : bit_and (get_or now at 0) (get_or leaves at 0) ≡ 0 = ap (λ w. bit_and w (get_or leaves at 0)) (sym same) ∙ ap (bit_and all) (sym e) ∙ c.if-all-index-ne0.false in
     close_ends c.args.nodes.now c.args.closures.now.hops.items c.args.at_first c.args.at_last at (bit_and (get_or now at 0) (get_or leaves at 0)) (get_or leaves at 0) before now now c.hop.new.words (at + 1) c.hop.result closed
     (visit_starts c.args.nodes.now c.args.at_first c.args.at_last at (bit_and (get_or now at 0) (get_or leaves at 0)) now) none (sets.leaves.each at c.requires.within) sets.hops c.requires.within

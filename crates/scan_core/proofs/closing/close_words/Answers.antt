@@ -1,8 +1,8 @@
 use Rattle.std.proofs.Common.{◌+◌, ◌<◌, get_or, refl, sym, ap, ◌∙◌, subst, arith}
+use Rattle.std.proofs.lemmas.List.{get_or_default}
 use Rattle.std.specs.Prelude.{bit_and, bit_or}
 use Rattle.scan_core.specs.inner.Words.{width}
 use Rattle.scan_core.proofs.Apart.{Apart, apart_starts, apart_skip, apart_more, apart_ends}
-use Rattle.scan_core.proofs.Enterings.{no_default}
 use Rattle.scan_core.proofs.closing.close_words.Goals as goal
 use Rattle.scan_core.proofs.closing.close_words.Goals.{then-word-index-ne0, else-word-index-ne0}
 
@@ -17,10 +17,10 @@ loop-at-preserved c =
     let before = c.args.words.now in
     let now = c.loop-at.words in
     let inside : at < width nodes = (let s = c.requires.size in let t = c.loop-at-test.true in omega (arith, s, t)) in
-    let leads = c.index.ensures ∙ no_default base.leads.items at _ 0 (let s = c.requires.base.leads.size in omega (arith, s, inside)) in
+    let leads = c.index.ensures ∙ get_or_default base.leads.items at _ 0 (let s = c.requires.base.leads.size in omega (arith, s, inside)) in
     elim c.if-word-index-ne0.branch [
       | then-word-index-ne0 w ↦
-          let others = w.index-then-word-index-ne0.ensures ∙ no_default base.others.items at _ 0 (let s = c.requires.base.others.size in omega (arith, s, inside)) in
+          let others = w.index-then-word-index-ne0.ensures ∙ get_or_default base.others.items at _ 0 (let s = c.requires.base.others.size in omega (arith, s, inside)) in
           subst (λ words. Apart nodes base.landings.items before words (at + 1) c.if-word-index-ne0.over) (sym w.words-is)
           (apart_more nodes base before now _ at c.loop-at.over c.if-word-index-ne0.over w.closed.result c.loop-at.invariant c.requires.base c.requires.begun inside c.requires.size w.closed.ensures refl
           (w.over-is ∙ ap (λ word. bit_or c.loop-at.over (bit_and (bit_or (get_or now at 0) w.closed.result) word)) others))

@@ -1,7 +1,8 @@
 use Rattle.std.proofs.Common.{rules, ◌<◌, ◌+◌, length, sym, ◌∙◌, subst, arith}
+use Rattle.std.proofs.lemmas.List.{get_or_default}
 use Rattle.std.proofs.lemmas.Bool.{false≢true}
 use Rattle.scan_core.specs.inner.Sets.{Gains}
-use Rattle.scan_core.proofs.Enterings.{no_default, count_most, pass_least}
+use Rattle.scan_core.proofs.Enterings.{count_most, pass_least}
 use Rattle.scan_core.proofs.Spreadings.{Past, pass_more, pass_skip, pass_ends}
 use Rattle.scan_core.proofs.reach.Reach.pass.Goals as goal
 use Rattle.scan_core.proofs.reach.Reach.pass.Goals.{then-passes, else-passes}
@@ -25,7 +26,7 @@ enter-requires-clause-within c =
 pub loop-place-preserved : goal.loop-place-preserved
 loop-place-preserved c =
     let l = count_most c.args.self.now c.requires.sound in
-    let e = c.index-number.ensures ∙ no_default c.args.self.now.list.items c.loop-place.place _ 0 (omega (arith, l, c.loop-place-test.true, c.requires.sound.fits)) in
+    let e = c.index-number.ensures ∙ get_or_default c.args.self.now.list.items c.loop-place.place _ 0 (omega (arith, l, c.loop-place-test.true, c.requires.sound.fits)) in
     elim c.if-passes.branch [
       | then-passes w ↦ subst (Gains c.args.nodes.now (Past c.args.self.now c.args.nodes.now c.args.byte (c.loop-place.place + 1)) c.args.next.now) (sym w.next-is) (pass_more c.args.self.now c.args.nodes.now c.args.byte c.loop-place.place c.index-number.result.now _ _ _ c.loop-place.invariant e (c.passes.ensures.yes w.if-passes.true) w.enter.ensures)
       | else-passes w ↦ subst (Gains c.args.nodes.now (Past c.args.self.now c.args.nodes.now c.args.byte (c.loop-place.place + 1)) c.args.next.now) (sym w.next-is) (pass_skip c.args.self.now c.args.nodes.now c.args.byte c.loop-place.place c.index-number.result.now _ _ c.loop-place.invariant e (λ to p. false≢true (sym w.if-passes.false ∙ c.passes.ensures.no to p)))

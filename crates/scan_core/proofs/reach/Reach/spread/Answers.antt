@@ -1,5 +1,6 @@
 use Rattle.std.proofs.Common.{rules, ◌≤◌, length, ◌∙◌, arith}
-use Rattle.scan_core.proofs.Enterings.{no_default, count_most}
+use Rattle.std.proofs.lemmas.List.{get_or_default}
+use Rattle.scan_core.proofs.Enterings.{count_most}
 use Rattle.scan_core.proofs.Spreadings.{spread_more, spread_ends}
 use Rattle.scan_core.proofs.reach.Reach.spread.Goals as goal
 
@@ -10,7 +11,7 @@ pub loop-done-preserved : goal.loop-done-preserved
 loop-done-preserved c =
     let l = count_most c.loop-done.self c.loop-done.invariant.sound in
     spread_more _ _ _ _ _ _ _ c.index-number.result.now c.loop-done.invariant c.if-done-self.false
-    (c.index-number.ensures ∙ no_default c.loop-done.self.list.items c.loop-done.done _ 0 (omega (arith, l, c.loop-done.invariant.sound.fits, c.if-done-self.false)))
+    (c.index-number.ensures ∙ get_or_default c.loop-done.self.list.items c.loop-done.done _ 0 (omega (arith, l, c.loop-done.invariant.sound.fits, c.if-done-self.false)))
     c.lead.ensures
 
 pub returns : goal.returns
