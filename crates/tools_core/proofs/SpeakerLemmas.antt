@@ -8,7 +8,8 @@ use Rattle.words_core.specs.declared.settings.Settings.TheVariants.{Head, Tail, 
 use Rattle.words_core.specs.CsplitWords.{csplit_asked}
 use Rattle.words_core.specs.Given.{Given}
 use Rattle.words_core.specs.Spelling.{given_by}
-use Rattle.words_core.specs.SplitWords.{split_asked, then_check}
+use Rattle.words_core.specs.SplitWords.{split_asked}
+use Rattle.words_core.specs.Value.{then_check}
 use Rattle.words_core.specs.TailWords.{tail_asked}
 use Rattle.words_core.specs.Table.{ToolRow, row_named, tools}
 use Rattle.words_core.specs.Words.{settings_for, settings_of, tool_settings}

@@ -4,5 +4,4 @@ pub mod CsplitLemmas
 pub mod LimitLemmas
 pub mod OperandLemmas
 pub mod SpellingLemmas
-pub mod TailLemmas
 pub mod ValueLemmas

@@ -1,13 +1,12 @@
 -- Whatever words spell, sizes, counts of files and widths are within their limits, and files that lines are dealt to have names.
-use Rattle.std.proofs.Common.{◌≡◌, refl, ℕ, ◌+◌, ◌-◌, ◌^◌, ◌==◌, ◌≤◌, Bool, true, false, arith, rules, tests, List, [], ◌∷◌, ◌++◌, Option, Some, None, Result, Ok, Err, IfOk, subst, if◌then◌else◌}
-use Rattle.std.specs.Prelude.{⊤, fold}
+use Rattle.std.proofs.Common.{◌≡◌, refl, ℕ, ◌+◌, ◌-◌, ◌^◌, ◌==◌, ◌&&◌, ◌≤◌, nat_le, Bool, true, false, arith, rules, tests, List, [], ◌∷◌, ◌++◌, Option, Some, None, Result, Ok, Err, IfOk, sym, inl, inr, ◌⊎◌, subst, if◌then◌else◌}
+use Rattle.std.specs.Prelude.{⊤, filter, fold}
 use Rattle.std.proofs.lemmas.Bool.Decides.{nat_tests}
 use Rattle.seg_core.specs.Count.{count_of, digits_of, is_number}
 use Rattle.seg_core.specs.declared.count.Count.{Count}
-use Rattle.seg_core.specs.declared.count.CountFault.{CountFault}
 use Rattle.ports_core.specs.declared.fault.Fault.{Fault}
 use Rattle.ports_core.specs.declared.fault.UsageKind.{UsageKind}
-use Rattle.ports_core.specs.declared.fault.UsageKind.TheVariants.{Zero}
+use Rattle.ports_core.specs.declared.fault.UsageKind.TheVariants.{NumberTooLarge, Zero}
 use Rattle.ports_core.specs.declared.alphabet.Alphabet.{Alphabet}
 use Rattle.ports_core.specs.declared.alphabet.Alphabet.TheVariants.{Letters, Digits, Hex}
 use Rattle.ports_core.specs.declared.tool.Tool.{Tool}
@@ -24,16 +23,16 @@ use Rattle.words_core.specs.declared.table.Takes.{Takes}
 use Rattle.words_core.specs.declared.table.Takes.TheVariants as takes
 use Rattle.words_core.specs.declared.spelling.State.{State}
 use Rattle.words_core.specs.declared.spelling.State.TheVariants.{First, Reading, Awaiting, OnlyOperands}
-use Rattle.words_core.specs.declared.split_words.SplitOptions.{SplitOptions}
 use Rattle.words_core.specs.declared.split_words.Suffix.{Suffix}
-use Rattle.words_core.specs.declared.csplit_words.CsplitOptions.{CsplitOptions}
 use Rattle.words_core.specs.declared.settings.Settings.{Settings}
 use Rattle.words_core.specs.Table.{OptionRow, ToolRow}
-use Rattle.words_core.specs.Value.{Meant, Nothing, Counted, Size, Files, Width, Text, Byte, Following, Looks, byte_in, ending_in, followed_in, not_zero, some, some_amount, up_to, counted, size_in, round_in, as_value, value_in}
-use Rattle.words_core.specs.Given.{Given, GivenOption, GivenOperand, bare}
-use Rattle.words_core.specs.CsplitWords.{asked_of, csplit_after, csplit_asked, csplit_by, style_of, two_digits, with_digits}
-use Rattle.words_core.specs.Spelling.{Meaning, before, said, valued, attached, by_letter, lettered, option_lettered, cluster, after_equals, by_name, named, dashed, mixed, foremost, meaning_of, behind, onward, spelled, start_of, given_by}
-use Rattle.words_core.specs.SplitWords.{AreNamed, CanSplit, IsInLimits, IsWidth, names_all, least_width, free, dealt, way_of, sized, way_in, second_way, with_width, split_by, split_after, split_options, no_options, suffix_for, files_in, then_check, split_asked}
+use Rattle.words_core.specs.Value.{Meant, Counted, Size, Files, Width, Text, Byte, Following, Looks, byte_in, ending_in, followed_in, not_zero, up_to, counted, size_in, round_in, as_value, then_check, value_in}
+use Rattle.words_core.specs.Given.{asked_by, Given, GivenOption, GivenOperand, bare}
+use Rattle.words_core.specs.CsplitWords.{asked_of, csplit_by, csplit_asked, style_of, plain}
+use Rattle.words_core.specs.Spelling.{Meaning, before, said, valued, attached, lettered, option_lettered, cluster, after_equals, named, dashed, mixed, meaning_of, given_before, onward, spelled, start_of, given_by}
+use Rattle.words_core.specs.SplitAsked.{SplitAsked}
+use Rattle.words_core.specs.SplitWords.{AreNamed, CanSplit, IsInLimits, IsWidth, names_all, least_width, free, is_way, only_way, way_of, way_in, split_by, no_options, suffix_for, files_in, split_asked}
+use Rattle.words_core.specs.Laws.{AreAmong, none, passed, taken}
 use Rattle.words_core.specs.TailWords.{tail_asked}
 use Rattle.words_core.specs.Words.{CanRun, settings_for}
 
@@ -48,9 +47,6 @@ IsSound value = ⊤
 abbrev pub AreSound : List GivenOption → Type 0
 AreSound [] = ⊤
 AreSound (option ∷ options) = IsSound option.value × AreSound options
-
-abbrev pub MeansSound : Result Meaning Fault → Type 0
-MeansSound meant = IfOk meant (λ meaning. AreSound meaning.given.options)
 
 sound-append : (front options : List GivenOption) → AreSound front → AreSound options → AreSound (front ++ options)
 sound-append [] options first rest = rest
@@ -69,22 +65,21 @@ unless_zero P number false is holds = (grind (arith, nat_tests), holds)
 not_zero-limits : (P : ℕ → Type 0) (number : ℕ) → P number → IfOk (not_zero number) (λ n. (1 ≤ n) × P n)
 not_zero-limits P number holds = unless_zero P number (number == 0) refl holds
 
-up_to-limit : (limit : ℕ) (number : Result ℕ CountFault) → IfOk (up_to limit number) (λ n. n ≤ limit)
+up_to-limit : (limit : ℕ) (number : Result ℕ UsageKind) → IfOk (then_check number (λ those. if nat_le those limit then Ok those else Err NumberTooLarge)) (λ n. n ≤ limit)
 up_to-limit limit (Ok number) = search (rules, tests)
 up_to-limit limit (Err fault) = tt
 
-some-limits : (number : Result ℕ UsageKind) → IfOk number (λ n. n ≤ 65535) → IfOk (some number) (λ n. (1 ≤ n) × (n ≤ 65535))
-some-limits (Ok number) few = not_zero-limits (λ n. n ≤ 65535) number few
-some-limits (Err fault) few = tt
+some-limits : (P : ℕ → Type 0) (number : Result ℕ UsageKind) → IfOk number P → IfOk (then_check number not_zero) (λ n. (1 ≤ n) × P n)
+some-limits P (Ok number) few = not_zero-limits P number few
+some-limits P (Err fault) few = tt
 
 round_in-limits : (text : List ℕ) → IfOk (round_in text) (λ n. (1 ≤ n) × (n ≤ 65535))
 round_in-limits [] = tt
 round_in-limits (byte ∷ []) = tt
 round_in-limits (byte ∷ next ∷ digits) =
-    let P : Result ℕ UsageKind → Type 0 = λ r. IfOk r (λ n. (1 ≤ n) × (n ≤ 65535)) in
-    either P (byte == 114) _ _ (either P (next == 47) _ _ (some-limits (up_to 65535 (digits_of digits)) (up_to-limit 65535 (digits_of digits))) tt) tt
+    either (λ r. IfOk r (λ n. (1 ≤ n) × (n ≤ 65535))) (byte == 114 && next == 47) _ _ (some-limits (λ n. n ≤ 65535) (up_to 65535 (digits_of digits)) (up_to-limit 65535 (counted (digits_of digits)))) tt
 
-some_amount-limits : (count : Result Count UsageKind) → IfOk (some_amount count) (λ n. (1 ≤ n) × ⊤)
+some_amount-limits : (count : Result Count UsageKind) → IfOk (then_check count (λ count. not_zero count.amount)) (λ n. (1 ≤ n) × ⊤)
 some_amount-limits (Ok count) = not_zero-limits (λ n. ⊤) count.amount tt
 some_amount-limits (Err fault) = tt
 
@@ -104,148 +99,144 @@ value-sound : (kind : Kind) (text : List ℕ) → IfOk (value_in kind text) IsSo
 value-sound kind.Count text = as_value-sound (λ _. ⊤) (λ count. Counted count) (counted (count_of text)) (anything (counted (count_of text))) (λ count is. tt)
 value-sound kind.Size text = as_value-sound (λ n. (1 ≤ n) × ⊤) (λ size. Size size) (size_in text) (size_in-limits text) (λ size is. is.0)
 value-sound kind.Round text = as_value-sound (λ n. (1 ≤ n) × (n ≤ 65535)) (λ files. Files files) (round_in text) (round_in-limits text) (λ files is. is)
-value-sound kind.Width text = as_value-sound (λ n. n ≤ 255) (λ width. Width width) (up_to 255 (digits_of text)) (up_to-limit 255 (digits_of text)) (λ width is. is)
+value-sound kind.Width text = as_value-sound (λ n. n ≤ 255) (λ width. Width width) (up_to 255 (digits_of text)) (up_to-limit 255 (counted (digits_of text))) (λ width is. is)
 value-sound kind.Text text = tt
 value-sound kind.Byte text = as_value-sound (λ _. ⊤) (λ byte. Byte byte) (byte_in text) (anything (byte_in text)) (λ byte is. tt)
 value-sound kind.Ending text = as_value-sound (λ _. ⊤) (λ ending. Text ending) (ending_in text) (anything (ending_in text)) (λ ending is. tt)
 value-sound kind.Following text = as_value-sound (λ _. ⊤) (λ followed. Following followed) (followed_in text) (anything (followed_in text)) (λ followed is. tt)
-value-sound kind.Looks text = as_value-sound (λ _. ⊤) (λ looks. Looks looks) (some (up_to (2 ^ 63 - 1) (digits_of text))) (anything (some (up_to (2 ^ 63 - 1) (digits_of text)))) (λ looks is. tt)
+value-sound kind.Looks text = as_value-sound (λ _. ⊤) (λ looks. Looks looks) (then_check (up_to (2 ^ 63 - 1) (digits_of text)) not_zero) (anything (then_check (up_to (2 ^ 63 - 1) (digits_of text)) not_zero)) (λ looks is. tt)
 
--- one word
+-- one word: options, and no operand, or the word itself
 
-said-sound : (choice : Choice) (option place : ℕ) (value : Result Meant UsageKind) → IfOk value IsSound → MeansSound (said choice option place value)
-said-sound choice option place (Ok value) is = (is, tt)
-said-sound choice option place (Err fault) is = tt
+abbrev GivesOptions : Result Meaning Fault → Type 0
+GivesOptions meant = IfOk meant (λ meaning. AreSound meaning.given.options × (meaning.given.operands ≡ []))
 
-valued-sound : (choice : Choice) (kind : Kind) (option place : ℕ) (text : List ℕ) → MeansSound (valued choice kind option place text)
-valued-sound choice kind option place text = said-sound choice option place (value_in kind text) (value-sound kind text)
+abbrev GivesItself : ℕ → List ℕ → Result Meaning Fault → Type 0
+GivesItself place word meant =
+    IfOk meant (λ meaning. AreSound meaning.given.options × ((meaning.given.operands ≡ []) ⊎ (meaning.given.operands ≡ record { text = word; word = place } ∷ [])))
 
-before-sound : (front : Given) (meant : Result Meaning Fault) → AreSound front.options → MeansSound meant → MeansSound (before front meant)
-before-sound front (Ok meaning) first rest = sound-append front.options meaning.given.options first rest
-before-sound front (Err fault) first rest = tt
+options_alone : (place : ℕ) (word : List ℕ) (meant : Result Meaning Fault) → GivesOptions meant → GivesItself place word meant
+options_alone place word (Ok meaning) is = (is.0, inl is.1)
+options_alone place word (Err fault) is = tt
 
-attached-sound : (choice : Choice) (kind : Kind) (place : ℕ) (text : List ℕ) → MeansSound (attached choice kind place text)
-attached-sound choice kind place [] = tt
-attached-sound choice kind place (byte ∷ text) = valued-sound choice kind place place (byte ∷ text)
+said-gives : (choice : Choice) (option place : ℕ) (value : Result Meant UsageKind) → IfOk value IsSound → GivesOptions (said choice option place value)
+said-gives choice option place (Ok value) is = ((is, tt), refl)
+said-gives choice option place (Err fault) is = tt
 
-by_letter-sound : (place : ℕ) (rest : List ℕ) (others : Result Meaning Fault) (choice : Choice) (takes : Takes) → MeansSound others → MeansSound (by_letter place rest others choice takes)
-by_letter-sound place rest others choice takes.Nothing is = before-sound (bare choice place) others (tt, tt) is
-by_letter-sound place rest others choice (takes.Value kind) is = attached-sound choice kind place rest
-by_letter-sound place rest others choice (takes.Optional kind) is = before-sound (bare choice place) others (tt, tt) is
+valued-gives : (choice : Choice) (kind : Kind) (option place : ℕ) (text : List ℕ) → GivesOptions (valued choice kind option place text)
+valued-gives choice kind option place text = said-gives choice option place (value_in kind text) (value-sound kind text)
 
-lettered-sound : (place : ℕ) (rest : List ℕ) (others : Result Meaning Fault) (option : Option (Choice × Takes)) → MeansSound others → MeansSound (lettered place rest others option)
-lettered-sound place rest others None is = tt
-lettered-sound place rest others (Some option) is = by_letter-sound place rest others option.0 option.1 is
+bare-gives : (choice : Choice) (place : ℕ) (meant : Result Meaning Fault) → GivesOptions meant → GivesOptions (before (bare choice place) meant)
+bare-gives choice place (Ok meaning) is = ((tt, is.0), is.1)
+bare-gives choice place (Err fault) is = tt
 
-cluster-sound : (rows : List OptionRow) (place : ℕ) (letters : List ℕ) → MeansSound (cluster rows place letters)
-cluster-sound rows place [] = tt
-cluster-sound rows place (letter ∷ rest) = lettered-sound place rest (cluster rows place rest) (option_lettered rows letter) (cluster-sound rows place rest)
+attached-gives : (choice : Choice) (kind : Kind) (place : ℕ) (text : List ℕ) → GivesOptions (attached choice kind place text)
+attached-gives choice kind place [] = (tt, refl)
+attached-gives choice kind place (byte ∷ text) = valued-gives choice kind place place (byte ∷ text)
 
-by_name-sound : (place : ℕ) (choice : Choice) (takes : Takes) (value : Option (List ℕ)) → MeansSound (by_name place choice takes value)
-by_name-sound place choice takes.Nothing None = (tt, tt)
-by_name-sound place choice takes.Nothing (Some text) = tt
-by_name-sound place choice (takes.Value kind) None = tt
-by_name-sound place choice (takes.Value kind) (Some text) = valued-sound choice kind place place text
-by_name-sound place choice (takes.Optional kind) None = (tt, tt)
-by_name-sound place choice (takes.Optional kind) (Some text) = valued-sound choice kind place place text
+lettered-gives : (place : ℕ) (rest : List ℕ) (others : Result Meaning Fault) (option : Option (Choice × Takes)) → GivesOptions others → GivesOptions (lettered place rest others option)
+lettered-gives place rest others None is = tt
+lettered-gives place rest others (Some (choice, takes.Nothing)) is = bare-gives choice place others is
+lettered-gives place rest others (Some (choice, takes.Value kind)) is = attached-gives choice kind place rest
+lettered-gives place rest others (Some (choice, takes.Optional kind)) is = bare-gives choice place others is
 
-named-sound : (place : ℕ) (value : Option (List ℕ)) (option : Option (Choice × Takes)) → MeansSound (named place value option)
-named-sound place value None = tt
-named-sound place value (Some option) = by_name-sound place option.0 option.1 value
+cluster-gives : (rows : List OptionRow) (place : ℕ) (letters : List ℕ) → GivesOptions (cluster rows place letters)
+cluster-gives rows place [] = (tt, refl)
+cluster-gives rows place (letter ∷ rest) = lettered-gives place rest (cluster rows place rest) (option_lettered rows letter) (cluster-gives rows place rest)
 
-dashed-sound : (rows : List OptionRow) (place : ℕ) (rest : List ℕ) → MeansSound (dashed rows place rest)
-dashed-sound rows place [] = tt
-dashed-sound rows place (byte ∷ rest) = named-sound place (after_equals (45 ∷ 45 ∷ byte ∷ rest)) _
+named-gives : (place : ℕ) (option : Option (Choice × Takes)) (value : Option (List ℕ)) → GivesOptions (named place option value)
+named-gives place None value = tt
+named-gives place (Some (choice, takes.Nothing)) None = ((tt, tt), refl)
+named-gives place (Some (choice, takes.Nothing)) (Some text) = tt
+named-gives place (Some (choice, takes.Value kind)) None = (tt, refl)
+named-gives place (Some (choice, takes.Value kind)) (Some text) = valued-gives choice kind place place text
+named-gives place (Some (choice, takes.Optional kind)) None = ((tt, tt), refl)
+named-gives place (Some (choice, takes.Optional kind)) (Some text) = valued-gives choice kind place place text
 
-mixed-sound : (rows : List OptionRow) (place : ℕ) (word : List ℕ) → MeansSound (mixed rows place word)
-mixed-sound rows place [] = tt
-mixed-sound rows place (byte ∷ []) = tt
-mixed-sound rows place (byte ∷ next ∷ rest) =
-    either MeansSound (byte == 45) _ _ (either MeansSound (next == 45) _ _ (dashed-sound rows place rest) (cluster-sound rows place (next ∷ rest))) tt
+dashed-gives : (rows : List OptionRow) (place : ℕ) (rest : List ℕ) → GivesOptions (dashed rows place rest)
+dashed-gives rows place [] = (tt, refl)
+dashed-gives rows place (byte ∷ rest) = named-gives place _ (after_equals (45 ∷ 45 ∷ byte ∷ rest))
 
-foremost-sound : (rows : List OptionRow) (choice : Choice) (kind : Kind) (place : ℕ) (word : List ℕ) → MeansSound (foremost rows choice kind place word)
-foremost-sound rows choice kind place [] = tt
-foremost-sound rows choice kind place (byte ∷ text) =
-    either MeansSound (byte == 45) _ _ (either MeansSound (is_number text) _ _ (valued-sound choice kind place place text) (mixed-sound rows place (byte ∷ text))) (mixed-sound rows place (byte ∷ text))
+mixed-gives : (rows : List OptionRow) (place : ℕ) (word : List ℕ) → GivesItself place word (mixed rows place word)
+mixed-gives rows place [] = (tt, inr refl)
+mixed-gives rows place (byte ∷ []) = (tt, inr refl)
+mixed-gives rows place (byte ∷ next ∷ rest) =
+    let word : List ℕ = byte ∷ next ∷ rest in
+    either (GivesItself place word) (byte == 45) _ _
+    (options_alone place word _ (either GivesOptions (next == 45) (dashed rows place rest) (cluster rows place (next ∷ rest)) (dashed-gives rows place rest) (cluster-gives rows place (next ∷ rest))))
+    (tt, inr refl)
 
-meaning-sound : (rows : List OptionRow) (state : State) (place : ℕ) (word : List ℕ) → MeansSound (meaning_of rows state place word)
-meaning-sound rows (First choice kind) place word = foremost-sound rows choice kind place word
-meaning-sound rows Reading place word = mixed-sound rows place word
-meaning-sound rows (Awaiting choice kind option) place word = valued-sound choice kind option place word
-meaning-sound rows OnlyOperands place word = tt
+meaning-gives : (rows : List OptionRow) (state : State) (place : ℕ) (word : List ℕ) → GivesItself place word (meaning_of rows state place word)
+meaning-gives rows (First choice kind) place [] = (tt, inr refl)
+meaning-gives rows (First choice kind) place (byte ∷ text) =
+    either (GivesItself place (byte ∷ text)) (byte == 45 && is_number text) _ _ (options_alone place (byte ∷ text) _ (valued-gives choice kind place place text)) (mixed-gives rows place (byte ∷ text))
+meaning-gives rows Reading place word = mixed-gives rows place word
+meaning-gives rows (Awaiting choice kind option) place word = options_alone place word _ (valued-gives choice kind option place word)
+meaning-gives rows OnlyOperands place word = (tt, inr refl)
 
--- all words
+-- all words: their operands are some of them
 
-abbrev GivesSound : Result Given Fault → Type 0
-GivesSound given = IfOk given (λ given. AreSound given.options)
+abbrev GivesAmong : ℕ → List (List ℕ) → Result Given Fault → Type 0
+GivesAmong place words given = IfOk given (λ given. AreSound given.options × AreAmong given.operands place words)
 
-behind-sound : (front : Given) (rest : Result Given Fault) → AreSound front.options → GivesSound rest → GivesSound (behind front rest)
-behind-sound front (Ok more) first second = sound-append front.options more.options first second
-behind-sound front (Err fault) first second = tt
+before-among : (place : ℕ) (word : List ℕ) (words : List (List ℕ)) (front : Given) (rest : Result Given Fault)
+    → AreSound front.options × ((front.operands ≡ []) ⊎ (front.operands ≡ record { text = word; word = place } ∷ [])) → GivesAmong (place + 1) words rest → GivesAmong place (word ∷ words) (given_before front rest)
+before-among place word words front (Ok more) (sound, inl is) among =
+    let P : List GivenOperand → Type 0 = λ operands. AreAmong (operands ++ more.operands) place (word ∷ words) in
+    (sound-append front.options more.options sound among.0, subst P (sym is) (passed more.operands place word words among.1))
+before-among place word words front (Ok more) (sound, inr is) among =
+    let P : List GivenOperand → Type 0 = λ operands. AreAmong (operands ++ more.operands) place (word ∷ words) in
+    (sound-append front.options more.options sound among.0, subst P (sym is) (taken more.operands place word words among.1))
+before-among place word words front (Err fault) is among = tt
 
-onward-sound : (rest : State → Result Given Fault) (meant : Result Meaning Fault) → MeansSound meant → ((next : State) → GivesSound (rest next)) → GivesSound (onward rest meant)
-onward-sound rest (Ok meaning) is more = behind-sound meaning.given (rest meaning.next) is (more meaning.next)
-onward-sound rest (Err fault) is more = tt
+onward-among : (place : ℕ) (word : List ℕ) (words : List (List ℕ)) (rest : State → Result Given Fault) (meant : Result Meaning Fault)
+    → GivesItself place word meant → ((next : State) → GivesAmong (place + 1) words (rest next)) → GivesAmong place (word ∷ words) (onward rest meant)
+onward-among place word words rest (Ok meaning) is among = before-among place word words meaning.given (rest meaning.next) is (among meaning.next)
+onward-among place word words rest (Err fault) is among = tt
 
-spelled-sound : (rows : List OptionRow) (words : List (List ℕ)) (place : ℕ) (state : State) → GivesSound (spelled rows words place state)
-spelled-sound rows [] place (First choice kind) = tt
-spelled-sound rows [] place Reading = tt
-spelled-sound rows [] place (Awaiting choice kind option) = tt
-spelled-sound rows [] place OnlyOperands = tt
-spelled-sound rows (word ∷ words) place state = onward-sound (spelled rows words (place + 1)) (meaning_of rows state place word) (meaning-sound rows state place word) (λ next. spelled-sound rows words (place + 1) next)
+spelled-gives : (rows : List OptionRow) (words : List (List ℕ)) (place : ℕ) (state : State) → GivesAmong place words (spelled rows words place state)
+spelled-gives rows [] place (First choice kind) = (tt, none place)
+spelled-gives rows [] place Reading = (tt, none place)
+spelled-gives rows [] place (Awaiting choice kind option) = tt
+spelled-gives rows [] place OnlyOperands = (tt, none place)
+spelled-gives rows (word ∷ words) place state =
+    onward-among place word words (spelled rows words (place + 1)) (meaning_of rows state place word) (meaning-gives rows state place word) (λ next. spelled-gives rows words (place + 1) next)
+
+pub gives : (rows : List OptionRow) (words : List (List ℕ)) (place : ℕ) (state : State) (given : Given) → spelled rows words place state ≡ Ok given
+    → AreSound given.options × AreAmong given.operands place words
+gives rows words place state given is = subst (GivesAmong place words) is (spelled-gives rows words place state)
 
 -- what the options of `split` ask for
 
-abbrev IsAskedSoundly : SplitOptions → Type 0
-IsAskedSoundly asked = IsInLimits (way_of asked.cut) × (asked.width ≤ 255)
+split_by-few : (asked : SplitAsked) (choice : Choice) (value : Meant) → asked.width ≤ 255 → IsSound value → (split_by asked choice value).width ≤ 255
+split_by-few asked choice.SuffixLength (Width width) few is = is
+split_by-few asked choice.AdditionalSuffix (Text text) few is = few
+split_by-few asked choice.Separator (Byte byte) few is = few
+split_by-few asked choice value few is = few
 
-sized-limits : (choice : Choice) (size : ℕ) → 1 ≤ size → IsInLimits (sized choice size)
-sized-limits choice.Bytes size some = some
-sized-limits choice.LineBytes size some = some
-sized-limits choice size some = some
+split-few : (options : List GivenOption) (asked : SplitAsked) → asked.width ≤ 255 → AreSound options → (asked_by split_by asked options).width ≤ 255
+split-few [] asked few are = few
+split-few (option ∷ options) asked few are = split-few options (split_by asked option.choice option.value) (split_by-few asked option.choice option.value few are.0) are.1
 
-way_in-limits : (choice : Choice) (value : Meant) → IsSound value → IsInLimits (way_in choice value)
-way_in-limits choice (Size size) is = sized-limits choice size is
-way_in-limits choice (Files files) is = is
-way_in-limits choice Nothing is = omega arith
-way_in-limits choice (Counted count) is = omega arith
-way_in-limits choice (Width width) is = omega arith
-way_in-limits choice (Text text) is = omega arith
-way_in-limits choice (Byte byte) is = omega arith
-way_in-limits choice (Following followed) is = omega arith
-way_in-limits choice (Looks looks) is = omega arith
+way_in-limits : (value : Meant) (choice : Choice) → IsSound value → IsInLimits (way_in value choice)
+way_in-limits (Size size) choice.Bytes is = is
+way_in-limits (Size size) choice.LineBytes is = is
+way_in-limits (Size size) choice is = is
+way_in-limits (Files files) choice is = is
+way_in-limits value choice is = omega arith
 
-second_way-sound : (asked : SplitOptions) (cut : Cut) (word : ℕ) (first : Option Cut) → IsAskedSoundly asked → IsInLimits cut → IfOk (second_way asked cut word first) IsAskedSoundly
-second_way-sound asked cut word None sound is = (is, sound.1)
-second_way-sound asked cut word (Some first) sound is = tt
+only_way-limits : (ways : List GivenOption) → AreSound ways → IfOk (only_way ways) IsInLimits
+only_way-limits [] are = omega arith
+only_way-limits (way ∷ []) are = way_in-limits way.value way.choice are.0
+only_way-limits (way ∷ second ∷ more) are = tt
 
-with_width-sound : (asked : SplitOptions) (value : Meant) → IsAskedSoundly asked → IsSound value → IsAskedSoundly (with_width asked value)
-with_width-sound asked (Width width) sound is = (sound.0, is)
-with_width-sound asked Nothing sound is = sound
-with_width-sound asked (Counted count) sound is = sound
-with_width-sound asked (Size size) sound is = sound
-with_width-sound asked (Files files) sound is = sound
-with_width-sound asked (Text text) sound is = sound
-with_width-sound asked (Byte byte) sound is = sound
-with_width-sound asked (Following followed) sound is = sound
-with_width-sound asked (Looks looks) sound is = sound
-
-split_by-sound : (asked : SplitOptions) (choice : Choice) (value : Meant) (word : ℕ) → IsAskedSoundly asked → IsSound value → IfOk (split_by asked choice value word) IsAskedSoundly
-split_by-sound asked choice.Lines value word sound is = second_way-sound asked (way_in choice.Lines value) word asked.cut sound (way_in-limits choice.Lines value is)
-split_by-sound asked choice.Bytes value word sound is = second_way-sound asked (way_in choice.Bytes value) word asked.cut sound (way_in-limits choice.Bytes value is)
-split_by-sound asked choice.LineBytes value word sound is = second_way-sound asked (way_in choice.LineBytes value) word asked.cut sound (way_in-limits choice.LineBytes value is)
-split_by-sound asked choice.Files value word sound is = second_way-sound asked (way_in choice.Files value) word asked.cut sound (way_in-limits choice.Files value is)
-split_by-sound asked choice.SuffixLength value word sound is = with_width-sound asked value sound is
-split_by-sound asked choice value word sound is = sound
+ways-sound : (options : List GivenOption) → AreSound options → AreSound (filter is_way options)
+ways-sound [] are = tt
+ways-sound (option ∷ options) are = either AreSound (is_way option) _ _ (are.0, ways-sound options are.1) (ways-sound options are.1)
 
 then_check-kept : {A B : Type 0} (P : A → Type 0) (Q : B → Type 0) (first : Result A Fault) (next : A → Result B Fault) → IfOk first P → ((value : A) → P value → IfOk (next value) Q) → IfOk (then_check first next) Q
 then_check-kept P Q (Ok value) next is goes = goes value is
 then_check-kept P Q (Err fault) next is goes = tt
-
-split_options-sound : (options : List GivenOption) (asked : SplitOptions) → IsAskedSoundly asked → AreSound options → IfOk (split_options options asked) IsAskedSoundly
-split_options-sound [] asked sound are = sound
-split_options-sound (option ∷ options) asked sound are =
-    then_check-kept IsAskedSoundly IsAskedSoundly (split_after asked option) (split_options options) (split_by-sound asked option.choice option.value option.word sound are.0) (λ next is. split_options-sound options next is are.1)
 
 -- the files that lines are dealt to
 
@@ -261,82 +252,55 @@ five-enough Letters files few = omega arith
 five-enough Digits files few = omega arith
 five-enough Hex files few = omega arith
 
-least-enough : (alphabet : Alphabet) (files : ℕ) → files ≤ 65535 → files ≤ name_count alphabet (least_width alphabet files)
-least-enough alphabet files few =
-    let P : ℕ → Type 0 = λ width. files ≤ name_count alphabet width in
-    where_true P (names_all alphabet files 2) _ _ (enough alphabet files 2)
-    (where_true P (names_all alphabet files 3) _ _ (enough alphabet files 3)
-    (where_true P (names_all alphabet files 4) _ _ (enough alphabet files 4) (five-enough alphabet files few)))
+-- a suffix with which all files have names, and which is no wider than one may be
+abbrev Serves : Alphabet → ℕ → ℕ → Type 0
+Serves alphabet files width = (files ≤ name_count alphabet width) × IsWidth width
 
-suffix-named : (cut : Cut) (alphabet : Alphabet) (width : ℕ) → IsInLimits cut → IfOk (suffix_for cut alphabet width) (λ suffix. AreNamed cut alphabet suffix.width)
-suffix-named (cut.Lines size) alphabet width is = tt
-suffix-named (cut.Bytes size) alphabet width is = tt
-suffix-named (cut.LineBytes size) alphabet width is = tt
-suffix-named (cut.Round files) alphabet width is =
-    let P : Result Suffix Fault → Type 0 = λ r. IfOk r (λ suffix. files ≤ name_count alphabet suffix.width) in
-    either P (width == 0) _ _ (least-enough alphabet files is.1) (where_true P (names_all alphabet files width) _ _ (enough alphabet files width) tt)
+least-serves : (alphabet : Alphabet) (files : ℕ) → files ≤ 65535 → Serves alphabet files (least_width alphabet files)
+least-serves alphabet files few =
+    where_true (Serves alphabet files) (names_all alphabet files 2) _ _ (λ all. (enough alphabet files 2 all, (omega arith, omega arith)))
+    (where_true (Serves alphabet files) (names_all alphabet files 3) _ _ (λ all. (enough alphabet files 3 all, (omega arith, omega arith)))
+    (where_true (Serves alphabet files) (names_all alphabet files 4) _ _ (λ all. (enough alphabet files 4 all, (omega arith, omega arith)))
+    (five-enough alphabet files few, (omega arith, omega arith))))
 
--- the width of suffixes
-
-few : (number : ℕ) → 1 ≤ number → number ≤ 255 → IsWidth number
-few number some most = (some, most)
-
-least-few : (alphabet : Alphabet) (files : ℕ) → IsWidth (least_width alphabet files)
-least-few alphabet files =
-    either IsWidth (names_all alphabet files 2) _ _ (few 2 (omega arith) (omega arith))
-    (either IsWidth (names_all alphabet files 3) _ _ (few 3 (omega arith) (omega arith))
-    (either IsWidth (names_all alphabet files 4) _ _ (few 4 (omega arith) (omega arith)) (few 5 (omega arith) (omega arith))))
-
-unless_none : (P : Suffix → Type 0) (width : ℕ) (test : Bool) (one other : Suffix) → (width == 0) ≡ test → P one → (1 ≤ width → P other) → P (if test then one else other)
-unless_none P width true one other is first second = first
-unless_none P width false one other is first second = second (grind (arith, nat_tests))
+by_width : {A : Type 0} (P : A → Type 0) (width : ℕ) (test : Bool) (one other : A) → (width == 0) ≡ test → P one → (1 ≤ width → P other) → P (if test then one else other)
+by_width P width true one other is first second = first
+by_width P width false one other is first second = second (grind (arith, nat_tests))
 
 free-width : (width : ℕ) → width ≤ 255 → IsWidth (free width).width
-free-width width most = unless_none (λ suffix. IsWidth suffix.width) width (width == 0) _ _ refl (few 2 (omega arith) (omega arith)) (λ some. few width some most)
+free-width width most = by_width (λ (suffix : Suffix). IsWidth suffix.width) width (width == 0) _ _ refl (omega arith, omega arith) (λ some. (some, most))
 
-unless_no_width : (P : Result Suffix Fault → Type 0) (width : ℕ) (test : Bool) (one other : Result Suffix Fault) → (width == 0) ≡ test → P one → (1 ≤ width → P other) → P (if test then one else other)
-unless_no_width P width true one other is first second = first
-unless_no_width P width false one other is first second = second (grind (arith, nat_tests))
-
-dealt-width : (alphabet : Alphabet) (files width : ℕ) → width ≤ 255 → IfOk (dealt alphabet files width) (λ suffix. IsWidth suffix.width)
-dealt-width alphabet files width most =
-    let P : Result Suffix Fault → Type 0 = λ r. IfOk r (λ suffix. IsWidth suffix.width) in
-    unless_no_width P width (width == 0) _ _ refl (least-few alphabet files) (λ some. either P (names_all alphabet files width) _ _ (few width some most) tt)
-
-suffix-width : (cut : Cut) (alphabet : Alphabet) (width : ℕ) → width ≤ 255 → IfOk (suffix_for cut alphabet width) (λ suffix. IsWidth suffix.width)
-suffix-width (cut.Lines size) alphabet width most = free-width width most
-suffix-width (cut.Bytes size) alphabet width most = free-width width most
-suffix-width (cut.LineBytes size) alphabet width most = free-width width most
-suffix-width (cut.Round files) alphabet width most = dealt-width alphabet files width most
+suffix-can : (cut : Cut) (alphabet : Alphabet) (width : ℕ) → IsInLimits cut → width ≤ 255
+    → IfOk (suffix_for cut alphabet width) (λ suffix. AreNamed cut alphabet suffix.width × IsWidth suffix.width)
+suffix-can (cut.Lines size) alphabet width is most = (tt, free-width width most)
+suffix-can (cut.Bytes size) alphabet width is most = (tt, free-width width most)
+suffix-can (cut.LineBytes size) alphabet width is most = (tt, free-width width most)
+suffix-can (cut.Round files) alphabet width is most =
+    let P : Result Suffix Fault → Type 0 = λ r. IfOk r (λ suffix. Serves alphabet files suffix.width) in
+    by_width P width (width == 0) _ _ refl (least-serves alphabet files is.1) (λ some.
+    where_true P (names_all alphabet files width) _ _ (λ all. (enough alphabet files width all, (some, most))) tt)
 
 -- the line as a whole
 
-both : {A : Type 0} (P Q : A → Type 0) (result : Result A Fault) → IfOk result P → IfOk result Q → IfOk result (λ value. P value × Q value)
-both P Q (Ok value) one other = (one, other)
-both P Q (Err fault) one other = tt
-
 asked-can : (given : Given) → AreSound given.options → IfOk (split_asked given) CanSplit
 asked-can given sound =
-    then_check-kept IsAskedSoundly CanSplit (split_options given.options no_options) _ (split_options-sound given.options no_options (omega arith, omega arith) sound) (λ asked is.
-    then_check-kept (λ suffix. AreNamed (way_of asked.cut) asked.alphabet suffix.width × IsWidth suffix.width) CanSplit (suffix_for (way_of asked.cut) asked.alphabet asked.width) _
-    (both (λ suffix. AreNamed (way_of asked.cut) asked.alphabet suffix.width) (λ suffix. IsWidth suffix.width) (suffix_for (way_of asked.cut) asked.alphabet asked.width)
-    (suffix-named (way_of asked.cut) asked.alphabet asked.width is.0) (suffix-width (way_of asked.cut) asked.alphabet asked.width is.1)) (λ suffix those.
+    let asked = asked_by split_by no_options given.options in
+    then_check-kept IsInLimits CanSplit (way_of given.options) _ (only_way-limits (filter is_way given.options) (ways-sound given.options sound)) (λ cut is.
+    then_check-kept (λ suffix. AreNamed cut asked.alphabet suffix.width × IsWidth suffix.width) CanSplit (suffix_for cut asked.alphabet asked.width) _
+    (suffix-can cut asked.alphabet asked.width is (split-few given.options no_options (omega arith) sound)) (λ suffix those.
     then_check-kept (λ _. ⊤) CanSplit (files_in given.operands) _ (anything (files_in given.operands)) (λ files _.
-    record { cut = is.0; width = those.1; named = those.0 })))
+    record { cut = is; width = those.1; named = those.0 })))
 
 -- `csplit`: the least number of digits
 
-with_digits-few : (asked : CsplitOptions) (value : Meant) → asked.digits ≤ 255 → IsSound value → (with_digits asked value).digits ≤ 255
-with_digits-few asked (Width digits) few is = is
-with_digits-few asked value few is = few
-
-csplit_by-few : (asked : CsplitOptions) (choice : Choice) (value : Meant) → asked.digits ≤ 255 → IsSound value → (csplit_by asked choice value).digits ≤ 255
-csplit_by-few asked choice.Digits value few is = with_digits-few asked value few is
+csplit_by-few : (asked : Style) (choice : Choice) (value : Meant) → asked.digits ≤ 255 → IsSound value → (csplit_by asked choice value).digits ≤ 255
+csplit_by-few asked choice.Digits (Width digits) few is = is
+csplit_by-few asked choice.Prefix (Text text) few is = few
 csplit_by-few asked choice value few is = few
 
-csplit-few : (options : List GivenOption) (asked : CsplitOptions) → asked.digits ≤ 255 → AreSound options → (fold csplit_after asked options).digits ≤ 255
+csplit-few : (options : List GivenOption) (asked : Style) → asked.digits ≤ 255 → AreSound options → (asked_by csplit_by asked options).digits ≤ 255
 csplit-few [] asked few are = few
-csplit-few (option ∷ options) asked few are = csplit-few options (csplit_after asked option) (csplit_by-few asked option.choice option.value few are.0) are.1
+csplit-few (option ∷ options) asked few are = csplit-few options (csplit_by asked option.choice option.value) (csplit_by-few asked option.choice option.value few are.0) are.1
 
 asked_of-few : (style : Style) (operands : List GivenOperand) → style.digits ≤ 255 → IfOk (asked_of style operands) (λ asked. asked.style.digits ≤ 255)
 asked_of-few style [] few = tt
@@ -344,7 +308,7 @@ asked_of-few style (file ∷ []) few = tt
 asked_of-few style (file ∷ operand ∷ operands) few = few
 
 csplit-can : (given : Given) → AreSound given.options → IfOk (csplit_asked given) (λ asked. asked.style.digits ≤ 255)
-csplit-can given sound = asked_of-few (style_of given.options) given.operands (csplit-few given.options two_digits (omega arith) sound)
+csplit-can given sound = asked_of-few (style_of given.options) given.operands (csplit-few given.options plain (omega arith) sound)
 
 settled-can : (which : Tool) (given : Given) → AreSound given.options → IfOk (settings_for which given) CanRun
 settled-can tool.Head given sound = tt
@@ -356,6 +320,6 @@ settled-can tool.Cutters given sound = tt
 
 -- what was read of words can be done
 pub read-can : (row : ToolRow) (words : List (List ℕ)) (given : Given) (which : Tool) (result : Result Settings Fault) → given_by row words ≡ Ok given → IfOk result (λ settings. settings_for which given ≡ Ok settings) → IfOk result CanRun
-read-can row words given which (Ok settings) gives is =
-    subst (λ r. IfOk r CanRun) is (settled-can which given (subst GivesSound gives (spelled-sound row.options words 1 (start_of row.number))))
-read-can row words given which (Err fault) gives is = tt
+read-can row words given which (Ok settings) read is =
+    subst (λ r. IfOk r CanRun) is (settled-can which given (gives row.options words 1 (start_of row.number) given read).0)
+read-can row words given which (Err fault) read is = tt

@@ -10,7 +10,7 @@ use Rattle.words_core.specs.declared.spelling.State.{State}
 use Rattle.words_core.specs.declared.spelling.State.TheVariants.{Awaiting}
 use Rattle.words_core.specs.Table.{OptionRow}
 use Rattle.words_core.specs.Given.{Given, GivenOption, GivenOperand, nothing, joined}
-use Rattle.words_core.specs.Spelling.{Meaning, before, behind, onward, meaning_of, spelled, ended, Reads}
+use Rattle.words_core.specs.Spelling.{Meaning, before, given_before, onward, meaning_of, spelled, ended, Reads}
 
 -- what is given first, and what is given after it
 
@@ -20,19 +20,19 @@ joined-assoc a b c =
     let with_operands : List GivenOperand → Given = λ operands. record { options = (a.options ++ b.options) ++ c.options; operands = operands } in
     ap with_options (sym (append_assoc a.options b.options c.options)) ∙ ap with_operands (sym (append_assoc a.operands b.operands c.operands))
 
-pub behind-joined : (front given : Given) (meant : Result Given Fault) → behind front (behind given meant) ≡ behind (joined front given) meant
-behind-joined front given (Ok more) = ap (λ all. Ok all) (joined-assoc front given more)
-behind-joined front given (Err fault) = refl
+pub given_before-joined : (front given : Given) (meant : Result Given Fault) → given_before front (given_before given meant) ≡ given_before (joined front given) meant
+given_before-joined front given (Ok more) = ap (λ all. Ok all) (joined-assoc front given more)
+given_before-joined front given (Err fault) = refl
 
 -- what a word gives comes after what was given before it
-pub behind-onward : (front : Given) (rest : State → Result Given Fault) (meant : Result Meaning Fault) → behind front (onward rest meant) ≡ onward rest (before front meant)
-behind-onward front rest (Ok meaning) = behind-joined front meaning.given (rest meaning.next)
-behind-onward front rest (Err fault) = refl
+pub given_before-onward : (front : Given) (rest : State → Result Given Fault) (meant : Result Meaning Fault) → given_before front (onward rest meant) ≡ onward rest (before front meant)
+given_before-onward front rest (Ok meaning) = given_before-joined front meaning.given (rest meaning.next)
+given_before-onward front rest (Err fault) = refl
 
 -- one word more was read
 pub went_on : (front given : Given) (rest : State → Result Given Fault) (meant : Result Meaning Fault) (next : State) → before front meant ≡ Ok (record { given = given; next = next })
-    → behind front (onward rest meant) ≡ behind given (rest next)
-went_on front given rest meant next is = behind-onward front rest meant ∙ ap (onward rest) is
+    → given_before front (onward rest meant) ≡ given_before given (rest next)
+went_on front given rest meant next is = given_before-onward front rest meant ∙ ap (onward rest) is
 
 -- the loop over words: what is left of them
 
@@ -46,24 +46,24 @@ none_left (word ∷ words) none = absurd (omega arith)
 
 pub one_more : (rows : List OptionRow) (none : Bor (List ℕ)) (left : List (Bor (List ℕ))) (place : ℕ) (state next : State) (front given : Given) (whole : Result Given Fault) → 1 ≤ length left
     → before front (meaning_of rows state place (get_or left 0 none).now) ≡ Ok (record { given = given; next = next })
-    → behind front (spelled rows (map (λ word. word.now) left) place state) ≡ whole
-    → behind given (spelled rows (map (λ word. word.now) (take (length left - 1) (drop 1 left))) (place + 1) next) ≡ whole
+    → given_before front (spelled rows (map (λ word. word.now) left) place state) ≡ whole
+    → given_before given (spelled rows (map (λ word. word.now) (take (length left - 1) (drop 1 left))) (place + 1) next) ≡ whole
 one_more rows none left place state next front given whole some is spells =
     sym (went_on front given (spelled rows (map (λ word. word.now) (take (length left - 1) (drop 1 left))) (place + 1)) (meaning_of rows state place (get_or left 0 none).now) next is)
-    ∙ ap (λ words. behind front (spelled rows words place state)) (sym (front_and_rest none left some))
+    ∙ ap (λ words. given_before front (spelled rows words place state)) (sym (front_and_rest none left some))
     ∙ spells
 
 at_end : (rows : List OptionRow) (left : List (Bor (List ℕ))) (place : ℕ) (state : State) (given : Given) (whole : Result Given Fault) → length left < 1
-    → behind given (spelled rows (map (λ word. word.now) left) place state) ≡ whole → whole ≡ behind given (ended state)
-at_end rows left place state given whole none spells = sym spells ∙ ap (λ words. behind given (spelled rows words place state)) (none_left left none)
+    → given_before given (spelled rows (map (λ word. word.now) left) place state) ≡ whole → whole ≡ given_before given (ended state)
+at_end rows left place state given whole none spells = sym spells ∙ ap (λ words. given_before given (spelled rows words place state)) (none_left left none)
 
 pub lacks_value : (rows : List OptionRow) (left : List (Bor (List ℕ))) (place : ℕ) (state : State) (given : Given) (whole : Result Given Fault) (choice : Choice) (kind : Kind) (option : ℕ) → length left < 1
-    → behind given (spelled rows (map (λ word. word.now) left) place state) ≡ whole → state ≡ Awaiting choice kind option → Reads whole (Err (Usage MissingValue option))
-lacks_value rows left place state given whole choice kind option none spells is = inr (at_end rows left place state given whole none spells ∙ ap (λ those. behind given (ended those)) is)
+    → given_before given (spelled rows (map (λ word. word.now) left) place state) ≡ whole → state ≡ Awaiting choice kind option → Reads whole (Err (Usage MissingValue option))
+lacks_value rows left place state given whole choice kind option none spells is = inr (at_end rows left place state given whole none spells ∙ ap (λ those. given_before given (ended those)) is)
 
-pub behind-nothing : (given : Given) (meant : Result Given Fault) → given ≡ nothing → behind given meant ≡ meant
-behind-nothing given meant none = ap (λ front. behind front meant) none ∙ same meant where
-  same : (meant : Result Given Fault) → behind nothing meant ≡ meant
+pub given_before-nothing : (given : Given) (meant : Result Given Fault) → given ≡ nothing → given_before given meant ≡ meant
+given_before-nothing given meant none = ap (λ front. given_before front meant) none ∙ same meant where
+  same : (meant : Result Given Fault) → given_before nothing meant ≡ meant
   same (Ok more) = refl
   same (Err fault) = refl
 

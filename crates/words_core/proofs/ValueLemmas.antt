@@ -1,6 +1,7 @@
 -- Lemmas on the ways in which the value of an option is spelled.
-use Rattle.std.proofs.Common.{◌≡◌, ◌≢◌, ℕ, ◌+◌, ◌<◌, ◌==◌, nat_lt, not, Bool, true, false, ◌||◌, arith, List, [], ◌∷◌, ◌++◌, length, take, drop, Option, Some, None, Result, Ok, cond, refl, ap, ◌∙◌, if◌then◌else◌}
+use Rattle.std.proofs.Common.{◌≡◌, ◌≢◌, ℕ, ◌+◌, ◌<◌, ◌==◌, nat_lt, not, Bool, true, false, arith, List, [], ◌∷◌, ◌++◌, length, take, drop, Option, Some, None, Result, Ok, cond, refl, ap, ◌∙◌, if◌then◌else◌}
 use Rattle.std.specs.List.{list_any, position_or_len, before_first, after_first}
+use Rattle.std.proofs.lemmas.Bool.{or_parts}
 use Rattle.std.proofs.lemmas.Bool.Decides.{nat_tests}
 use Rattle.std.proofs.lemmas.List.{length-append}
 use Rattle.std.proofs.Math.Seq.{take-append_seam, drop-append-add, take-length}
@@ -13,9 +14,9 @@ use Rattle.words_core.specs.declared.spelling.State.TheVariants.{Reading}
 use Rattle.words_core.specs.Table.{OptionRow, option_named}
 use Rattle.words_core.specs.Value.{Meant, value_in}
 use Rattle.words_core.specs.Given.{nothing, one_option}
-use Rattle.words_core.specs.Spelling.{after_equals, awaiting, behind, cluster, dashed, is_equals, lettered, long, mixed, named, onward, reading, said, spelled}
+use Rattle.words_core.specs.Spelling.{after_equals, awaiting, given_before, cluster, dashed, is_equals, lettered, long, mixed, named, onward, reading, said, spelled}
 use Rattle.words_core.specs.Laws.{Gives, IsLetter, IsName}
-use Rattle.words_core.proofs.SpellingLemmas.{behind-nothing}
+use Rattle.words_core.proofs.SpellingLemmas.{given_before-nothing}
 
 choose : {A : Type 0} (test : Bool) (one other : A) → test ≡ true → (if test then one else other) ≡ one
 choose test one other is = ap (λ those. if those then one else other) is
@@ -54,8 +55,8 @@ awaited : (rows : List OptionRow) (choice : Choice) (kind : Kind) (word value : 
     → Gives rows (word ∷ value ∷ words) place choice meant (spelled rows words (place + 1 + 1) Reading)
 awaited rows choice kind word value meant words place awaits reads =
     ap (onward (spelled rows (value ∷ words) (place + 1))) awaits
-    ∙ ap (λ those. behind nothing (onward (spelled rows words (place + 1 + 1)) those)) (given_one choice place (place + 1) meant (value_in kind value) reads)
-    ∙ behind-nothing nothing (behind (one_option choice meant place) (spelled rows words (place + 1 + 1) Reading)) refl
+    ∙ ap (λ those. given_before nothing (onward (spelled rows words (place + 1 + 1)) those)) (given_one choice place (place + 1) meant (value_in kind value) reads)
+    ∙ given_before-nothing nothing (given_before (one_option choice meant place) (spelled rows words (place + 1 + 1) Reading)) refl
 
 pub value_after_letter : (rows : List OptionRow) (letter : ℕ) (choice : Choice) (kind : Kind) (value : List ℕ) (meant : Meant) (words : List (List ℕ)) (place : ℕ)
     → IsLetter rows letter choice kind → value_in kind value ≡ Ok meant
@@ -65,24 +66,20 @@ value_after_letter rows letter choice kind value meant words place is reads =
 
 -- a long name
 
-neither : (a b : Bool) → (a || b) ≡ false → (a ≡ false) × (b ≡ false)
-neither false b is = (refl, is)
-neither true b is = absurd (cc)
-
 one_further : (test : Bool) (n : ℕ) → test ≡ false → cond (not test) (1 + n) 0 ≡ 1 + n
 one_further test n is = ap (λ those. cond (not those) (1 + n) 0) is
 
 place_of_equals : (front value : List ℕ) → list_any is_equals front ≡ false → position_or_len is_equals (front ++ 61 ∷ value) ≡ length front
 place_of_equals [] value none = refl
 place_of_equals (byte ∷ front) value none =
-    let both = neither (byte == 61) (list_any is_equals front) none in
+    let both = or_parts (byte == 61) (list_any is_equals front) none in
     let rest = place_of_equals front value both.1 in
     one_further (byte == 61) (position_or_len is_equals (front ++ 61 ∷ value)) both.0 ∙ omega (arith, rest)
 
 no_place : (front : List ℕ) → list_any is_equals front ≡ false → position_or_len is_equals front ≡ length front
 no_place [] none = refl
 no_place (byte ∷ front) none =
-    let both = neither (byte == 61) (list_any is_equals front) none in
+    let both = or_parts (byte == 61) (list_any is_equals front) none in
     let rest = no_place front both.1 in
     one_further (byte == 61) (position_or_len is_equals front) both.0 ∙ omega (arith, rest)
 
@@ -108,25 +105,25 @@ no_equals_in front none = choose (position_or_len is_equals front == length fron
 all_name : (front : List ℕ) → list_any is_equals front ≡ false → before_first is_equals front ≡ front
 all_name front none = ap (λ n. take n front) (no_place front none) ∙ take-length front
 
-by_its_name : (rows : List OptionRow) (place : ℕ) (word name : List ℕ) (value : Option (List ℕ)) (option : Option (Choice × Takes)) → before_first is_equals word ≡ name → after_equals word ≡ value → option_named rows name ≡ option
-    → long rows place word ≡ named place value option
-by_its_name rows place word name value option front rest is =
-    ap (λ those. named place those (option_named rows (before_first is_equals word))) rest
-    ∙ ap (λ those. named place value (option_named rows those)) front ∙ ap (named place value) is
+by_its_name : (rows : List OptionRow) (place : ℕ) (word name : List ℕ) (option : Option (Choice × Takes)) (value : Option (List ℕ)) → before_first is_equals word ≡ name → after_equals word ≡ value → option_named rows name ≡ option
+    → long rows place word ≡ named place option value
+by_its_name rows place word name option value front rest is =
+    ap (named place (option_named rows (before_first is_equals word))) rest
+    ∙ ap (λ those. named place (option_named rows those) value) front ∙ ap (λ those. named place those value) is
 
 long_value : (rows : List OptionRow) (name : List ℕ) (choice : Choice) (kind : Kind) (value : List ℕ) (place : ℕ) → IsName rows name choice kind
-    → mixed rows place (45 ∷ 45 ∷ name ++ 61 ∷ value) ≡ named place (Some value) (Some (choice, takes.Value kind))
+    → mixed rows place (45 ∷ 45 ∷ name ++ 61 ∷ value) ≡ named place (Some (choice, takes.Value kind)) (Some value)
 long_value rows [] choice kind value place is = absurd (is.some refl)
 long_value rows (byte ∷ name) choice kind value place is =
     let front : List ℕ = 45 ∷ 45 ∷ byte ∷ name in
-    by_its_name rows place (front ++ 61 ∷ value) front (Some value) (Some (choice, takes.Value kind)) (name_in front value is.no_equals) (equals_in front value is.no_equals) is.named
+    by_its_name rows place (front ++ 61 ∷ value) front (Some (choice, takes.Value kind)) (Some value) (name_in front value is.no_equals) (equals_in front value is.no_equals) is.named
 
 long_name : (rows : List OptionRow) (name : List ℕ) (choice : Choice) (kind : Kind) (place : ℕ) → IsName rows name choice kind
     → mixed rows place (45 ∷ 45 ∷ name) ≡ awaiting choice kind place
 long_name rows [] choice kind place is = absurd (is.some refl)
 long_name rows (byte ∷ name) choice kind place is =
     let front : List ℕ = 45 ∷ 45 ∷ byte ∷ name in
-    by_its_name rows place front front None (Some (choice, takes.Value kind)) (all_name front is.no_equals) (no_equals_in front is.no_equals) is.named
+    by_its_name rows place front front (Some (choice, takes.Value kind)) None (all_name front is.no_equals) (no_equals_in front is.no_equals) is.named
 
 pub value_after_equals : (rows : List OptionRow) (name : List ℕ) (choice : Choice) (kind : Kind) (value : List ℕ) (meant : Meant) (words : List (List ℕ)) (place : ℕ)
     → IsName rows name choice kind → value_in kind value ≡ Ok meant

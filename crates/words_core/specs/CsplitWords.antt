@@ -11,61 +11,33 @@ use Rattle.ports_core.specs.declared.fault.Fault.{Fault}
 use Rattle.ports_core.specs.declared.fault.Fault.TheVariants.{Memory, Usage}
 use Rattle.ports_core.specs.declared.fault.UsageKind.{UsageKind}
 use Rattle.ports_core.specs.declared.fault.UsageKind.TheVariants.{MissingOperand, BadOperand, BadPattern, PatternTooLarge}
-use Rattle.words_core.specs.declared.csplit_words.CsplitOptions.{CsplitOptions}
 use Rattle.words_core.specs.declared.table.Choice.{Choice}
 use Rattle.words_core.specs.declared.table.Choice.TheVariants as choice
 use Rattle.words_core.specs.CsplitAsked.{CsplitAsked}
-use Rattle.words_core.specs.Given.{Given, GivenOption, GivenOperand, places_of, texts_of}
+use Rattle.words_core.specs.Given.{asked_by, Given, GivenOption, GivenOperand, places_of, texts_of}
 use Rattle.words_core.specs.Value.{Meant, Text, Width}
 
--- without options: names have two digits, and nothing is kept, dropped or left out
-abbrev pub two_digits : CsplitOptions
-two_digits = record { digits = 2; keep = false; quiet = false; elide = false; suppress = false }
+-- without options: names begin with `xx` and have two digits, and nothing is kept, dropped or left out
+abbrev pub plain : Style
+plain = record { prefix = codes "xx"; digits = 2; keep = false; quiet = false; elide = false; suppress = false }
 
--- with one more option: the last number of digits decides, and so does the last prefix
+-- with one more option: the last prefix decides, and so does the last number of digits
 
-abbrev pub with_digits : CsplitOptions → Meant → CsplitOptions
-with_digits asked (Width digits) = record asked { digits = digits }
-with_digits asked value = asked
-
-abbrev pub csplit_by : CsplitOptions → Choice → Meant → CsplitOptions
-csplit_by asked choice.Digits value = with_digits asked value
+abbrev pub csplit_by : Style → Choice → Meant → Style
+csplit_by asked choice.Prefix (Text text) = record asked { prefix = text }
+csplit_by asked choice.Digits (Width digits) = record asked { digits = digits }
 csplit_by asked choice.KeepFiles value = record asked { keep = true }
 csplit_by asked choice.Quiet value = record asked { quiet = true }
 csplit_by asked choice.ElideEmptyFiles value = record asked { elide = true }
 csplit_by asked choice.SuppressMatched value = record asked { suppress = true }
 csplit_by asked choice value = asked
 
-abbrev pub csplit_after : CsplitOptions → GivenOption → CsplitOptions
-csplit_after asked option = csplit_by asked option.choice option.value
-
-abbrev pub prefix_by : List ℕ → Choice → Meant → List ℕ
-prefix_by prefix choice.Prefix (Text text) = text
-prefix_by prefix choice value = prefix
-
-abbrev pub with_prefix : List ℕ → GivenOption → List ℕ
-with_prefix prefix option = prefix_by prefix option.choice option.value
-
--- how files are made; without an option names begin with `xx`
+-- how files are made
 abbrev pub style_of : List GivenOption → Style
-style_of options =
-    let asked = fold csplit_after two_digits options in
-    record {
-      prefix = fold with_prefix (codes "xx") options;
-      digits = asked.digits;
-      keep = asked.keep;
-      quiet = asked.quiet;
-      elide = asked.elide;
-      suppress = asked.suppress;
-    }
+style_of options = asked_by csplit_by plain options
 
 abbrev pub asked_with : Style → List ℕ → List GivenOperand → CsplitAsked
-asked_with style input operands = record {
-  style = style;
-  input = input;
-  operands = texts_of operands;
-  places = places_of operands;
-}
+asked_with style input rest = record { style = style; input = input; operands = texts_of rest; places = places_of rest }
 
 -- the file and at least one operand
 abbrev pub asked_of : Style → List GivenOperand → Result CsplitAsked Fault

@@ -1,5 +1,5 @@
 -- What words give: options with their values, and operands, each in their order.
-use Rattle.std.specs.Prelude.{ℕ, List, [], ◌∷◌, ◌++◌, map}
+use Rattle.std.specs.Prelude.{ℕ, List, [], ◌∷◌, ◌++◌, map, fold}
 use Rattle.words_core.specs.declared.table.Choice.{Choice}
 use Rattle.words_core.specs.declared.spelled.Chosen.{Chosen}
 use Rattle.words_core.specs.declared.spelled.Operand.{Operand}
@@ -25,6 +25,10 @@ option_seen option = record { choice = option.choice; value = seen option.value;
 
 abbrev pub operand_seen : Operand → GivenOperand
 operand_seen operand = record { text = operand.text.now; word = operand.word }
+
+-- what options ask for, one after another, by what each changes
+abbrev pub asked_by : {A : Type 0} → (A → Choice → Meant → A) → A → List GivenOption → A
+asked_by change asked options = fold (λ asked option. change asked option.choice option.value) asked options
 
 -- the operands as they are spelled, and the places of their words
 

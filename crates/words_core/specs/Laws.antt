@@ -1,5 +1,5 @@
 -- The words of the laws: which options ask for what, and the operands among words.
-use Rattle.std.specs.Prelude.{◌≡◌, ◌≢◌, ℕ, ◌+◌, ◌-◌, ◌^◌, ◌<◌, Bool, true, false, List, [], ◌∷◌, ◌++◌, fold, codes, Option, Some, None, Result}
+use Rattle.std.specs.Prelude.{◌≡◌, ◌≢◌, ℕ, ◌+◌, ◌-◌, ◌^◌, ◌<◌, Bool, true, false, List, [], ◌∷◌, ◌++◌, codes, Option, Some, None, Result}
 use Rattle.std.specs.List.{list_any}
 use Rattle.seg_core.specs.declared.count.Count.{Count}
 use Rattle.seg_core.specs.declared.unit.Unit.{Unit as Measured}
@@ -9,12 +9,10 @@ use Rattle.ports_core.specs.declared.fault.Fault.{Fault}
 use Rattle.seg_core.specs.declared.cut.Cut.{Cut}
 use Rattle.operand_core.specs.Style.{Style}
 use Rattle.words_core.specs.declared.table.Choice.{Choice}
-use Rattle.words_core.specs.declared.table.Choice.TheVariants.{Lines, Bytes, LineBytes, Files, Quiet, Verbose, SuffixLength, NumericSuffixes, HexSuffixes, ElideEmptyFiles, Prefix, Digits, KeepFiles, SuppressMatched, Append, Follow, FollowNames, Retry, Looks as HowOften}
+use Rattle.words_core.specs.declared.table.Choice.TheVariants.{Lines, Bytes, Quiet, Verbose, SuffixLength, NumericSuffixes, HexSuffixes, ElideEmptyFiles, Prefix, Digits, KeepFiles, SuppressMatched, Append, Follow, FollowNames, Retry, Looks as HowOften}
 use Rattle.words_core.specs.declared.table.Kind.{Kind}
 use Rattle.words_core.specs.declared.table.Takes.TheVariants as takes
 use Rattle.words_core.specs.declared.spelling.State.TheVariants.{Reading}
-use Rattle.words_core.specs.declared.ends_words.EndsOptions.{EndsOptions}
-use Rattle.words_core.specs.declared.split_words.SplitOptions.{SplitOptions}
 use Rattle.words_core.specs.declared.tail_words.FollowOptions.{FollowOptions}
 use Rattle.words_core.specs.declared.settings.Headers.{Headers}
 use Rattle.words_core.specs.declared.settings.Headers.TheVariants as headers
@@ -24,26 +22,26 @@ use Rattle.words_core.specs.EndsAsked.{EndsAsked}
 use Rattle.words_core.specs.SplitAsked.{SplitAsked}
 use Rattle.words_core.specs.declared.settings.TailSettings.{TailSettings}
 use Rattle.words_core.specs.Value.{Meant, Counted, Text, Width, Looks}
-use Rattle.words_core.specs.Given.{Given, GivenOption, GivenOperand, one_option}
-use Rattle.words_core.specs.Spelling.{behind, is_equals, spelled}
+use Rattle.words_core.specs.Given.{asked_by, Given, GivenOption, GivenOperand, one_option}
+use Rattle.words_core.specs.Spelling.{given_before, is_equals, spelled}
 use Rattle.words_core.specs.Table.{OptionRow, option_named}
-use Rattle.words_core.specs.EndsWords.{ends_after, ten_lines}
-use Rattle.words_core.specs.SplitWords.{no_options, split_options}
-use Rattle.words_core.specs.TailWords.{follow_after, no_following}
+use Rattle.words_core.specs.EndsWords.{ends_by, ten_lines}
+use Rattle.words_core.specs.SplitWords.{no_options, split_by}
+use Rattle.words_core.specs.TailWords.{follow_by, no_following}
 
 -- what options ask of `head` or `tail`, and of `split`
 
-abbrev pub ends_of : List GivenOption → EndsOptions
-ends_of options = fold ends_after ten_lines options
+abbrev pub ends_of : List GivenOption → EndsAsked
+ends_of options = asked_by ends_by ten_lines options
 
-abbrev pub split_of : List GivenOption → Result SplitOptions Fault
-split_of options = split_options options no_options
+abbrev pub split_of : List GivenOption → SplitAsked
+split_of options = asked_by split_by no_options options
 
 abbrev pub follow_of : List GivenOption → FollowOptions
-follow_of options = fold follow_after no_following options
+follow_of options = asked_by follow_by no_following options
 
 -- which unit is counted, and how many
-abbrev pub amount_of : EndsOptions → Measured × Count
+abbrev pub amount_of : EndsAsked → Measured × Count
 amount_of asked = (asked.unit, asked.count)
 
 -- whether an option gives a count
@@ -85,17 +83,6 @@ abbrev pub retries : Choice → Bool
 retries FollowNames = true
 retries Retry = true
 retries choice = false
-
--- whether it is a way to split
-abbrev pub splits : Choice → Bool
-splits Lines = true
-splits Bytes = true
-splits LineBytes = true
-splits Files = true
-splits choice = false
-
-abbrev pub is_way : GivenOption → Bool
-is_way option = splits option.choice
 
 -- whether it says which characters suffixes have
 abbrev pub spells : Choice → Bool
@@ -172,7 +159,7 @@ pub data AreAmong : List GivenOperand → ℕ → List (List ℕ) → Type 0 whe
 -- words spell an option with its value, and then what the rest spells
 abbrev pub Gives : List OptionRow → List (List ℕ) → ℕ → Choice → Meant → Result Given Fault → Type 0
 Gives rows words place choice meant rest =
-    spelled rows words place Reading ≡ behind (one_option choice meant place) rest
+    spelled rows words place Reading ≡ given_before (one_option choice meant place) rest
 
 -- a letter, and a name after two hyphens, that name an option of a tool which takes a value of this kind
 
@@ -190,13 +177,7 @@ pub record IsName (rows : List OptionRow) (name : List ℕ) (choice : Choice) (k
 -- standard input
 
 abbrev pub ends_as : Measured → Count → Headers → EndsAsked
-ends_as unit count headers = record {
-  unit = unit;
-  count = count;
-  headers = headers;
-  delim = 10;
-  names = codes "-" ∷ [];
-}
+ends_as unit count headers = record ten_lines { unit = unit; count = count; headers = headers; names = codes "-" ∷ [] }
 
 -- the same of `tail`, where nothing is followed
 abbrev pub tail_as : EndsAsked → TailSettings
@@ -204,35 +185,12 @@ tail_as ends = record { ends = ends; followed = None; looks = 2 ^ 63 - 1 }
 
 -- where the file `f` is followed in this way, in as many looks
 abbrev pub following_as : Option Followed → ℕ → TailSettings
-following_as followed looks = record {
-  ends = record {
-    unit = unit.Lines;
-    count = ten_lines.count;
-    headers = headers.ForSeveral;
-    delim = 10;
-    names = codes "f" ∷ [];
-  };
-  followed = followed;
-  looks = looks;
-}
+following_as followed looks =
+    record { ends = record ten_lines { names = codes "f" ∷ [] }; followed = followed; looks = looks }
 
 abbrev pub split_as : Cut → Alphabet → ℕ → Bool → Bool → SplitAsked
 split_as cut alphabet width auto elide =
-    record {
-      cut = cut;
-      alphabet = alphabet;
-      width = width;
-      auto = auto;
-      elide = elide;
-      input = codes "-";
-      prefix = codes "x";
-      ending = [];
-      delim = 10;
-    }
+    record no_options { cut = cut; alphabet = alphabet; width = width; auto = auto; elide = elide }
 
 abbrev pub csplit_as : Style → ℕ → CsplitAsked
 csplit_as style place = record { style = style; input = codes "-"; operands = codes "1" ∷ []; places = place ∷ [] }
-
--- files as they are made without options
-abbrev pub plain_style : Style
-plain_style = record { prefix = codes "xx"; digits = 2; keep = false; quiet = false; elide = false; suppress = false }

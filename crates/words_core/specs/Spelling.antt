@@ -1,6 +1,6 @@
 -- What the words after a tool's name spell: options with their values, and operands. What a word means depends on what
 -- the words before it left. 45 is a hyphen, 61 `=`.
-use Rattle.std.specs.Prelude.{◌≡◌, ℕ, ◌+◌, ◌==◌, nat_lt, Bool, List, [], ◌∷◌, length, ◌⊎◌, Option, Some, None, Result, Ok, Err, if◌then◌else◌}
+use Rattle.std.specs.Prelude.{◌≡◌, ℕ, ◌+◌, ◌==◌, ◌&&◌, nat_lt, Bool, List, [], ◌∷◌, length, ◌⊎◌, Option, Some, None, Result, Ok, Err, if◌then◌else◌}
 use Rattle.std.specs.List.{before_first, after_first, position_or_len}
 use Rattle.seg_core.specs.Count.{is_number}
 use Rattle.ports_core.specs.declared.fault.Fault.{Fault}
@@ -14,7 +14,7 @@ use Rattle.words_core.specs.declared.table.Takes.TheVariants as takes
 use Rattle.words_core.specs.declared.spelling.State.{State}
 use Rattle.words_core.specs.declared.spelling.State.TheVariants.{First, Reading, Awaiting, OnlyOperands}
 use Rattle.words_core.specs.Table.{OptionRow, ToolRow, option_named}
-use Rattle.words_core.specs.Value.{Meant, value_in}
+use Rattle.words_core.specs.Value.{Meant, then_check, value_in}
 use Rattle.words_core.specs.Given.{Given, nothing, bare, one_option, one_operand, joined}
 
 -- what a word, or some of its letters, gives, and what it leaves to the next word
@@ -30,8 +30,7 @@ abbrev pub awaiting : Choice → Kind → ℕ → Result Meaning Fault
 awaiting choice kind place = Ok (record { given = nothing; next = Awaiting choice kind place })
 
 abbrev pub before : Given → Result Meaning Fault → Result Meaning Fault
-before first (Ok meaning) = Ok (record { given = joined first meaning.given; next = meaning.next })
-before first (Err fault) = Err fault
+before first meant = then_check meant (λ meaning. Ok (record meaning { given = joined first meaning.given }))
 
 -- an option and its value, each in the word at its place
 abbrev pub said : Choice → ℕ → ℕ → Result Meant UsageKind → Result Meaning Fault
@@ -48,14 +47,10 @@ abbrev pub attached : Choice → Kind → ℕ → List ℕ → Result Meaning Fa
 attached choice kind place [] = awaiting choice kind place
 attached choice kind place (byte ∷ bytes) = valued choice kind place place (byte ∷ bytes)
 
-abbrev pub by_letter : ℕ → List ℕ → Result Meaning Fault → Choice → Takes → Result Meaning Fault
-by_letter place rest others choice takes.Nothing = before (bare choice place) others
-by_letter place rest others choice (takes.Value kind) = attached choice kind place rest
-by_letter place rest others choice (takes.Optional kind) = before (bare choice place) others
-
 abbrev pub lettered : ℕ → List ℕ → Result Meaning Fault → Option (Choice × Takes) → Result Meaning Fault
 lettered place rest others None = Err (Usage UnknownOption place)
-lettered place rest others (Some option) = by_letter place rest others option.0 option.1
+lettered place rest others (Some (choice, takes.Value kind)) = attached choice kind place rest
+lettered place rest others (Some (choice, takes)) = before (bare choice place) others
 
 abbrev pub cluster : List OptionRow → ℕ → List ℕ → Result Meaning Fault
 cluster rows place [] = reading nothing
@@ -69,20 +64,16 @@ is_equals byte = byte == 61
 abbrev pub after_equals : List ℕ → Option (List ℕ)
 after_equals word = if position_or_len is_equals word == length word then None else Some (after_first is_equals word)
 
-abbrev pub by_name : ℕ → Choice → Takes → Option (List ℕ) → Result Meaning Fault
-by_name place choice takes.Nothing None = reading (bare choice place)
-by_name place choice takes.Nothing (Some text) = Err (Usage UnexpectedValue place)
-by_name place choice (takes.Value kind) None = awaiting choice kind place
-by_name place choice (takes.Value kind) (Some text) = valued choice kind place place text
-by_name place choice (takes.Optional kind) None = reading (bare choice place)
-by_name place choice (takes.Optional kind) (Some text) = valued choice kind place place text
-
-abbrev pub named : ℕ → Option (List ℕ) → Option (Choice × Takes) → Result Meaning Fault
-named place value None = Err (Usage UnknownOption place)
-named place value (Some option) = by_name place option.0 option.1 value
+abbrev pub named : ℕ → Option (Choice × Takes) → Option (List ℕ) → Result Meaning Fault
+named place None value = Err (Usage UnknownOption place)
+named place (Some (choice, takes.Nothing)) (Some text) = Err (Usage UnexpectedValue place)
+named place (Some (choice, takes.Value kind)) None = awaiting choice kind place
+named place (Some (choice, option)) None = reading (bare choice place)
+named place (Some (choice, takes.Value kind)) (Some text) = valued choice kind place place text
+named place (Some (choice, takes.Optional kind)) (Some text) = valued choice kind place place text
 
 abbrev pub long : List OptionRow → ℕ → List ℕ → Result Meaning Fault
-long rows place word = named place (after_equals word) (option_named rows (before_first is_equals word))
+long rows place word = named place (option_named rows (before_first is_equals word)) (after_equals word)
 
 -- A word where options and operands may stand: `--` ends the options, and a hyphen alone is an operand.
 
@@ -99,14 +90,10 @@ mixed rows place (byte ∷ next ∷ rest) =
     else reading (one_operand (byte ∷ next ∷ rest) place)
 
 -- the first word may be a hyphen and digits, which are the value of this option then
-abbrev pub numbered : Choice → Kind → ℕ → List ℕ → Result Meaning Fault → Result Meaning Fault
-numbered choice kind place text else_wise = if is_number text then valued choice kind place place text else else_wise
-
 abbrev pub foremost : List OptionRow → Choice → Kind → ℕ → List ℕ → Result Meaning Fault
 foremost rows choice kind place [] = mixed rows place []
 foremost rows choice kind place (byte ∷ text) =
-    if byte == 45 then numbered choice kind place text (mixed rows place (byte ∷ text))
-    else mixed rows place (byte ∷ text)
+    if byte == 45 && is_number text then valued choice kind place place text else mixed rows place (byte ∷ text)
 
 -- a word at this place; one that an option awaits is its value, whatever it begins with
 abbrev pub meaning_of : List OptionRow → State → ℕ → List ℕ → Result Meaning Fault
@@ -118,18 +105,14 @@ meaning_of rows OnlyOperands place word = Ok (record { given = one_operand word 
 -- all words from a place on, or the first fault from left to right
 
 abbrev pub ended : State → Result Given Fault
-ended (First choice kind) = Ok nothing
-ended Reading = Ok nothing
 ended (Awaiting choice kind option) = Err (Usage MissingValue option)
-ended OnlyOperands = Ok nothing
+ended state = Ok nothing
 
-abbrev pub behind : Given → Result Given Fault → Result Given Fault
-behind first (Ok more) = Ok (joined first more)
-behind first (Err fault) = Err fault
+abbrev pub given_before : Given → Result Given Fault → Result Given Fault
+given_before first more = then_check more (λ more. Ok (joined first more))
 
 abbrev pub onward : (State → Result Given Fault) → Result Meaning Fault → Result Given Fault
-onward rest (Ok meaning) = behind meaning.given (rest meaning.next)
-onward rest (Err fault) = Err fault
+onward rest meant = then_check meant (λ meaning. given_before meaning.given (rest meaning.next))
 
 abbrev pub spelled : List OptionRow → List (List ℕ) → ℕ → State → Result Given Fault
 spelled rows [] place state = ended state

@@ -11,10 +11,9 @@ use Rattle.words_core.specs.declared.tail_words.FollowOptions.{FollowOptions}
 use Rattle.words_core.specs.declared.value.Followed.{Followed}
 use Rattle.words_core.specs.declared.value.Followed.TheVariants.{Descriptor, Name}
 use Rattle.words_core.specs.EndsWords.{ends_asked}
-use Rattle.words_core.specs.Given.{Given, GivenOption, texts_of}
-use Rattle.words_core.specs.SplitWords.{then_check}
+use Rattle.words_core.specs.Given.{asked_by, Given, GivenOption, texts_of}
 use Rattle.words_core.specs.declared.settings.TailSettings.{TailSettings}
-use Rattle.words_core.specs.Value.{Meant, Following, Looks}
+use Rattle.words_core.specs.Value.{Meant, Following, Looks, then_check}
 
 -- without options nothing is followed
 abbrev pub no_following : FollowOptions
@@ -22,23 +21,13 @@ no_following = record { followed = None; retry = false; looks = 2 ^ 63 - 1 }
 
 -- With one more option: the last that says what is followed decides, and so does the last number of looks.
 
-abbrev pub following : FollowOptions → Meant → FollowOptions
-following asked (Following followed) = record asked { followed = Some followed }
-following asked value = record asked { followed = Some Descriptor }
-
-abbrev pub looking : FollowOptions → Meant → FollowOptions
-looking asked (Looks looks) = record asked { looks = looks }
-looking asked value = asked
-
 abbrev pub follow_by : FollowOptions → Choice → Meant → FollowOptions
-follow_by asked choice.Follow value = following asked value
+follow_by asked choice.Follow (Following followed) = record asked { followed = Some followed }
+follow_by asked choice.Follow value = record asked { followed = Some Descriptor }
 follow_by asked choice.FollowNames value = record asked { followed = Some Name; retry = true }
 follow_by asked choice.Retry value = record asked { retry = true }
-follow_by asked choice.Looks value = looking asked value
+follow_by asked choice.Looks (Looks looks) = record asked { looks = looks }
 follow_by asked choice value = asked
-
-abbrev pub follow_after : FollowOptions → GivenOption → FollowOptions
-follow_after asked option = follow_by asked option.choice option.value
 
 -- whether standard input is among the operands
 abbrev pub has_hyphen : List (List ℕ) → Bool
@@ -67,6 +56,6 @@ followed_in followed retry names = bad_follow
 
 abbrev pub tail_asked : Given → Result TailSettings Fault
 tail_asked given =
-    let asked = fold follow_after no_following given.options in
+    let asked = asked_by follow_by no_following given.options in
     then_check (followed_in asked.followed asked.retry (texts_of given.operands))
     (λ followed. Ok (record { ends = ends_asked given; followed = followed; looks = asked.looks }))

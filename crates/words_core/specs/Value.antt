@@ -1,12 +1,12 @@
 -- What the value of an option says, or what is wrong with it, by its kind. A value that isn't of its form is told
 -- before one that is too large, and that before 0.
-use Rattle.std.specs.Prelude.{ℕ, ◌-◌, ◌^◌, ◌==◌, nat_le, codes, List, [], ◌∷◌, Result, Ok, Err, if◌then◌else◌}
+use Rattle.std.specs.Prelude.{ℕ, ◌-◌, ◌^◌, ◌==◌, ◌&&◌, nat_le, codes, List, [], ◌∷◌, Result, Ok, Err, if◌then◌else◌}
 use Rattle.std.specs.List.{list_any}
 use Rattle.std.specs.Str.{bytes_eq}
 use Rattle.seg_core.specs.Count.{count_of, digits_of}
 use Rattle.seg_core.specs.declared.count.Count.{Count}
 use Rattle.seg_core.specs.declared.count.CountFault.{CountFault}
-use Rattle.seg_core.specs.declared.count.CountFault.TheVariants.{NoDigits, Suffix, TooLarge}
+use Rattle.seg_core.specs.declared.count.CountFault.TheVariants.{TooLarge}
 use Rattle.ports_core.specs.declared.fault.UsageKind.{UsageKind}
 use Rattle.ports_core.specs.declared.fault.UsageKind.TheVariants.{BadNumber, NumberTooLarge, Zero, BadSeparator, BadSuffix, BadFollow}
 use Rattle.words_core.specs.declared.table.Kind.{Kind}
@@ -39,56 +39,46 @@ seen (value.Byte byte) = Byte byte
 seen (value.Following followed) = Following followed
 seen (value.Looks looks) = Looks looks
 
-abbrev pub number_fault : CountFault → UsageKind
-number_fault NoDigits = BadNumber
-number_fault Suffix = BadNumber
-number_fault TooLarge = NumberTooLarge
+-- one check, and those after it where nothing is wrong so far
+abbrev pub then_check : {A B E : Type 0} → Result A E → (A → Result B E) → Result B E
+then_check (Ok value) next = next value
+then_check (Err fault) next = Err fault
 
--- a count with its sign
-abbrev pub counted : Result Count CountFault → Result Count UsageKind
-counted (Ok count) = Ok count
+abbrev pub number_fault : CountFault → UsageKind
+number_fault TooLarge = NumberTooLarge
+number_fault fault = BadNumber
+
+-- a number that was read
+abbrev pub counted : {A : Type 0} → Result A CountFault → Result A UsageKind
+counted (Ok number) = Ok number
 counted (Err fault) = Err (number_fault fault)
 
 -- a number that has a limit
 abbrev pub up_to : ℕ → Result ℕ CountFault → Result ℕ UsageKind
-up_to limit (Ok number) = if nat_le number limit then Ok number else Err NumberTooLarge
-up_to limit (Err fault) = Err (number_fault fault)
+up_to limit number = then_check (counted number) (λ those. if nat_le those limit then Ok those else Err NumberTooLarge)
 
 -- a number that is at least 1
 abbrev pub not_zero : ℕ → Result ℕ UsageKind
 not_zero number = if number == 0 then Err Zero else Ok number
 
-abbrev pub some : Result ℕ UsageKind → Result ℕ UsageKind
-some (Ok number) = not_zero number
-some (Err fault) = Err fault
-
-abbrev pub some_amount : Result Count UsageKind → Result ℕ UsageKind
-some_amount (Ok count) = not_zero count.amount
-some_amount (Err fault) = Err fault
+abbrev pub some_amount : List ℕ → Result ℕ UsageKind
+some_amount text = then_check (counted (count_of text)) (λ count. not_zero count.amount)
 
 -- the size of a file: a count, at least 1; with a `-` (45) before it it is a bad number
 abbrev pub size_in : List ℕ → Result ℕ UsageKind
-size_in [] = some_amount (counted (count_of []))
-size_in (byte ∷ text) = if byte == 45 then Err BadNumber else some_amount (counted (count_of (byte ∷ text)))
+size_in [] = some_amount []
+size_in (byte ∷ text) = if byte == 45 then Err BadNumber else some_amount (byte ∷ text)
 
 -- how many files the lines are dealt to: `r/` (114, 47) and digits
 abbrev pub round_in : List ℕ → Result ℕ UsageKind
-round_in [] = Err BadNumber
-round_in (byte ∷ []) = Err BadNumber
 round_in (byte ∷ next ∷ digits) =
-    if byte == 114
-    then (if next == 47 then some (up_to 65535 (digits_of digits)) else Err BadNumber)
-    else Err BadNumber
+    if byte == 114 && next == 47 then then_check (up_to 65535 (digits_of digits)) not_zero else Err BadNumber
+round_in text = Err BadNumber
 
--- the byte that lines end with: one byte, or `\0` (92, 48) for byte 0
+-- the byte that lines end with: one byte, or `\0` for byte 0
 abbrev pub byte_in : List ℕ → Result ℕ UsageKind
-byte_in [] = Err BadSeparator
 byte_in (byte ∷ []) = Ok byte
-byte_in (byte ∷ next ∷ []) =
-    if byte == 92
-    then (if next == 48 then Ok 0 else Err BadSeparator)
-    else Err BadSeparator
-byte_in (byte ∷ next ∷ more ∷ text) = Err BadSeparator
+byte_in text = if bytes_eq text (codes "\\0") then Ok 0 else Err BadSeparator
 
 -- the ending of names: a text without `/` (47)
 abbrev pub ending_in : List ℕ → Result (List ℕ) UsageKind
@@ -115,4 +105,5 @@ value_in kind.Text text = Ok (Text text)
 value_in kind.Byte text = as_value (λ byte. Byte byte) (byte_in text)
 value_in kind.Ending text = as_value (λ ending. Text ending) (ending_in text)
 value_in kind.Following text = as_value (λ followed. Following followed) (followed_in text)
-value_in kind.Looks text = as_value (λ looks. Looks looks) (some (up_to (2 ^ 63 - 1) (digits_of text)))
+value_in kind.Looks text =
+    as_value (λ looks. Looks looks) (then_check (up_to (2 ^ 63 - 1) (digits_of text)) not_zero)

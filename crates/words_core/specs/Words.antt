@@ -12,7 +12,8 @@ use Rattle.words_core.specs.Given.{Given}
 use Rattle.words_core.specs.Spelling.{given_by}
 use Rattle.words_core.specs.CsplitWords.{HasBadOperand, csplit_asked}
 use Rattle.words_core.specs.EndsWords.{ends_asked}
-use Rattle.words_core.specs.SplitWords.{CanSplit, split_asked, then_check}
+use Rattle.words_core.specs.SplitWords.{CanSplit, split_asked}
+use Rattle.words_core.specs.Value.{then_check}
 use Rattle.words_core.specs.TailWords.{tail_asked}
 use Rattle.words_core.specs.TeeWords.{tee_asked}
 

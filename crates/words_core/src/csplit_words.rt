@@ -1,6 +1,7 @@
 //! What `csplit` is asked for: POSIX.1-2017, XCU csplit; `-z` and `--suppress-matched` are GNU's.
-ghost use Rattle.std.specs.Prelude.{◌≡◌, codes, fold, map, IfOk, IfErr};
-ghost use Rattle.words_core.specs.CsplitWords.{HasBadOperand, csplit_after, csplit_asked, style_of, two_digits, with_digits, with_prefix};
+ghost use Rattle.std.specs.Prelude.{◌≡◌, map, IfOk, IfErr};
+ghost use Rattle.operand_core.specs.Style.{Style as Asked};
+ghost use Rattle.words_core.specs.CsplitWords.{HasBadOperand, csplit_by, csplit_asked, plain, style_of};
 ghost use Rattle.words_core.specs.Given.{option_seen};
 ghost use Rattle.words_core.specs.Spelling.{IsRefused};
 ghost use Rattle.words_core.specs.Value.{seen};
@@ -12,41 +13,59 @@ use crate::value::Value;
 use operand_core::Style;
 use ports_core::{Fault, UsageKind};
 use std::alloc::Global;
+use std::marker::Model;
 
-/// What the names of files begin with where no option says so.
-const PREFIX: &str = "xx";
-
-/// What the options of `csplit` ask for, but for the prefix.
-#[derive(Clone, Copy)]
-pub struct CsplitOptions {
+/// What the options of `csplit` ask for: how files are made.
+#[derive(Drop)]
+struct CsplitOptions<'a> {
+    /// What names begin with.
+    prefix: &'a str,
     /// How many digits names have at least.
-    pub digits: u8,
+    digits: u8,
     /// Whether files are kept after a fault.
-    pub keep: bool,
+    keep: bool,
     /// Whether no sizes are written.
-    pub quiet: bool,
+    quiet: bool,
     /// Whether an empty section makes no file.
-    pub elide: bool,
+    elide: bool,
     /// Whether the line at a cut is left out.
-    pub suppress: bool,
+    suppress: bool,
+}
+
+impl<'a> Model for CsplitOptions<'a> {
+    ghost Value = { Asked };
+
+    ghost view = { λ s. record { prefix = s.prefix.now; digits = s.digits; keep = s.keep; quiet = s.quiet; elide = s.elide; suppress = s.suppress } };
 }
 
 /// What is asked for without options.
-const TWO_DIGITS: CsplitOptions = CsplitOptions {
-    digits: 2,
-    keep: false,
-    quiet: false,
-    elide: false,
-    suppress: false,
-};
+fn plain<'a>() -> CsplitOptions<'a>
+    ensures { result ≡ plain }
+{
+    CsplitOptions {
+        prefix: "xx",
+        digits: 2,
+        keep: false,
+        quiet: false,
+        elide: false,
+        suppress: false,
+    }
+}
 
-impl CsplitOptions {
+impl<'a> CsplitOptions<'a> {
     /// The same, and what one more option asks for.
-    fn with(self, option: &Chosen<'_>) -> Self
-        ensures { result ≡ csplit_after self (option_seen option.now) }
+    fn with(self, option: &Chosen<'a>) -> Self
+        ensures { result ≡ csplit_by self.entry option.now.choice (seen option.now.value) }
     {
         match option.choice {
-            Choice::Digits => self.with_digits(option.value),
+            Choice::Prefix => match option.value {
+                Value::Text(prefix) => CsplitOptions { prefix, ..self },
+                _ => self,
+            },
+            Choice::Digits => match option.value {
+                Value::Width(digits) => CsplitOptions { digits, ..self },
+                _ => self,
+            },
             Choice::KeepFiles => CsplitOptions { keep: true, ..self },
             Choice::Quiet => CsplitOptions {
                 quiet: true,
@@ -60,15 +79,6 @@ impl CsplitOptions {
                 suppress: true,
                 ..self
             },
-            _ => self,
-        }
-    }
-
-    fn with_digits(self, value: Value<'_>) -> Self
-        ensures { result ≡ with_digits self (seen value.entry) }
-    {
-        match value {
-            Value::Width(digits) => CsplitOptions { digits, ..self },
             _ => self,
         }
     }
@@ -105,7 +115,7 @@ fn choose_style(alloc: Global, options: &[Chosen<'_>]) -> Result<Style, Fault>
 {
     let asked = choose_csplit(options);
     Ok(Style {
-        prefix: String::from_str(alloc, choose_prefix(options))?,
+        prefix: String::from_str(alloc, asked.prefix)?,
         digits: u32::from(asked.digits),
         keep: asked.keep,
         quiet: asked.quiet,
@@ -114,40 +124,13 @@ fn choose_style(alloc: Global, options: &[Chosen<'_>]) -> Result<Style, Fault>
     })
 }
 
-/// What all options ask for, but for the prefix.
-fn choose_csplit(options: &[Chosen<'_>]) -> CsplitOptions
-    ensures { result ≡ fold csplit_after two_digits (map option_seen options.now) }
+/// What all options ask for.
+fn choose_csplit<'a>(options: &[Chosen<'a>]) -> CsplitOptions<'a>
+    ensures { result ≡ style_of (map option_seen options.now) }
 {
-    let mut asked = TWO_DIGITS;
-    let mut left = options;
-    while let [option, rest @ ..] = left {
+    let mut asked = plain();
+    for option in options {
         asked = asked.with(option);
-        left = rest;
     }
     asked
-}
-
-/// What names begin with: the last prefix that was given, or `xx`.
-fn choose_prefix<'a>(options: &[Chosen<'a>]) -> &'a str
-    ensures { result.now ≡ fold with_prefix (codes "xx") (map option_seen options.now) }
-{
-    let mut prefix = PREFIX;
-    let mut left = options;
-    while let [option, rest @ ..] = left {
-        prefix = with_prefix(prefix, option);
-        left = rest;
-    }
-    prefix
-}
-
-fn with_prefix<'a>(prefix: &'a str, option: &Chosen<'a>) -> &'a str
-    ensures { result.now ≡ with_prefix prefix.now (option_seen option.now) }
-{
-    match option.choice {
-        Choice::Prefix => match option.value {
-            Value::Text(text) => text,
-            _ => prefix,
-        },
-        _ => prefix,
-    }
 }

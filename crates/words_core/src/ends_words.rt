@@ -1,8 +1,9 @@
 //! What `head` and `tail` are asked for: POSIX.1-2017, XCU head and tail; `-q`, `-v`, `-z` and several files for `tail`
 //! are GNU's.
-ghost use Rattle.std.specs.Prelude.{◌≡◌, fold, map, IfOk, IfErr};
-ghost use Rattle.words_core.specs.EndsWords.{counted, ends_after, ends_asked, names_asked, ten_lines};
-ghost use Rattle.words_core.specs.Given.{operand_seen, option_seen};
+ghost use Rattle.std.specs.Prelude.{◌≡◌, [], map, IfOk, IfErr};
+ghost use Rattle.words_core.specs.EndsAsked.{EndsAsked};
+ghost use Rattle.words_core.specs.EndsWords.{ends_by, ends_asked, names_asked, ten_lines};
+ghost use Rattle.words_core.specs.Given.{asked_by, operand_seen, option_seen};
 ghost use Rattle.words_core.specs.Spelling.{Reads};
 ghost use Rattle.words_core.specs.Value.{seen};
 
@@ -15,39 +16,64 @@ use seg_core::count::{Count, Sign};
 use seg_core::line::NEWLINE;
 use seg_core::unit::Unit;
 use std::alloc::Global;
+use std::marker::Model;
 
 /// What the options of `head` or `tail` ask for.
-#[derive(Clone, Copy)]
-pub struct EndsOptions {
+#[derive(Drop)]
+struct EndsOptions {
     /// What is counted: lines or bytes.
-    pub unit: Unit,
+    unit: Unit,
     /// How many lines or bytes, and from which side.
-    pub count: Count,
+    count: Count,
     /// When a header goes before an input.
-    pub headers: Headers,
+    headers: Headers,
     /// The byte that lines end with.
-    pub delim: u8,
+    delim: u8,
+}
+
+impl Model for EndsOptions {
+    ghost Value = { EndsAsked };
+
+    ghost view = { λ s. record { unit = s.unit; count = s.count; headers = s.headers; delim = s.delim; names = [] } };
 }
 
 /// What is asked for without options.
-const TEN_LINES: EndsOptions = EndsOptions {
-    unit: Unit::Lines,
-    count: Count {
-        sign: Sign::Plain,
-        amount: 10,
-    },
-    headers: Headers::ForSeveral,
-    delim: NEWLINE,
-};
+fn ten_lines() -> EndsOptions
+    ensures { result ≡ ten_lines }
+{
+    EndsOptions {
+        unit: Unit::Lines,
+        count: Count {
+            sign: Sign::Plain,
+            amount: 10,
+        },
+        headers: Headers::ForSeveral,
+        delim: NEWLINE,
+    }
+}
 
 impl EndsOptions {
     /// The same, and what one more option asks for.
     fn with(self, option: &Chosen<'_>) -> Self
-        ensures { result ≡ ends_after self (option_seen option.now) }
+        ensures { result ≡ ends_by self option.now.choice (seen option.now.value) }
     {
         match option.choice {
-            Choice::Lines => self.counted(Unit::Lines, option.value),
-            Choice::Bytes => self.counted(Unit::Bytes, option.value),
+            Choice::Lines => match option.value {
+                Value::Count(count) => EndsOptions {
+                    unit: Unit::Lines,
+                    count,
+                    ..self
+                },
+                _ => self,
+            },
+            Choice::Bytes => match option.value {
+                Value::Count(count) => EndsOptions {
+                    unit: Unit::Bytes,
+                    count,
+                    ..self
+                },
+                _ => self,
+            },
             Choice::Quiet => EndsOptions {
                 headers: Headers::Never,
                 ..self
@@ -57,19 +83,6 @@ impl EndsOptions {
                 ..self
             },
             Choice::ZeroTerminated => EndsOptions { delim: 0, ..self },
-            _ => self,
-        }
-    }
-
-    fn counted(self, unit: Unit, value: Value<'_>) -> Self
-        ensures { result ≡ counted self unit (seen value.entry) }
-    {
-        match value {
-            Value::Count(count) => EndsOptions {
-                unit,
-                count,
-                ..self
-            },
             _ => self,
         }
     }
@@ -96,13 +109,11 @@ pub fn settle_ends<'a>(alloc: Global, spelled: &Spelled<'a>) -> Result<EndsSetti
 
 /// What all options ask for: the last of those for counts, the last of those for headers, and whether lines end with byte 0.
 fn choose_ends(options: &[Chosen<'_>]) -> EndsOptions
-    ensures { result ≡ fold ends_after ten_lines (map option_seen options.now) }
+    ensures { result ≡ asked_by ends_by ten_lines (map option_seen options.now) }
 {
-    let mut asked = TEN_LINES;
-    let mut left = options;
-    while let [option, rest @ ..] = left {
+    let mut asked = ten_lines();
+    for option in options {
         asked = asked.with(option);
-        left = rest;
     }
     asked
 }

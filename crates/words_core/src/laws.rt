@@ -3,14 +3,13 @@ ghost use Rattle.std.specs.Prelude.{◌≡◌, ◌≢◌, ◌↔◌, ◌+◌, �
 ghost use Rattle.std.specs.List.{list_any};
 ghost use Rattle.ports_core.specs.declared.fault.UsageKind.TheVariants.{TwoWays};
 ghost use Rattle.words_core.specs.declared.spelling.State.TheVariants.{Reading};
-ghost use Rattle.words_core.specs.declared.split_words.SplitOptions.{SplitOptions};
 ghost use Rattle.seg_core.specs.Count.{count_of, digits_of, is_number};
 ghost use Rattle.words_core.specs.Given.{Given, GivenOption, one_option};
-ghost use Rattle.words_core.specs.CsplitWords.{style_of};
-ghost use Rattle.words_core.specs.Laws.{AreAmong, Gives, IsLetter, IsName, amount_of, appends, as_operands, csplit_as, drops_sizes, elides_files, ends_as, ends_of, has, is_alphabet, is_count, is_digits, is_headers, is_prefix, is_way, is_width, follow_of, following_as, is_following, is_looks, keeps_files, leaves_lines_out, plain_style, retries, split_as, split_of, tail_as};
-ghost use Rattle.words_core.specs.Spelling.{behind, spelled};
+ghost use Rattle.words_core.specs.CsplitWords.{plain, style_of};
+ghost use Rattle.words_core.specs.Laws.{AreAmong, Gives, IsLetter, IsName, amount_of, appends, as_operands, csplit_as, drops_sizes, elides_files, ends_as, ends_of, has, is_alphabet, is_count, is_digits, is_headers, is_prefix, is_width, follow_of, following_as, is_following, is_looks, keeps_files, leaves_lines_out, retries, split_as, split_of, tail_as};
+ghost use Rattle.words_core.specs.Spelling.{given_before, spelled};
 ghost use Rattle.words_core.specs.EndsWords.{ten_lines};
-ghost use Rattle.words_core.specs.SplitWords.{least_width, way_in};
+ghost use Rattle.words_core.specs.SplitWords.{is_way, least_width, way_in, way_of};
 ghost use Rattle.words_core.specs.Table.{OptionRow};
 ghost use Rattle.words_core.specs.TeeWords.{tee_asked};
 ghost use Rattle.words_core.specs.Value.{Meant, round_in, size_in, up_to, value_in};
@@ -49,13 +48,15 @@ pub fn last_of_tail_decides()
     ensures retry { (options : List GivenOption) → (follow_of options).retry ≡ has retries options }
 {}
 
-/// Of several options for the characters of suffixes the last decides, as if it stood alone, where `split` accepts
-/// its options; and so does the last width.
+/// Of several options for the characters of suffixes the last decides, as if it stood alone, whatever options stand before it;
+/// and so does the last width. Other options change neither.
 pub fn last_of_split_decides()
-    ensures alphabet { (before after : List GivenOption) (option : GivenOption) (asked alone : SplitOptions) → is_alphabet option ≡ true → list_any is_alphabet after ≡ false
-        → split_of (before ++ option ∷ after) ≡ Ok asked → split_of (option ∷ []) ≡ Ok alone → asked.alphabet ≡ alone.alphabet }
-    ensures width { (before after : List GivenOption) (option : GivenOption) (asked alone : SplitOptions) → is_width option ≡ true → list_any is_width after ≡ false
-        → split_of (before ++ option ∷ after) ≡ Ok asked → split_of (option ∷ []) ≡ Ok alone → asked.width ≡ alone.width }
+    ensures alphabet { (before after : List GivenOption) (option : GivenOption) → is_alphabet option ≡ true → list_any is_alphabet after ≡ false
+        → (split_of (before ++ option ∷ after)).alphabet ≡ (split_of (option ∷ [])).alphabet }
+    ensures no_alphabet { (options : List GivenOption) → list_any is_alphabet options ≡ false → (split_of options).alphabet ≡ (split_of []).alphabet }
+    ensures width { (before after : List GivenOption) (option : GivenOption) → is_width option ≡ true → list_any is_width after ≡ false
+        → (split_of (before ++ option ∷ after)).width ≡ (split_of (option ∷ [])).width }
+    ensures no_width { (options : List GivenOption) → list_any is_width options ≡ false → (split_of options).width ≡ (split_of []).width }
 {}
 
 /// Of several prefixes for `csplit` the last decides, as if it stood alone, whatever options stand before it; and so does
@@ -82,11 +83,11 @@ pub fn options_stand_anywhere()
 /// Options for `split` are accepted exactly where at most one of them is a way to split; files are cut in that way. A
 /// second way is told by the word in which it stands, whatever follows it.
 pub fn one_way_at_most()
-    ensures accepted { (options : List GivenOption) → IsOk (split_of options) ↔ (length (filter is_way options) ≤ 1) }
-    ensures way { (before after : List GivenOption) (option : GivenOption) (asked : SplitOptions) → is_way option ≡ true → list_any is_way after ≡ false
-        → split_of (before ++ option ∷ after) ≡ Ok asked → asked.cut ≡ Some (way_in option.choice option.value) }
+    ensures accepted { (options : List GivenOption) → IsOk (way_of options) ↔ (length (filter is_way options) ≤ 1) }
+    ensures way { (before after : List GivenOption) (option : GivenOption) (cut : Cut) → is_way option ≡ true
+        → way_of (before ++ option ∷ after) ≡ Ok cut → cut ≡ way_in option.value option.choice }
     ensures second { (before after : List GivenOption) (option : GivenOption) → length (filter is_way before) ≡ 1 → is_way option ≡ true
-        → split_of (before ++ option ∷ after) ≡ Err (Fault.Usage TwoWays option.word) }
+        → way_of (before ++ option ∷ after) ≡ Err (Fault.Usage TwoWays option.word) }
 {}
 
 /// Where options may stand, all words after `--` are operands, whatever they begin with (POSIX.1-2017, XBD 12.2,
@@ -127,7 +128,7 @@ pub fn number_comes_first()
         → is_number rest ≡ false → spelled rows ((byte ∷ rest) ∷ words) place (State.First choice kind) ≡ spelled rows ((byte ∷ rest) ∷ words) place Reading }
     ensures number { (rows : List OptionRow) (choice : Choice) (kind : Kind) (digits : List ℕ) (meant : Meant) (words : List (List ℕ)) (place : ℕ)
         → is_number digits ≡ true → value_in kind digits ≡ Ok meant
-        → spelled rows ((codes "-" ++ digits) ∷ words) place (State.First choice kind) ≡ behind (one_option choice meant place) (spelled rows words (place + 1) Reading) }
+        → spelled rows ((codes "-" ++ digits) ∷ words) place (State.First choice kind) ≡ given_before (one_option choice meant place) (spelled rows words (place + 1) Reading) }
 {}
 
 /// What the options of `head` and `tail` ask for, each alone: lines and bytes with their count, headers never or
@@ -177,18 +178,19 @@ pub fn split_options_ask()
 /// What the options of `csplit` ask for, each alone, and what is asked for without any (POSIX.1-2017, XCU csplit; GNU
 /// coreutils manual).
 pub fn csplit_options_ask()
-    ensures nothing { settings_of (codes "csplit" ∷ codes "-" ∷ codes "1" ∷ []) ≡ Ok (Settings.Csplit (csplit_as plain_style 2)) }
-    ensures prefix { (text : List ℕ) → settings_of (codes "csplit" ∷ codes "-f" ∷ text ∷ codes "-" ∷ codes "1" ∷ []) ≡ Ok (Settings.Csplit (csplit_as (record plain_style { prefix = text }) 4)) }
+    ensures nothing { settings_of (codes "csplit" ∷ codes "-" ∷ codes "1" ∷ []) ≡ Ok (Settings.Csplit (csplit_as plain 2)) }
+    ensures prefix { (text : List ℕ) → settings_of (codes "csplit" ∷ codes "-f" ∷ text ∷ codes "-" ∷ codes "1" ∷ []) ≡ Ok (Settings.Csplit (csplit_as (record plain { prefix = text }) 4)) }
     ensures digits { (value : List ℕ) (digits : ℕ) → up_to 255 (digits_of value) ≡ Ok digits
-        → settings_of (codes "csplit" ∷ codes "-n" ∷ value ∷ codes "-" ∷ codes "1" ∷ []) ≡ Ok (Settings.Csplit (csplit_as (record plain_style { digits = digits }) 4)) }
-    ensures keep { settings_of (codes "csplit" ∷ codes "-k" ∷ codes "-" ∷ codes "1" ∷ []) ≡ Ok (Settings.Csplit (csplit_as (record plain_style { keep = true }) 3)) }
-    ensures quiet { settings_of (codes "csplit" ∷ codes "-s" ∷ codes "-" ∷ codes "1" ∷ []) ≡ Ok (Settings.Csplit (csplit_as (record plain_style { quiet = true }) 3)) }
-    ensures also_quiet { settings_of (codes "csplit" ∷ codes "-q" ∷ codes "-" ∷ codes "1" ∷ []) ≡ Ok (Settings.Csplit (csplit_as (record plain_style { quiet = true }) 3)) }
-    ensures elide { settings_of (codes "csplit" ∷ codes "-z" ∷ codes "-" ∷ codes "1" ∷ []) ≡ Ok (Settings.Csplit (csplit_as (record plain_style { elide = true }) 3)) }
-    ensures suppress { settings_of (codes "csplit" ∷ codes "--suppress-matched" ∷ codes "-" ∷ codes "1" ∷ []) ≡ Ok (Settings.Csplit (csplit_as (record plain_style { suppress = true }) 3)) }
+        → settings_of (codes "csplit" ∷ codes "-n" ∷ value ∷ codes "-" ∷ codes "1" ∷ []) ≡ Ok (Settings.Csplit (csplit_as (record plain { digits = digits }) 4)) }
+    ensures keep { settings_of (codes "csplit" ∷ codes "-k" ∷ codes "-" ∷ codes "1" ∷ []) ≡ Ok (Settings.Csplit (csplit_as (record plain { keep = true }) 3)) }
+    ensures quiet { settings_of (codes "csplit" ∷ codes "-s" ∷ codes "-" ∷ codes "1" ∷ []) ≡ Ok (Settings.Csplit (csplit_as (record plain { quiet = true }) 3)) }
+    ensures also_quiet { settings_of (codes "csplit" ∷ codes "-q" ∷ codes "-" ∷ codes "1" ∷ []) ≡ Ok (Settings.Csplit (csplit_as (record plain { quiet = true }) 3)) }
+    ensures elide { settings_of (codes "csplit" ∷ codes "-z" ∷ codes "-" ∷ codes "1" ∷ []) ≡ Ok (Settings.Csplit (csplit_as (record plain { elide = true }) 3)) }
+    ensures suppress { settings_of (codes "csplit" ∷ codes "--suppress-matched" ∷ codes "-" ∷ codes "1" ∷ []) ≡ Ok (Settings.Csplit (csplit_as (record plain { suppress = true }) 3)) }
 {}
 
 /// What `tee` is asked for without options, and with `-a` (POSIX.1-2017, XCU tee).
+#[tactic(auto, unfolding(crate::specs::Table::tools))]
 pub fn tee_options_ask()
     ensures nothing { settings_of (codes "tee" ∷ codes "f" ∷ []) ≡ Ok (Settings.Tee (record { mode = Mode.Fresh; names = codes "f" ∷ [] })) }
     ensures append { settings_of (codes "tee" ∷ codes "-a" ∷ codes "f" ∷ []) ≡ Ok (Settings.Tee (record { mode = Mode.Append; names = codes "f" ∷ [] })) }

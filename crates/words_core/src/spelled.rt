@@ -95,10 +95,8 @@ pub fn texts_of<'a>(alloc: Global, operands: &[Operand<'a>]) -> Result<Vec<&'a s
     ensures err { IfErr result (λ fault. fault ≡ Fault.Memory) }
 {
     let mut texts = Vec::new(alloc);
-    let mut left = operands;
-    while let [operand, rest @ ..] = left {
+    for operand in operands {
         texts.push(operand.text)?;
-        left = rest;
     }
     Ok(texts)
 }
@@ -113,10 +111,8 @@ pub fn places_of(alloc: Global, operands: &[Operand<'_>]) -> Result<Vec<usize>, 
     ensures err { IfErr result (λ fault. fault ≡ Fault.Memory) }
 {
     let mut places = Vec::new(alloc);
-    let mut left = operands;
-    while let [operand, rest @ ..] = left {
+    for operand in operands {
         places.push(operand.word)?;
-        left = rest;
     }
     Ok(places)
 }

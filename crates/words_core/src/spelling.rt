@@ -1,10 +1,10 @@
 //! How words are read to options and operands (POSIX.1-2017, XBD 12.2; long options are GNU's).
-ghost use Rattle.std.specs.Prelude.{◌≡◌, ◌∷◌, option_map, IfSome, map};
+ghost use Rattle.std.specs.Prelude.{◌≡◌, ◌∷◌, Some, option_map, IfSome, map};
 ghost use Rattle.std.specs.List.{before_first};
 ghost use Rattle.seg_core.specs.Count.{is_number};
 ghost use Rattle.words_core.specs.inner.Spelling.{Adds, first_letter};
-ghost use Rattle.words_core.specs.Spelling.{Reads, after_equals, attached, by_name, cluster, foremost, given_by, is_equals, long, meaning_of, mixed, reading, spelled, valued};
-ghost use Rattle.words_core.specs.Given.{bare, one_operand};
+ghost use Rattle.words_core.specs.Spelling.{Reads, after_equals, attached, cluster, foremost, given_by, is_equals, long, meaning_of, mixed, named, reading, spelled, valued};
+ghost use Rattle.words_core.specs.Given.{one_operand};
 ghost use Rattle.words_core.specs.Table.{row_seen, tool_seen};
 
 use crate::spelled::Spelled;
@@ -190,10 +190,13 @@ fn read_named<'a>(
     place: usize,
     spelled: &mut Spelled<'a>,
 ) -> Result<State, Fault>
-    ensures { Adds (by_name place choice takes (option_map (λ text. text.now) value.entry)) spelled.old spelled.new result }
+    ensures { Adds (named place (Some (choice, takes)) (option_map (λ text. text.now) value.entry)) spelled.old spelled.new result }
 {
     match (takes, value) {
-        (Takes::Nothing | Takes::Optional(_), None) => read_bare(choice, place, spelled),
+        (Takes::Nothing | Takes::Optional(_), None) => {
+            spelled.add_option(choice, Value::Nothing, place)?;
+            Ok(State::Reading)
+        }
         (Takes::Nothing, Some(_)) => Err(Fault::Usage(UsageKind::UnexpectedValue, place)),
         (Takes::Value(kind), None) => Ok(State::Awaiting(choice, kind, place)),
         (Takes::Value(kind) | Takes::Optional(kind), Some(text)) => {
@@ -265,12 +268,4 @@ fn read_option<'a>(
         }
         Err(fault) => Err(Fault::Usage(fault, place)),
     }
-}
-
-/// Adds an option without a value.
-fn read_bare(choice: Choice, place: usize, spelled: &mut Spelled<'_>) -> Result<State, Fault>
-    ensures { Adds (reading (bare choice place)) spelled.old spelled.new result }
-{
-    spelled.add_option(choice, Value::Nothing, place)?;
-    Ok(State::Reading)
 }

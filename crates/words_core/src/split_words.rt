@@ -1,9 +1,10 @@
 //! What `split` is asked for: POSIX.1-2017, XCU split; `-C`, `-n`, `-d`, `-x`, `-e`, `-t` and
 //! `--additional-suffix` are GNU's.
-ghost use Rattle.std.specs.Prelude.{◌≡◌, ℕ, ◌^◌, ◌<◌, ◌≤◌, [], map, None, IfOk, IfErr};
+ghost use Rattle.std.specs.Prelude.{◌≡◌, ℕ, ◌^◌, ◌<◌, ◌≤◌, map, IfOk, IfErr};
 ghost use Rattle.ports_core.specs.Name.{name_count, radix};
-ghost use Rattle.words_core.specs.Given.{operand_seen, option_seen};
-ghost use Rattle.words_core.specs.SplitWords.{dealt, delimiter_in, ending_in, files_in, fixed, free, least_width, names_all, no_options, one_way, split_after, split_asked, split_options, suffix_for, way_in, with_ending, with_separator, with_width};
+ghost use Rattle.words_core.specs.Given.{asked_by, operand_seen, option_seen};
+ghost use Rattle.words_core.specs.SplitWords.{dealt, files_in, fixed, free, least_width, names_all, no_options, split_by, split_asked, suffix_for, way_in, way_of};
+ghost use Rattle.words_core.specs.inner.SplitWords.{with_way};
 ghost use Rattle.words_core.specs.Value.{seen};
 
 use crate::settings::SplitSettings;
@@ -20,91 +21,58 @@ const THOUSAND_LINES: Cut = Cut::Lines(1000);
 /// What the names of files begin with where no operand says so.
 const PREFIX: &str = "x";
 
-/// What the options of `split` ask for.
-#[derive(Clone, Copy)]
-pub struct SplitOptions {
-    /// The way to split, where one is given.
-    pub cut: Option<Cut>,
-    /// The characters of the suffixes.
-    pub alphabet: Alphabet,
-    /// The width of suffixes in characters, 0 where none is given.
-    pub width: u8,
-    /// Whether files that stay empty are left out.
-    pub elide: bool,
+/// What is asked for without words; a width of 0 stands for none.
+fn no_options<'a>() -> SplitSettings<'a>
+    ensures { result ≡ no_options }
+{
+    SplitSettings {
+        cut: THOUSAND_LINES,
+        alphabet: Alphabet::Letters,
+        width: 0,
+        auto: false,
+        elide: false,
+        input: STANDARD_INPUT,
+        prefix: PREFIX,
+        ending: "",
+        delim: NEWLINE,
+    }
 }
 
-/// What is asked for without options.
-const NO_OPTIONS: SplitOptions = SplitOptions {
-    cut: None,
-    alphabet: Alphabet::Letters,
-    width: 0,
-    elide: false,
-};
-
-impl SplitOptions {
+impl<'a> SplitSettings<'a> {
     /// The same, and what one more option asks for.
-    ///
-    /// # Errors
-    ///
-    /// `Usage` with the place of its word, where it is a second way to split.
-    fn with(self, option: &Chosen<'_>) -> Result<Self, Fault>
-        ensures { result ≡ split_after self (option_seen option.now) }
+    fn with(self, option: &Chosen<'a>) -> Self
+        ensures { result ≡ split_by self.entry option.now.choice (seen option.now.value) }
     {
         match option.choice {
-            Choice::Lines | Choice::Bytes | Choice::LineBytes | Choice::Files => {
-                self.with_way(way_in(option.choice, option.value), option.word)
-            }
-            Choice::SuffixLength => Ok(self.with_width(option.value)),
-            Choice::NumericSuffixes => Ok(SplitOptions {
+            Choice::SuffixLength => match option.value {
+                Value::Width(width) => SplitSettings {
+                    width: u32::from(width),
+                    ..self
+                },
+                _ => self,
+            },
+            Choice::NumericSuffixes => SplitSettings {
                 alphabet: Alphabet::Digits,
                 ..self
-            }),
-            Choice::HexSuffixes => Ok(SplitOptions {
+            },
+            Choice::HexSuffixes => SplitSettings {
                 alphabet: Alphabet::Hex,
                 ..self
-            }),
-            Choice::ElideEmptyFiles => Ok(SplitOptions {
+            },
+            Choice::ElideEmptyFiles => SplitSettings {
                 elide: true,
                 ..self
-            }),
-            _ => Ok(self),
-        }
-    }
-
-    fn with_way(self, cut: Cut, word: usize) -> Result<Self, Fault>
-        ensures { result ≡ one_way self cut word }
-    {
-        match self.cut {
-            None => Ok(SplitOptions {
-                cut: Some(cut),
-                ..self
-            }),
-            Some(_) => Err(Fault::Usage(UsageKind::TwoWays, word)),
-        }
-    }
-
-    fn with_width(self, value: Value<'_>) -> Self
-        ensures { result ≡ with_width self (seen value.entry) }
-    {
-        match value {
-            Value::Width(width) => SplitOptions { width, ..self },
+            },
+            Choice::AdditionalSuffix => match option.value {
+                Value::Text(ending) => SplitSettings { ending, ..self },
+                _ => self,
+            },
+            Choice::Separator => match option.value {
+                Value::Byte(delim) => SplitSettings { delim, ..self },
+                _ => self,
+            },
             _ => self,
         }
-    }
-}
-
-/// The way to split that an option gives with its value.
-fn way_in(choice: Choice, value: Value<'_>) -> Cut
-    ensures { result ≡ way_in choice (seen value.entry) }
-{
-    match value {
-        Value::Size(size) => match choice {
-            Choice::Bytes => Cut::Bytes(size),
-            Choice::LineBytes => Cut::LineBytes(size),
-            _ => Cut::Lines(size),
-        },
-        Value::Files(files) => Cut::Round(files),
-        _ => THOUSAND_LINES,
     }
 }
 
@@ -125,93 +93,79 @@ pub struct Suffix {
 pub fn settle_split<'a>(spelled: &Spelled<'a>) -> Result<SplitSettings<'a>, Fault>
     ensures { result ≡ split_asked spelled.now }
 {
-    let options = choose_split(&spelled.options)?;
-    let cut = options.cut.unwrap_or(THOUSAND_LINES);
+    let options = choose_split(&spelled.options);
+    let cut = choose_way(&spelled.options)?;
     let suffix = choose_suffix(cut, options.alphabet, options.width)?;
     let (input, prefix) = take_files(&spelled.operands)?;
     Ok(SplitSettings {
         cut,
-        alphabet: options.alphabet,
         width: suffix.width,
         auto: suffix.auto,
-        elide: options.elide,
         input,
         prefix,
-        ending: choose_ending(&spelled.options),
-        delim: choose_delimiter(&spelled.options),
+        ..options
     })
 }
 
-/// What all options ask for.
+/// What all options ask for, but for the way to split.
+fn choose_split<'a>(options: &[Chosen<'a>]) -> SplitSettings<'a>
+    ensures { result ≡ asked_by split_by no_options (map option_seen options.now) }
+{
+    let mut asked = no_options();
+    for option in options {
+        asked = asked.with(option);
+    }
+    asked
+}
+
+/// The way to split.
 ///
 /// # Errors
 ///
-/// `Usage` with the place of the second one's word, where two ways to split are given.
-fn choose_split(options: &[Chosen<'_>]) -> Result<SplitOptions, Fault>
-    ensures { result ≡ split_options (map option_seen options.now) no_options }
+/// `Usage` with the place of the second one's word, where two ways are given.
+fn choose_way(options: &[Chosen<'_>]) -> Result<Cut, Fault>
+    ensures { result ≡ way_of (map option_seen options.now) }
 {
-    let mut asked = NO_OPTIONS;
+    let mut way = None;
     let mut left = options;
     while let [option, rest @ ..] = left {
-        asked = asked.with(option)?;
+        way = with_way(way, option)?;
         left = rest;
     }
-    Ok(asked)
+    Ok(way.unwrap_or(THOUSAND_LINES))
 }
 
-/// The byte that lines end with: the last separator, or the newline.
-fn choose_delimiter(options: &[Chosen<'_>]) -> u8
-    ensures { result ≡ delimiter_in (map option_seen options.now) 10 }
-{
-    let mut delim = NEWLINE;
-    let mut left = options;
-    while let [option, rest @ ..] = left {
-        delim = with_separator(delim, option);
-        left = rest;
-    }
-    delim
-}
-
-fn with_separator(delim: u8, option: &Chosen<'_>) -> u8
-    ensures { result ≡ with_separator delim (option_seen option.now) }
+/// The way to split, with one more option.
+fn with_way(way: Option<Cut>, option: &Chosen<'_>) -> Result<Option<Cut>, Fault>
+    ensures { result ≡ with_way way (option_seen option.now) }
 {
     match option.choice {
-        Choice::Separator => match option.value {
-            Value::Byte(byte) => byte,
-            _ => delim,
+        Choice::Lines | Choice::Bytes | Choice::LineBytes | Choice::Files => match way {
+            None => Ok(Some(way_in(option.value, option.choice))),
+            Some(_) => Err(Fault::Usage(UsageKind::TwoWays, option.word)),
         },
-        _ => delim,
+        _ => Ok(way),
     }
 }
 
-/// What names end with: the last text that was given for it, or nothing.
-fn choose_ending<'a>(options: &[Chosen<'a>]) -> &'a str
-    ensures { result.now ≡ ending_in (map option_seen options.now) [] }
+/// The way to split that an option gives with its value.
+fn way_in(value: Value<'_>, choice: Choice) -> Cut
+    ensures { result ≡ way_in (seen value.entry) choice }
 {
-    let mut ending = "";
-    let mut left = options;
-    while let [option, rest @ ..] = left {
-        ending = with_ending(ending, option);
-        left = rest;
-    }
-    ending
-}
-
-fn with_ending<'a>(ending: &'a str, option: &Chosen<'a>) -> &'a str
-    ensures { result.now ≡ with_ending ending.now (option_seen option.now) }
-{
-    match option.choice {
-        Choice::AdditionalSuffix => match option.value {
-            Value::Text(text) => text,
-            _ => ending,
+    match value {
+        Value::Size(size) => match choice {
+            Choice::Bytes => Cut::Bytes(size),
+            Choice::LineBytes => Cut::LineBytes(size),
+            _ => Cut::Lines(size),
         },
-        _ => ending,
+        Value::Files(files) => Cut::Round(files),
+        _ => THOUSAND_LINES,
     }
 }
 
 /// The suffixes of files that are cut in this way, if this width is given; a width of 0 stands for
 /// none.
-fn choose_suffix(cut: Cut, alphabet: Alphabet, width: u8) -> Result<Suffix, Fault>
+fn choose_suffix(cut: Cut, alphabet: Alphabet, width: u32) -> Result<Suffix, Fault>
     ensures { result ≡ suffix_for cut alphabet width }
 {
     match cut {
@@ -221,7 +175,7 @@ fn choose_suffix(cut: Cut, alphabet: Alphabet, width: u8) -> Result<Suffix, Faul
 }
 
 /// Suffixes of this width, or ones that widen where it is 0.
-fn free(width: u8) -> Suffix
+fn free(width: u32) -> Suffix
     ensures { result ≡ free width }
 {
     if width == 0 {
@@ -230,15 +184,14 @@ fn free(width: u8) -> Suffix
             auto: true,
         };
     }
-    fixed(u32::from(width))
+    fixed(width)
 }
 
 /// The suffixes of files that lines are dealt to, of this width, or of the least that names them
 /// all where it is 0.
-fn suffix_of_dealt(alphabet: Alphabet, files: u64, width: u8) -> Result<Suffix, Fault>
+fn suffix_of_dealt(alphabet: Alphabet, files: u64, width: u32) -> Result<Suffix, Fault>
     ensures { result ≡ dealt alphabet files width }
 {
-    let width = u32::from(width);
     if width == 0 {
         return Ok(fixed(least_width(alphabet, files)));
     }

@@ -247,12 +247,10 @@ pub fn all_tools() -> &'static [ToolRow]
 pub fn find_row<'a>(rows: &'a [ToolRow], name: &str) -> Option<&'a ToolRow>
     ensures { option_map (λ row. tool_seen row.now) result ≡ row_named (map tool_seen rows.now) name.now }
 {
-    let mut left = rows;
-    while let [row, rest @ ..] = left {
+    for row in rows {
         if row.0 == name {
             return Some(row);
         }
-        left = rest;
     }
     None
 }
@@ -261,12 +259,10 @@ pub fn find_row<'a>(rows: &'a [ToolRow], name: &str) -> Option<&'a ToolRow>
 pub fn find_option(rows: &[OptionRow], name: &[u8]) -> Option<(Choice, Takes)>
     ensures { result ≡ option_named (map row_seen rows.now) name.now }
 {
-    let mut left = rows;
-    while let [row, rest @ ..] = left {
+    for row in rows {
         if is_among(row.0, name) {
             return Some((row.1, row.2));
         }
-        left = rest;
     }
     None
 }
@@ -275,12 +271,10 @@ pub fn find_option(rows: &[OptionRow], name: &[u8]) -> Option<(Choice, Takes)>
 fn is_among(names: &[&str], name: &[u8]) -> bool
     ensures { result ≡ is_among (map (λ known. known.now) names.now) name.now }
 {
-    let mut left = names;
-    while let [known, rest @ ..] = left {
+    for known in names {
         if known.as_bytes() == name {
             return true;
         }
-        left = rest;
     }
     false
 }

@@ -1,8 +1,8 @@
 //! What `tail` is asked for (POSIX.1-2017, XCU tail); `-F`, `--follow` and `--retry` are GNU's, `--looks` is of these tools.
-ghost use Rattle.std.specs.Prelude.{◌≡◌, fold, map, IfOk, IfErr};
-ghost use Rattle.words_core.specs.Given.{operand_seen, option_seen, texts_of};
+ghost use Rattle.std.specs.Prelude.{◌≡◌, map, IfOk, IfErr};
+ghost use Rattle.words_core.specs.Given.{asked_by, operand_seen, option_seen, texts_of};
 ghost use Rattle.words_core.specs.Spelling.{Reads};
-ghost use Rattle.words_core.specs.TailWords.{by_descriptor, by_name, follow_after, followed_in, following, has_hyphen, looking, no_following, tail_asked};
+ghost use Rattle.words_core.specs.TailWords.{by_descriptor, by_name, follow_by, followed_in, has_hyphen, no_following, tail_asked};
 ghost use Rattle.words_core.specs.Value.{seen};
 
 use crate::ends_words::settle_ends;
@@ -37,10 +37,19 @@ const BAD_FOLLOW: Fault = Fault::Usage(UsageKind::BadFollow, 0);
 impl FollowOptions {
     /// The same, and what one more option asks for.
     fn with(self, option: &Chosen<'_>) -> Self
-        ensures { result ≡ follow_after self (option_seen option.now) }
+        ensures { result ≡ follow_by self option.now.choice (seen option.now.value) }
     {
         match option.choice {
-            Choice::Follow => self.following(option.value),
+            Choice::Follow => match option.value {
+                Value::Following(followed) => FollowOptions {
+                    followed: Some(followed),
+                    ..self
+                },
+                _ => FollowOptions {
+                    followed: Some(Followed::Descriptor),
+                    ..self
+                },
+            },
             Choice::FollowNames => FollowOptions {
                 followed: Some(Followed::Name),
                 retry: true,
@@ -50,31 +59,10 @@ impl FollowOptions {
                 retry: true,
                 ..self
             },
-            Choice::Looks => self.looking(option.value),
-            _ => self,
-        }
-    }
-
-    fn following(self, value: Value<'_>) -> Self
-        ensures { result ≡ following self (seen value.entry) }
-    {
-        match value {
-            Value::Following(followed) => FollowOptions {
-                followed: Some(followed),
-                ..self
+            Choice::Looks => match option.value {
+                Value::Looks(looks) => FollowOptions { looks, ..self },
+                _ => self,
             },
-            _ => FollowOptions {
-                followed: Some(Followed::Descriptor),
-                ..self
-            },
-        }
-    }
-
-    fn looking(self, value: Value<'_>) -> Self
-        ensures { result ≡ looking self (seen value.entry) }
-    {
-        match value {
-            Value::Looks(looks) => FollowOptions { looks, ..self },
             _ => self,
         }
     }
@@ -100,13 +88,11 @@ pub fn settle_tail<'a>(alloc: Global, spelled: &Spelled<'a>) -> Result<TailSetti
 
 /// What all options ask for: the last that says what is followed, and the last number of looks.
 fn choose_following(options: &[Chosen<'_>]) -> FollowOptions
-    ensures { result ≡ fold follow_after no_following (map option_seen options.now) }
+    ensures { result ≡ asked_by follow_by no_following (map option_seen options.now) }
 {
     let mut asked = NO_FOLLOWING;
-    let mut left = options;
-    while let [option, rest @ ..] = left {
+    for option in options {
         asked = asked.with(option);
-        left = rest;
     }
     asked
 }
@@ -155,12 +141,10 @@ fn follow_names(operands: &[Operand<'_>]) -> Result<Option<Followed>, Fault>
 fn has_standard_input(operands: &[Operand<'_>]) -> bool
     ensures { result ≡ has_hyphen (texts_of (map operand_seen operands.now)) }
 {
-    let mut left = operands;
-    while let [operand, rest @ ..] = left {
+    for operand in operands {
         if operand.text == STANDARD_INPUT {
             return true;
         }
-        left = rest;
     }
     false
 }

@@ -1,7 +1,7 @@
 //! What `tee` is asked for (POSIX.1-2017, XCU tee).
-ghost use Rattle.std.specs.Prelude.{◌≡◌, fold, map, IfOk, IfErr};
-ghost use Rattle.words_core.specs.Given.{option_seen};
-ghost use Rattle.words_core.specs.TeeWords.{mode_after, tee_asked};
+ghost use Rattle.std.specs.Prelude.{◌≡◌, map, IfOk, IfErr};
+ghost use Rattle.words_core.specs.Given.{asked_by, option_seen};
+ghost use Rattle.words_core.specs.TeeWords.{mode_by, tee_asked};
 
 use crate::settings::TeeSettings;
 use crate::spelled::{Chosen, Spelled, texts_of};
@@ -26,15 +26,13 @@ pub fn settle_tee<'a>(alloc: Global, spelled: &Spelled<'a>) -> Result<TeeSetting
 
 /// How files are opened: they keep what they hold where an option says so, and else begin empty.
 fn choose_mode(options: &[Chosen<'_>]) -> Mode
-    ensures { result ≡ fold mode_after Mode.Fresh (map option_seen options.now) }
+    ensures { result ≡ asked_by mode_by Mode.Fresh (map option_seen options.now) }
 {
     let mut mode = Mode::Fresh;
-    let mut left = options;
-    while let [option, rest @ ..] = left {
+    for option in options {
         if option.choice == Choice::Append {
             mode = Mode::Append;
         }
-        left = rest;
     }
     mode
 }

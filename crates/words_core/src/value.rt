@@ -8,7 +8,7 @@ ghost use Rattle.words_core.specs.inner.Value.{seen_in};
 use crate::table::Kind;
 use ports_core::UsageKind;
 use seg_core::count::{Count, CountFault, read_count};
-use seg_core::digits::read_digits;
+use seg_core::digits::{GREATEST, read_digits};
 
 /// The value of an option.
 #[derive(Clone, Copy, Debug, PartialEq, Eq)]
@@ -49,7 +49,7 @@ const MOST_FILES: u64 = 65_535;
 const WIDEST: u64 = 255;
 
 /// The greatest number of looks.
-pub const MOST_LOOKS: u64 = 9_223_372_036_854_775_807;
+pub const MOST_LOOKS: u64 = GREATEST;
 
 /// Reads the value of an option.
 ///

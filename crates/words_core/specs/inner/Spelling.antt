@@ -5,7 +5,7 @@ use Rattle.ports_core.specs.declared.fault.Fault.{Fault}
 use Rattle.ports_core.specs.declared.fault.Fault.TheVariants.{Memory}
 use Rattle.words_core.specs.declared.spelling.State.{State}
 use Rattle.words_core.specs.Given.{Given}
-use Rattle.words_core.specs.Spelling.{Meaning, before, cluster}
+use Rattle.words_core.specs.Spelling.{Meaning, before}
 
 -- A cluster: letters, each an option. The value of one that takes one is the rest of the word, or the next word.
 

@@ -1,17 +1,24 @@
-use Rattle.words_core.proofs.CsplitLemmas.{keep_given, quiet_given, elide_given, suppress_given, appends_where_given}
+use Rattle.std.proofs.Common.{◌∙◌, ap, sym}
+use Rattle.ports_core.specs.declared.slot.Mode.TheVariants.{Fresh}
+use Rattle.words_core.specs.CsplitWords.{csplit_by, plain}
+use Rattle.words_core.specs.Laws.{appends, drops_sizes, elides_files, keeps_files, leaves_lines_out}
+use Rattle.words_core.specs.TeeWords.{mode_by, tee_asked}
+use Rattle.words_core.proofs.ChoiceLemmas.{append_is, given_anywhere, is_append, says_append, says_elide, says_keep, says_quiet, says_suppress}
 use Rattle.words_core.proofs.laws.options_stand_anywhere.Goals as goal
 
 pub returns-clause-keep : goal.returns-clause-keep
-returns-clause-keep c options = keep_given options
+returns-clause-keep c options = given_anywhere csplit_by (λ asked. asked.keep) keeps_files says_keep options plain
 
 pub returns-clause-quiet : goal.returns-clause-quiet
-returns-clause-quiet c options = quiet_given options
+returns-clause-quiet c options = given_anywhere csplit_by (λ asked. asked.quiet) drops_sizes says_quiet options plain
 
 pub returns-clause-elide : goal.returns-clause-elide
-returns-clause-elide c options = elide_given options
+returns-clause-elide c options = given_anywhere csplit_by (λ asked. asked.elide) elides_files says_elide options plain
 
 pub returns-clause-suppress : goal.returns-clause-suppress
-returns-clause-suppress c options = suppress_given options
+returns-clause-suppress c options = given_anywhere csplit_by (λ asked. asked.suppress) leaves_lines_out says_suppress options plain
 
 pub returns-clause-append : goal.returns-clause-append
-returns-clause-append c given = appends_where_given given
+returns-clause-append c given =
+    let given_so = given_anywhere mode_by is_append appends says_append given.options Fresh in
+    (λ is. sym given_so ∙ ap is_append is, λ is. append_is (tee_asked given).mode (given_so ∙ is))

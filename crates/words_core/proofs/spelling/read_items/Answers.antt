@@ -1,11 +1,11 @@
 use Rattle.std.proofs.Common.{map, refl}
 use Rattle.words_core.specs.Table.{row_seen}
-use Rattle.words_core.proofs.SpellingLemmas.{one_more, lacks_value, behind-nothing, one_place_more}
+use Rattle.words_core.proofs.SpellingLemmas.{one_more, lacks_value, given_before-nothing, one_place_more}
 use Rattle.words_core.proofs.spelling.read_items.Goals as goal
 
 pub loop-left-init : goal.loop-left-init
 loop-left-init c = record {
-  spells = behind-nothing c.new-spelled.result _ c.new-spelled.ensures;
+  spells = given_before-nothing c.new-spelled.result _ c.new-spelled.ensures;
   places = refl;
 }
 

@@ -1,10 +1,7 @@
-use Rattle.std.proofs.Common.{◌≡◌, map, length}
-use Rattle.words_core.specs.Given.{option_seen}
-use Rattle.words_core.specs.SplitWords.{no_options, split_options}
+use Rattle.std.proofs.Common.{◌≡◌, map, take}
+use Rattle.words_core.specs.Given.{asked_by, option_seen}
+use Rattle.words_core.specs.SplitWords.{no_options, split_by}
 use Rattle.words_core.proofs.split_words.choose_split.Given as goal
 
-abbrev pub invariant-loop-left : goal.invariant-loop-left
-invariant-loop-left l = split_options (map option_seen l.left) l.asked ≡ split_options (map option_seen l.options) no_options
-
-abbrev pub decreases-loop-left : goal.decreases-loop-left
-decreases-loop-left l = length l.left
+abbrev pub invariant-loop-option : goal.invariant-loop-option
+invariant-loop-option l = l.asked ≡ asked_by split_by no_options (map option_seen (take l.option-index l.options))

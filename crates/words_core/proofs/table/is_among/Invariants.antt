@@ -1,9 +1,6 @@
-use Rattle.std.proofs.Common.{◌≡◌, map, length}
+use Rattle.std.proofs.Common.{◌≡◌, map, drop}
 use Rattle.words_core.specs.Table.{is_among}
 use Rattle.words_core.proofs.table.is_among.Given as goal
 
-abbrev pub invariant-loop-left : goal.invariant-loop-left
-invariant-loop-left l = is_among (map (λ known. known.now) l.left) l.name ≡ is_among (map (λ known. known.now) l.names) l.name
-
-abbrev pub decreases-loop-left : goal.decreases-loop-left
-decreases-loop-left l = length l.left
+abbrev pub invariant-loop-known : goal.invariant-loop-known
+invariant-loop-known l = is_among (map (λ known. known.now) (drop l.known-index l.names)) l.name ≡ is_among (map (λ known. known.now) l.names) l.name

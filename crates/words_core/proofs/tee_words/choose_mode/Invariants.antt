@@ -1,12 +1,8 @@
-use Rattle.std.proofs.Common.{◌≡◌, map, length}
-use Rattle.std.specs.Prelude.{fold}
+use Rattle.std.proofs.Common.{◌≡◌, map, take}
 use Rattle.ports_core.specs.declared.slot.Mode.TheVariants.{Fresh}
-use Rattle.words_core.specs.Given.{option_seen}
-use Rattle.words_core.specs.TeeWords.{mode_after}
+use Rattle.words_core.specs.Given.{asked_by, option_seen}
+use Rattle.words_core.specs.TeeWords.{mode_by}
 use Rattle.words_core.proofs.tee_words.choose_mode.Given as goal
 
-abbrev pub invariant-loop-left : goal.invariant-loop-left
-invariant-loop-left l = fold mode_after l.mode (map option_seen l.left) ≡ fold mode_after Fresh (map option_seen l.options)
-
-abbrev pub decreases-loop-left : goal.decreases-loop-left
-decreases-loop-left l = length l.left
+abbrev pub invariant-loop-option : goal.invariant-loop-option
+invariant-loop-option l = l.mode ≡ asked_by mode_by Fresh (map option_seen (take l.option-index l.options))
