@@ -39,13 +39,6 @@ follows_as told_in told asked followed by_name start headers names looks shows f
       F : Bool → Start → Bool → List (List ℕ) → List Slot → Type 0
       F b s h n f = KeptSoLong told_in b shows looks seen n → FollowEndsAs told_in told (ways_of b s) h n looks shows f seen watched new status
 
--- the words ask `tail` to follow these
-pub tail_follows : (told_in told : Bool) (words : List (List ℕ)) (asked : TailSettings) (same : Option Followed) (looks : ℕ) (shows : ℕ → Snapshot) (seen : List Snapshot) (watched : List Watched) (new : List Slot) (status : ℕ) → settings_of words ≡ Ok (Tail asked) → asked.followed ≡ same
-    → FollowsTail told_in told words asked.ends same looks shows seen watched new status → FollowingEnds told_in told words looks shows seen watched new status
-tail_follows told_in told words asked same looks shows seen watched new status is followed follows =
-    subst (λ (meant : Result Settings Fault). FollowingEndsAt told_in told words looks shows seen watched new status meant) (sym is)
-    (subst (λ those. FollowsTail told_in told words asked.ends those looks shows seen watched new status) (sym followed) follows)
-
 -- words that weren't read for want of memory, where they ask for this
 
 refused_memory : (told : Bool) (words : List (List ℕ)) (fault : Fault) (new : List Slot) (status : ℕ) → RefusesFor told words Memory new status → RefusesFor told words fault new status

@@ -1,7 +1,7 @@
 //! One whole run of `tail` that follows files (POSIX.1-2017, XCU tail, `-f`; names that are followed are GNU's).
-ghost use Rattle.std.specs.Prelude.{◌≡◌, [], map};
+ghost use Rattle.std.specs.Prelude.{◌≡◌, [], Ok, map};
 ghost use Rattle.ports_core.specs.Slot.{streams};
-ghost use Rattle.tools_core.specs.Following.{FollowingEnds, FollowsAs, is_name, start_of};
+ghost use Rattle.tools_core.specs.Following.{FollowingEnds, FollowingEndsAt, FollowsAs, is_name, start_of};
 
 use crate::ends::{has_headers, is_plus};
 use crate::run::refuse_words;
@@ -31,12 +31,32 @@ pub fn run_follow<W: Watch, O: Outs>(
     ensures { FollowingEnds W.told O.told (map (λ word. word.now) words.now) looks (W.shows watch.old) (W.seen watch.new) (W.watched watch.new) (O.slots outs.new) result }
 {
     match read_words(alloc, words) {
-        Ok(Settings::Tail(settings)) => match settings.followed {
-            Some(followed) => follow_tail(alloc, &settings.ends, followed, watch, outs, looks),
+        Ok(settings) => follow_asked(alloc, words, &settings, watch, outs, looks),
+        Err(fault) => refuse_words(alloc, words, &fault, outs),
+    }
+}
+
+/// Follows what the settings, which the words spell, ask `tail` to follow; words that follow nothing are refused.
+pub(crate) fn follow_asked<W: Watch, O: Outs>(
+    alloc: Global,
+    words: &[&str],
+    settings: &Settings<'_>,
+    watch: &mut W,
+    outs: &mut O,
+    looks: u64,
+) -> u8
+    requires unseen { W.seen watch.old ≡ [] }
+    requires unwatched { W.watched watch.old ≡ [] }
+    requires outputs { O.slots outs.old ≡ streams }
+    ensures { FollowingEndsAt W.told O.told (map (λ word. word.now) words.now) looks (W.shows watch.old) (W.seen watch.new)
+        (W.watched watch.new) (O.slots outs.new) result (Ok settings.now) }
+{
+    match settings {
+        Settings::Tail(tail) => match tail.followed {
+            Some(followed) => follow_tail(alloc, &tail.ends, followed, watch, outs, looks),
             None => refuse_words(alloc, words, &NOT_FOLLOWED, outs),
         },
-        Ok(_) => refuse_words(alloc, words, &NOT_FOLLOWED, outs),
-        Err(fault) => refuse_words(alloc, words, &fault, outs),
+        _ => refuse_words(alloc, words, &NOT_FOLLOWED, outs),
     }
 }
 

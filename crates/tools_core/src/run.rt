@@ -53,7 +53,8 @@ pub(crate) fn refuse_words<O: Outs>(
     1
 }
 
-fn run_tool<I: Inputs, O: Outs>(
+/// Does what the settings ask for, over the inputs that they name. `tail` takes what is there of each, and follows nothing.
+pub(crate) fn run_tool<I: Inputs, O: Outs>(
     alloc: Global,
     settings: &Settings<'_>,
     inputs: &mut I,
@@ -108,7 +109,7 @@ fn run_tool<I: Inputs, O: Outs>(
 }
 
 /// Who refuses words: the tool that they name, or the program where they name none.
-pub(crate) fn speaker(words: &[&str]) -> Tool
+fn speaker(words: &[&str]) -> Tool
     ensures { result ≡ speaker (map (λ word. word.now) words.now) }
 {
     match words {
