@@ -9,7 +9,7 @@ import re
 TOP = os.path.dirname(os.path.dirname(os.path.realpath(__file__)))
 CRATES = os.path.join(TOP, "crates")
 # What stands on nobody's way: tests, and what measures.
-NO_LIBRARIES = re.compile(r".*_tests$|match_time$|copy_example$")
+NO_LIBRARIES = re.compile(r".*_tests$|match_time$")
 
 WORD = re.compile(r"[^\s(){}\[\],;λ`\"]+")
 BEGINS = re.compile(r"(?:(?:abbrev|unfoldable|pub)\s+)*(?:(?P<kind>data|record)\s+(?P<type>[^\s:({]+)|(?P<name>[^\s:({]+)\s+:(?:\s|$))")

@@ -1,8 +1,6 @@
-//! Tests of the engines: `ends_core`, `split_core`, `csplit_core`, `tee_core`, `follow_core` and `copy_example`.
+//! Tests of the engines: `ends_core`, `split_core`, `csplit_core`, `tee_core` and `follow_core`.
 #![tactic(auto)]
 
-#[cfg(test)]
-mod copy_tests;
 #[cfg(test)]
 mod csplit_plain;
 #[cfg(test)]

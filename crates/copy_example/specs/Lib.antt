@@ -1,3 +1,0 @@
-pub mod Copy
-pub mod CopyLaws
-pub mod Copying
