@@ -3,6 +3,7 @@ use Rattle.std.proofs.Common.{◌≡◌, ℕ, zero, suc, ◌<◌, ◌≤◌, ◌
 use Rattle.std.proofs.lemmas.List.{length-append, map-append, take-append-le}
 use Rattle.std.proofs.Math.Seq.{take-append_seam}
 use mir.Val.{bool_byte}
+use Rattle.ports_core.proofs.Runs.{as_status}
 use Rattle.ports_core.specs.Slot.{Slot}
 use Rattle.ports_core.specs.declared.fault.Fault.{Fault}
 use Rattle.watch_core.specs.Snapshot.{Snapshot}
@@ -11,11 +12,10 @@ use Rattle.follow_core.specs.declared.start.Start.{Start}
 use Rattle.follow_core.specs.Ending.{FollowEndsAs, KeptIn, KeptSoLong, Made, StoppedIn, looked, seen_first}
 use Rattle.follow_core.specs.inner.Looks.{LookedAll}
 use Rattle.follow_core.specs.FollowState.{FollowState, Halted, Holds, LooksOn, SawOrNot, StopsOn, is_alive, new_state, opened_follow}
-use Rattle.follow_core.specs.Look.{Fate, Look, Ways, snapshots}
+use Rattle.follow_core.specs.Look.{Fate, Look, Ways, snapshots, ways_of}
 use Rattle.follow_core.specs.Run.{AreKept}
 use Rattle.follow_core.specs.Standing.{AllKeep, texts}
 use Rattle.follow_core.specs.Version.{entries_of}
-use Rattle.follow_core.specs.Visited.{ways_of}
 use Rattle.follow_core.proofs.FollowLemmas.{broken_are}
 use Rattle.follow_core.proofs.VisitAllLemmas.{nothing_shared}
 
@@ -193,10 +193,6 @@ open_holds told_in told by_name start headers names follow watched slots is = su
   shared = nothing_shared told (opened_follow by_name start headers names).printer slots;
   failed = refl;
 })
-
-as_status : (failed : Bool) → bool_byte failed ≡ (if failed then 1 else 0)
-as_status true = refl
-as_status false = refl
 
 pub ends_looked : (told_in told : Bool) (ways : Ways) (headers : Bool) (names : List (List ℕ)) (count : ℕ) (shows : ℕ → Snapshot) (first slots : List Slot) (seen : List Snapshot) (watched : List Watched) (follow : FollowState) (failed : Bool) (status : ℕ) → failed ≡ follow.has_failed → status ≡ bool_byte failed
     → LookedAll told_in told ways headers names count shows first follow seen watched slots → FollowEndsAs told_in told ways headers names count shows first seen watched slots status

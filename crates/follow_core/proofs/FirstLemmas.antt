@@ -13,7 +13,8 @@ use Rattle.follow_core.specs.Notice.{is_missing, notice_of, notices_of}
 use Rattle.follow_core.specs.Look.{Ways, Look, sound, unopened, unread, entries_in, Fate, unopened as not_opened, unread as not_read, is_sound}
 use Rattle.follow_core.specs.Share.{gain, missing_share, share_by, told_at_look, IsFront, Share, BeginsShare}
 use Rattle.follow_core.specs.inner.Visits.{Stopped, has_failed}
-use Rattle.follow_core.proofs.GiveLemmas.{adds-nil, adds_both, front_nil, failure_told, tells_after, itself, short_after, short_more}
+use Rattle.follow_core.proofs.GiveLemmas.{front_nil, failure_told, tells_after, itself, short_after, short_more}
+use Rattle.ports_core.proofs.Runs.{adds-nil, adds_both}
 use Rattle.ports_core.specs.Slot.{Slot, adds, told_of, with_written}
 use Rattle.ports_core.specs.Message.{Says, SaysOn}
 use Rattle.follow_core.specs.Telling.{IsFailure, TellsAll}

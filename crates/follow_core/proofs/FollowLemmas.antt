@@ -14,14 +14,13 @@ use Rattle.follow_core.specs.Ending.{AreBroken}
 use Rattle.follow_core.specs.Followed.{any_failed, last_header_from, messages_of, text_from}
 use Rattle.follow_core.specs.FollowState.{AllReady, FollowState, Holds, LooksOn, StandsIn, StopsOn, goes_on_at, is_alive, is_alive_from, new_state, nothing, up_to}
 use Rattle.follow_core.specs.inner.Looks.{Begins, MakesLook}
-use Rattle.follow_core.specs.Look.{Look, Ways, is_dropped, snapshots}
+use Rattle.follow_core.specs.Look.{Look, Ways, is_dropped, snapshots, ways_of}
 use Rattle.follow_core.specs.Printing.{PrinterState, Short, fresh_printer, no_room}
 use Rattle.follow_core.specs.Share.{Share, shares_at_look, shares_of}
 use Rattle.follow_core.specs.Sharing.{AllShared, AllShort, Wrote, WroteShort}
 use Rattle.follow_core.specs.Standing.{AllKeep, AllStand, CanVisit, IsFollowed, NameState, Stands, state_at, texts}
 use Rattle.follow_core.specs.inner.Visits.{any_goes_on, goes_on_as, StoppedAt, VisitedAll}
 use Rattle.follow_core.specs.Version.{open_after}
-use Rattle.follow_core.specs.Visited.{ways_of}
 use Rattle.ports_core.specs.declared.fault.Fault.{Fault}
 use Rattle.ports_core.specs.declared.fault.Fault.TheVariants as fault
 use Rattle.watch_core.specs.Snapshot.{Snapshot}

@@ -18,7 +18,8 @@ use Rattle.follow_core.specs.Printing.{PrinterState, Short, broke as short_broke
 use Rattle.follow_core.specs.inner.Giving.{header_under, is_due, front_under, text_under, printer_under, PutOut, Gives, Halts, Ends, whole, broke, over}
 use Rattle.follow_core.specs.declared.visitor.Stop.{Stop}
 use Rattle.follow_core.specs.Share.{IsFront}
-use Rattle.ports_core.proofs.WriteLemmas.{told_of-append, told_of-nil, writable-written}
+use Rattle.ports_core.proofs.Runs.{adds-nil, adds_both}
+use Rattle.ports_core.proofs.WriteLemmas.{writable-written}
 use Rattle.watch_core.specs.Snapshot.{Snapshot}
 use Rattle.watch_core.specs.Watched.{Watched, GaveFrom, breaks}
 use Rattle.follow_core.specs.declared.visitor.Stop.TheVariants.{Broke, Over}
@@ -120,12 +121,6 @@ short_after told first second old mid new _ one (no_room n within is) = no_room 
     (written_both told old mid new first (take n second) one is ∙ ap (λ bytes. with_written 0 (told_of told bytes) old) (sym (take-append-add first second n)))
 
 -- what is given in two steps
-
-pub adds-nil : (told : Bool) (slot : Slot) → adds (told_of told []) slot ≡ slot
-adds-nil told slot = ap (λ bytes. record slot { written = slot.written ++ bytes }) (told_of-nil told) ∙ ap (λ written. record slot { written = written }) (append-nil slot.written)
-
-pub adds_both : (told : Bool) (first second : List ℕ) (slot : Slot) → adds (told_of told second) (adds (told_of told first) slot) ≡ adds (told_of told (first ++ second)) slot
-adds_both told first second slot = ap (λ written. record slot { written = written }) (append_assoc slot.written (told_of told first) (told_of told second) ∙ ap (λ bytes. slot.written ++ bytes) (sym (told_of-append told first second)))
 
 pub gives_nothing : (told : Bool) (printer : PrinterState) (name : List ℕ) (slots : List Slot) → Gives told printer name [] [] slots printer slots
 gives_nothing told printer name slots = record {

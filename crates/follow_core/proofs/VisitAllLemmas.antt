@@ -12,7 +12,8 @@ use Rattle.follow_core.specs.Printing.{PrinterState, Short}
 use Rattle.follow_core.specs.Sharing.{AllShared, AllShort, Wrote, WroteShort}
 use Rattle.follow_core.specs.inner.Giving.{Shared, SharedShort}
 use Rattle.follow_core.specs.Standing.{AllKeep, AllStand, CanVisit, KeepsBytes, NameState, Stands, no_state, state_at, texts}
-use Rattle.follow_core.proofs.GiveLemmas.{tells_after, adds_both, adds-nil, short_after}
+use Rattle.follow_core.proofs.GiveLemmas.{tells_after, short_after}
+use Rattle.ports_core.proofs.Runs.{adds_both, adds-nil}
 use Rattle.ports_core.specs.declared.fault.Fault.{Fault}
 use Rattle.watch_core.specs.Snapshot.{Snapshot}
 use Rattle.watch_core.specs.Watched.{Watched, watched_at}

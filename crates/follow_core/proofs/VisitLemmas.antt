@@ -1,8 +1,9 @@
 -- A visit of one name.
-use Rattle.std.proofs.Common.{Result, Ok, Err, ◌≡◌, ℕ, zero, suc, Bool, true, false, not, ◌||◌, IsTrue, List, [], ◌∷◌, ◌++◌, length, map, Option, None, slice_index_or, refl, sym, ◌∙◌, ap, subst, inl, inr, if◌then◌else◌}
+use Rattle.std.proofs.Common.{Result, Ok, Err, ◌≡◌, ℕ, zero, suc, Bool, true, false, not, ◌||◌, IsTrue, List, [], ◌∷◌, ◌++◌, length, map, Option, None, refl, sym, ◌∙◌, ap, subst, inl, inr, if◌then◌else◌}
 use Rattle.std.proofs.lemmas.Bool.{false≢true}
 use Rattle.ports_core.specs.Slot.{Slot, changed_at}
 use Rattle.ports_core.specs.declared.fault.Fault.{Fault}
+use Rattle.ports_core.proofs.InputsLemmas.{changed_elsewhere}
 use Rattle.ports_core.proofs.SlotLemmas.{changed_at-again, length-changed_at}
 use Rattle.watch_core.specs.Snapshot.{Snapshot}
 use Rattle.watch_core.specs.Watched.{Reopens, Watched, added, open_contents, breaks, is_some, is_watchable, no_name, opens, watched_at}
@@ -41,13 +42,6 @@ abbrev pub IsLater : Came → Type 0
 IsLater (Through len) = Unit {0}
 IsLater Missing = ⊥
 IsLater Dropped = Unit {0}
-
-changed_elsewhere : {X : Type 0} (default : X) (place other : ℕ) (change : X → X) (xs : List X) → (other ≡ place → ⊥) → slice_index_or (changed_at place change xs) other default ≡ slice_index_or xs other default
-changed_elsewhere default place other change [] differs = refl
-changed_elsewhere default zero zero change (x ∷ xs) differs = absurd (differs refl)
-changed_elsewhere default zero (suc other) change (x ∷ xs) differs = refl
-changed_elsewhere default (suc place) zero change (x ∷ xs) differs = refl
-changed_elsewhere default (suc place) (suc other) change (x ∷ xs) differs = changed_elsewhere default place other change xs (λ same. differs (ap suc same))
 
 keeps_others : (place : ℕ) (change : Watched → Watched) (old new : List Watched) → new ≡ changed_at place change old → KeepsOthers place old new
 keeps_others place change old new is = record {

@@ -10,12 +10,11 @@ use Rattle.follow_core.specs.declared.name.Standing.TheVariants.{New}
 use Rattle.follow_core.specs.declared.start.Start.{Start}
 use Rattle.follow_core.specs.Sharing.{CanPrint, AllShared, AllShort}
 use Rattle.follow_core.specs.Followed.{any_failed}
-use Rattle.follow_core.specs.Look.{Fate, Look, Ways, is_dropped, snapshots}
+use Rattle.follow_core.specs.Look.{Fate, Look, Ways, is_dropped, snapshots, ways_of}
 use Rattle.follow_core.specs.Share.{BeginsShare, Share, share_of, shares_at_look_from, shares_of}
 use Rattle.follow_core.specs.Printing.{PrinterState, fresh_printer}
 use Rattle.follow_core.specs.Standing.{AllKeep, AllStand, CanVisit, NameState, state_at, texts}
 use Rattle.follow_core.specs.Version.{open_after}
-use Rattle.follow_core.specs.Visited.{ways_of}
 
 pub record FollowState : Type 0 where
   pub by_name : Bool

@@ -10,7 +10,6 @@ pub mod Telling
 pub mod Printing
 pub mod Sharing
 pub mod Standing
-pub mod Visited
 pub mod FollowState
 pub mod Ending
 pub mod inner

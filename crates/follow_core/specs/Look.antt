@@ -1,6 +1,8 @@
 -- The looks that were made, and how each name came through them.
 use Rattle.std.specs.Prelude.{ℕ, Bool, true, false, not, ◌||◌, List, [], ◌∷◌, map, slice_index_or}
+use Rattle.ends_core.specs.Ends.{tail_of}
 use Rattle.watch_core.specs.Snapshot.{Snapshot}
+use Rattle.follow_core.specs.declared.start.Start.{Start}
 use Rattle.follow_core.specs.Version.{Entry, entries_of}
 
 -- how a name came through a look
@@ -43,6 +45,10 @@ is_first (look ∷ looks) = false
 pub record Ways : Type 0 where
   pub by_name : Bool
   pub start : List ℕ → List ℕ
+
+-- as they are asked for
+abbrev pub ways_of : Bool → Start → Ways
+ways_of by_name start = record { by_name = by_name; start = tail_of start.delim start.unit start.from_nth start.count }
 
 -- the versions of a name in these looks
 abbrev pub entries_in : Ways → List ℕ → List Look → List Entry

@@ -4,10 +4,9 @@ ghost use Rattle.watch_core.specs.Snapshot.{latest};
 ghost use Rattle.watch_core.specs.Watched.{added, watched_at};
 ghost use Rattle.follow_core.specs.Sharing.{CanPrint, HasError};
 ghost use Rattle.follow_core.specs.FollowState.{new_state};
-ghost use Rattle.follow_core.specs.Look.{Look};
+ghost use Rattle.follow_core.specs.Look.{Look, ways_of};
 ghost use Rattle.follow_core.specs.inner.Visits.{has_failed, any_goes_on, goes_on_as, standing_after, StoppedAt, VisitedAll, Visits};
 ghost use Rattle.follow_core.specs.Standing.{AllKeep, AllStand, CanVisit, NameState, state_at, texts};
-ghost use Rattle.follow_core.specs.Visited.{ways_of};
 
 use crate::start::Start;
 use crate::visitor::{Came, Visitor};

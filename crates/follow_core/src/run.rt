@@ -5,8 +5,7 @@ ghost use Rattle.follow_core.specs.Sharing.{HasError};
 ghost use Rattle.follow_core.specs.Ending.{FollowEndsAs, KeptSoLong, StoppedIn};
 ghost use Rattle.follow_core.specs.inner.Looks.{LookedAll};
 ghost use Rattle.follow_core.specs.FollowState.{CanLook, Holds};
-ghost use Rattle.follow_core.specs.Look.{Ways};
-ghost use Rattle.follow_core.specs.Visited.{ways_of};
+ghost use Rattle.follow_core.specs.Look.{Ways, ways_of};
 
 use crate::follow::Follow;
 use crate::start::Start;

@@ -11,7 +11,7 @@ ghost use Rattle.follow_core.specs.inner.Calls.{CanGoOn, Keeps, as_stop, change_
 ghost use Rattle.follow_core.specs.Sharing.{CanPrint, HasError};
 ghost use Rattle.follow_core.specs.inner.Giving.{Ends};
 ghost use Rattle.follow_core.specs.inner.Visits.{TellsStop, Looks};
-ghost use Rattle.follow_core.specs.Visited.{ways_of};
+ghost use Rattle.follow_core.specs.Look.{ways_of};
 
 use crate::notice::{Notice, notice_line};
 use crate::printer::Printer;

@@ -6,6 +6,7 @@ pub mod SweepLemmas
 pub mod FileLemmas
 pub mod SlotLemmas
 pub mod SourceLemmas
+pub mod InputsLemmas
 pub mod TextLemmas
 pub mod WriteLemmas
 pub mod NameLemmas
@@ -17,3 +18,4 @@ pub mod MessageLemmas
 pub mod SlotSteps
 pub mod AgreedLemmas
 pub mod OneAgreed
+pub mod Runs

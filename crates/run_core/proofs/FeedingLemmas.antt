@@ -1,83 +1,24 @@
 -- Lemmas on the loop that feeds an engine.
-use Rattle.std.proofs.Common.{◌≡◌, ℕ, ◌+◌, ◌<◌, ◌≤◌, ◌^◌, max, zero, suc, Bool, true, false, not, ◌&&◌, ◌||◌, IsTrue, List, [], ◌∷◌, ◌++◌, length, take, drop, slice_index_or, Result, Ok, Err, IfOk, None, arith, append_assoc, length-append, length-take, inl, inr, refl, sym, ◌∙◌, ap, subst}
-use Rattle.std.proofs.lemmas.List.{append-nil, take-append-drop}
+use Rattle.std.proofs.Common.{◌≡◌, ℕ, ◌+◌, ◌<◌, ◌≤◌, ◌^◌, Bool, true, false, not, ◌||◌, List, [], ◌++◌, length, take, Result, Ok, Err, IfOk, None, arith, length-append, length-take, inl, inr, refl, sym, ◌∙◌, ap, subst}
+use Rattle.std.proofs.lemmas.List.{append-nil}
 use Rattle.std.proofs.lemmas.Bool.{false≢true}
-use Rattle.ports_core.specs.Slot.{Slot, changed_at}
-use Rattle.ports_core.specs.Source.{Content, Source, source_at, is_readable, gives, fails, without, Gave, BrokeOff}
+use Rattle.ports_core.specs.Slot.{Slot}
+use Rattle.ports_core.specs.Source.{Content}
 use Rattle.ports_core.specs.Part.{Part, OutputsAt}
 use Rattle.ports_core.specs.Swept.{Swept}
 use Rattle.ports_core.specs.Work.{Work, Means, Needs, IsLawful, IsComplete, Judges, IsSettled}
-use Rattle.ports_core.specs.Engine.{StandsAt, TakesIn, PutsOut, CutsOff, Finishes, EndsShort, EndsWith, EndsThere, IsCaused, IsMet, Ended, is_verdict, KeepsOwn, Clears}
+use Rattle.ports_core.specs.Engine.{StandsAt, TakesIn, PutsOut, CutsOff, EndsShort, EndsWith, EndsThere, IsCaused, IsMet, Ended, is_verdict, KeepsOwn, Clears}
 use Rattle.ports_core.specs.Engine as engine
 use Rattle.ports_core.specs.Guard.{GuardState, HoldsIn}
 use Rattle.ports_core.specs.declared.fault.Fault.{Fault}
 use Rattle.ports_core.specs.declared.fault.Fault.TheVariants.{Memory, Write, Read, Open, Suffixes, NoMatch, Range, Usage, Failed, TooLong}
-use Rattle.ports_core.proofs.SlotLemmas.{length-changed_at}
-use Rattle.ports_core.proofs.SourceLemmas.{readable_within}
-use Rattle.ports_core.proofs.LoadLemmas.{changed_there}
 use Rattle.run_core.specs.declared.feeding.Fed.{Fed}
 use Rattle.run_core.specs.declared.feeding.Fed.TheVariants.{Whole, Enough, Broken}
-use Rattle.run_core.specs.Input.{empty}
-use Rattle.run_core.specs.Feeding.{BreaksOnly, Stops, HasAll, to_end, enough, call_of, feeds, closes, FedAs, whole, had_enough, broke_off, judged, stopped, OfContent, KeepsOthers, IsNeeded, ReadsFor}
+use Rattle.ports_core.specs.Inputs.{empty}
+use Rattle.run_core.specs.Feeding.{Stops, HasAll, to_end, enough, call_of, feeds, closes, FedAs, whole, had_enough, broke_off, judged, stopped, IsNeeded, ReadsFor}
 use Rattle.run_core.specs.inner.Feeding.{EndsSo, finished, fell_short}
 
--- what was read of the input with this number so far, and what is left of it
-pub record HasRead (content : Content) (x : List ℕ) (slot : ℕ) (sources : List Source) : Type 0 where
-  pub bytes : content.bytes ≡ x ++ (source_at sources slot).left.bytes
-  pub breaks_off : (source_at sources slot).left.breaks_off ≡ content.breaks_off
-
-pub nothing_read : (slot : ℕ) (sources : List Source) → HasRead (source_at sources slot).left [] slot sources
-nothing_read slot sources = record { bytes = refl; breaks_off = refl }
-
 -- a change of one input
-
-changed_elsewhere : {X : Type 0} (default : X) (place other : ℕ) (change : X → X) (xs : List X) → (other ≡ place → ⊥) → slice_index_or (changed_at place change xs) other default ≡ slice_index_or xs other default
-changed_elsewhere default place other change [] differs = refl
-changed_elsewhere default zero zero change (x ∷ xs) differs = absurd (differs refl)
-changed_elsewhere default zero (suc other) change (x ∷ xs) differs = refl
-changed_elsewhere default (suc place) zero change (x ∷ xs) differs = refl
-changed_elsewhere default (suc place) (suc other) change (x ∷ xs) differs = changed_elsewhere default place other change xs (λ same. differs (ap suc same))
-
-pub keeps_others : (slot : ℕ) (change : Source → Source) (old new : List Source) → new ≡ changed_at slot change old → KeepsOthers slot old new
-keeps_others slot change old new is = record {
-  count = ap length is ∙ length-changed_at slot change old;
-  others = λ place differs. ap (λ those. source_at those place) is ∙ changed_elsewhere _ slot place change old differs;
-}
-
-pub keeps_itself : (slot : ℕ) (sources : List Source) → KeepsOthers slot sources sources
-keeps_itself slot sources = record { count = refl; others = λ place differs. refl }
-
-pub keeps_again : (slot : ℕ) (old mid new : List Source) → KeepsOthers slot old mid → KeepsOthers slot mid new → KeepsOthers slot old new
-keeps_again slot old mid new first second = record {
-  count = second.count ∙ first.count;
-  others = λ place differs. second.others place differs ∙ first.others place differs;
-}
-
-left_after : (slot : ℕ) (sources new : List Source) (size n : ℕ) → IsTrue (is_readable sources slot) → new ≡ changed_at slot (gives size n) sources → source_at new slot ≡ gives size n (source_at sources slot)
-left_after slot sources new size n can is = ap (λ those. source_at those slot) is ∙ changed_there _ slot (gives size n) sources (readable_within sources slot can)
-
--- an input that can be read didn't break
-pub sound_at : (sources : List Source) (slot : ℕ) → IsTrue (is_readable sources slot) → (source_at sources slot).is_broken ≡ false
-sound_at sources slot can = by_flags (source_at sources slot).is_open (source_at sources slot).is_broken can where
-  by_flags : (opened broken : Bool) → (opened && not broken) ≡ true → broken ≡ false
-  by_flags true false is = refl
-  by_flags true true is = absurd (false≢true is)
-  by_flags false broken is = absurd (false≢true is)
-
--- a read changes no flag
-pub still_readable : (slot : ℕ) (sources new : List Source) (size n : ℕ) → new ≡ changed_at slot (gives size n) sources → IsTrue (is_readable sources slot) → IsTrue (is_readable new slot)
-still_readable slot sources new size n is can = ap (λ (source : Source). source.is_open && not source.is_broken) (left_after slot sources new size n can is) ∙ can
-
-pub read_more : (content : Content) (x : List ℕ) (slot : ℕ) (sources new : List Source) (old_buffer buffer : List ℕ) (size n : ℕ) → HasRead content x slot sources → IsTrue (is_readable sources slot) → Gave (source_at sources slot).left old_buffer buffer n → new ≡ changed_at slot (gives size n) sources → HasRead content (x ++ take n buffer) slot new
-read_more content x slot sources new old_buffer buffer size n read can gave is =
-    let after : (source_at new slot).left ≡ without n (source_at sources slot).left = ap (λ source. source.left) (left_after slot sources new size n can is) in
-    record {
-      bytes = read.bytes ∙ ap (λ bytes. x ++ bytes) (sym (take-append-drop n (source_at sources slot).left.bytes))
-          ∙ sym (append_assoc x (take n (source_at sources slot).left.bytes) (drop n (source_at sources slot).left.bytes))
-          ∙ ap (λ bytes. (x ++ bytes) ++ drop n (source_at sources slot).left.bytes) (sym gave.front)
-          ∙ ap (λ left. (x ++ take n buffer) ++ left.bytes) (sym after);
-      breaks_off = ap (λ left. left.breaks_off) after ∙ read.breaks_off;
-    }
 
 -- why an engine that is live is stopped
 stops : (work : Work) (read : List ℕ) (low high : Part) (needs : Needs) (Lacks : Type 0) (Ends : Fault → Type 0) (fault : Fault) (taken size : ℕ) (old new : List Slot) → is_verdict fault ≡ false → (2 ^ 63 ≤ taken + size → 2 ^ 63 ≤ length read)
@@ -267,16 +208,6 @@ module _ {S : Type 0} (Holds : S → List ℕ → Type 0) (Owns : S → ℕ → 
   close_short told engine mid fed old reached new fault short caused same owned kept cleared =
       fell_short fault reached short caused kept (λ unjudged first own. subst (λ (those : Work). Swept those.clears first reached new) same (cleared unjudged first (owned unjudged first own)))
 
-pub read_to_end : (content : Content) (x : List ℕ) (slot : ℕ) (sources : List Source) → HasRead content x slot sources → (source_at sources slot).left.bytes ≡ [] → (source_at sources slot).left.breaks_off ≡ false → (content.breaks_off ≡ false) × (content.bytes ≡ x)
-read_to_end content x slot sources read none sound = (sym read.breaks_off ∙ sound, read.bytes ∙ ap (λ rest. x ++ rest) none ∙ append-nil x)
-
-pub read_broken : (content : Content) (x : List ℕ) (slot : ℕ) (sources : List Source) → HasRead content x slot sources → BrokeOff (source_at sources slot).left → (content.bytes ≡ x) × (content.breaks_off ≡ true)
-read_broken content x slot sources read broke = (read.bytes ∙ ap (λ rest. x ++ rest) broke.no_more ∙ append-nil x, sym read.breaks_off ∙ broke.breaks_off)
-
-pub of_content : (told : Bool) (there seen : Content) (source : Source) (P : Content → Type 0) → (told ≡ true → P there) → (told ≡ false → P seen) → (seen.breaks_off ≡ true → source.is_broken ≡ true) → OfContent told there (λ content. P content × BreaksOnly told content source)
-of_content true there seen source P told untold broke = (there, λ t. refl, (told refl, λ differs. absurd (false≢true (sym differs))))
-of_content false there seen source P told untold broke = (seen, λ t. absurd (false≢true t), (untold refl, λ _. broke))
-
 -- what was read was needed
 
 pub needed_none : (is_complete : List ℕ → Bool) (most : ℕ) → IsNeeded is_complete most []
@@ -288,35 +219,9 @@ piece_within n most buffer within = omega (arith, length-take n buffer)
 pub needed_more : (is_complete : List ℕ → Bool) (most n : ℕ) (x buffer : List ℕ) → is_complete x ≡ false → n ≤ most → IsNeeded is_complete most (x ++ take n buffer)
 needed_more is_complete most n x buffer going within = inr (x, take n buffer, refl, piece_within n most buffer within, going)
 
-pub read_failed : (content : Content) (x : List ℕ) (slot : ℕ) (sources new : List Source) (size : ℕ) → HasRead content x slot sources → IsTrue (is_readable sources slot) → new ≡ changed_at slot (fails size) sources → content.bytes ≡ x ++ (source_at new slot).left.bytes
-read_failed content x slot sources new size read can is =
-    read.bytes ∙ ap (λ (left : Content). x ++ left.bytes)
-    (sym (ap (λ those. (source_at those slot).left) is ∙ ap (λ (source : Source). source.left) (changed_there _ slot (fails size) sources (readable_within sources slot can))))
-
--- the read that told the end took nothing
-pub read_none_more : (content : Content) (x : List ℕ) (slot : ℕ) (sources new : List Source) (size n : ℕ) → HasRead content x slot sources → IsTrue (is_readable sources slot) → n ≡ 0 → new ≡ changed_at slot (gives size n) sources → content.bytes ≡ x ++ (source_at new slot).left.bytes
-read_none_more content x slot sources new size n read can none is =
-    read.bytes ∙ ap (λ (left : Content). x ++ left.bytes) (sym (ap (λ (source : Source). source.left) (left_after slot sources new size n can is) ∙ ap (λ (k : ℕ). without k (source_at sources slot).left) none))
-
 -- nothing was read
 pub reads_none : (is_complete : List ℕ → Bool) (most : ℕ) (there left : Content) → left ≡ there → ReadsFor is_complete most there left
 reads_none is_complete most there left is = ([], needed_none is_complete most, ap (λ (content : Content). content.bytes) (sym is))
-
-greater : (a b most : ℕ) → a ≤ most → b ≤ most → max a b ≤ most
-greater a b most first second = omega (arith, first, second)
-
--- no read asked for more
-pub asked_again : (slot size most n : ℕ) (sources new : List Source) → IsTrue (is_readable sources slot) → new ≡ changed_at slot (gives size n) sources → size ≤ most → (source_at sources slot).asked ≤ most → (source_at new slot).asked ≤ most
-asked_again slot size most n sources new can is within so_far = subst (λ asked. asked ≤ most) (sym (ap (λ (source : Source). source.asked) (left_after slot sources new size n can is))) (greater (source_at sources slot).asked size most so_far within)
-
-failed_at : (slot size : ℕ) (sources new : List Source) → IsTrue (is_readable sources slot) → new ≡ changed_at slot (fails size) sources → source_at new slot ≡ fails size (source_at sources slot)
-failed_at slot size sources new can is = ap (λ those. source_at those slot) is ∙ changed_there _ slot (fails size) sources (readable_within sources slot can)
-
-pub asked_at_end : (slot size most : ℕ) (sources new : List Source) → IsTrue (is_readable sources slot) → new ≡ changed_at slot (fails size) sources → size ≤ most → (source_at sources slot).asked ≤ most → (source_at new slot).asked ≤ most
-asked_at_end slot size most sources new can is within so_far = subst (λ asked. asked ≤ most) (sym (ap (λ (source : Source). source.asked) (failed_at slot size sources new can is))) (greater (source_at sources slot).asked size most so_far within)
-
-pub broken_now : (slot size : ℕ) (sources new : List Source) → IsTrue (is_readable sources slot) → new ≡ changed_at slot (fails size) sources → (source_at new slot).is_broken ≡ true
-broken_now slot size sources new can is = ap (λ (source : Source). source.is_broken) (failed_at slot size sources new can is)
 
 -- the same of the fault that is handed on
 pub given_so : (told : Bool) (before new : List Slot) (work : Work) (opening : Needs) (most : ℕ) (content : Content) (WasRead : List ℕ → Type 0) (given fault : Fault) → given ≡ fault → FedAs told before work opening most content WasRead new (Err fault) → FedAs told before work opening most content WasRead new (Err given)

@@ -20,10 +20,11 @@ use Rattle.ports_core.proofs.SlotLemmas.{length-changed_at}
 use Rattle.run_core.specs.declared.inputs.Progress.{Progress}
 use Rattle.run_core.specs.declared.feeding.Fed.{Fed}
 use Rattle.run_core.specs.declared.feeding.Fed.TheVariants.{Whole, Enough, Broken}
-use Rattle.run_core.specs.Feeding.{is_enough, Step, Stops, opens, BreaksOnly, FedAs, whole, had_enough, broke_off, judged, stopped, LeavesOf, OfContent, ReadsFor}
-use Rattle.run_core.specs.Input.{empty}
+use Rattle.run_core.specs.Feeding.{is_enough, Step, Stops, opens, FedAs, whole, had_enough, broke_off, judged, stopped, LeavesOf, ReadsFor}
+use Rattle.ports_core.specs.Inputs.{BreaksOnly, OfContent, empty}
 use Rattle.run_core.specs.Reading.{IsDone, Leaves}
-use Rattle.run_core.specs.RunEnds.{standard_output, streams_with, unheaded, heading, calling, step_after}
+use Rattle.run_core.specs.RunEnds.{unheaded, heading, calling, step_after}
+use Rattle.ports_core.specs.Streams.{standard_output, streams_with}
 use Rattle.run_core.specs.inner.RunSteps.{HeaderFails, no_room, broke, TookInput, took, cut_off, OfSource, KeepsOther}
 use Rattle.run_core.specs.RunSteps.{Opens, OpensShort}
 use Rattle.run_core.specs.Task.{Task, Outcome, after_part, header_text, verdict_messages, is_given, of_content}

@@ -8,8 +8,10 @@ use Rattle.ports_core.specs.Work.{Work}
 use Rattle.ports_core.specs.Engine.{Loads}
 use Rattle.ports_core.specs.Guard.{GuardState}
 use Rattle.ports_core.proofs.LoadLemmas.{passed_at}
-use Rattle.run_core.specs.Feeding.{IsNeeded, KeepsOthers}
-use Rattle.run_core.proofs.FeedingLemmas.{Feeds, HasRead, keeps_others}
+use Rattle.run_core.specs.Feeding.{IsNeeded}
+use Rattle.ports_core.specs.Inputs.{KeepsOthers}
+use Rattle.run_core.proofs.FeedingLemmas.{Feeds}
+use Rattle.ports_core.proofs.InputsLemmas.{HasRead, keeps_others}
 
 needed_front : (is_complete : List ℕ → Bool) (most : ℕ) (x : List ℕ) → (x ≡ []) ⊎ (is_complete x ≡ false) → IsNeeded is_complete most x
 needed_front is_complete most x (inl none) = inl none

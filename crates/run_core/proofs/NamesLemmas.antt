@@ -14,14 +14,17 @@ use Rattle.ports_core.specs.declared.fault.Fault.TheVariants.{Memory, Open}
 use Rattle.ports_core.proofs.PartLemmas.{nothing_out, part_begins_itself, stopped_here}
 use Rattle.ports_core.proofs.MessageLemmas.{says_behind, all_said_state}
 use Rattle.run_core.specs.declared.inputs.Progress.{Progress}
-use Rattle.run_core.specs.Reading.{AreUntouched, AsksAtMost, count_after}
+use Rattle.run_core.specs.Reading.{AreUntouched, count_after}
+use Rattle.ports_core.specs.Inputs.{AsksAtMost, empty, largest_piece}
 use Rattle.run_core.specs.inner.Reading.{TakesOne}
-use Rattle.run_core.specs.Input.{has_dash, Input, World, AreFrom, is_dash, input_of, inputs_from, inputs_at, file_input, standard_input, read_before, next_slot, empty}
-use Rattle.run_core.specs.RunEnds.{standard_output, standard_error, streams_with, largest_piece, RunsOver, RunStep, unopened}
+use Rattle.run_core.specs.Input.{has_dash, Input, World, AreFrom, is_dash, input_of, inputs_from, inputs_at, file_input, standard_input, read_before, next_slot}
+use Rattle.run_core.specs.RunEnds.{RunsOver, RunStep, unopened}
+use Rattle.ports_core.specs.Streams.{standard_output, standard_error, streams_with}
 use Rattle.run_core.specs.inner.RunSteps.{HasStreams, after_input, TookInput, took, cut_off, TookAll, all, stopped_at, not_begun, OfSource, OfName, is_unopened, standard_source}
 use Rattle.run_core.specs.RunSteps.{world_of}
 use Rattle.run_core.specs.Task.{Task, Outcome, no_outcome, joined, after_part, of_content, of_input, of_inputs, made_by, header_text, is_missing, are_missing, ends_badly}
-use Rattle.run_core.proofs.ReadingLemmas.{StayDone, all_done, all_done_nil, count_more, done_more, done_with, fresh_asks, last_source, missing_done, rest_untouched, still_done}
+use Rattle.run_core.proofs.ReadingLemmas.{StayDone, all_done, all_done_nil, count_more, done_more, done_with, last_source, missing_done, rest_untouched, still_done}
+use Rattle.ports_core.proofs.InputsLemmas.{fresh_asks}
 use Rattle.run_core.proofs.InputLemmas.{or_true, or_false, and_true}
 use Rattle.run_core.proofs.JoinedLemmas.{after_assoc, none_to_sweep, swept_from}
 use Rattle.run_core.proofs.StopLemmas.{said_at}

@@ -3,16 +3,18 @@ use Rattle.std.proofs.Common.{◌≡◌, ℕ, ◌+◌, ◌<◌, ◌≤◌, zero,
 use Rattle.std.proofs.lemmas.Bool.{false≢true}
 use mathlib.Core.Logic.{dite}
 use native.Mathlib.Decide.{ℕ_discrete}
-use Rattle.ports_core.specs.Source.{Content, Source, source_at, source_of, is_readable, missing, Opens, OpensNothing, IsFresh}
+use Rattle.ports_core.specs.Source.{Content, Source, source_at, source_of, is_readable, missing, Opens, OpensNothing}
 use Rattle.ports_core.specs.Source as from
 use Rattle.ports_core.specs.declared.fault.Fault.{Fault}
-use Rattle.run_core.specs.Feeding.{BreaksOnly, KeepsOthers, OfContent, ReadsFor}
-use Rattle.run_core.specs.Input.{Input, World, IsFor, is_dash, input_of, inputs_from, next_slot, empty}
-use Rattle.run_core.specs.Reading.{AreDone, AreUntouched, AsksAtMost, IsDone, IsLeft, IsUntouched, Leaves, count_after}
+use Rattle.run_core.specs.Feeding.{ReadsFor}
+use Rattle.ports_core.specs.Inputs.{BreaksOnly, KeepsOthers, OfContent, AsksAtMost, empty}
+use Rattle.run_core.specs.Input.{Input, World, IsFor, is_dash, input_of, inputs_from, next_slot}
+use Rattle.run_core.specs.Reading.{AreDone, AreUntouched, IsDone, IsLeft, IsUntouched, Leaves, count_after}
 use Rattle.run_core.specs.inner.Reading.{TakesOne}
 use Rattle.run_core.specs.inner.RunSteps.{KeepsOther, OfSource, standard_source}
 use Rattle.ports_core.proofs.SourceLemmas.{readable_within}
-use Rattle.run_core.proofs.FeedingLemmas.{reads_none, sound_at}
+use Rattle.run_core.proofs.FeedingLemmas.{reads_none}
+use Rattle.ports_core.proofs.InputsLemmas.{keeps_itself, sound_at}
 
 -- one input more
 
@@ -111,9 +113,6 @@ pub takes_file : (told : Bool) (laid : ℕ → List ℕ → Option Content) (mos
 takes_file told laid most was_read name old mid new slot differs some opens keeps asked =
     takes_more most was_read name old mid new (source_of opens.content) differs some (omega arith) opens.sources (subst (λ n. KeepsOthers n mid new) opens.number keeps) asked
 
-keeps_all : (slot : ℕ) (sources : List Source) → KeepsOthers slot sources sources
-keeps_all slot sources = record { count = refl; others = λ place differs. refl }
-
 takes_none : (most : ℕ) (was_read : Bool) (name : List ℕ) (old new : List Source) → new ≡ old → TakesOne most was_read name old new
 takes_none most was_read name old new same = record {
   grown = omega (arith, ap length same);
@@ -128,7 +127,7 @@ takes_none most was_read name old new same = record {
   at_least false = omega (arith, ap length same)
 
 pub takes_missing : (told : Bool) (laid : ℕ → List ℕ → Option Content) (most : ℕ) (was_read : Bool) (name : List ℕ) (old new : List Source) (fault : Fault) → is_dash name ≡ false → 0 < length old → OpensNothing told laid old new name fault → TakesOne most was_read name old new
-takes_missing told laid most was_read name old new fault differs some (from.broke at number lies is) = takes_more most was_read name old new new missing differs some (omega arith) is (keeps_all (length old) new) (λ asked. asked)
+takes_missing told laid most was_read name old new fault differs some (from.broke at number lies is) = takes_more most was_read name old new new missing differs some (omega arith) is (keeps_itself (length old) new) (λ asked. asked)
 takes_missing told laid most was_read name old new fault differs some (from.no_room is) = takes_none most was_read name old new is
 
 -- a file that could not be opened is not open
@@ -225,9 +224,3 @@ count_more count (name ∷ names) = let rest : next_slot count name ≤ count_af
   at_least : (dash : Bool) (most : ℕ) → (if dash then count else count + 1) ≤ most → count ≤ most
   at_least true most less = less
   at_least false most less = omega (arith, less)
-
-pub fresh_asks : (most : ℕ) (sources : List Source) → IsFresh sources → AsksAtMost most sources
-fresh_asks most sources fresh = subst (AsksAtMost most) (sym fresh.only) nothing_asked where
-  nothing_asked : AsksAtMost most (source_of fresh.standard ∷ [])
-  nothing_asked zero = omega arith
-  nothing_asked (suc place) = omega arith

@@ -1,6 +1,5 @@
 -- Lemmas on how a run ends.
 use Rattle.std.proofs.Common.{◌≡◌, ℕ, Bool, true, false, if◌then◌else◌, List, [], ◌∷◌, ◌++◌, Ok, Err, refl, sym, ◌∙◌, ap, subst, lit≤}
-use mir.Val.{bool_byte}
 use Rattle.ports_core.specs.Slot.{Slot, is_open, slot_at}
 use Rattle.ports_core.specs.Source.{Source}
 use Rattle.ports_core.specs.Swept.{Swept}
@@ -10,7 +9,8 @@ use Rattle.ports_core.specs.declared.tool.Tool.{Tool}
 use Rattle.ports_core.specs.declared.fault.Fault.{Fault}
 use Rattle.ports_core.proofs.MessageLemmas.{says_more, all_said_state}
 use Rattle.run_core.specs.Input.{Input, World}
-use Rattle.run_core.specs.RunEnds.{standard_output, standard_error, EndsAs, as_defined, stopped, no_room, RunsOver}
+use Rattle.run_core.specs.RunEnds.{EndsAs, as_defined, stopped, no_room, RunsOver}
+use Rattle.ports_core.specs.Streams.{standard_output, standard_error}
 use Rattle.run_core.specs.inner.RunSteps.{TookAll, all, stopped_at, not_begun}
 use Rattle.run_core.specs.Task.{Task, made_by}
 use Rattle.run_core.proofs.StopLemmas.{error_open, stop_error, stop_swept, message_some}
@@ -55,7 +55,3 @@ ran_into told_in told task found sources mid new _ (not_begun at_first untouched
 pub ran_into_as : (told_in told : Bool) (task : Task) (tool : Tool) (found : List Input) (sources : List Source) (mid new : List Slot) (fault : Fault) → tool ≡ task.tool → TookAll told_in told task found sources mid (Err fault) → SaysOn told tool (message_of tool fault (output_named mid fault)) mid new
     → EndsAs told_in told task found sources new 1
 ran_into_as told_in told task tool found sources mid new fault is took says = ran_into told_in told task found sources mid new fault took (subst (λ those. SaysOn told those (message_of those fault (output_named mid fault)) mid new) is says)
-
-pub as_status : (failed : Bool) → bool_byte failed ≡ (if failed then 1 else 0)
-as_status true = refl
-as_status false = refl

@@ -1,7 +1,7 @@
 -- What becomes of an input that is fed to an engine piece by piece.
 use Rattle.std.specs.Prelude.{◌≡◌, ℕ, ◌≤◌, ◌^◌, Bool, true, false, not, ◌||◌, List, [], ◌++◌, length, ◌⊎◌, None, Result, Ok, Err, if◌then◌else◌}
 use Rattle.ports_core.specs.Slot.{Slot, slot_at}
-use Rattle.ports_core.specs.Source.{Content, Source, source_at}
+use Rattle.ports_core.specs.Source.{Content, Source}
 use Rattle.ports_core.specs.Part.{Part, OutputsAt, StoppedBetween, nothing}
 use Rattle.ports_core.specs.Swept.{Swept}
 use Rattle.ports_core.specs.Work.{Work, Needs, Judges}
@@ -104,23 +104,10 @@ pub data FedAs (told : Bool) (before : List Slot) (work : Work) (opening : Needs
       → StoppedBetween told before call.low call.high fault reached → Swept work.clears (length before) reached new
       → FedAs told before work opening most content WasRead new (Err fault)
 
--- an input that tells its bytes had this content; of others it is known no further than their reads gave it
-abbrev pub OfContent : Bool → Content → (Content → Type 0) → Type 0
-OfContent told there P = (content : Content) × (told ≡ true → content ≡ there) × P content
-
 -- an input that didn't break, and of which, where inputs tell their bytes, this was read
 abbrev pub LeavesOf : Bool → Content → Source → List ℕ → Type 0
 LeavesOf told content source read = (source.is_broken ≡ false)
     × (told ≡ true → content.bytes ≡ read ++ source.left.bytes)
-
--- an input that doesn't tell its bytes is one that breaks off only where its source is broken
-abbrev pub BreaksOnly : Bool → Content → Source → Type 0
-BreaksOnly told content source = told ≡ false → content.breaks_off ≡ true → source.is_broken ≡ true
-
--- no input but this one was touched
-pub record KeepsOthers (slot : ℕ) (old new : List Source) : Type 0 where
-  pub count : length new ≡ length old
-  pub others : (place : ℕ) → (place ≡ slot → ⊥) → source_at new place ≡ source_at old place
 
 -- of the input that was there, this is left, and what was read was needed
 abbrev pub ReadsFor : (List ℕ → Bool) → ℕ → Content → Content → Type 0

@@ -1,6 +1,7 @@
 -- What a run finds at the names that it is to read, one after another.
 use Rattle.std.specs.Prelude.{◌≡◌, ℕ, ◌+◌, Bool, true, false, ◌||◌, List, [], ◌∷◌, Option, Some, None, codes, if◌then◌else◌}
 use Rattle.std.specs.Str.{bytes_eq}
+use Rattle.ports_core.specs.Inputs.{empty}
 use Rattle.ports_core.specs.Source.{Content}
 
 pub record Input : Type 0 where
@@ -10,9 +11,6 @@ pub record Input : Type 0 where
   pub slot : Option ℕ
   -- what it holds; none where it can't be opened
   pub content : Option Content
-
-abbrev pub empty : Content
-empty = record { bytes = []; breaks_off = false }
 
 -- the operand `-` is standard input
 abbrev pub is_dash : List ℕ → Bool

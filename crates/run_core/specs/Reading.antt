@@ -1,7 +1,8 @@
 -- What a run leaves of its inputs.
 use Rattle.std.specs.Prelude.{◌≡◌, ℕ, ◌≤◌, ◌<◌, Bool, true, false, List, [], ◌∷◌, ◌⊎◌, length, Option, Some, None}
 use Rattle.ports_core.specs.Source.{Content, Source, source_at, source_of}
-use Rattle.run_core.specs.Feeding.{BreaksOnly, LeavesOf, ReadsFor}
+use Rattle.run_core.specs.Feeding.{LeavesOf, ReadsFor}
+use Rattle.ports_core.specs.Inputs.{BreaksOnly}
 use Rattle.run_core.specs.Input.{Input, next_slot}
 
 -- What is left of an input that was done, which was read from this source: where inputs tell their bytes, no more was
@@ -42,7 +43,3 @@ AreUntouched (input ∷ inputs) sources = IsUntouched input.slot input.content s
 abbrev pub count_after : ℕ → List (List ℕ) → ℕ
 count_after count [] = count
 count_after count (name ∷ names) = count_after (next_slot count name) names
-
--- no read asked for more than `most` bytes
-abbrev pub AsksAtMost : ℕ → List Source → Type 0
-AsksAtMost most sources = (place : ℕ) → (source_at sources place).asked ≤ most

@@ -1,33 +1,20 @@
 -- How a run over its inputs ends, from the streams as it found them.
-use Rattle.std.specs.Prelude.{◌≡◌, ℕ, ◌≤◌, Bool, true, false, List, [], ◌∷◌, ◌++◌, length, Option, Some, codes}
-use Rattle.ports_core.specs.Slot.{Slot, opened}
+use Rattle.std.specs.Prelude.{◌≡◌, ℕ, ◌≤◌, Bool, true, false, List, [], ◌∷◌, ◌++◌, length, Option, Some}
+use Rattle.ports_core.specs.Slot.{Slot}
 use Rattle.ports_core.specs.Source.{Content, Source}
-use Rattle.ports_core.specs.declared.slot.Mode.TheVariants.{Append}
 use Rattle.ports_core.specs.Part.{Part, OutputsAt, StoppedBetween, only_out}
 use Rattle.ports_core.specs.Swept.{Swept}
 use Rattle.ports_core.specs.Work.{Needs, no_needs}
 use Rattle.ports_core.specs.Text.{message_of}
 use Rattle.ports_core.specs.Message.{SaysAll, output_named}
+use Rattle.ports_core.specs.Inputs.{largest_piece}
+use Rattle.ports_core.specs.Streams.{standard_error, streams_with}
 use Rattle.ports_core.specs.declared.fault.Fault.{Fault}
 use Rattle.ports_core.specs.declared.fault.Fault.TheVariants.{Memory}
 use Rattle.run_core.specs.Feeding.{IsCall, Step, Stops}
 use Rattle.run_core.specs.Input.{Input, World, Finds}
 use Rattle.run_core.specs.Reading.{AreDone, AreUntouched, Leaves}
 use Rattle.run_core.specs.Task.{Task, made_by, after_part, header_text, are_missing, status_of}
-
-abbrev pub standard_output : Slot
-standard_output = opened (codes "standard output") Append
-
-abbrev pub standard_error : Slot
-standard_error = opened (codes "standard error") Append
-
--- both streams, where nothing went to standard output
-abbrev pub streams_with : Slot → List Slot
-streams_with error = standard_output ∷ error ∷ []
-
--- no read of a run asks for more than this many bytes
-abbrev pub largest_piece : ℕ
-largest_piece = 65536
 
 -- memory, and no files
 abbrev pub needs_memory : Needs

@@ -6,8 +6,8 @@ ghost use Rattle.ports_core.specs.Part.{OutputsAt};
 ghost use Rattle.ports_core.specs.Work.{Needs};
 ghost use Rattle.ports_core.specs.Guard.{HoldsIn};
 ghost use Rattle.ports_core.specs.Engine.{Clears, KeepsOwn, is_verdict};
-ghost use Rattle.run_core.specs.Input.{empty};
-ghost use Rattle.run_core.specs.Feeding.{BreaksOnly, FedAs, KeepsOthers, LeavesOf, OfContent, ReadsFor};
+ghost use Rattle.ports_core.specs.Inputs.{empty, BreaksOnly, KeepsOthers, OfContent};
+ghost use Rattle.run_core.specs.Feeding.{FedAs, LeavesOf, ReadsFor};
 ghost use Rattle.run_core.specs.inner.Feeding.{EndsSo};
 
 use ports_core::{Fault, Guarded, Inputs, Outs, Stage};

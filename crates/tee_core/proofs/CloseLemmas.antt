@@ -8,7 +8,7 @@ use Rattle.ports_core.specs.declared.slot.Mode.{Mode}
 use Rattle.ports_core.specs.declared.tool.Tool.TheVariants.{Tee}
 use Rattle.ports_core.specs.declared.fault.Fault.{Fault}
 use Rattle.ports_core.proofs.MessageLemmas.{all_said_state, says_behind}
-use Rattle.run_core.specs.RunEnds.{standard_error}
+use Rattle.ports_core.specs.Streams.{standard_error}
 use Rattle.tee_core.specs.Outputs.{ChangesEach, Closes, is_closed, fails_to_close, was_broken, IsFile, newly_broken}
 use Rattle.tee_core.specs.Run.{OutputLeft, output_whole, output_cut, FileLeft, file_whole, file_unopened, file_cut, file_unclosed, FilesLeft, no_file, one_file, fault_in, is_sound, messages_of, output_names, said_before, said_of_input}
 use Rattle.tee_core.specs.inner.Steps.{HasCopied, Copies, FileHas, has_all, has_none, has_begun, FilesHave, no_more, one_more, HasStreams, IsTeeOf, SaysTo, broken_of, said_since}

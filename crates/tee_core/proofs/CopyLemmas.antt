@@ -11,13 +11,14 @@ use Rattle.ports_core.specs.declared.slot.Mode.{Mode}
 use Rattle.ports_core.specs.declared.tool.Tool.TheVariants.{Tee}
 use Rattle.ports_core.specs.declared.fault.Fault.{Fault}
 use Rattle.ports_core.proofs.MessageLemmas.{all_said_state, says_behind}
-use Rattle.run_core.specs.RunEnds.{standard_output, standard_error}
+use Rattle.ports_core.specs.Streams.{standard_output, standard_error}
 use Rattle.tee_core.specs.Outputs.{ChangesEach, Gets, gets_all, breaks_off, gets_none, IsFile, IsOutput, IsReady, IsUsable, newly_broken}
 use Rattle.tee_core.specs.Run.{OutputLeft, output_whole, output_cut, broke_in, fault_in, output_names, said_in, said_before}
 use Rattle.tee_core.specs.inner.Steps.{Copies, FileHas, has_all, has_none, has_begun, FilesHave, no_more, one_more, HasStreams, IsTeeOf, SaysTo, broken_of, said_since}
 use Rattle.tee_core.specs.TeeState.{TeeState}
 use Rattle.tee_core.proofs.ChangeLemmas.{StayBroken, is_between, is_place, stay_broken}
-use Rattle.tee_core.proofs.GetsLemmas.{still_broken, written_twice}
+use Rattle.tee_core.proofs.GetsLemmas.{still_broken}
+use Rattle.ports_core.proofs.Runs.{adds_both}
 use Rattle.tee_core.proofs.TellLemmas.{count_broken, says_nothing}
 
 -- in which call
@@ -75,10 +76,10 @@ pub joined_more : (pieces : List (List ℕ)) (piece : List ℕ) → concat piece
 joined_more pieces piece = sym (concat-append pieces (piece ∷ []) ∙ ap (λ bytes. concat pieces ++ bytes) (append-nil piece))
 
 whole_now : (told : Bool) (pieces : List (List ℕ)) (piece : List ℕ) (start : Slot) → adds (told_of told piece) (adds (told_of told (concat pieces)) start) ≡ adds (told_of told (concat (pieces ++ piece ∷ []))) start
-whole_now told pieces piece start = written_twice told (concat pieces) piece start ∙ ap (λ bytes. adds (told_of told bytes) start) (joined_more pieces piece)
+whole_now told pieces piece start = adds_both told (concat pieces) piece start ∙ ap (λ bytes. adds (told_of told bytes) start) (joined_more pieces piece)
 
 begun_now : (told : Bool) (pieces : List (List ℕ)) (piece : List ℕ) (n : ℕ) (start : Slot) → breaks (adds (told_of told (take n piece)) (adds (told_of told (concat pieces)) start)) ≡ breaks (adds (told_of told (concat pieces ++ take n piece)) start)
-begun_now told pieces piece n start = ap breaks (written_twice told (concat pieces) (take n piece) start)
+begun_now told pieces piece n start = ap breaks (adds_both told (concat pieces) (take n piece) start)
 
 still_there : (pieces before after : List (List ℕ)) (piece more : List ℕ) → pieces ≡ before ++ piece ∷ after → pieces ++ more ∷ [] ≡ before ++ piece ∷ (after ++ more ∷ [])
 still_there pieces before after piece more is = ap (λ those. those ++ more ∷ []) is ∙ append_assoc before (piece ∷ after) (more ∷ [])

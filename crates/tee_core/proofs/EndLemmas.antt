@@ -10,10 +10,9 @@ use Rattle.ports_core.specs.declared.slot.Mode.{Mode}
 use Rattle.ports_core.specs.declared.tool.Tool.TheVariants.{Tee}
 use Rattle.ports_core.specs.declared.fault.Fault.{Fault}
 use Rattle.ports_core.specs.declared.fault.Fault.TheVariants.{Memory}
-use Rattle.run_core.specs.Feeding.{BreaksOnly, OfContent}
-use Rattle.run_core.specs.Input.{empty}
-use Rattle.run_core.specs.RunEnds.{standard_output, standard_error}
-use Rattle.run_core.proofs.FeedingLemmas.{of_content}
+use Rattle.ports_core.specs.Inputs.{BreaksOnly, OfContent, empty}
+use Rattle.ports_core.specs.Streams.{standard_output, standard_error}
+use Rattle.ports_core.proofs.InputsLemmas.{of_content}
 use Rattle.tee_core.specs.Run.{EndsAs, copied, no_room, file_whole, file_unopened, file_cut, file_unclosed, FilesLeft, no_file, one_file, IsRead, to_end, to_break, to_limit, LeavesOf, OutputLeft, output_whole, output_cut, all_copied, are_sound, is_sound, messages_of, output_names, said_before, said_in, status_of}
 use Rattle.tee_core.specs.inner.Steps.{CopiesInput, any_of}
 

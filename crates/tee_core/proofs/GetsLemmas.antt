@@ -1,26 +1,22 @@
 -- Lemmas on what outputs get.
-use Rattle.std.proofs.Common.{◌≡◌, ℕ, ◌+◌, ◌<◌, ◌≤◌, List, ◌++◌, length, take, Bool, true, false, refl, sym, ◌∙◌, ap, subst, arith, append_assoc, length-append}
+use Rattle.std.proofs.Common.{◌≡◌, ℕ, ◌+◌, ◌<◌, ◌≤◌, List, ◌++◌, length, take, Bool, true, false, refl, sym, ◌∙◌, ap, subst, arith, length-append}
 use Rattle.std.proofs.Math.Seq.{take-append-add}
 use Rattle.std.proofs.lemmas.List.{take-append-le}
 use Rattle.std.proofs.lemmas.Bool.{false≢true}
 use Rattle.ports_core.specs.Slot.{Slot, slot_at, changed_at, adds, breaks, closes, told_of, with_written, with_broken}
 use Rattle.ports_core.specs.Write.{BrokeAfter}
 use Rattle.ports_core.proofs.SlotLemmas.{changed_at-again}
-use Rattle.ports_core.proofs.WriteLemmas.{told_of-append}
+use Rattle.ports_core.proofs.Runs.{adds_both}
 use Rattle.tee_core.specs.Outputs.{ChangesEach, Closes, Gets, gets_all, breaks_off, gets_none, is_closed, fails_to_close, was_broken, IsFile, IsOutput, IsUsable, newly_broken}
 use Rattle.tee_core.specs.TeeState.{TeeState}
 use Rattle.tee_core.proofs.ChangeLemmas.{InTurn, Turns, is_between, is_place, next_in_turn, open_within, turned_both, turned_one, turned_same}
 
 -- one output
 
--- bytes and then more bytes
-pub written_twice : (told : Bool) (x y : List ℕ) (slot : Slot) → adds (told_of told y) (adds (told_of told x) slot) ≡ adds (told_of told (x ++ y)) slot
-written_twice told x y slot = ap (λ written. record slot { written = written }) (append_assoc slot.written (told_of told x) (told_of told y) ∙ ap (λ more. slot.written ++ more) (sym (told_of-append told x y)))
-
 pub gets_more : (told : Bool) (x y : List ℕ) (old mid new : Slot) → Gets told x old mid → Gets told y mid new → Gets told (x ++ y) old new
-gets_more told x y old _ _ (gets_all sound) (gets_all again) = subst (Gets told (x ++ y) old) (sym (written_twice told x y old)) (gets_all sound)
+gets_more told x y old _ _ (gets_all sound) (gets_all again) = subst (Gets told (x ++ y) old) (sym (adds_both told x y old)) (gets_all sound)
 gets_more told x y old _ _ (gets_all sound) (breaks_off again n within) =
-    subst (Gets told (x ++ y) old) (ap (λ bytes. breaks (adds (told_of told bytes) old)) (take-append-add x y n) ∙ sym (ap breaks (written_twice told x (take n y) old)))
+    subst (Gets told (x ++ y) old) (ap (λ bytes. breaks (adds (told_of told bytes) old)) (take-append-add x y n) ∙ sym (ap breaks (adds_both told x (take n y) old)))
     (breaks_off sound (length x + n) (omega (arith, within, length-append x y)))
 gets_more told x y old _ _ (gets_all sound) (gets_none broken) = absurd (false≢true (sym sound ∙ broken))
 gets_more told x y old _ _ (breaks_off sound n within) (gets_all again) = absurd (false≢true (sym again))

@@ -8,7 +8,7 @@ use Rattle.ports_core.specs.Source.{Content, Source, source_at, is_readable, fai
 use Rattle.ports_core.specs.declared.fault.Fault.{Fault}
 use Rattle.ports_core.specs.declared.fault.Fault.TheVariants.{Read, TooLong}
 use Rattle.ports_core.specs.declared.slot.Mode.{Mode}
-use Rattle.run_core.proofs.FeedingLemmas.{HasRead, read_broken, read_failed, read_more, read_none_more, read_to_end}
+use Rattle.ports_core.proofs.InputsLemmas.{HasRead, read_broken, read_failed, read_more, read_none_more, read_to_end}
 use Rattle.tee_core.specs.Run.{IsRead, LeavesOf, to_end, to_break, to_limit}
 use Rattle.tee_core.specs.inner.Steps.{Copies, CopiesRead}
 

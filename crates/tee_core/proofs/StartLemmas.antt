@@ -1,12 +1,12 @@
 -- Lemmas on a run's start: the files that were opened, and the messages for those that could not be.
 use Rattle.std.proofs.Common.{◌≡◌, ℕ, ◌+◌, ◌<◌, suc, List, [], ◌∷◌, length, map, replicate, Bool, false, Option, Some, None, Bor, refl, sym, ◌∙◌, ap, subst, arith}
 use Rattle.std.proofs.lemmas.List.{append-nil, length-map}
-use Rattle.ports_core.specs.Slot.{Slot, slot_at, changed_at, opened, adds, streams, told_of}
+use Rattle.ports_core.specs.Slot.{Slot, slot_at, changed_at, opened, streams}
 use Rattle.ports_core.specs.Message.{SaysAll}
 use Rattle.ports_core.specs.declared.slot.Mode.{Mode}
 use Rattle.ports_core.specs.declared.tool.Tool.TheVariants.{Tee}
-use Rattle.ports_core.proofs.WriteLemmas.{told_of-nil}
-use Rattle.run_core.specs.RunEnds.{standard_output, standard_error}
+use Rattle.ports_core.proofs.Runs.{adds-nil}
+use Rattle.ports_core.specs.Streams.{standard_output, standard_error}
 use Rattle.tee_core.specs.Opening.{OpensAs, is_opened, is_unopened, OpensEach, no_more, one_more, Opens}
 use Rattle.tee_core.specs.Run.{OutputLeft, output_whole, fault_in, output_names}
 use Rattle.tee_core.specs.inner.Steps.{Copies, FileHas, has_all, has_none, FilesHave, HasStreams, IsTeeOf, SaysTo, broken_of, said_since}
@@ -15,14 +15,11 @@ use Rattle.tee_core.specs.TeeState.{TeeState}
 use Rattle.tee_core.proofs.CopyLemmas.{AllMark, Marks, all_marked, marked_none, marked_now, none_marked, said_marked}
 use Rattle.tee_core.proofs.OpeningLemmas.{length-since}
 
-nothing_added : (told : Bool) (name : List ℕ) (mode : Mode) → adds (told_of told []) (opened name mode) ≡ opened name mode
-nothing_added told name mode = ap (λ (bytes : List ℕ). record (opened name mode) { written = bytes }) (told_of-nil told)
-
 abbrev FileStarts : Bool → Mode → List ℕ → Slot → Type 0
 FileStarts told mode name file = (first : Option ℕ) × FileHas told mode [] name first file × Marks 0 None first false file.is_broken
 
 file_starts : (told : Bool) (mode : Mode) (name : List ℕ) (file : Slot) → OpensAs mode name file → FileStarts told mode name file
-file_starts told mode name _ is_opened = (None, subst (FileHas told mode [] name None) (nothing_added told name mode) has_all, marked_none 0)
+file_starts told mode name _ is_opened = (None, subst (FileHas told mode [] name None) (adds-nil told (opened name mode)) has_all, marked_none 0)
 file_starts told mode name _ (is_unopened kept named) = (Some 0, has_none kept named, marked_now 0)
 
 abbrev FilesStart : Bool → Mode → List (List ℕ) → List Slot → Type 0
@@ -61,7 +58,7 @@ starts told mode names old new known now opens unknown says flags =
       first = None;
       broke = files.0;
       are = new_is;
-      output_has = subst (OutputLeft told [] None) (ap (λ (bytes : List ℕ). record standard_output { written = bytes }) (told_of-nil told)) output_whole;
+      output_has = subst (OutputLeft told [] None) (adds-nil told standard_output) output_whole;
       files_have = files.1;
       said = subst (λ texts. SaysAll told Tee texts standard_error says.0)
           (ap (λ flags. said_since (fault_in 0) (output_names names) flags (broken_of old)) (unknown ∙ none_known names) ∙ ap (λ those. said_since (fault_in 0) (output_names names) (false ∷ replicate (length names) false) (broken_of those)) opens.slots

@@ -9,7 +9,7 @@ use Rattle.ports_core.specs.declared.slot.Mode.{Mode}
 use Rattle.ports_core.specs.declared.tool.Tool.TheVariants.{Tee}
 use Rattle.ports_core.specs.declared.fault.Fault.{Fault}
 use Rattle.ports_core.specs.declared.fault.Fault.TheVariants.{Memory, Write, Read, Open, TooLong}
-use Rattle.run_core.specs.RunEnds.{standard_output, standard_error, streams_with}
+use Rattle.ports_core.specs.Streams.{standard_output, standard_error, streams_with}
 
 -- The calls of a run are numbered: call 0 opens the files, one call follows for each piece of the input, and the last
 -- one closes the files. What broke when is a list: for standard output and then for each file, the number of the call

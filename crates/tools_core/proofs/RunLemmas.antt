@@ -10,10 +10,11 @@ use Rattle.ports_core.specs.declared.fault.Fault.TheVariants.{Memory}
 use Rattle.ports_core.specs.declared.slot.Mode.{Mode}
 use Rattle.ports_core.specs.declared.tool.Tool.{Tool}
 use Rattle.ports_core.specs.declared.tool.Tool.TheVariants as tool
-use Rattle.run_core.specs.Feeding.{BreaksOnly, KeepsOthers, OfContent}
-use Rattle.run_core.specs.Input.{Input, World, Finds, empty, standard_input}
+use Rattle.ports_core.specs.Inputs.{BreaksOnly, KeepsOthers, OfContent, empty}
+use Rattle.run_core.specs.Input.{Input, World, Finds, standard_input}
 use Rattle.run_core.specs.Reading.{count_after}
-use Rattle.run_core.specs.RunEnds.{standard_error, streams_with, EndsAs, no_room, RunsOver}
+use Rattle.run_core.specs.RunEnds.{EndsAs, no_room, RunsOver}
+use Rattle.ports_core.specs.Streams.{standard_error, streams_with}
 use Rattle.run_core.specs.RunSteps.{world_of}
 use Rattle.run_core.specs.Task.{Task}
 use Rattle.run_core.proofs.NamesLemmas.{none_touched}

@@ -9,7 +9,7 @@ use Rattle.watch_core.specs.Snapshot.{Snapshot}
 use Rattle.watch_core.specs.Watched.{Watched}
 use Rattle.follow_core.specs.declared.start.Start.{Start}
 use Rattle.follow_core.specs.Ending.{FollowEndsAs, KeptSoLong}
-use Rattle.follow_core.specs.Visited.{ways_of}
+use Rattle.follow_core.specs.Look.{ways_of}
 use Rattle.words_core.specs.declared.settings.Settings.{Settings}
 use Rattle.words_core.specs.declared.settings.Settings.TheVariants.{Tail}
 use Rattle.words_core.specs.declared.value.Followed.{Followed}

@@ -10,10 +10,11 @@ use Rattle.ports_core.specs.declared.fault.Fault.{Fault}
 use Rattle.ports_core.specs.declared.fault.Fault.TheVariants.{Memory, Write, Read, Open, Suffixes, NoMatch, Range, Usage, Failed, TooLong}
 use Rattle.operand_core.specs.declared.operand.Operand.{Operand}
 use Rattle.operand_core.specs.Reading.{Asks}
-use Rattle.run_core.specs.Feeding.{BreaksOnly}
+use Rattle.ports_core.specs.Inputs.{BreaksOnly}
 use Rattle.run_core.specs.Input.{Input, standard_input}
 use Rattle.run_core.specs.Reading.{AreUntouched}
-use Rattle.run_core.specs.RunEnds.{EndsAs, standard_error, streams_with}
+use Rattle.run_core.specs.RunEnds.{EndsAs}
+use Rattle.ports_core.specs.Streams.{standard_error, streams_with}
 use Rattle.tee_core.specs.Run.{all_copied, EndsAs as TeeCopies}
 use Rattle.words_core.specs.declared.settings.Settings.{Settings}
 use Rattle.words_core.specs.declared.settings.Settings.TheVariants.{Head, Tail, Split, Csplit, Tee}

@@ -3,8 +3,8 @@ ghost use Rattle.std.specs.Prelude.{◌≡◌, ◌≤◌, [], false, length, map
 ghost use Rattle.ports_core.specs.Slot.{streams};
 ghost use Rattle.ports_core.specs.Source.{source_at, IsFresh};
 ghost use Rattle.run_core.specs.Input.{has_dash};
-ghost use Rattle.run_core.specs.Reading.{AsksAtMost, count_after};
-ghost use Rattle.run_core.specs.RunEnds.{largest_piece};
+ghost use Rattle.run_core.specs.Reading.{count_after};
+ghost use Rattle.ports_core.specs.Inputs.{AsksAtMost, largest_piece};
 ghost use Rattle.tools_core.specs.Outcome.{AreNone, names_read};
 ghost use Rattle.tools_core.specs.Program.{ProgramEnds};
 

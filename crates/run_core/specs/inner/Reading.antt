@@ -2,7 +2,7 @@
 use Rattle.std.specs.Prelude.{◌≡◌, ℕ, ◌≤◌, ◌<◌, Bool, true, false, List, length}
 use Rattle.ports_core.specs.Source.{Source, source_at}
 use Rattle.run_core.specs.Input.{is_dash, next_slot}
-use Rattle.run_core.specs.Reading.{AsksAtMost}
+use Rattle.ports_core.specs.Inputs.{AsksAtMost}
 
 -- What taking a name leaves of the inputs: a file is one more at the most, those before it are as they were, and
 -- standard input is touched by the first `-` alone.

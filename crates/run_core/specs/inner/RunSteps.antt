@@ -9,10 +9,12 @@ use Rattle.ports_core.specs.Message.{SaysAll}
 use Rattle.ports_core.specs.declared.fault.Fault.{Fault}
 use Rattle.ports_core.specs.declared.fault.Fault.TheVariants.{Memory, Write, Read, Open, Suffixes, NoMatch, Range, Usage, Failed, TooLong}
 use Rattle.run_core.specs.declared.inputs.Progress.{Progress}
-use Rattle.run_core.specs.Feeding.{Step, Stops, KeepsOthers}
-use Rattle.run_core.specs.Input.{Input, IsFor, World, is_dash, input_of, empty}
+use Rattle.run_core.specs.Feeding.{Step, Stops}
+use Rattle.ports_core.specs.Inputs.{KeepsOthers, empty, largest_piece}
+use Rattle.run_core.specs.Input.{Input, IsFor, World, is_dash, input_of}
 use Rattle.run_core.specs.Reading.{AreDone, AreUntouched, IsDone}
-use Rattle.run_core.specs.RunEnds.{streams_with, standard_error, largest_piece, RunStep}
+use Rattle.run_core.specs.RunEnds.{RunStep}
+use Rattle.ports_core.specs.Streams.{streams_with, standard_error}
 use Rattle.run_core.specs.Task.{Task, Outcome, made_by, after_part, header_text, is_missing, are_missing}
 
 -- the outputs are at some part, and standard error is open

@@ -8,7 +8,7 @@ use Rattle.ports_core.specs.Message.{SaysAll}
 use Rattle.ports_core.specs.declared.slot.Mode.{Mode}
 use Rattle.ports_core.specs.declared.tool.Tool.TheVariants.{Tee}
 use Rattle.ports_core.specs.declared.fault.Fault.{Fault}
-use Rattle.run_core.specs.RunEnds.{standard_error}
+use Rattle.ports_core.specs.Streams.{standard_error}
 use Rattle.tee_core.specs.Run.{FilesLeft, IsRead, LeavesOf, OutputLeft, is_sound, messages_of, output_names, said_before}
 use Rattle.tee_core.specs.TeeState.{TeeState}
 

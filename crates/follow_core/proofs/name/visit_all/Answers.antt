@@ -1,7 +1,7 @@
 use Rattle.std.proofs.Common.{◌≤◌, ◌+◌, refl, sym, ◌∙◌, ap, subst, arith}
 use Rattle.std.proofs.lemmas.List.{length-set}
 use Rattle.watch_core.specs.Snapshot.{latest}
-use Rattle.follow_core.specs.Visited.{ways_of}
+use Rattle.follow_core.specs.Look.{ways_of}
 use Rattle.follow_core.proofs.VisitAllLemmas.{next_ready, texts_set, visited_all, visited_more, visited_none, visited_short}
 use Rattle.follow_core.proofs.name.visit_all.Goals as goal
 

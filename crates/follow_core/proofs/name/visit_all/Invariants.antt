@@ -3,9 +3,8 @@ use Rattle.follow_core.proofs.VisitAllLemmas.{VisitedUpTo}
 use Rattle.watch_core.specs.Snapshot.{latest}
 use Rattle.watch_core.specs.Watched.{watched_at}
 use Rattle.follow_core.specs.Sharing.{CanPrint}
-use Rattle.follow_core.specs.Look.{Look}
+use Rattle.follow_core.specs.Look.{Look, ways_of}
 use Rattle.follow_core.specs.Standing.{AllKeep, AllStand, CanVisit, state_at, texts}
-use Rattle.follow_core.specs.Visited.{ways_of}
 use Rattle.follow_core.proofs.name.visit_all.Given as goal
 
 abbrev pub invariant-loop-place : goal.invariant-loop-place

@@ -4,7 +4,8 @@ use Rattle.std.proofs.lemmas.Bool.{false≢true}
 use Rattle.ports_core.specs.Source.{source_at}
 use Rattle.ports_core.specs.Work.{Work}
 use Rattle.run_core.specs.Feeding.{IsNeeded}
-use Rattle.run_core.proofs.FeedingLemmas.{sound_at, read_none_more, keeps_again, keeps_others, read_broken, broken_off, of_content, still_readable, read_more, read_failed, goes_on, stopped_feeding, read_to_end, ended, needed_more, piece_within, asked_again, asked_at_end, broken_now, ends_sound, given_so}
+use Rattle.run_core.proofs.FeedingLemmas.{broken_off, goes_on, stopped_feeding, ended, needed_more, piece_within, ends_sound, given_so}
+use Rattle.ports_core.proofs.InputsLemmas.{sound_at, read_none_more, keeps_again, keeps_others, read_broken, of_content, still_readable, read_more, read_failed, read_to_end, asked_again, asked_at_end, broken_now}
 use Rattle.run_core.proofs.LoadLemmas.{loaded_feeds, loaded_readable, loaded_others, loaded_read, loaded_needed, loaded_asked}
 use Rattle.run_core.proofs.feeding.feed_input.Goals as goal
 

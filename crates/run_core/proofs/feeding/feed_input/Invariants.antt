@@ -1,7 +1,9 @@
 use Rattle.std.proofs.Common.{◌≡◌, ◌≤◌, ◌-◌, ◌^◌, ℕ, List, length, true, IsTrue}
 use Rattle.ports_core.specs.Source.{source_at, is_readable}
-use Rattle.run_core.specs.Feeding.{KeepsOthers, IsNeeded}
-use Rattle.run_core.proofs.FeedingLemmas.{Feeds, HasRead}
+use Rattle.run_core.specs.Feeding.{IsNeeded}
+use Rattle.ports_core.specs.Inputs.{KeepsOthers}
+use Rattle.run_core.proofs.FeedingLemmas.{Feeds}
+use Rattle.ports_core.proofs.InputsLemmas.{HasRead}
 use Rattle.run_core.proofs.feeding.feed_input.Given as goal
 
 abbrev pub invariant-pieces : goal.invariant-pieces

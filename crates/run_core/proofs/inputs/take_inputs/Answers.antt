@@ -1,7 +1,7 @@
 use Rattle.std.proofs.Common.{◌∙◌, map}
 use Rattle.ports_core.proofs.HandedOn.{handed_on}
 use Rattle.run_core.proofs.NamesLemmas.{fresh_counts, no_memory_first}
-use Rattle.run_core.proofs.ReadingLemmas.{fresh_asks}
+use Rattle.ports_core.proofs.InputsLemmas.{fresh_asks}
 use Rattle.run_core.proofs.inputs.take_inputs.Goals as goal
 
 pub returns-in_err-buffer-clause-took : goal.returns-in_err-buffer-clause-took

@@ -1,5 +1,5 @@
 use Rattle.std.proofs.Common.{◌∙◌, map, subst}
-use Rattle.run_core.proofs.ReadingLemmas.{fresh_asks}
+use Rattle.ports_core.proofs.InputsLemmas.{fresh_asks}
 use Rattle.tee_core.specs.Opening.{Opens}
 use Rattle.tee_core.proofs.StartLemmas.{is_tee_of}
 use Rattle.tee_core.proofs.run.copy_input.Goals as goal

@@ -1,6 +1,6 @@
 use Rattle.std.proofs.Common.{◌∷◌, ap, ◌++◌, ◌∙◌, [], take, true, false, arith, refl}
 use Rattle.ports_core.specs.Source.{source_at}
-use Rattle.run_core.proofs.FeedingLemmas.{asked_again, asked_at_end, broken_now, keeps_again, keeps_itself, keeps_others, nothing_read, of_content, read_more, still_readable}
+use Rattle.ports_core.proofs.InputsLemmas.{asked_again, asked_at_end, broken_now, keeps_again, keeps_itself, keeps_others, nothing_read, of_content, read_more, still_readable}
 use Rattle.std.proofs.lemmas.Bool.{false≢true}
 use Rattle.tee_core.proofs.CopyLemmas.{joined_more}
 use Rattle.tee_core.proofs.ReadLemmas.{reads_copied, broken_read, broken_untold, counted_more, ended_read, ended_untold, long_read, long_untold}

@@ -2,8 +2,8 @@ use Rattle.std.proofs.Common.{◌≡◌, ◌≤◌, ◌<◌, ◌-◌, ◌^◌, �
 use Rattle.std.specs.List.{concat}
 use Rattle.ports_core.specs.Source.{source_at, is_readable}
 use Rattle.ports_core.specs.declared.slot.Mode.{Mode}
-use Rattle.run_core.specs.Feeding.{KeepsOthers}
-use Rattle.run_core.proofs.FeedingLemmas.{HasRead}
+use Rattle.ports_core.specs.Inputs.{KeepsOthers}
+use Rattle.ports_core.proofs.InputsLemmas.{HasRead}
 use Rattle.tee_core.specs.inner.Steps.{Copies}
 use Rattle.tee_core.proofs.run.copy_pieces.Given as goal
 

@@ -1,5 +1,5 @@
 use Rattle.std.proofs.Common.{◌∙◌}
-use Rattle.run_core.proofs.RunLemmas.{as_status}
+use Rattle.ports_core.proofs.Runs.{as_status}
 use Rattle.tee_core.proofs.EndLemmas.{ends_at_once, ends_copied, of_content_too, whole_of}
 use Rattle.tee_core.proofs.run.run_tee.Goals as goal
 

@@ -2,7 +2,7 @@ use Rattle.std.proofs.Common.{◌≡◌, ◌∙◌, ap, refl, sym}
 use Rattle.watch_core.specs.Watched.{watched_at}
 use Rattle.follow_core.specs.declared.name.Standing.TheVariants.{New, Followed}
 use Rattle.follow_core.specs.Standing.{NameState}
-use Rattle.follow_core.specs.Visited.{ways_of}
+use Rattle.follow_core.specs.Look.{ways_of}
 use Rattle.follow_core.proofs.VisitLemmas.{can_first, can_later, visit_left, visit_made, visit_over}
 use Rattle.follow_core.proofs.name.Name.visit.Goals as goal
 

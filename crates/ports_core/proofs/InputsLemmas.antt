@@ -1,0 +1,107 @@
+-- Lemmas on what reads leave of the inputs of a run.
+use Rattle.std.proofs.Common.{◌≡◌, ℕ, ◌≤◌, max, zero, suc, Bool, true, false, not, ◌&&◌, IsTrue, List, [], ◌∷◌, ◌++◌, length, take, drop, slice_index_or, arith, append_assoc, refl, sym, ◌∙◌, ap, subst}
+use Rattle.std.proofs.lemmas.List.{append-nil, take-append-drop}
+use Rattle.std.proofs.lemmas.Bool.{false≢true}
+use Rattle.ports_core.specs.Inputs.{AsksAtMost, BreaksOnly, KeepsOthers, OfContent}
+use Rattle.ports_core.specs.Slot.{changed_at}
+use Rattle.ports_core.specs.Source.{Content, Source, source_at, source_of, is_readable, gives, fails, without, Gave, BrokeOff, IsFresh}
+use Rattle.ports_core.proofs.LoadLemmas.{changed_there}
+use Rattle.ports_core.proofs.SlotLemmas.{length-changed_at}
+use Rattle.ports_core.proofs.SourceLemmas.{readable_within}
+
+-- what was read of the input with this number so far, and what is left of it
+pub record HasRead (content : Content) (x : List ℕ) (slot : ℕ) (sources : List Source) : Type 0 where
+  pub bytes : content.bytes ≡ x ++ (source_at sources slot).left.bytes
+  pub breaks_off : (source_at sources slot).left.breaks_off ≡ content.breaks_off
+
+pub nothing_read : (slot : ℕ) (sources : List Source) → HasRead (source_at sources slot).left [] slot sources
+nothing_read slot sources = record { bytes = refl; breaks_off = refl }
+
+-- a change of one input
+
+pub changed_elsewhere : {X : Type 0} (default : X) (place other : ℕ) (change : X → X) (xs : List X) → (other ≡ place → ⊥) → slice_index_or (changed_at place change xs) other default ≡ slice_index_or xs other default
+changed_elsewhere default place other change [] differs = refl
+changed_elsewhere default zero zero change (x ∷ xs) differs = absurd (differs refl)
+changed_elsewhere default zero (suc other) change (x ∷ xs) differs = refl
+changed_elsewhere default (suc place) zero change (x ∷ xs) differs = refl
+changed_elsewhere default (suc place) (suc other) change (x ∷ xs) differs = changed_elsewhere default place other change xs (λ same. differs (ap suc same))
+
+pub keeps_others : (slot : ℕ) (change : Source → Source) (old new : List Source) → new ≡ changed_at slot change old → KeepsOthers slot old new
+keeps_others slot change old new is = record {
+  count = ap length is ∙ length-changed_at slot change old;
+  others = λ place differs. ap (λ those. source_at those place) is ∙ changed_elsewhere _ slot place change old differs;
+}
+
+pub keeps_itself : (slot : ℕ) (sources : List Source) → KeepsOthers slot sources sources
+keeps_itself slot sources = record { count = refl; others = λ place differs. refl }
+
+pub keeps_again : (slot : ℕ) (old mid new : List Source) → KeepsOthers slot old mid → KeepsOthers slot mid new → KeepsOthers slot old new
+keeps_again slot old mid new first second = record {
+  count = second.count ∙ first.count;
+  others = λ place differs. second.others place differs ∙ first.others place differs;
+}
+
+-- an input that can be read is there, so the change is one of it
+pub changed_source : (slot : ℕ) (change : Source → Source) (sources new : List Source) → IsTrue (is_readable sources slot) → new ≡ changed_at slot change sources → source_at new slot ≡ change (source_at sources slot)
+changed_source slot change sources new can is = ap (λ those. source_at those slot) is ∙ changed_there _ slot change sources (readable_within sources slot can)
+
+-- an input that can be read didn't break
+pub sound_at : (sources : List Source) (slot : ℕ) → IsTrue (is_readable sources slot) → (source_at sources slot).is_broken ≡ false
+sound_at sources slot can = by_flags (source_at sources slot).is_open (source_at sources slot).is_broken can where
+  by_flags : (opened broken : Bool) → (opened && not broken) ≡ true → broken ≡ false
+  by_flags true false is = refl
+  by_flags true true is = absurd (false≢true is)
+  by_flags false broken is = absurd (false≢true is)
+
+-- a read changes no flag
+pub still_readable : (slot : ℕ) (sources new : List Source) (size n : ℕ) → new ≡ changed_at slot (gives size n) sources → IsTrue (is_readable sources slot) → IsTrue (is_readable new slot)
+still_readable slot sources new size n is can = ap (λ (source : Source). source.is_open && not source.is_broken) (changed_source slot (gives size n) sources new can is) ∙ can
+
+pub read_more : (content : Content) (x : List ℕ) (slot : ℕ) (sources new : List Source) (old_buffer buffer : List ℕ) (size n : ℕ) → HasRead content x slot sources → IsTrue (is_readable sources slot) → Gave (source_at sources slot).left old_buffer buffer n → new ≡ changed_at slot (gives size n) sources → HasRead content (x ++ take n buffer) slot new
+read_more content x slot sources new old_buffer buffer size n read can gave is =
+    let after : (source_at new slot).left ≡ without n (source_at sources slot).left = ap (λ source. source.left) (changed_source slot (gives size n) sources new can is) in
+    record {
+      bytes = read.bytes ∙ ap (λ bytes. x ++ bytes) (sym (take-append-drop n (source_at sources slot).left.bytes))
+          ∙ sym (append_assoc x (take n (source_at sources slot).left.bytes) (drop n (source_at sources slot).left.bytes))
+          ∙ ap (λ bytes. (x ++ bytes) ++ drop n (source_at sources slot).left.bytes) (sym gave.front)
+          ∙ ap (λ left. (x ++ take n buffer) ++ left.bytes) (sym after);
+      breaks_off = ap (λ left. left.breaks_off) after ∙ read.breaks_off;
+    }
+
+pub read_to_end : (content : Content) (x : List ℕ) (slot : ℕ) (sources : List Source) → HasRead content x slot sources → (source_at sources slot).left.bytes ≡ [] → (source_at sources slot).left.breaks_off ≡ false → (content.breaks_off ≡ false) × (content.bytes ≡ x)
+read_to_end content x slot sources read none sound = (sym read.breaks_off ∙ sound, read.bytes ∙ ap (λ rest. x ++ rest) none ∙ append-nil x)
+
+pub read_broken : (content : Content) (x : List ℕ) (slot : ℕ) (sources : List Source) → HasRead content x slot sources → BrokeOff (source_at sources slot).left → (content.bytes ≡ x) × (content.breaks_off ≡ true)
+read_broken content x slot sources read broke = (read.bytes ∙ ap (λ rest. x ++ rest) broke.no_more ∙ append-nil x, sym read.breaks_off ∙ broke.breaks_off)
+
+pub of_content : (told : Bool) (there seen : Content) (source : Source) (P : Content → Type 0) → (told ≡ true → P there) → (told ≡ false → P seen) → (seen.breaks_off ≡ true → source.is_broken ≡ true) → OfContent told there (λ content. P content × BreaksOnly told content source)
+of_content true there seen source P told untold broke = (there, λ t. refl, (told refl, λ differs. absurd (false≢true (sym differs))))
+of_content false there seen source P told untold broke = (seen, λ t. absurd (false≢true t), (untold refl, λ _. broke))
+
+pub read_failed : (content : Content) (x : List ℕ) (slot : ℕ) (sources new : List Source) (size : ℕ) → HasRead content x slot sources → IsTrue (is_readable sources slot) → new ≡ changed_at slot (fails size) sources → content.bytes ≡ x ++ (source_at new slot).left.bytes
+read_failed content x slot sources new size read can is =
+    read.bytes ∙ ap (λ (source : Source). x ++ source.left.bytes) (sym (changed_source slot (fails size) sources new can is))
+
+-- the read that told the end took nothing
+pub read_none_more : (content : Content) (x : List ℕ) (slot : ℕ) (sources new : List Source) (size n : ℕ) → HasRead content x slot sources → IsTrue (is_readable sources slot) → n ≡ 0 → new ≡ changed_at slot (gives size n) sources → content.bytes ≡ x ++ (source_at new slot).left.bytes
+read_none_more content x slot sources new size n read can none is =
+    read.bytes ∙ ap (λ (left : Content). x ++ left.bytes) (sym (ap (λ (source : Source). source.left) (changed_source slot (gives size n) sources new can is) ∙ ap (λ k. without k (source_at sources slot).left) none))
+
+greater : (a b most : ℕ) → a ≤ most → b ≤ most → max a b ≤ most
+greater a b most first second = omega (arith, first, second)
+
+-- no read asked for more
+pub asked_again : (slot size most n : ℕ) (sources new : List Source) → IsTrue (is_readable sources slot) → new ≡ changed_at slot (gives size n) sources → size ≤ most → (source_at sources slot).asked ≤ most → (source_at new slot).asked ≤ most
+asked_again slot size most n sources new can is within so_far = subst (λ asked. asked ≤ most) (sym (ap (λ (source : Source). source.asked) (changed_source slot (gives size n) sources new can is))) (greater (source_at sources slot).asked size most so_far within)
+
+pub asked_at_end : (slot size most : ℕ) (sources new : List Source) → IsTrue (is_readable sources slot) → new ≡ changed_at slot (fails size) sources → size ≤ most → (source_at sources slot).asked ≤ most → (source_at new slot).asked ≤ most
+asked_at_end slot size most sources new can is within so_far = subst (λ asked. asked ≤ most) (sym (ap (λ (source : Source). source.asked) (changed_source slot (fails size) sources new can is))) (greater (source_at sources slot).asked size most so_far within)
+
+pub broken_now : (slot size : ℕ) (sources new : List Source) → IsTrue (is_readable sources slot) → new ≡ changed_at slot (fails size) sources → (source_at new slot).is_broken ≡ true
+broken_now slot size sources new can is = ap (λ (source : Source). source.is_broken) (changed_source slot (fails size) sources new can is)
+
+pub fresh_asks : (most : ℕ) (sources : List Source) → IsFresh sources → AsksAtMost most sources
+fresh_asks most sources fresh = subst (AsksAtMost most) (sym fresh.only) nothing_asked where
+  nothing_asked : AsksAtMost most (source_of fresh.standard ∷ [])
+  nothing_asked zero = omega arith
+  nothing_asked (suc place) = omega arith

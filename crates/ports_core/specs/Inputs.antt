@@ -1,0 +1,27 @@
+-- What a run knows of its inputs, and what it leaves of them.
+use Rattle.std.specs.Prelude.{◌≡◌, ℕ, ◌≤◌, Bool, true, false, List, [], length}
+use Rattle.ports_core.specs.Source.{Content, Source, source_at}
+
+abbrev pub empty : Content
+empty = record { bytes = []; breaks_off = false }
+
+-- an input that tells its bytes had this content; of others it is known no further than their reads gave it
+abbrev pub OfContent : Bool → Content → (Content → Type 0) → Type 0
+OfContent told there P = (content : Content) × (told ≡ true → content ≡ there) × P content
+
+-- an input that doesn't tell its bytes is one that breaks off only where its source is broken
+abbrev pub BreaksOnly : Bool → Content → Source → Type 0
+BreaksOnly told content source = told ≡ false → content.breaks_off ≡ true → source.is_broken ≡ true
+
+-- no input but this one was touched
+pub record KeepsOthers (slot : ℕ) (old new : List Source) : Type 0 where
+  pub count : length new ≡ length old
+  pub others : (place : ℕ) → (place ≡ slot → ⊥) → source_at new place ≡ source_at old place
+
+-- no read asked for more than `most` bytes
+abbrev pub AsksAtMost : ℕ → List Source → Type 0
+AsksAtMost most sources = (place : ℕ) → (source_at sources place).asked ≤ most
+
+-- no read of a run asks for more than this many bytes
+abbrev pub largest_piece : ℕ
+largest_piece = 65536
