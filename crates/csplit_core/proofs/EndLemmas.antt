@@ -75,9 +75,9 @@ line_ready writer line old new ready wrote = record {
 -- the part of the ended section, with its size line
 size_part : (writer : WriterState) (draft : Draft) (slot size : ℕ) → writer.current ≡ Filed slot size → writer.style.quiet ≡ false → Writes writer draft
     → ended_part writer.style draft ≡ with_last (size_lines writer.style draft.ended ++ (decimal size ++ newline ∷ [])) (files_of writer.style 0 draft.ended) (file_of (name_after writer.style draft.ended) draft.bytes state.Closed)
-size_part writer draft slot size is told_so writes =
+size_part writer draft slot size is said_so writes =
     closed_part writer.style draft (decimal size ++ newline ∷ []) (now_file writer draft slot size is writes).0
-    (line_told writer.style draft (now_file writer draft slot size is writes).0 told_so ∙ ap (λ n. decimal n ++ newline ∷ []) (sym (now_file writer draft slot size is writes).1))
+    (line_told writer.style draft (now_file writer draft slot size is writes).0 said_so ∙ ap (λ n. decimal n ++ newline ∷ []) (sym (now_file writer draft slot size is writes).1))
 
 quiet_part : (writer : WriterState) (draft : Draft) (slot size : ℕ) → writer.current ≡ Filed slot size → writer.style.quiet ≡ true → Writes writer draft
     → ended_part writer.style draft ≡ with_last (size_lines writer.style draft.ended) (files_of writer.style 0 draft.ended) (file_of (name_after writer.style draft.ended) draft.bytes state.Closed)
@@ -98,9 +98,9 @@ end_quiet told writer slot size old new is ready quiet closed = record {
 
 pub end_told : (told : Bool) (writer : WriterState) (slot size : ℕ) (old mid new : List Slot) → writer.current ≡ Filed slot size → IsReady writer old → writer.style.quiet ≡ false → mid ≡ changed_at slot closes old
     → new ≡ with_written 0 (told_of told (decimal size ++ newline ∷ [])) mid → Ended told writer old new (ended_writer writer)
-end_told told writer slot size old mid new is ready told_so closed wrote = record {
+end_told told writer slot size old mid new is ready said_so closed wrote = record {
   style = refl;
-  moves = λ draft writes. moves_as told _ _ _ _ old new (open_part writer.style draft (now_file writer draft slot size is writes).0) (size_part writer draft slot size is told_so writes)
+  moves = λ draft writes. moves_as told _ _ _ _ old new (open_part writer.style draft (now_file writer draft slot size is writes).0) (size_part writer draft slot size is said_so writes)
       (moves_again told _ _ _ old mid new
       (close_moves told (size_lines writer.style draft.ended) (files_of writer.style 0 draft.ended) (name_after writer.style draft.ended) draft.bytes slot old mid (at_file writer slot size old is ready).1 closed)
       (line_moves told (size_lines writer.style draft.ended) (decimal size ++ newline ∷ []) _ mid new wrote));
@@ -132,24 +132,24 @@ last_closed (first ∷ files) file closed is = (closed.0, last_closed files file
 
 pub line_not : (told : Bool) (writer : WriterState) (slot size : ℕ) (old mid new : List Slot) (f : Fault) → writer.current ≡ Filed slot size → IsReady writer old → writer.style.quiet ≡ false → mid ≡ changed_at slot closes old
     → WritesShort told 0 (decimal size ++ newline ∷ []) mid new f → EndedNot told writer old new (ended_writer writer) f
-line_not told writer slot size old mid new f is ready told_so closed cut = record {
+line_not told writer slot size old mid new f is ready said_so closed cut = record {
   style = refl;
-  halts = λ draft writes. halts_as told _ _ _ _ old new f (open_part writer.style draft (now_file writer draft slot size is writes).0) (size_part writer draft slot size is told_so writes)
+  halts = λ draft writes. halts_as told _ _ _ _ old new f (open_part writer.style draft (now_file writer draft slot size is writes).0) (size_part writer draft slot size is said_so writes)
       (halts_after told _ (with_last (size_lines writer.style draft.ended) (files_of writer.style 0 draft.ended) (file_of (name_after writer.style draft.ended) draft.bytes state.Closed)) _ old mid new f
       (close_begins (size_lines writer.style draft.ended) (files_of writer.style 0 draft.ended) (name_after writer.style draft.ended) draft.bytes)
       (close_moves told (size_lines writer.style draft.ended) (files_of writer.style 0 draft.ended) (name_after writer.style draft.ended) draft.bytes slot old mid (at_file writer slot size old is ready).1 closed)
       (line_halts told (size_lines writer.style draft.ended) (decimal size ++ newline ∷ []) _ mid new f
       (last_closed (files_of writer.style 0 draft.ended) (file_of (name_after writer.style draft.ended) draft.bytes state.Closed) (closed_files writer.style 0 draft.ended writes.closed) refl)
       (let two : 2 ≤ length mid = two_slots (ended_writer writer) mid (closed_ready writer slot size old mid is ready closed) in omega arith) cut));
-  breaks = breaks_later writer.style old mid new f (keeps_close slot old mid closed) (line_breaks told writer.style (decimal size ++ newline ∷ []) mid new f told_so (closed_ready writer slot size old mid is ready closed).output cut);
+  breaks = breaks_later writer.style old mid new f (keeps_close slot old mid closed) (line_breaks told writer.style (decimal size ++ newline ∷ []) mid new f said_so (closed_ready writer slot size old mid is ready closed).output cut);
   owns = owned_same writer (ended_writer writer) old new refl refl (ready_could writer old ready) (made_again old mid new (made_close slot old mid (at_file writer slot size old is ready).2 closed) (made_short told 0 _ mid new f cut));
 }
 
 -- the size was written, or standard output broke
 pub end_sized : (told : Bool) (writer : WriterState) (slot size : ℕ) (old mid new : List Slot) (result : Result (Unit {0}) Fault) → writer.current ≡ Filed slot size → IsReady writer old → writer.style.quiet ≡ false → mid ≡ changed_at slot closes old
     → OnOk result (new ≡ with_written 0 (told_of told (decimal size ++ newline ∷ [])) mid) → IfErr result (WritesShort told 0 (decimal size ++ newline ∷ []) mid new) → Ends told writer old new (ended_writer writer) result
-end_sized told writer slot size old mid new (Ok done) is ready told_so closed wrote cut = end_told told writer slot size old mid new is ready told_so closed wrote
-end_sized told writer slot size old mid new (Err f) is ready told_so closed wrote cut = line_not told writer slot size old mid new f is ready told_so closed cut
+end_sized told writer slot size old mid new (Ok done) is ready said_so closed wrote cut = end_told told writer slot size old mid new is ready said_so closed wrote
+end_sized told writer slot size old mid new (Err f) is ready said_so closed wrote cut = line_not told writer slot size old mid new f is ready said_so closed cut
 
 -- One section ends, and the next begins.
 

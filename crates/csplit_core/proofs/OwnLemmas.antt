@@ -102,7 +102,7 @@ pub write_breaks : (told : Bool) (style : Style) (slot : ℕ) (bytes : List ℕ)
 write_breaks told style slot bytes old new _ streams can (short.broke n cut) = (λ none. absurd (omega (arith, streams, none)), write_rose told slot bytes n old new can cut)
 
 pub line_breaks : (told : Bool) (style : Style) (line : List ℕ) (old new : List Slot) (f : Fault) → style.quiet ≡ false → IsTrue (is_writable old 0) → WritesShort told 0 line old new f → Breaks style old new f
-line_breaks told style line old new _ told_so can (short.broke n cut) = (λ here. told_so, write_rose told 0 line n old new can cut)
+line_breaks told style line old new _ said_so can (short.broke n cut) = (λ here. said_so, write_rose told 0 line n old new can cut)
 
 pub close_breaks : (style : Style) (slot : ℕ) (old new : List Slot) → 2 ≤ slot → suc slot ≡ length old → IsTrue (is_writable old slot) → new ≡ with_broken slot (changed_at slot closes old) → Breaks style old new (fault.Write slot)
 close_breaks style slot old new streams last can is = (λ none. absurd (omega (arith, streams, none)), close_rose slot old new can (omega (arith, last)) is)

@@ -14,9 +14,10 @@ use Rattle.follow_core.specs.inner.Giving.{text_under, Gives, Halts, Ends, whole
 use Rattle.follow_core.specs.Sharing.{WroteShort, CanPrint, HasError}
 use Rattle.follow_core.specs.Share.{IsFront}
 use Rattle.follow_core.specs.inner.Calls.{CanGoOn, Keeps, bytes_past, lines_past, held_at, Follows, bytes_led, change_between, lines_led, entry_open, bytes_again, bytes_open, lines_again, lines_open, Catches, Leads}
-use Rattle.follow_core.proofs.GiveLemmas.{all_told_state, no_memory, gives_nothing, gives_line, halts_short, front_nil, stops_early, goes_after}
+use Rattle.follow_core.proofs.GiveLemmas.{tells_state, no_memory, gives_nothing, gives_line, halts_short, front_nil, stops_early, goes_after}
 use Rattle.ports_core.specs.declared.fault.Fault.{Fault}
-use Rattle.watch_core.specs.Watched.{Watched, breaks, Finds, Reopens, file_seen, is_readable, is_some, is_watchable, open_contents, opens, watched_at}
+use Rattle.watch_core.specs.Watched.{Watched, breaks, Finds, Reopens, file_seen, is_readable, is_watchable, open_contents, opens, watched_at}
+use Rattle.std.specs.Prelude.{is_some}
 use Rattle.watch_core.specs.Snapshot.{Snapshot, latest}
 use Rattle.watch_core.specs.declared.watch.Seen.{Seen}
 use Rattle.follow_core.specs.declared.notice.Notice.{Notice}
@@ -36,7 +37,7 @@ gives_can told printer after name bytes lines [] new gives can = absurd (false�
 gives_can told printer after name bytes lines (output ∷ []) new gives can = absurd (false≢true can.1)
 gives_can told printer after name bytes lines (output ∷ error ∷ others) new gives can = by (gives.slots output error others refl) where
   by : (last : Slot) × TellsAll told lines error last × (new ≡ adds (told_of told (text_under printer name bytes)) output ∷ last ∷ others) → CanPrint new
-  by (last, said, is) = subst CanPrint (sym is) (can.0, ap is_open (all_told_state told lines error last said) ∙ can.1)
+  by (last, said, is) = subst CanPrint (sym is) (can.0, ap is_open (tells_state told lines error last said) ∙ can.1)
 
 short_error : (told : Bool) (text : List ℕ) (output error : Slot) (others new : List Slot) (why : Fault) → Short told text (output ∷ error ∷ others) new why → is_open error.state ≡ true → HasError new
 short_error told text output error others new _ (short_broke n part) can = subst HasError (sym part.slots) can
@@ -53,7 +54,7 @@ wrote_error told text lines [] new why short can = absurd (false≢true can.0)
 wrote_error told text lines (output ∷ []) new why short can = absurd (false≢true can.1)
 wrote_error told text lines (output ∷ error ∷ others) new why short can = by (short output error others refl) where
   by : (last : Slot) × TellsAll told lines error last × Short told text (output ∷ last ∷ others) new why → HasError new
-  by (last, said, part) = short_error told text output last others new why part (ap is_open (all_told_state told lines error last said) ∙ can.1)
+  by (last, said, part) = short_error told text output last others new why part (ap is_open (tells_state told lines error last said) ∙ can.1)
 
 halts_error : (told : Bool) (printer : PrinterState) (name bytes : List ℕ) (lines : List (List ℕ)) (old new : List Slot) (why : Fault) → Halts told printer name bytes lines old new why → CanPrint old → HasError new
 halts_error told printer name bytes lines old new why halts can = wrote_error told (text_under printer name bytes) lines old new why halts.slots can
@@ -208,12 +209,12 @@ pub reopens_as : (told : Bool) (seen seen_old : List Snapshot) (now old new : Li
 reopens_as told seen seen_old now old new place is_there s w reopens = subst (λ those. Reopens told (latest those) old new place is_there) s (subst (λ those. Reopens told (latest seen) those new place is_there) w reopens)
 
 -- it was told, and then something else ended so
-pub ends_told : (told_in told : Bool) (printer after : PrinterState) (name due : List ℕ) (more : List (List ℕ)) (snapshot : Snapshot) (opened led : Option ℕ) (change : Notice) (old mid new : List Slot) (value : Unit {0}) (result : Result ℕ Stop) → (told_in ≡ true → change_between opened led ≡ Some change)
+pub ends_said : (told_in told : Bool) (printer after : PrinterState) (name due : List ℕ) (more : List (List ℕ)) (snapshot : Snapshot) (opened led : Option ℕ) (change : Notice) (old mid new : List Slot) (value : Unit {0}) (result : Result ℕ Stop) → (told_in ≡ true → change_between opened led ≡ Some change)
     → (told_in ≡ true → (due ≡ held_at snapshot led) × (more ≡ []))
     → Ends {T = Unit {0}} told_in told printer name [] (notice_of change name ∷ []) old printer mid (Ok value)
     → Ends {T = ℕ} told_in told printer name due more mid after new result
     → Ends {T = ℕ} told_in told printer name (bytes_led snapshot opened led) (lines_led name snapshot opened led) old after new result
-ends_told told_in told printer after name due more snapshot opened led change old mid new value result is dues line ends =
+ends_said told_in told printer after name due more snapshot opened led change old mid new value result is dues line ends =
     due_as told_in told printer after name due (bytes_led snapshot opened led) ((notice_of change name ∷ []) ++ more) (lines_led name snapshot opened led) old new result
     (λ t. ((dues t).0 ∙ sym (change_led name snapshot opened led change (is t)).0, ap (λ lines. notice_of change name ∷ lines) (dues t).1 ∙ sym (change_led name snapshot opened led change (is t)).1))
     (goes_after told_in told printer printer after name [] due (notice_of change name ∷ []) more old mid new value result line ends)
@@ -527,7 +528,7 @@ leads_untold {told_in} {told} {snapshot} {place} {name} {position} {watched} {wa
 pub leads_unopened : {told_in told : Bool} {snapshot : Snapshot} {place : ℕ} {name : List ℕ} {position : ℕ} {watched watched_new : List Watched} {printer : PrinterState} {slots : List Slot} {watched_mid : List Watched} {mid : List Slot} {change : Notice} {value : Unit {0}} {why : Fault} → Changes told_in snapshot watched place name (Some change) → Ends {T = Unit {0}} told_in told printer name [] (notice_of change name ∷ []) slots printer mid (Ok value)
     → watched_mid ≡ watched → why ≡ fault.Open place → watched_new ≡ changed_at place breaks watched_mid → Leads told_in told snapshot place name position watched printer slots watched_new printer mid (Err (Broke why))
 leads_unopened {told_in} {told} {snapshot} {place} {name} {position} {watched} {watched_new} {printer} {slots} {watched_mid} {mid} {change} {value} {why} changed line same is broken = record {
-  ends = ends_told told_in told printer printer name (held_at snapshot (snapshot.leads name)) [] snapshot (watched_at watched place).opened (snapshot.leads name) change slots mid mid value (Err (Broke why)) changed (λ t. (refl, refl)) line
+  ends = ends_said told_in told printer printer name (held_at snapshot (snapshot.leads name)) [] snapshot (watched_at watched place).opened (snapshot.leads name) change slots mid mid value (Err (Broke why)) changed (λ t. (refl, refl)) line
       (broke_first told_in told printer name (held_at snapshot (snapshot.leads name)) [] mid why);
   len = tt;
   follows = follows_broken told_in (snapshot.leads name) place watched watched_mid watched_new why same is broken;
@@ -536,7 +537,7 @@ leads_unopened {told_in} {told} {snapshot} {place} {name} {position} {watched} {
 pub leads_gone : {told_in told : Bool} {snapshot : Snapshot} {place : ℕ} {name : List ℕ} {position : ℕ} {watched watched_new : List Watched} {printer : PrinterState} {slots : List Slot} {mid : List Slot} {change : Notice} {value : Unit {0}} {is_there : Bool} → Changes told_in snapshot watched place name (Some change) → Ends {T = Unit {0}} told_in told printer name [] (notice_of change name ∷ []) slots printer mid (Ok value)
     → Reopens told_in snapshot watched watched_new place is_there → is_there ≡ false → (watched_at watched place).name ≡ name → Leads told_in told snapshot place name position watched printer slots watched_new printer mid (Ok 0)
 leads_gone {told_in} {told} {snapshot} {place} {name} {position} {watched} {watched_new} {printer} {slots} {mid} {change} {value} {is_there} changed line reopens gone named = record {
-  ends = ends_told told_in told printer printer name [] [] snapshot (watched_at watched place).opened (snapshot.leads name) change slots mid mid value (Ok 0) changed (λ t. (held_nowhere told_in snapshot watched watched_new place name is_there reopens gone named t, refl)) line
+  ends = ends_said told_in told printer printer name [] [] snapshot (watched_at watched place).opened (snapshot.leads name) change slots mid mid value (Ok 0) changed (λ t. (held_nowhere told_in snapshot watched watched_new place name is_there reopens gone named t, refl)) line
       (nothing_due told_in told printer name mid 0);
   len = λ t seen. ap length (held_nowhere told_in snapshot watched watched_new place name is_there reopens gone named t);
   follows = (reopens.file, reopens.names, λ t. reopens.leads t ∙ ap snapshot.leads named);
@@ -546,7 +547,7 @@ pub leads_there : {told_in told : Bool} {snapshot : Snapshot} {place : ℕ} {nam
     → now ≡ snapshot → IsTrue (is_watchable watched place) → Reopens told_in snapshot watched watched_mid place is_there → is_there ≡ true → (watched_at watched place).name ≡ name
     → Catches told_in told now place name 0 watched_mid printer mid watched_new after slots_new result → Leads told_in told snapshot place name position watched printer slots watched_new after slots_new result
 leads_there {told_in} {told} {snapshot} {place} {name} {position} {watched} {watched_new} {printer} {slots} {now} {watched_mid} {after} {mid} {slots_new} {change} {value} {is_there} {result} changed line seen can reopens there named catches = record {
-  ends = ends_told told_in told printer after name (held_at snapshot (snapshot.leads name)) [] snapshot (watched_at watched place).opened (snapshot.leads name) change slots mid slots_new value result changed (λ t. (refl, refl)) line
+  ends = ends_said told_in told printer after name (held_at snapshot (snapshot.leads name)) [] snapshot (watched_at watched place).opened (snapshot.leads name) change slots mid slots_new value result changed (λ t. (refl, refl)) line
       (led_whole told_in told printer after name snapshot now watched watched_mid place is_there mid slots_new result seen can reopens there named catches.ends);
   len = len_whole told_in name snapshot now watched watched_mid place position is_there result (position ≡ length (held_at snapshot (watched_at watched place).opened)) seen can reopens there named catches.len;
   follows = follows_there told_in snapshot watched watched_mid watched_new place name is_there result reopens named catches.keeps;

@@ -24,10 +24,12 @@ use Rattle.follow_core.specs.Version.{open_after}
 use Rattle.ports_core.specs.declared.fault.Fault.{Fault}
 use Rattle.ports_core.specs.declared.fault.Fault.TheVariants as fault
 use Rattle.watch_core.specs.Snapshot.{Snapshot}
-use Rattle.watch_core.specs.Watched.{Watched, added, is_some, watched_at}
+use Rattle.watch_core.specs.Watched.{Watched, added, watched_at}
+use Rattle.std.specs.Prelude.{is_some}
 use Rattle.follow_core.proofs.LaterLemmas.{last_file}
 use Rattle.follow_core.proofs.ShareLemmas.{failed-append, last-append, messages-append, shares_more, text-append}
-use Rattle.follow_core.proofs.VisitAllLemmas.{nothing_shared, wrote_as, wrote_both}
+use Rattle.follow_core.proofs.VisitAllLemmas.{nothing_shared}
+use Rattle.follow_core.proofs.GiveLemmas.{wrote_as, wrote_both}
 
 -- further shares
 

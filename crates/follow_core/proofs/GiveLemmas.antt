@@ -4,6 +4,7 @@ use Rattle.ports_core.specs.Slot.{Slot, with_written, with_broken, told_of, adds
 use Rattle.ports_core.specs.Message.{Prints, Says, PrintsOn}
 use Rattle.ports_core.specs.declared.tool.Tool.TheVariants.{Tail}
 use Rattle.ports_core.proofs.MessageLemmas.{printed_open}
+use Rattle.follow_core.specs.Sharing.{Wrote, WroteShort}
 use Rattle.follow_core.specs.Telling.{IsFailure, Tells, TellsAll}
 use Rattle.std.proofs.lemmas.List.{append-nil, take-append-le, length-take, take-append-drop, take_all, drop-drop as drop_drop}
 use Rattle.std.proofs.Math.Seq.{take-append-add, take-add}
@@ -29,16 +30,16 @@ use Rattle.ports_core.specs.declared.fault.Fault.TheVariants as fault
 -- lines that following says, one after another
 
 -- a line that was printed
-pub told_by : (told : Bool) (line said : List ℕ) (old new : Slot) → said ≡ line → Prints told said old new → Tells told line old new
-told_by told line said old new is printed = record { said = said; is = inl is; printed = printed }
+pub said_by : (told : Bool) (line said : List ℕ) (old new : Slot) → said ≡ line → Prints told said old new → Tells told line old new
+said_by told line said old new is printed = record { said = said; is = inl is; printed = printed }
 
 -- the message of a failure that was said
-pub failure_told : (told : Bool) (line : List ℕ) (old new : Slot) → IsFailure line → Says told Tail line old new → Tells told line old new
-failure_told told line old new failure says = record { said = says.said; is = elim says.is [ inl same ↦ inl same | inr memory ↦ inr (failure, memory) ]; printed = says.printed }
+pub failure_said : (told : Bool) (line : List ℕ) (old new : Slot) → IsFailure line → Says told Tail line old new → Tells told line old new
+failure_said told line old new failure says = record { said = says.said; is = elim says.is [ inl same ↦ inl same | inr memory ↦ inr (failure, memory) ]; printed = says.printed }
 
-pub all_told_state : (told : Bool) (lines : List (List ℕ)) (old new : Slot) → TellsAll told lines old new → new.state ≡ old.state
-all_told_state told [] old new is = ap (λ slot. slot.state) is
-all_told_state told (line ∷ lines) old new tells = all_told_state told lines tells.0 new tells.2 ∙ printed_open told tells.1.said old tells.0 tells.1.printed
+pub tells_state : (told : Bool) (lines : List (List ℕ)) (old new : Slot) → TellsAll told lines old new → new.state ≡ old.state
+tells_state told [] old new is = ap (λ slot. slot.state) is
+tells_state told (line ∷ lines) old new tells = tells_state told lines tells.0 new tells.2 ∙ printed_open told tells.1.said old tells.0 tells.1.printed
 
 pub tells_after : (told : Bool) (lines more : List (List ℕ)) (old mid new : Slot) → TellsAll told lines old mid → TellsAll told more mid new → TellsAll told (lines ++ more) old new
 tells_after told [] more old mid new so_far tells = subst (λ slot. TellsAll told more slot new) so_far tells
@@ -120,62 +121,74 @@ short_after told first second old mid new _ one (no_room n within is) = no_room 
     (let a : length (first ++ second) ≡ length first + length second = length-append first second in omega (arith, within))
     (written_both told old mid new first (take n second) one is ∙ ap (λ bytes. with_written 0 (told_of told bytes) old) (sym (take-append-add first second n)))
 
+-- what standard output and standard error get
+
+pub wrote_none : (told : Bool) (slots : List Slot) → Wrote told [] [] slots slots
+wrote_none told slots = λ output error others is. (error, refl, is ∙ ap (λ slot. slot ∷ error ∷ others) (sym (adds-nil told output)))
+
+pub wrote_text : (told : Bool) (text : List ℕ) (old new : List Slot) → new ≡ with_written 0 (told_of told text) old → Wrote told text [] old new
+wrote_text told text old new is = λ output error others are. (error, refl, is ∙ ap (with_written 0 (told_of told text)) are)
+
+pub wrote_line : (told : Bool) (line : List ℕ) (old new : List Slot) → ((output error : Slot) (others : List Slot) → old ≡ output ∷ error ∷ others → (after : Slot) × Tells told line error after × (new ≡ output ∷ after ∷ others)) → Wrote told [] (line ∷ []) old new
+wrote_line told line old new tells = λ output error others are.
+    let said = tells output error others are in
+    (said.0, (said.0, said.1, refl), said.2 ∙ ap (λ slot. slot ∷ said.0 ∷ others) (sym (adds-nil told output)))
+
+pub wrote_both : (told : Bool) (text more : List ℕ) (lines further : List (List ℕ)) (old mid new : List Slot) → Wrote told text lines old mid → Wrote told more further mid new → Wrote told (text ++ more) (lines ++ further) old new
+wrote_both told text more lines further old mid new first second = λ output error others is. both output error others (first output error others is) where
+  both : (output error : Slot) (others : List Slot) → (mid_error : Slot) × TellsAll told lines error mid_error × (mid ≡ adds (told_of told text) output ∷ mid_error ∷ others)
+      → (last : Slot) × TellsAll told (lines ++ further) error last × (new ≡ adds (told_of told (text ++ more)) output ∷ last ∷ others)
+  both output error others (mid_error, said, are) = joined (second _ mid_error others are) where
+    joined : (last : Slot) × TellsAll told further mid_error last × (new ≡ adds (told_of told more) (adds (told_of told text) output) ∷ last ∷ others)
+        → (last : Slot) × TellsAll told (lines ++ further) error last × (new ≡ adds (told_of told (text ++ more)) output ∷ last ∷ others)
+    joined (last, said_more, is) = (last, tells_after told lines further error mid_error last said said_more, is ∙ ap (λ slot. slot ∷ last ∷ others) (adds_both told text more output))
+
+pub wrote_short : (told : Bool) (text more : List ℕ) (lines further : List (List ℕ)) (old mid new : List Slot) (why : Fault) → Wrote told text lines old mid → WroteShort told more further mid new why → WroteShort told (text ++ more) (lines ++ further) old new why
+wrote_short told text more lines further old mid new why first second = λ output error others is. both output error others (first output error others is) where
+  both : (output error : Slot) (others : List Slot) → (mid_error : Slot) × TellsAll told lines error mid_error × (mid ≡ adds (told_of told text) output ∷ mid_error ∷ others)
+      → (last : Slot) × TellsAll told (lines ++ further) error last × Short told (text ++ more) (output ∷ last ∷ others) new why
+  both output error others (mid_error, said, are) = joined (second _ mid_error others are) where
+    joined : (last : Slot) × TellsAll told further mid_error last × Short told more (adds (told_of told text) output ∷ last ∷ others) new why
+        → (last : Slot) × TellsAll told (lines ++ further) error last × Short told (text ++ more) (output ∷ last ∷ others) new why
+    joined (last, said_more, short) = (last, tells_after told lines further error mid_error last said said_more, short_after told text more (output ∷ last ∷ others) _ new why refl short)
+
+pub wrote_as : (told : Bool) (text other : List ℕ) (lines those : List (List ℕ)) (old new : List Slot) → text ≡ other → lines ≡ those → Wrote told text lines old new → Wrote told other those old new
+wrote_as told text other lines those old new same also wrote = subst (λ t. Wrote told t those old new) same (subst (λ l. Wrote told text l old new) also wrote)
+
+pub short_as : (told : Bool) (text other : List ℕ) (lines those : List (List ℕ)) (old new : List Slot) (why : Fault) → text ≡ other → lines ≡ those → WroteShort told text lines old new why → WroteShort told other those old new why
+short_as told text other lines those old new why same also wrote = subst (λ t. WroteShort told t those old new why) same (subst (λ l. WroteShort told text l old new why) also wrote)
+
 -- what is given in two steps
 
 pub gives_nothing : (told : Bool) (printer : PrinterState) (name : List ℕ) (slots : List Slot) → Gives told printer name [] [] slots printer slots
-gives_nothing told printer name slots = record {
-  printer_is = sym (last_nil printer name);
-  slots = λ output error others is. (error, refl, is ∙ ap (λ slot. slot ∷ error ∷ others) (sym (ap (λ text. adds (told_of told text) output) (under_nil printer name) ∙ adds-nil told output)));
-}
+gives_nothing told printer name slots = record { printer_is = sym (last_nil printer name); slots = wrote_as told [] _ [] [] slots slots (sym (under_nil printer name)) refl (wrote_none told slots) }
 
 pub gives_put : (told : Bool) (printer after : PrinterState) (name bytes : List ℕ) (old new : List Slot) → PutOut told printer name bytes old after new → Gives told printer name bytes [] old after new
-gives_put told printer after name bytes old new put = record {
-  printer_is = put.printer_is;
-  slots = λ output error others is. (error, refl, put.slots ∙ ap (with_written 0 (told_of told (text_under printer name bytes))) is);
-}
+gives_put told printer after name bytes old new put = record { printer_is = put.printer_is; slots = wrote_text told _ old new put.slots }
 
 -- a line alone
 pub gives_line : (told : Bool) (printer : PrinterState) (name line text : List ℕ) (old new : List Slot) → text ≡ line → PrintsOn told text old new → Gives told printer name [] (line ∷ []) old printer new
 gives_line told printer name line text old new same prints = record {
   printer_is = sym (last_nil printer name);
-  slots = λ output error others is. line_of output error others (prints output error others is);
-} where
-  line_of : (output error : Slot) (others : List Slot) → (after : Slot) × Prints told text error after × (new ≡ output ∷ after ∷ others)
-      → (after : Slot) × TellsAll told (line ∷ []) error after × (new ≡ adds (told_of told (text_under printer name [])) output ∷ after ∷ others)
-  line_of output error others (after, printed, is) = (after, (after, told_by told line text error after same printed, refl), is ∙ ap (λ slot. slot ∷ after ∷ others) (sym (ap (λ text. adds (told_of told text) output) (under_nil printer name) ∙ adds-nil told output)))
+  slots = wrote_as told [] _ (line ∷ []) (line ∷ []) old new (sym (under_nil printer name)) refl
+      (wrote_line told line old new (λ output error others are. let said = prints output error others are in (said.0, said_by told line text error said.0 same said.1, said.2)));
+}
+
+under_both : (printer mid : PrinterState) (name first second : List ℕ) → mid ≡ printer_under printer name first → text_under printer name first ++ text_under mid name second ≡ text_under printer name (first ++ second)
+under_both printer mid name first second is = ap (λ (p : PrinterState). text_under printer name first ++ text_under p name second) is ∙ sym (under_append printer name first second)
 
 pub gives_both : (told : Bool) (printer mid after : PrinterState) (name first second : List ℕ) (lines more : List (List ℕ)) (old now new : List Slot)
     → Gives told printer name first lines old mid now → Gives told mid name second more now after new → Gives told printer name (first ++ second) (lines ++ more) old after new
 gives_both told printer mid after name first second lines more old now new one other = record {
   printer_is = other.printer_is ∙ ap (λ (p : PrinterState). printer_under p name second) one.printer_is ∙ sym (last_append printer name first second);
-  slots = λ output error others is. both output error others (one.slots output error others is);
-} where
-  text : text_under printer name first ++ text_under mid name second ≡ text_under printer name (first ++ second)
-  text = ap (λ (p : PrinterState). text_under printer name first ++ text_under p name second) one.printer_is ∙ sym (under_append printer name first second)
-
-  both : (output error : Slot) (others : List Slot) → (error_mid : Slot) × TellsAll told lines error error_mid × (now ≡ adds (told_of told (text_under printer name first)) output ∷ error_mid ∷ others)
-      → (last : Slot) × TellsAll told (lines ++ more) error last × (new ≡ adds (told_of told (text_under printer name (first ++ second))) output ∷ last ∷ others)
-  both output error others (error_mid, said, are) = joined (other.slots _ error_mid others are) where
-    joined : (last : Slot) × TellsAll told more error_mid last × (new ≡ adds (told_of told (text_under mid name second)) (adds (told_of told (text_under printer name first)) output) ∷ last ∷ others)
-        → (last : Slot) × TellsAll told (lines ++ more) error last × (new ≡ adds (told_of told (text_under printer name (first ++ second))) output ∷ last ∷ others)
-    joined (last, more_said, now_are) = (last, tells_after told lines more error error_mid last said more_said, now_are ∙ ap (λ slot. slot ∷ last ∷ others) (adds_both told _ _ output ∙ ap (λ bytes. adds (told_of told bytes) output) text))
+  slots = wrote_as told _ _ _ _ old new (under_both printer mid name first second one.printer_is) refl (wrote_both told _ _ lines more old now new one.slots other.slots);
+}
 
 pub halts_after : (told : Bool) (printer mid : PrinterState) (name first second : List ℕ) (lines more : List (List ℕ)) (old now new : List Slot) (why : Fault)
     → Gives told printer name first lines old mid now → Halts told mid name second more now new why → Halts told printer name (first ++ second) (lines ++ more) old new why
-halts_after told printer mid name first second lines more old now new why one other = record {
-  slots = λ output error others is. both output error others (one.slots output error others is);
-} where
-  text : text_under printer name first ++ text_under mid name second ≡ text_under printer name (first ++ second)
-  text = ap (λ (p : PrinterState). text_under printer name first ++ text_under p name second) one.printer_is ∙ sym (under_append printer name first second)
+halts_after told printer mid name first second lines more old now new why one other =
+    record { slots = short_as told _ _ _ _ old new why (under_both printer mid name first second one.printer_is) refl (wrote_short told _ _ lines more old now new why one.slots other.slots) }
 
-  both : (output error : Slot) (others : List Slot) → (error_mid : Slot) × TellsAll told lines error error_mid × (now ≡ adds (told_of told (text_under printer name first)) output ∷ error_mid ∷ others)
-      → (last : Slot) × TellsAll told (lines ++ more) error last × Short told (text_under printer name (first ++ second)) (output ∷ last ∷ others) new why
-  both output error others (error_mid, said, are) = joined (other.slots _ error_mid others are) where
-    joined : (last : Slot) × TellsAll told more error_mid last × Short told (text_under mid name second) (adds (told_of told (text_under printer name first)) output ∷ last ∷ others) new why
-        → (last : Slot) × TellsAll told (lines ++ more) error last × Short told (text_under printer name (first ++ second)) (output ∷ last ∷ others) new why
-    joined (last, more_said, short) = (last, tells_after told lines more error error_mid last said more_said, subst (λ bytes. Short told bytes (output ∷ last ∷ others) new why) text (short_after told (text_under printer name first) (text_under mid name second) (output ∷ last ∷ others) _ new why refl short))
-
--- nothing more was written
 pub halts_short : (told : Bool) (printer : PrinterState) (name bytes : List ℕ) (old new : List Slot) (why : Fault) → Short told (text_under printer name bytes) old new why → Halts told printer name bytes [] old new why
 halts_short told printer name bytes old new why short = record {
   slots = λ output error others is. (error, refl, subst (λ those. Short told (text_under printer name bytes) those new why) is short);

@@ -11,7 +11,7 @@ use Rattle.follow_core.specs.Look.{Fate, Look, Ways, entries_in, fate_at, is_dro
 use Rattle.std.proofs.Math.Seq.{drop-append_seam as drop_front}
 use Rattle.follow_core.specs.Run.{AreKept, name_text}
 use Rattle.follow_core.specs.Notice.{notice_of, notices_of, notices_later}
-use Rattle.follow_core.specs.Share.{Share, share_of, gain, told_at_look, IsFront}
+use Rattle.follow_core.specs.Share.{share_by, share_of, gain, said_at_look, IsFront}
 use Rattle.follow_core.proofs.RunLemmas.{gain_is, notices-append}
 use Rattle.follow_core.proofs.ShareLemmas.{entries-append}
 use Rattle.ports_core.specs.Slot.{Slot}
@@ -25,7 +25,8 @@ use Rattle.follow_core.specs.declared.visitor.Came.TheVariants.{Through, Dropped
 use Rattle.follow_core.specs.inner.Giving.{Ends, Gives, Halts, broke, over, whole, Shared, SharedShort, is_due}
 use Rattle.follow_core.specs.inner.Visits.{Stopped}
 use Rattle.follow_core.specs.Printing.{PrinterState}
-use Rattle.follow_core.proofs.FirstLemmas.{front_taken, told_after, Looked}
+use Rattle.follow_core.specs.Telling.{IsFailure}
+use Rattle.follow_core.proofs.FirstLemmas.{Dues, Looked, failed_share, given_share, looked_failed, looked_over, looked_whole}
 
 -- A name stands so before a later look: this file of it is open, and this much of that was seen. A file that is appended to keeps its
 -- bytes.
@@ -48,8 +49,8 @@ first_some snapshot (Some file) more = record { first = version_in snapshot file
 pub some_at : (by_name : Bool) (name : List ℕ) (first : Snapshot) (snaps : List Snapshot) → Some_entries (entries_of by_name name (first ∷ snaps))
 some_at by_name name first snaps = first_some first (first.leads name) _
 
-later_told : (entries more : List Entry) → Some_entries entries → drop (length (notices_of entries)) (notices_of (entries ++ more)) ≡ notices_later (last_of entries) more
-later_told entries more some = rw some.are (
+later_said : (entries more : List Entry) → Some_entries entries → drop (length (notices_of entries)) (notices_of (entries ++ more)) ≡ notices_later (last_of entries) more
+later_said entries more some = rw some.are (
     ap (drop (length (notices_later some.first some.rest))) (notices-append some.first some.rest more) ∙ drop_front (notices_later some.first some.rest) _)
 
 later_gain : (start : List ℕ → List ℕ) (entries more : List Entry) → Some_entries entries → gains_after start entries more ≡ gains_later (last_of entries) more
@@ -65,32 +66,28 @@ gain_later ways name looks look more is some all =
     ap (λ entries. drop (length (name_text ways.start (entries_in ways name looks))) (name_text ways.start entries)) is
     ∙ gain_is ways.start (entries_in ways name looks) more (subst AreKept is all) ∙ later_gain ways.start (entries_in ways name looks) more some
 
-tells_later : (ways : Ways) (name : List ℕ) (looks : List Look) (look : Look) (more : List Entry) → entries_in ways name (looks ++ look ∷ []) ≡ entries_in ways name looks ++ more → Some_entries (entries_in ways name looks) → told_at_look ways name looks look ≡ map (λ notice. notice_of notice name) (notices_later (last_of (entries_in ways name looks)) more)
+tells_later : (ways : Ways) (name : List ℕ) (looks : List Look) (look : Look) (more : List Entry) → entries_in ways name (looks ++ look ∷ []) ≡ entries_in ways name looks ++ more → Some_entries (entries_in ways name looks) → said_at_look ways name looks look ≡ map (λ notice. notice_of notice name) (notices_later (last_of (entries_in ways name looks)) more)
 tells_later ways name looks look more is some =
-    ap (map (λ notice. notice_of notice name)) (ap (λ entries. drop (length (notices_of (entries_in ways name looks))) (notices_of entries)) is ∙ later_told (entries_in ways name looks) more some)
+    ap (map (λ notice. notice_of notice name)) (ap (λ entries. drop (length (notices_of (entries_in ways name looks))) (notices_of entries)) is ∙ later_said (entries_in ways name looks) more some)
 
 -- what a later look adds to a name's text and tells of it, from the last that was seen of it and the file that is open
 pub gain_more : (ways : Ways) (name : List ℕ) (before : Look) (looks : List Look) (look : Look) → AreKept (entries_in ways name ((before ∷ looks) ++ look ∷ []))
     → gain ways name (before ∷ looks) look ≡ gains_later (last_of (entries_in ways name (before ∷ looks))) (entries_at_look ways.by_name name (open_after ways.by_name name (snapshots (before ∷ looks))) look.snapshot)
 gain_more ways name before looks look all = gain_later ways name (before ∷ looks) look _ (entries_more ways name before looks look) (some_at ways.by_name name before.snapshot (snapshots looks)) all
 
-pub told_more : (ways : Ways) (name : List ℕ) (before : Look) (looks : List Look) (look : Look)
-    → told_at_look ways name (before ∷ looks) look ≡ map (λ notice. notice_of notice name) (notices_later (last_of (entries_in ways name (before ∷ looks))) (entries_at_look ways.by_name name (open_after ways.by_name name (snapshots (before ∷ looks))) look.snapshot))
-told_more ways name before looks look = tells_later ways name (before ∷ looks) look _ (entries_more ways name before looks look) (some_at ways.by_name name before.snapshot (snapshots looks))
-
--- a share of a later look
-abbrev pub again_share : List ℕ → List ℕ → List (List ℕ) → Share
-again_share name bytes lines = record { name = name; is_opened = false; bytes = bytes; messages = lines; has_failed = false }
+pub more_said : (ways : Ways) (name : List ℕ) (before : Look) (looks : List Look) (look : Look)
+    → said_at_look ways name (before ∷ looks) look ≡ map (λ notice. notice_of notice name) (notices_later (last_of (entries_in ways name (before ∷ looks))) (entries_at_look ways.by_name name (open_after ways.by_name name (snapshots (before ∷ looks))) look.snapshot))
+more_said ways name before looks look = tells_later ways name (before ∷ looks) look _ (entries_more ways name before looks look) (some_at ways.by_name name before.snapshot (snapshots looks))
 
 pub later_share : (ways : Ways) (name : List ℕ) (before : Look) (looks : List Look) (look : Look) (place : ℕ)
     → is_dropped place (before ∷ looks) ≡ false → fate_at place look ≡ sound
     → AreKept (entries_in ways name ((before ∷ looks) ++ look ∷ []))
-    → share_of ways (before ∷ looks) look place name ≡ again_share name
+    → share_of ways (before ∷ looks) look place name ≡ given_share false name
     (gains_later (last_of (entries_in ways name (before ∷ looks))) (entries_at_look ways.by_name name (open_after ways.by_name name (snapshots (before ∷ looks))) look.snapshot))
     (map (λ notice. notice_of notice name) (notices_later (last_of (entries_in ways name (before ∷ looks))) (entries_at_look ways.by_name name (open_after ways.by_name name (snapshots (before ∷ looks))) look.snapshot)))
 later_share ways name before looks look place kept fine all = rw (kept, fine)
-    (ap (λ bytes. again_share name bytes (told_at_look ways name (before ∷ looks) look)) (gain_more ways name before looks look all)
-    ∙ ap (again_share name _) (told_more ways name before looks look))
+    (ap (λ bytes. given_share false name bytes (said_at_look ways name (before ∷ looks) look)) (gain_more ways name before looks look all)
+    ∙ ap (given_share false name _) (more_said ways name before looks look))
 
 pub open_step : (by_name : Bool) (name : List ℕ) (opened : Option ℕ) (snapshot : Snapshot) (last : Entry) → opened ≡ file_of last → open_after_look by_name name opened snapshot ≡ file_of (last_from last (entries_at_look by_name name opened snapshot))
 open_step true name opened snapshot last is = by opened (snapshot.leads name) where
@@ -183,13 +180,13 @@ if_out : (printer : PrinterState) (name : List ℕ) (test : Bool) → ◌≡◌ 
 if_out printer name true = refl
 if_out printer name false = refl
 
-gives_shared : (told : Bool) (printer after : PrinterState) (name bytes : List ℕ) (lines : List (List ℕ)) (old new : List Slot) → Gives told printer name bytes lines old after new → Shared told printer (again_share name bytes lines) old after new
+gives_shared : (told : Bool) (printer after : PrinterState) (name bytes : List ℕ) (lines : List (List ℕ)) (old new : List Slot) → Gives told printer name bytes lines old after new → Shared told printer (given_share false name bytes lines) old after new
 gives_shared told printer after name bytes lines old new gives = record {
   printer_is = gives.printer_is ∙ if_out printer name (is_due printer name bytes);
   slots = gives.slots;
 }
 
-halts_shared : (told : Bool) (printer : PrinterState) (name bytes : List ℕ) (lines : List (List ℕ)) (old new : List Slot) (why : Fault) → Halts told printer name bytes lines old new why → SharedShort told printer (again_share name bytes lines) old new why
+halts_shared : (told : Bool) (printer : PrinterState) (name bytes : List ℕ) (lines : List (List ℕ)) (old new : List Slot) (why : Fault) → Halts told printer name bytes lines old new why → SharedShort told printer (given_share false name bytes lines) old new why
 halts_shared told printer name bytes lines old new why halts = record { slots = halts.slots }
 
 abbrev pub last_in : Ways → List ℕ → Look → List Look → Entry
@@ -198,70 +195,49 @@ last_in ways name before looks = last_of (entries_in ways name (before ∷ looks
 -- what is due at the look is what the definition gives
 due_again : (ways : Ways) (name : List ℕ) (before : Look) (looks : List Look) (snapshot : Snapshot) (fates : List Fate) (opened : Option ℕ) (position : ℕ) (by_name : Bool) → ways.by_name ≡ by_name → IsReady ways (before ∷ looks) snapshot name opened position
     → (bytes_again by_name name (last_in ways name before looks) snapshot opened ≡ gain ways name (before ∷ looks) (record { snapshot = snapshot; fates = fates }))
-    × (lines_again by_name name (last_in ways name before looks) snapshot opened ≡ told_at_look ways name (before ∷ looks) (record { snapshot = snapshot; fates = fates }))
+    × (lines_again by_name name (last_in ways name before looks) snapshot opened ≡ said_at_look ways name (before ∷ looks) (record { snapshot = snapshot; fates = fates }))
 due_again ways name before looks snapshot fates opened position by_name way ready =
     let last = last_in ways name before looks in
     let same : opened ≡ open_after ways.by_name name (snapshots (before ∷ looks)) = ready.stands.file ∙ sym (last_file ways name before looks) in (
       ap (λ those. bytes_again those name last snapshot opened) (sym way) ∙ ap (bytes_again ways.by_name name last snapshot) same
           ∙ sym (gain_more ways name before looks (record { snapshot = snapshot; fates = fates }) (subst AreKept (same_entries ways name (before ∷ looks) snapshot [] fates) ready.kept)),
       ap (λ those. lines_again those name last snapshot opened) (sym way) ∙ ap (lines_again ways.by_name name last snapshot) same
-          ∙ sym (told_more ways name before looks (record { snapshot = snapshot; fates = fates })),
+          ∙ sym (more_said ways name before looks (record { snapshot = snapshot; fates = fates })),
     )
 
 pub again_whole : (told_in told : Bool) (ways : Ways) (before : Look) (looks : List Look) (snapshot : Snapshot) (name : List ℕ) (opened : Option ℕ) (position : ℕ) (by_name : Bool) (printer after : PrinterState) (old new : List Slot) (len : ℕ) → ways.by_name ≡ by_name → (told_in ≡ true → IsReady ways (before ∷ looks) snapshot name opened position)
     → Ends {T = ℕ} told_in told printer name (bytes_again by_name name (last_in ways name before looks) snapshot opened) (lines_again by_name name (last_in ways name before looks) snapshot opened) old after new (Ok len)
     → Looked told_in told ways (before ∷ looks) snapshot name printer old after new (Through len)
-again_whole told_in told ways before looks snapshot name opened position by_name printer after old new _ way ready (whole len bytes lines are gives) = record {
-  fate = sound;
-  share = again_share name bytes lines;
-  is_share = λ is fates.
-      let due = due_again ways name before looks snapshot fates opened position by_name way (ready is) in
-      ap (λ those. again_share name those lines) ((are is).0 ∙ due.0) ∙ ap (again_share name (gain ways name (before ∷ looks) (record { snapshot = snapshot; fates = fates }))) ((are is).1 ∙ due.1);
-  through = refl;
-  failed = refl;
-  shared = gives_shared told printer after name bytes lines old new gives;
-}
+again_whole told_in told ways before looks snapshot name opened position by_name printer after old new _ way ready (whole len bytes lines are gives) =
+    looked_whole told_in told ways (before ∷ looks) snapshot name printer after old new bytes lines len
+    (λ is fates. let due = due_again ways name before looks snapshot fates opened position by_name way (ready is) in (refl, ((are is).0 ∙ due.0, (are is).1 ∙ due.1)))
+    (gives_shared told printer after name bytes lines old new gives)
+
+again_fronts : (told_in : Bool) (ways : Ways) (before : Look) (looks : List Look) (snapshot : Snapshot) (name : List ℕ) (opened : Option ℕ) (position : ℕ) (by_name : Bool) (bytes : List ℕ) (lines : List (List ℕ)) → ways.by_name ≡ by_name → (told_in ≡ true → IsReady ways (before ∷ looks) snapshot name opened position)
+    → (told_in ≡ true → IsFront bytes (bytes_again by_name name (last_in ways name before looks) snapshot opened) × IsFront lines (lines_again by_name name (last_in ways name before looks) snapshot opened))
+    → Dues told_in ways (before ∷ looks) snapshot name (λ due said. IsFront bytes due × IsFront lines said)
+again_fronts told_in ways before looks snapshot name opened position by_name bytes lines way ready are is fates =
+    let due = due_again ways name before looks snapshot fates opened position by_name way (ready is) in (refl, (subst (IsFront bytes) due.0 (are is).0, subst (IsFront lines) due.1 (are is).1))
 
 -- a call on it failed: a beginning was given, and the message follows
-failed_share : (ways : Ways) (name bytes : List ℕ) (lines : List (List ℕ)) (before : Look) (looks : List Look) (look : Look) (line : List ℕ) → IsFront bytes (gain ways name (before ∷ looks) look) → IsFront lines (told_at_look ways name (before ∷ looks) look)
-    → ◌≡◌ {A = Share} (record { name = name; is_opened = false; bytes = bytes; messages = lines ++ line ∷ []; has_failed = true })
-    (record { name = name; is_opened = false; bytes = take (length bytes) (gain ways name (before ∷ looks) look); messages = take (length lines) (told_at_look ways name (before ∷ looks) look) ++ line ∷ []; has_failed = true })
-failed_share ways name bytes lines before looks look line front lines_front =
-    ap (λ those. record { name = name; is_opened = false; bytes = those; messages = lines ++ line ∷ []; has_failed = true }) (sym (front_taken bytes (gain ways name (before ∷ looks) look) front))
-    ∙ ap (λ those. record { name = name; is_opened = false; bytes = take (length bytes) (gain ways name (before ∷ looks) look); messages = those ++ line ∷ []; has_failed = true }) (sym (front_taken lines (told_at_look ways name (before ∷ looks) look) lines_front))
-
 pub again_broke : (told_in told : Bool) (ways : Ways) (before : Look) (looks : List Look) (snapshot : Snapshot) (place : ℕ) (name : List ℕ) (opened : Option ℕ) (position : ℕ) (by_name : Bool) (printer after : PrinterState) (old mid new : List Slot) (why : Fault) → ways.by_name ≡ by_name → (told_in ≡ true → IsReady ways (before ∷ looks) snapshot name opened position)
     → (why ≡ Open place) ⊎ (why ≡ Read place)
     → Ends {T = ℕ} told_in told printer name (bytes_again by_name name (last_in ways name before looks) snapshot opened) (lines_again by_name name (last_in ways name before looks) snapshot opened) old after mid (Err (Broke why))
     → SaysOn told Tail (message_of Tail why name) mid new → Looked told_in told ways (before ∷ looks) snapshot name printer old after new Dropped
-again_broke told_in told ways before looks snapshot place name opened position by_name printer after old mid new _ way ready (inl unopen) (broke why bytes lines are gives) says = record {
-  fate = not_opened (length lines) (length bytes);
-  share = record (again_share name bytes lines) { messages = lines ++ message_of Tail (Open 0) name ∷ []; has_failed = true };
-  is_share = λ is fates.
-      let due = due_again ways name before looks snapshot fates opened position by_name way (ready is) in
-      failed_share ways name bytes lines before looks (record { snapshot = snapshot; fates = fates }) (message_of Tail (Open 0) name) (subst (IsFront bytes) due.0 (are is).0) (subst (IsFront lines) due.1 (are is).1);
-  through = refl;
-  failed = refl;
-  shared = told_after told printer after (again_share name bytes lines) (message_of Tail (Open 0) name) old mid new (gives_shared told printer after name bytes lines old mid gives) (name, inl refl) (subst (λ those. SaysOn told Tail (message_of Tail those name) mid new) unopen says);
-}
-again_broke told_in told ways before looks snapshot place name opened position by_name printer after old mid new _ way ready (inr read) (broke why bytes lines are gives) says = record {
-  fate = not_read (length lines) (length bytes);
-  share = record (again_share name bytes lines) { messages = lines ++ message_of Tail (Read 0) name ∷ []; has_failed = true };
-  is_share = λ is fates.
-      let due = due_again ways name before looks snapshot fates opened position by_name way (ready is) in
-      failed_share ways name bytes lines before looks (record { snapshot = snapshot; fates = fates }) (message_of Tail (Read 0) name) (subst (IsFront bytes) due.0 (are is).0) (subst (IsFront lines) due.1 (are is).1);
-  through = refl;
-  failed = refl;
-  shared = told_after told printer after (again_share name bytes lines) (message_of Tail (Read 0) name) old mid new (gives_shared told printer after name bytes lines old mid gives) (name, inr refl) (subst (λ those. SaysOn told Tail (message_of Tail those name) mid new) read says);
-}
+again_broke told_in told ways before looks snapshot place name opened position by_name printer after old mid new _ way ready failed (broke why bytes lines are gives) says = by failed where
+  fronts : Dues told_in ways (before ∷ looks) snapshot name (λ due said. IsFront bytes due × IsFront lines said)
+  fronts = again_fronts told_in ways before looks snapshot name opened position by_name bytes lines way ready are
+
+  dropped : (fault : Fault) (fate : Fate) → is_sound fate ≡ false → ((fates : List Fate) → failed_share false name (take (length bytes) (gain ways name (before ∷ looks) (record { snapshot = snapshot; fates = fates }))) (take (length lines) (said_at_look ways name (before ∷ looks) (record { snapshot = snapshot; fates = fates })) ++ message_of Tail fault name ∷ []) ≡ share_by ways name (before ∷ looks) (record { snapshot = snapshot; fates = fates }) fate)
+      → IsFailure (message_of Tail fault name) → SaysOn told Tail (message_of Tail fault name) mid new → Looked told_in told ways (before ∷ looks) snapshot name printer old after new Dropped
+  dropped fault fate unsound share_is failure says = looked_failed told_in told ways (before ∷ looks) snapshot name printer after old mid new bytes lines (message_of Tail fault name) false fate unsound share_is (λ is fates. (fronts is fates).1) (gives_shared told printer after name bytes lines old mid gives) failure says
+
+  by : (why ≡ Open place) ⊎ (why ≡ Read place) → Looked told_in told ways (before ∷ looks) snapshot name printer old after new Dropped
+  by (inl unopen) = dropped (Open 0) (not_opened (length lines) (length bytes)) refl (λ fates. refl) (name, inl refl) (subst (λ those. SaysOn told Tail (message_of Tail those name) mid new) unopen says)
+  by (inr read) = dropped (Read 0) (not_read (length lines) (length bytes)) refl (λ fates. refl) (name, inr refl) (subst (λ those. SaysOn told Tail (message_of Tail those name) mid new) read says)
 
 pub again_over : (told_in told : Bool) (ways : Ways) (before : Look) (looks : List Look) (snapshot : Snapshot) (name : List ℕ) (opened : Option ℕ) (position : ℕ) (by_name : Bool) (printer after : PrinterState) (old new : List Slot) (why : Fault) → ways.by_name ≡ by_name → (told_in ≡ true → IsReady ways (before ∷ looks) snapshot name opened position)
     → Ends {T = ℕ} told_in told printer name (bytes_again by_name name (last_in ways name before looks) snapshot opened) (lines_again by_name name (last_in ways name before looks) snapshot opened) old after new (Err (Over why))
     → Stopped told_in told ways (before ∷ looks) snapshot name printer old new why
-again_over told_in told ways before looks snapshot name opened position by_name printer after old new _ way ready (over why bytes lines are halts) = record {
-  share = again_share name bytes lines;
-  begins = λ is fates.
-      let due = due_again ways name before looks snapshot fates opened position by_name way (ready is) in
-      record { name = refl; opened = refl; bytes = subst (IsFront bytes) due.0 (are is).0; messages = subst (IsFront lines) due.1 (are is).1 };
-  short = halts_shared told printer name bytes lines old new why halts;
-}
+again_over told_in told ways before looks snapshot name opened position by_name printer after old new _ way ready (over why bytes lines are halts) =
+    looked_over told_in told ways (before ∷ looks) snapshot name printer old new why bytes lines (again_fronts told_in ways before looks snapshot name opened position by_name bytes lines way ready are) (halts_shared told printer name bytes lines old new why halts)

@@ -2,18 +2,16 @@
 use Rattle.std.proofs.Common.{◌≡◌, ℕ, zero, suc, ◌<◌, ◌≤◌, ◌+◌, Bool, true, false, ◌||◌, List, [], ◌∷◌, ◌++◌, length, take, set, get_or, slice_index_or, refl, sym, ◌∙◌, ap, subst, arith, append_assoc, inl, inr, ◌⊎◌, if◌then◌else◌}
 use Rattle.std.proofs.lemmas.List.{append-nil, get_or-map, get_or-set_other, get_or-set_same, length-append, length-map, length-set, length-take-le, take_all, get_or_past}
 use Rattle.std.proofs.Math.Seq.{get_or-append_seam, map-set_same, take-suc}
-use Rattle.ports_core.specs.Slot.{Slot, adds, told_of}
-use Rattle.follow_core.specs.Telling.{TellsAll}
+use Rattle.ports_core.specs.Slot.{Slot}
 use Rattle.follow_core.specs.Followed.{any_failed, header_after, last_header_from, messages_of, share_text, text_from}
 use Rattle.follow_core.specs.Look.{Fate, Look, Ways, fate_at, is_dropped, sound}
 use Rattle.follow_core.specs.Share.{BeginsShare, Share, share_by, share_of, no_share, shares_at_look_from}
 use Rattle.follow_core.specs.inner.Visits.{Stopped, KeepsOthers, StoppedAt, Visited, VisitedAll}
-use Rattle.follow_core.specs.Printing.{PrinterState, Short}
-use Rattle.follow_core.specs.Sharing.{AllShared, AllShort, Wrote, WroteShort}
+use Rattle.follow_core.specs.Printing.{PrinterState}
+use Rattle.follow_core.specs.Sharing.{AllShared, AllShort}
 use Rattle.follow_core.specs.inner.Giving.{Shared, SharedShort}
 use Rattle.follow_core.specs.Standing.{AllKeep, AllStand, CanVisit, KeepsBytes, NameState, Stands, no_state, state_at, texts}
-use Rattle.follow_core.proofs.GiveLemmas.{tells_after, short_after}
-use Rattle.ports_core.proofs.Runs.{adds_both, adds-nil}
+use Rattle.follow_core.proofs.GiveLemmas.{short_as, wrote_as, wrote_both, wrote_none, wrote_short}
 use Rattle.ports_core.specs.declared.fault.Fault.{Fault}
 use Rattle.watch_core.specs.Snapshot.{Snapshot}
 use Rattle.watch_core.specs.Watched.{Watched, watched_at}
@@ -33,35 +31,8 @@ pub record VisitedUpTo (told_in told : Bool) (ways : Ways) (looks : List Look) (
   pub rest : (other : ℕ) → place ≤ other → other < length names_now
       → Stands told_in ways looks other (state_at names_now other).text (watched_at watched other) (state_at names_now other).standing
 
-pub wrote_both : (told : Bool) (text more : List ℕ) (lines further : List (List ℕ)) (old mid new : List Slot) → Wrote told text lines old mid → Wrote told more further mid new → Wrote told (text ++ more) (lines ++ further) old new
-wrote_both told text more lines further old mid new first second = λ output error others is. both output error others (first output error others is) where
-  both : (output error : Slot) (others : List Slot) → (mid_error : Slot) × TellsAll told lines error mid_error × (mid ≡ adds (told_of told text) output ∷ mid_error ∷ others)
-      → (last : Slot) × TellsAll told (lines ++ further) error last × (new ≡ adds (told_of told (text ++ more)) output ∷ last ∷ others)
-  both output error others (mid_error, said, are) = joined (second _ mid_error others are) where
-    joined : (last : Slot) × TellsAll told further mid_error last × (new ≡ adds (told_of told more) (adds (told_of told text) output) ∷ last ∷ others)
-        → (last : Slot) × TellsAll told (lines ++ further) error last × (new ≡ adds (told_of told (text ++ more)) output ∷ last ∷ others)
-    joined (last, said_more, is) = (last, tells_after told lines further error mid_error last said said_more, is ∙ ap (λ slot. slot ∷ last ∷ others) (adds_both told text more output))
-
-pub wrote_short : (told : Bool) (text more : List ℕ) (lines further : List (List ℕ)) (old mid new : List Slot) (why : Fault) → Wrote told text lines old mid → WroteShort told more further mid new why → WroteShort told (text ++ more) (lines ++ further) old new why
-wrote_short told text more lines further old mid new why first second = λ output error others is. both output error others (first output error others is) where
-  both : (output error : Slot) (others : List Slot) → (mid_error : Slot) × TellsAll told lines error mid_error × (mid ≡ adds (told_of told text) output ∷ mid_error ∷ others)
-      → (last : Slot) × TellsAll told (lines ++ further) error last × Short told (text ++ more) (output ∷ last ∷ others) new why
-  both output error others (mid_error, said, are) = joined (second _ mid_error others are) where
-    joined : (last : Slot) × TellsAll told further mid_error last × Short told more (adds (told_of told text) output ∷ last ∷ others) new why
-        → (last : Slot) × TellsAll told (lines ++ further) error last × Short told (text ++ more) (output ∷ last ∷ others) new why
-    joined (last, said_more, short) = (last, tells_after told lines further error mid_error last said said_more, short_after told text more (output ∷ last ∷ others) _ new why refl short)
-
-pub wrote_as : (told : Bool) (text other : List ℕ) (lines those : List (List ℕ)) (old new : List Slot) → text ≡ other → lines ≡ those → Wrote told text lines old new → Wrote told other those old new
-wrote_as told text other lines those old new same also wrote = subst (λ t. Wrote told t those old new) same (subst (λ l. Wrote told text l old new) also wrote)
-
-pub short_as : (told : Bool) (text other : List ℕ) (lines those : List (List ℕ)) (old new : List Slot) (why : Fault) → text ≡ other → lines ≡ those → WroteShort told text lines old new why → WroteShort told other those old new why
-short_as told text other lines those old new why same also wrote = subst (λ t. WroteShort told t those old new why) same (subst (λ l. WroteShort told text l old new why) also wrote)
-
 pub nothing_shared : (told : Bool) (printer : PrinterState) (slots : List Slot) → AllShared told printer [] slots printer slots
-nothing_shared told printer slots = record {
-  printer_is = refl;
-  slots = λ output error others is. (error, refl, is ∙ ap (λ slot. slot ∷ error ∷ others) (sym (adds-nil told output)));
-}
+nothing_shared told printer slots = record { printer_is = refl; slots = wrote_none told slots }
 
 -- the text and the lines of one share more
 text_one : (printer mid : PrinterState) (shares : List Share) (share : Share) → mid ≡ record printer { last = last_header_from printer.headers printer.last shares }

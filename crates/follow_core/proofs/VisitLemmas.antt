@@ -6,7 +6,8 @@ use Rattle.ports_core.specs.declared.fault.Fault.{Fault}
 use Rattle.ports_core.proofs.InputsLemmas.{changed_elsewhere}
 use Rattle.ports_core.proofs.SlotLemmas.{changed_at-again, length-changed_at}
 use Rattle.watch_core.specs.Snapshot.{Snapshot}
-use Rattle.watch_core.specs.Watched.{Reopens, Watched, added, open_contents, breaks, is_some, is_watchable, no_name, opens, watched_at}
+use Rattle.watch_core.specs.Watched.{Reopens, Watched, added, open_contents, breaks, is_watchable, no_name, opens, watched_at}
+use Rattle.std.specs.Prelude.{is_some}
 use Rattle.follow_core.specs.declared.visitor.Came.{Came}
 use Rattle.follow_core.specs.declared.visitor.Came.TheVariants.{Through, Missing, Dropped}
 use Rattle.follow_core.specs.declared.name.Standing.{Standing}
@@ -14,22 +15,22 @@ use Rattle.follow_core.specs.declared.name.Standing.TheVariants.{New, Followed, 
 use Rattle.follow_core.specs.declared.visitor.Stop.{Stop}
 use Rattle.follow_core.specs.declared.visitor.Stop.TheVariants.{Broke, Over}
 use Rattle.follow_core.specs.inner.Calls.{Keeps, held_at}
-use Rattle.follow_core.specs.Gain.{file_of, gains_later, last_of}
+use Rattle.follow_core.specs.Gain.{file_of, gains_later, last_of, seen_length}
 use Rattle.follow_core.specs.Notice.{notice_of, notices_later}
 use Rattle.follow_core.specs.Run.{AreKept}
-use Rattle.follow_core.specs.Look.{Fate, Look, Ways, entries_in, fate_at, is_dropped, is_sound, snapshots, sound}
+use Rattle.follow_core.specs.Look.{Fate, Look, Ways, entries_in, fate_at, is_dropped, is_first, is_sound, snapshots, sound, unread}
 use Rattle.follow_core.specs.inner.Visits.{TellsStop, Leaves, Stopped, has_failed, standing_after, KeepsOthers, Looks, Visited, Visits}
 use Rattle.follow_core.specs.Printing.{PrinterState}
 use Rattle.follow_core.specs.Share.{Share, no_share, share_by, share_of}
 use Rattle.follow_core.specs.Standing.{CanVisit, IsFollowed, IsLeft, IsMissed, KeepsBytes, NameState, Stands}
 use Rattle.follow_core.specs.Version.{Entry, version, gap, entries_at_look, open_after, open_after_look}
 use Rattle.follow_core.proofs.CallLemmas.{contents_led, none_of, opened_there, opens_same, LooksAgain}
-use Rattle.follow_core.proofs.LaterLemmas.{again_share, later_share, again_broke, again_over, again_whole, last_in, dropped_more, first_last, last_file, last_later, same_entries, IsReady}
+use Rattle.follow_core.proofs.LaterLemmas.{later_share, again_broke, again_over, again_whole, last_in, dropped_more, first_last, last_file, last_later, same_entries, IsReady}
 use Rattle.ports_core.specs.Message.{SaysOn}
 use Rattle.ports_core.specs.Text.{message_of}
 use Rattle.ports_core.specs.declared.tool.Tool.TheVariants.{Tail}
-use Rattle.ports_core.specs.declared.fault.Fault.TheVariants.{Open}
-use Rattle.follow_core.proofs.FirstLemmas.{FirstCut, cut_over, cut_read, empty_shared, meets_nothing, meets_unopened, meets_unread, Looked, came_through}
+use Rattle.ports_core.specs.declared.fault.Fault.TheVariants.{Open, Read}
+use Rattle.follow_core.proofs.FirstLemmas.{FirstCut, cut_over, cut_read, empty_shared, meets_nothing, meets_unopened, given_share, looked_failed, Looked, came_through}
 
 -- a name that came through its first look leads to a file
 abbrev pub IsThere : Bool → Option ℕ → Came → Type 0
@@ -76,7 +77,6 @@ can_again told by_name snapshot led place name old new Dropped named unbroken le
 fate_sound : (place : ℕ) (look : Look) (fate : Fate) (through : Bool) → fate_at place look ≡ fate → is_sound fate ≡ through → not (is_sound (fate_at place look)) ≡ not through
 fate_sound place look fate through at is = ap (λ those. not (is_sound those)) at ∙ ap not is
 
--- after the first look
 broken_at : (place : ℕ) (old : List Watched) → (watched_at (changed_at place breaks old) place).is_broken ≡ true
 broken_at zero [] = refl
 broken_at (suc place) [] = refl
@@ -86,50 +86,45 @@ broken_at (suc place) (name ∷ names) = broken_at place names
 broken_now : (place : ℕ) (old new : List Watched) → (file : Option ℕ) × (new ≡ changed_at place breaks (changed_at place (opens file) old)) → (watched_at new place).is_broken ≡ true
 broken_now place old new (file, is) = ap (λ (names : List Watched). (watched_at names place).is_broken) is ∙ broken_at place (changed_at place (opens file) old)
 
-first_stands : (told : Bool) (ways : Ways) (snapshot : Snapshot) (place : ℕ) (name : List ℕ) (old new : List Watched) (came : Came) (look : Look) (fate : Fate) → look.snapshot ≡ snapshot → (watched_at old place).name ≡ name → (watched_at old place).is_broken ≡ false
-    → Leaves told snapshot (snapshot.leads name) place old new came → IsThere told (snapshot.leads name) came → is_sound fate ≡ came_through came → fate_at place look ≡ fate
-    → Stands told ways (look ∷ []) place name (watched_at new place) (standing_after ways.by_name came)
-first_stands told ways snapshot place name old new (Through len) look fate seen named unbroken (file, is, are) there through at =
+-- a look more
+begun_more : (looks : List Look) (look : Look) → is_first (looks ++ look ∷ []) ≡ false
+begun_more [] look = refl
+begun_more (before ∷ looks) look = refl
+
+kept_more : (place : ℕ) (looks : List Look) (look : Look) (fate : Fate) (through : Bool) → is_dropped place looks ≡ false → fate_at place look ≡ fate → is_sound fate ≡ through → is_dropped place (looks ++ look ∷ []) ≡ not through
+kept_more place looks look fate through kept at is = dropped_more place looks look ∙ ap (λ those. those || not (is_sound (fate_at place look))) kept ∙ fate_sound place look fate through at is
+
+-- a name that came through it stands at its last entry
+through_stands : (told : Bool) (ways : Ways) (looks : List Look) (look : Look) (place : ℕ) (name : List ℕ) (file led : Option ℕ) (len : ℕ) (old new : List Watched) (fate : Fate) → (watched_at old place).name ≡ name → (watched_at old place).is_broken ≡ false → is_dropped place looks ≡ false → new ≡ changed_at place (opens file) old
+    → is_sound fate ≡ true → fate_at place look ≡ fate → (told ≡ true → (file ≡ led) × (len ≡ length (held_at look.snapshot led)))
+    → (told ≡ true → (file_of (last_of (entries_in ways name (looks ++ look ∷ []))) ≡ led) × (seen_length (last_of (entries_in ways name (looks ++ look ∷ []))) ≡ length (held_at look.snapshot led)))
+    → (told ≡ true → ways.by_name ≡ false → is_some led ≡ true) → IsFollowed told ways (looks ++ look ∷ []) place name (watched_at new place) len
+through_stands told ways looks look place name file led len old new fate named unbroken kept is through at are last there =
     let now = opened_now place file old new is unbroken in
-    let last = first_last ways name look in
     record {
       named = ap (λ (w : Watched). w.name) now ∙ named;
       unbroken = ap (λ (w : Watched). w.is_broken) now ∙ unbroken;
-      kept = dropped_more place [] look ∙ fate_sound place look fate true at through;
-      begun = refl;
-      stands = λ t. record {
-        file = ap (λ (w : Watched). w.opened) now ∙ (are t).0 ∙ ap (λ (s : Snapshot). s.leads name) (sym seen) ∙ sym last.0;
-        seen = (are t).1 ∙ ap (λ (s : Snapshot). length (held_at s (s.leads name))) (sym seen) ∙ sym last.1;
-      };
-      there = λ t way. ap (λ (w : Watched). is_some w.opened) now ∙ ap is_some (are t).0 ∙ there t;
+      kept = kept_more place looks look fate true kept at through;
+      begun = begun_more looks look;
+      stands = λ t. record { file = ap (λ (w : Watched). w.opened) now ∙ (are t).0 ∙ sym (last t).0; seen = (are t).1 ∙ sym (last t).1 };
+      there = λ t way. ap (λ (w : Watched). is_some w.opened) now ∙ ap is_some (are t).0 ∙ there t way;
     }
-first_stands told ways snapshot place name old new Missing look fate seen named unbroken (file, is, are) there through at = by ways.by_name refl where
-  now : watched_at new place ≡ record (watched_at old place) { opened = file }
-  now = opened_now place file old new is unbroken
 
-  kept : is_dropped place (look ∷ []) ≡ false
-  kept = dropped_more place [] look ∙ fate_sound place look fate true at through
+dropped_stands : (told : Bool) (ways : Ways) (looks : List Look) (look : Look) (place : ℕ) (name : List ℕ) (old new : List Watched) (fate : Fate) → is_dropped place looks ≡ false → (file : Option ℕ) × (new ≡ changed_at place breaks (changed_at place (opens file) old)) → is_sound fate ≡ false → fate_at place look ≡ fate
+    → IsLeft told ways (looks ++ look ∷ []) place name (watched_at new place)
+dropped_stands told ways looks look place name old new fate kept leaves through at = record { begun = begun_more looks look; why = inl (kept_more place looks look fate false kept at through, broken_now place old new leaves) }
 
-  nowhere : told ≡ true → look.snapshot.leads name ≡ None
-  nowhere t = ap (λ (s : Snapshot). s.leads name) seen ∙ (are t).1
-
-  by : (by_name : Bool) → ways.by_name ≡ by_name → Stands told ways (look ∷ []) place name (watched_at new place) (if by_name then Followed 0 else Left)
-  by true way = record {
-    named = ap (λ (w : Watched). w.name) now ∙ named;
-    unbroken = ap (λ (w : Watched). w.is_broken) now ∙ unbroken;
-    kept = kept;
-    begun = refl;
-    stands = λ t. record {
-      file = ap (λ (w : Watched). w.opened) now ∙ (are t).0 ∙ ap (λ (s : Snapshot). s.leads name) (sym seen) ∙ sym (first_last ways name look).0;
-      seen = sym ((first_last ways name look).1 ∙ ap (λ led. length (held_at look.snapshot led)) (nowhere t));
-    };
-    there = λ t other. absurd (false≢true (sym other ∙ way));
-  }
-  by false way = record { begun = refl; why = inr (record { way = way; kept = kept; unopened = nowhere }) }
-first_stands told ways snapshot place name old new Dropped look fate seen named unbroken leaves there through at = record {
-  begun = refl;
-  why = inl (dropped_more place [] look ∙ fate_sound place look fate false at through, broken_now place old new leaves);
-}
+first_stands : (told : Bool) (ways : Ways) (snapshot : Snapshot) (place : ℕ) (name : List ℕ) (old new : List Watched) (came : Came) (fates : List Fate) (fate : Fate) → (watched_at old place).name ≡ name → (watched_at old place).is_broken ≡ false
+    → Leaves told snapshot (snapshot.leads name) place old new came → IsThere told (snapshot.leads name) came → is_sound fate ≡ came_through came → fate_at place (record { snapshot = snapshot; fates = fates }) ≡ fate
+    → Stands told ways (record { snapshot = snapshot; fates = fates } ∷ []) place name (watched_at new place) (standing_after ways.by_name came)
+first_stands told ways snapshot place name old new (Through len) fates fate named unbroken (file, is, are) there through at =
+    through_stands told ways [] (record { snapshot = snapshot; fates = fates }) place name file (snapshot.leads name) len old new fate named unbroken refl is through at are (λ t. first_last ways name (record { snapshot = snapshot; fates = fates })) (λ t way. there t)
+first_stands told ways snapshot place name old new Missing fates fate named unbroken (file, is, are) there through at = by ways.by_name refl where
+  by : (by_name : Bool) → ways.by_name ≡ by_name → Stands told ways (record { snapshot = snapshot; fates = fates } ∷ []) place name (watched_at new place) (if by_name then Followed 0 else Left)
+  by true way = through_stands told ways [] (record { snapshot = snapshot; fates = fates }) place name file (snapshot.leads name) 0 old new fate named unbroken refl is through at
+      (λ t. ((are t).0, sym (ap (λ led. length (held_at snapshot led)) (are t).1))) (λ t. first_last ways name (record { snapshot = snapshot; fates = fates })) (λ t other. absurd (false≢true (sym other ∙ way)))
+  by false way = record { begun = refl; why = inr (record { way = way; kept = kept_more place [] (record { snapshot = snapshot; fates = fates }) fate true refl at through; unopened = λ t. (are t).1 }) }
+first_stands told ways snapshot place name old new Dropped fates fate named unbroken leaves there through at = dropped_stands told ways [] (record { snapshot = snapshot; fates = fates }) place name old new fate refl leaves through at
 
 first_visited : (told_in told : Bool) (ways : Ways) (snapshot : Snapshot) (place : ℕ) (name : List ℕ) (printer after : PrinterState) (slots slots_new : List Slot) (old new : List Watched) (came : Came) (looks : List Look) → (looks ≡ []) × (watched_at old place ≡ added name)
     → Looked told_in told ways [] snapshot name printer slots after slots_new came → Leaves told_in snapshot (snapshot.leads name) place old new came → IsThere told_in (snapshot.leads name) came
@@ -141,7 +136,7 @@ first_visited told_in told ways snapshot place name printer after slots slots_ne
       is_share = λ is fates at. looked.is_share is fates ∙ ap (share_by ways name [] (record { snapshot = snapshot; fates = fates })) (sym at);
       is_failed = looked.failed;
       shared = looked.shared;
-      stands = λ fates at. first_stands told_in ways snapshot place name old new came (record { snapshot = snapshot; fates = fates }) looked.fate refl (ap (λ (w : Watched). w.name) new_name) (ap (λ (w : Watched). w.is_broken) new_name) leaves there looked.through at;
+      stands = λ fates at. first_stands told_in ways snapshot place name old new came fates looked.fate (ap (λ (w : Watched). w.name) new_name) (ap (λ (w : Watched). w.is_broken) new_name) leaves there looked.through at;
     })
 
 -- which file is open, whatever the files tell
@@ -197,35 +192,19 @@ pub first_fails : {told_in told : Bool} {ways : Ways} {snapshot : Snapshot} {pla
     → Keeps {T = ℕ} place watched_mid new (Err stop) → FirstCut told_in told ways snapshot name printer slots after mid stop → TellsStop told name mid slots_new stop result → Looks told_in told ways snapshot place name New old printer slots new after slots_new result
 first_fails {told_in} {told} {ways} {snapshot} {place} {name} {printer} {after} {slots} {mid} {slots_new} {old} {watched_mid} {new} _ {result} reopens keeps (cut_read why bytes lines are shared) (tells, says) =
     subst (λ those. Looks told_in told ways snapshot place name New old printer slots new after slots_new those) (sym tells)
-    (first_looks (meets_unread told_in told ways snapshot place name printer after slots mid slots_new bytes lines are shared (subst (λ those. SaysOn told Tail (message_of Tail those name) mid slots_new) keeps.0 says)) (reopens.file, keeps.1 ∙ ap (changed_at place breaks) reopens.names) tt)
+    (first_looks (looked_failed told_in told ways [] snapshot name printer after slots mid slots_new bytes lines (message_of Tail (Read 0) name) true (unread (length lines) (length bytes)) refl (λ fates. refl) (λ is fates. (are is fates).1) shared (name, inr refl) (subst (λ those. SaysOn told Tail (message_of Tail those name) mid slots_new) keeps.0 says)) (reopens.file, keeps.1 ∙ ap (changed_at place breaks) reopens.names) tt)
 first_fails {told_in} {told} {ways} {snapshot} {place} {name} {printer} {after} {slots} {mid} {slots_new} {old} {watched_mid} {new} _ {result} reopens keeps (cut_over why stopped) (tells, same) =
     subst (λ those. Looks told_in told ways snapshot place name New old printer slots new after slots_new those) (sym tells)
     (first_over (subst (λ those. Stopped told_in told ways [] snapshot name printer slots those why) (sym same) stopped))
 
-later_stands : (told : Bool) (ways : Ways) (before : Look) (looks : List Look) (snapshot : Snapshot) (place : ℕ) (name : List ℕ) (position : ℕ) (old new : List Watched) (came : Came) (look : Look) (fate : Fate) → look.snapshot ≡ snapshot → IsFollowed told ways (before ∷ looks) place name (watched_at old place) position
-    → Leaves told snapshot (open_after_look ways.by_name name (watched_at old place).opened snapshot) place old new came → IsLater came → is_sound fate ≡ came_through came → fate_at place look ≡ fate
-    → Stands told ways ((before ∷ looks) ++ look ∷ []) place name (watched_at new place) (standing_after ways.by_name came)
-later_stands told ways before looks snapshot place name position old new (Through len) look fate seen followed (file, is, are) there through at =
-    let now = opened_now place file old new is followed.unbroken in
-    let led : open_after_look ways.by_name name (watched_at old place).opened snapshot ≡ open_after_look ways.by_name name (watched_at old place).opened look.snapshot = ap (λ (s : Snapshot). open_after_look ways.by_name name (watched_at old place).opened s) (sym seen) in
-    record {
-      named = ap (λ (w : Watched). w.name) now ∙ followed.named;
-      unbroken = ap (λ (w : Watched). w.is_broken) now ∙ followed.unbroken;
-      kept = dropped_more place (before ∷ looks) look ∙ ap (λ those. those || not (is_sound (fate_at place look))) followed.kept ∙ fate_sound place look fate true at through;
-      begun = refl;
-      stands = λ t.
-          let last = last_later ways name before looks look (watched_at old place).opened (followed.stands t).file in
-          record {
-            file = ap (λ (w : Watched). w.opened) now ∙ (are t).0 ∙ led ∙ sym last.0;
-            seen = (are t).1 ∙ ap (λ (s : Snapshot). length (held_at s (open_after_look ways.by_name name (watched_at old place).opened s))) (sym seen) ∙ sym last.1;
-          };
-      there = λ t way. ap (λ (w : Watched). is_some w.opened) now ∙ ap is_some (are t).0 ∙ ap (λ by_name. is_some (open_after_look by_name name (watched_at old place).opened snapshot)) way ∙ followed.there t way;
-    }
-later_stands told ways before looks snapshot place name position old new Missing look fate seen followed leaves there through at = absurd there
-later_stands told ways before looks snapshot place name position old new Dropped look fate seen followed leaves there through at = record {
-  begun = refl;
-  why = inl (dropped_more place (before ∷ looks) look ∙ ap (λ those. those || not (is_sound (fate_at place look))) followed.kept ∙ fate_sound place look fate false at through, broken_now place old new leaves);
-}
+later_stands : (told : Bool) (ways : Ways) (before : Look) (looks : List Look) (snapshot : Snapshot) (place : ℕ) (name : List ℕ) (position : ℕ) (old new : List Watched) (came : Came) (fates : List Fate) (fate : Fate) → IsFollowed told ways (before ∷ looks) place name (watched_at old place) position
+    → Leaves told snapshot (open_after_look ways.by_name name (watched_at old place).opened snapshot) place old new came → IsLater came → is_sound fate ≡ came_through came → fate_at place (record { snapshot = snapshot; fates = fates }) ≡ fate
+    → Stands told ways ((before ∷ looks) ++ record { snapshot = snapshot; fates = fates } ∷ []) place name (watched_at new place) (standing_after ways.by_name came)
+later_stands told ways before looks snapshot place name position old new (Through len) fates fate followed (file, is, are) there through at =
+    through_stands told ways (before ∷ looks) (record { snapshot = snapshot; fates = fates }) place name file (open_after_look ways.by_name name (watched_at old place).opened snapshot) len old new fate followed.named followed.unbroken followed.kept is through at are
+    (λ t. last_later ways name before looks (record { snapshot = snapshot; fates = fates }) (watched_at old place).opened (followed.stands t).file) (λ t way. ap (λ by_name. is_some (open_after_look by_name name (watched_at old place).opened snapshot)) way ∙ followed.there t way)
+later_stands told ways before looks snapshot place name position old new Missing fates fate followed leaves there through at = absurd there
+later_stands told ways before looks snapshot place name position old new Dropped fates fate followed leaves there through at = dropped_stands told ways (before ∷ looks) (record { snapshot = snapshot; fates = fates }) place name old new fate followed.kept leaves through at
 
 later_share_of : (ways : Ways) (before : Look) (looks : List Look) (look : Look) (place : ℕ) (name : List ℕ) (fate : Fate) → is_dropped place (before ∷ looks) ≡ false → fate_at place look ≡ fate → share_by ways name (before ∷ looks) look fate ≡ share_of ways (before ∷ looks) look place name
 later_share_of ways before looks look place name fate kept at =
@@ -248,7 +227,7 @@ later_visited told_in told ways snapshot place name position printer after slots
       is_share = λ is fates at. one.is_share is fates ∙ later_share_of ways before looks (record { snapshot = snapshot; fates = fates }) place name one.fate followed.kept at;
       is_failed = one.failed;
       shared = one.shared;
-      stands = λ fates at. later_stands told_in ways before looks snapshot place name position old new came (record { snapshot = snapshot; fates = fates }) one.fate refl followed both.1 later one.through at;
+      stands = λ fates at. later_stands told_in ways before looks snapshot place name position old new came fates one.fate followed both.1 later one.through at;
     }
 
 later_stopped : (told_in told : Bool) (ways : Ways) (snapshot : Snapshot) (place : ℕ) (name : List ℕ) (position : ℕ) (watched : Watched) (printer : PrinterState) (slots slots_new : List Slot) (why : Fault) (looks : List Look) → IsFollowed told_in ways looks place name watched position → KeepsBytes told_in ways looks snapshot name
@@ -337,7 +316,7 @@ no_last gap is = refl
 no_last (version v) is = absurd (false≢true (ap is_some is))
 
 abbrev share_from : List ℕ → Entry → List Entry → Share
-share_from name entry entries = again_share name (gains_later entry entries) (map (λ notice. notice_of notice name) (notices_later entry entries))
+share_from name entry entries = given_share false name (gains_later entry entries) (map (λ notice. notice_of notice name) (notices_later entry entries))
 
 missed_share : (told : Bool) (ways : Ways) (before : Look) (looks : List Look) (look : Look) (place : ℕ) (name : List ℕ) → told ≡ true → IsMissed told ways (before ∷ looks) place name → fate_at place look ≡ sound → AreKept (entries_in ways name ((before ∷ looks) ++ look ∷ []))
     → (dropped : Bool) → is_dropped place (before ∷ looks) ≡ dropped → no_share name ≡ share_of ways (before ∷ looks) look place name

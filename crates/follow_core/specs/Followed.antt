@@ -1,5 +1,5 @@
 -- What following writes and says, and whether anything failed.
-use Rattle.std.specs.Prelude.{ℕ, Bool, true, false, not, ◌&&◌, ◌||◌, List, [], ◌∷◌, ◌++◌, Option, Some, None, bytes_eq, if◌then◌else◌}
+use Rattle.std.specs.Prelude.{is_none, ℕ, Bool, true, false, not, ◌&&◌, ◌||◌, List, [], ◌∷◌, ◌++◌, Option, Some, None, bytes_eq, if◌then◌else◌}
 use Rattle.ports_core.specs.Text.{header_of}
 use Rattle.follow_core.specs.Look.{Ways, Look}
 use Rattle.follow_core.specs.Share.{Share, shares_of}
@@ -12,10 +12,6 @@ is_empty (byte ∷ bytes) = false
 abbrev pub is_last : List ℕ → Option (List ℕ) → Bool
 is_last name None = false
 is_last name (Some last) = bytes_eq name last
-
-abbrev pub is_none : Option (List ℕ) → Bool
-is_none None = true
-is_none (Some last) = false
 
 -- Where headers are written: at the first look each file that was opened has one; later one stands before text that
 -- isn't empty, unless the last header was of that name.

@@ -22,8 +22,8 @@ gain ways name before look =
     (name_text ways.start (entries_in ways name (before ++ look ∷ [])))
 
 -- what is told of the name at that look
-abbrev pub told_at_look : Ways → List ℕ → List Look → Look → List (List ℕ)
-told_at_look ways name before look =
+abbrev pub said_at_look : Ways → List ℕ → List Look → Look → List (List ℕ)
+said_at_look ways name before look =
     map (λ notice. notice_of notice name)
     (drop (length (notices_of (entries_in ways name before)))
     (notices_of (entries_in ways name (before ++ look ∷ []))))
@@ -49,21 +49,21 @@ share_by ways name before look sound =
       name = name;
       is_opened = is_first before;
       bytes = gain ways name before look;
-      messages = told_at_look ways name before look;
+      messages = said_at_look ways name before look;
       has_failed = false;
     }
 share_by ways name before look (unopened notices bytes) = record {
   name = name;
   is_opened = false;
   bytes = take bytes (gain ways name before look);
-  messages = take notices (told_at_look ways name before look) ++ message_of Tail (Open 0) name ∷ [];
+  messages = take notices (said_at_look ways name before look) ++ message_of Tail (Open 0) name ∷ [];
   has_failed = true;
 }
 share_by ways name before look (unread notices bytes) = record {
   name = name;
   is_opened = is_first before;
   bytes = take bytes (gain ways name before look);
-  messages = take notices (told_at_look ways name before look) ++ message_of Tail (Read 0) name ∷ [];
+  messages = take notices (said_at_look ways name before look) ++ message_of Tail (Read 0) name ∷ [];
   has_failed = true;
 }
 

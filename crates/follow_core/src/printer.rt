@@ -1,9 +1,9 @@
 //! Where the bytes of followed names go, under headers.
-ghost use Rattle.std.specs.Prelude.{◌≡◌, ◌≤◌, ◌++◌, [], ℕ, List, Option, Some, false, IsTrue, IfErr, OnOk, string_bytes, option_map};
+ghost use Rattle.std.specs.Prelude.{◌≡◌, ◌≤◌, ◌++◌, [], ℕ, List, Option, Some, false, IsTrue, IfErr, OnOk, string_bytes, option_map, is_none};
 ghost use Rattle.ports_core.specs.Slot.{is_writable, with_written, told_of};
 ghost use Rattle.follow_core.specs.Printing.{PrinterState, Short, fresh_printer};
 ghost use Rattle.follow_core.specs.inner.Giving.{text_under, front_under, printer_under, header_under, is_due, opened_under, opening_under};
-ghost use Rattle.follow_core.specs.Followed.{is_last, is_none};
+ghost use Rattle.follow_core.specs.Followed.{is_last};
 
 use ports_core::{Fault, Outs, header, write_whole};
 use std::alloc::Global;

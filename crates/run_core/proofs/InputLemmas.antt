@@ -27,7 +27,8 @@ use Rattle.run_core.specs.RunEnds.{unheaded, heading, calling, step_after}
 use Rattle.ports_core.specs.Streams.{standard_output, streams_with}
 use Rattle.run_core.specs.inner.RunSteps.{HeaderFails, no_room, broke, TookInput, took, cut_off, OfSource, KeepsOther}
 use Rattle.run_core.specs.RunSteps.{Opens, OpensShort}
-use Rattle.run_core.specs.Task.{Task, Outcome, after_part, header_text, verdict_messages, is_given, of_content}
+use Rattle.run_core.specs.Task.{Task, Outcome, after_part, header_text, verdict_messages, of_content}
+use Rattle.std.specs.Prelude.{is_some}
 use Rattle.run_core.proofs.ReadingLemmas.{left_of}
 use Rattle.run_core.proofs.JoinedLemmas.{after_assoc, out_on, at_after, stop_after, none_to_sweep}
 use Rattle.run_core.proofs.StopLemmas.{said_swept}
@@ -106,8 +107,8 @@ by_end : Task → Bool → List ℕ → Content → Bool → Option Fault → Ou
 by_end task is_first name content enough verdict = record {
   part = after_part (only_out (header_text task.with_header is_first name)) (if enough then task.work.whole content.bytes else task.work.settled content.bytes);
   messages = if enough then verdict_messages task verdict else message_of task.tool (Read 0) name ∷ [];
-  failed = if enough then is_given verdict else true;
-  sweeps = task.work.clears && (if enough then is_given verdict else true);
+  failed = if enough then is_some verdict else true;
+  sweeps = task.work.clears && (if enough then is_some verdict else true);
 }
 
 made_so : (task : Task) (is_first : Bool) (name : List ℕ) (content : Content) (enough : Bool) (verdict : Option Fault) → is_enough task.work content ≡ enough → task.work.verdict content.bytes ≡ verdict
@@ -228,8 +229,8 @@ module _ (told_in told : Bool) (task : Task) (most : ℕ) (is_first : Bool) (nam
 -- standard error is open after an input was fed
 
 swept_open : (told : Bool) (clears : Bool) (error : Slot) (part : Part) (reached new : List Slot) (first : ℕ) → 2 ≤ first → is_open error.state ≡ true → OutputsAt told (streams_with error) part reached → Swept clears first reached new → is_open (slot_at new 1).state ≡ true
-swept_open told false error part reached new first behind opened at same = ap (λ those. is_open (slot_at those 1).state) same ∙ part_open told error part reached opened at
-swept_open told true error part reached new first behind opened at swept = ap (λ (slot : Slot). is_open slot.state) (swept.before 1 (omega (arith, behind))) ∙ part_open told error part reached opened at
+swept_open told false error part reached new first past opened at same = ap (λ those. is_open (slot_at those 1).state) same ∙ part_open told error part reached opened at
+swept_open told true error part reached new first past opened at swept = ap (λ (slot : Slot). is_open slot.state) (swept.before 1 (omega (arith, past))) ∙ part_open told error part reached opened at
 
 pub fed_open : (told : Bool) (work : Work) (opening : Needs) (most : ℕ) (error : Slot) (part : Part) (mid new : List Slot) (content : Content) (WasRead : List ℕ → Type 0) (fed : Fed) → fed ≡ Broken → is_open error.state ≡ true → OutputsAt told (streams_with error) part mid → FedAs told mid work opening most content WasRead new (Ok fed) → is_open (slot_at new 1).state ≡ true
 fed_open told work opening most error part mid new content WasRead fed is opened at ends = from_broken (subst (λ those. FedAs told mid work opening most content WasRead new (Ok those)) is ends) where

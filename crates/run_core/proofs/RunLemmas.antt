@@ -41,11 +41,11 @@ pub ran_into : (told_in told : Bool) (task : Task) (found : List Input) (sources
     → EndsAs told_in told task found sources new 1
 ran_into told_in told task found sources mid new fault (stopped_at _ before input after error step reached among done untouched is_step stops said stop swept) says =
     let text = message_of task.tool fault (output_named mid fault) in
-    let told_so = stop_swept told task.tool text step task.work.clears standard_output error step.low step.high fault reached mid new 2 (message_some task.tool fault (output_named mid fault)) (lit≤ tt)
+    let said_so = stop_swept told task.tool text step task.work.clears standard_output error step.low step.high fault reached mid new 2 (message_some task.tool fault (output_named mid fault)) (lit≤ tt)
     (ap is_open (all_said_state told task.tool (made_by task before).messages standard_error error said)) stop stops swept says in
-    stopped fault before input after told_so.after step told_so.reached among done untouched is_step told_so.why told_so.stop told_so.swept
-    (subst (λ name. SaysAll told task.tool ((made_by task before).messages ++ message_of task.tool fault name ∷ []) standard_error told_so.after) (sym told_so.named)
-    (says_more told task.tool (made_by task before).messages text standard_error error told_so.after said told_so.says))
+    stopped fault before input after said_so.after step said_so.reached among done untouched is_step said_so.why said_so.stop said_so.swept
+    (subst (λ name. SaysAll told task.tool ((made_by task before).messages ++ message_of task.tool fault name ∷ []) standard_error said_so.after) (sym said_so.named)
+    (says_more told task.tool (made_by task before).messages text standard_error error said_so.after said said_so.says))
     refl
 ran_into told_in told task found sources mid new _ (not_begun at_first untouched) says =
     let said = says standard_output standard_error [] at_first in

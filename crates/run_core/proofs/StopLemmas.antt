@@ -124,9 +124,9 @@ module _ (told : Bool) (tool : Tool) (text : List ℕ) (some : 0 < length text) 
   told_marked IsName TooLong output error since mid new marks says =
       let said = says output error since marks in (said.0, said.1, said.2, refl)
 
-  pub stop_told : (output error : Slot) (low high : Part) (fault : Fault) (mid new : List Slot) → StoppedBetween told (output ∷ error ∷ []) low high fault mid → SaysOn told tool text mid new
+  pub stop_said : (output error : Slot) (low high : Part) (fault : Fault) (mid new : List Slot) → StoppedBetween told (output ∷ error ∷ []) low high fault mid → SaysOn told tool text mid new
       → (after : Slot) × Says told tool text error after × StoppedBetween told (output ∷ after ∷ []) low high fault new × (output_named new fault ≡ output_named mid fault)
-  stop_told output error low high fault mid new stop says =
+  stop_said output error low high fault mid new stop says =
       let first = adds (told_of told stop.part.out) output in
       let marked = told_marked (IsNext stop.part high) fault first error stop.outputs.since mid new (subst (λ slots. Marks (IsNext stop.part high) fault slots mid) stop.outputs.slots stop.marks) says in (
         marked.0,
@@ -179,7 +179,7 @@ stops_still told tool text step mid new Failed has says stops = stops
 -- what is said after files were removed
 
 swept_streams : (output error after : Slot) (since now : List Slot) (first : ℕ) → 2 ≤ first → SweptFrom first (output ∷ error ∷ since) (output ∷ error ∷ now) → SweptFrom first (output ∷ after ∷ since) (output ∷ after ∷ now)
-swept_streams output error after since now first behind swept = record {
+swept_streams output error after since now first past swept = record {
   size = let same : suc (suc (length now)) ≡ suc (suc (length since)) = swept.size in ap (λ n. n) same;
   before = same_before;
   cleared = cleared_still;
@@ -190,27 +190,27 @@ swept_streams output error after since now first behind swept = record {
   same_before (suc (suc place)) within = swept.before (suc (suc place)) within
 
   cleared_still : (place : ℕ) → first ≤ place → Cleared (slot_at (output ∷ after ∷ since) place) (slot_at (output ∷ after ∷ now) place)
-  cleared_still zero above = absurd (omega (arith, behind, above))
-  cleared_still (suc zero) above = absurd (omega (arith, behind, above))
+  cleared_still zero above = absurd (omega (arith, past, above))
+  cleared_still (suc zero) above = absurd (omega (arith, past, above))
   cleared_still (suc (suc place)) above = swept.cleared (suc (suc place)) above
 
 -- outputs that were swept have the same streams
 streams_left : (output error : Slot) (since mid : List Slot) (first : ℕ) → 2 ≤ first → SweptFrom first (output ∷ error ∷ since) mid → (now : List Slot) × (mid ≡ output ∷ error ∷ now)
-streams_left output error since [] first behind swept = absurd (let none : 0 ≡ suc (suc (length since)) = swept.size in omega (arith, none))
-streams_left output error since (one ∷ []) first behind swept = absurd (let few : 1 ≡ suc (suc (length since)) = swept.size in omega (arith, few))
-streams_left output error since (one ∷ two ∷ now) first behind swept =
-    (now, ap (λ slot. slot ∷ two ∷ now) (swept.before 0 (omega (arith, behind))) ∙ ap (λ slot. output ∷ slot ∷ now) (swept.before 1 (omega (arith, behind))))
+streams_left output error since [] first past swept = absurd (let none : 0 ≡ suc (suc (length since)) = swept.size in omega (arith, none))
+streams_left output error since (one ∷ []) first past swept = absurd (let few : 1 ≡ suc (suc (length since)) = swept.size in omega (arith, few))
+streams_left output error since (one ∷ two ∷ now) first past swept =
+    (now, ap (λ slot. slot ∷ two ∷ now) (swept.before 0 (omega (arith, past))) ∙ ap (λ slot. output ∷ slot ∷ now) (swept.before 1 (omega (arith, past))))
 
 module _ (told : Bool) (tool : Tool) (text : List ℕ) where
   said_swept_by : (clears : Bool) (output error : Slot) (part : Part) (reached mid new : List Slot) (first : ℕ) → 2 ≤ first → OutputsAt told (output ∷ error ∷ []) part reached → Swept clears first reached mid → SaysOn told tool text mid new
       → (after : Slot) × Says told tool text error after × ((now : List Slot) × OutputsAt told (output ∷ after ∷ []) part now × Swept clears first now new)
-  said_swept_by false output error part reached mid new first behind at same says =
+  said_swept_by false output error part reached mid new first past at same says =
       let said = said_at told tool text output error part mid new (subst (OutputsAt told (output ∷ error ∷ []) part) (sym same) at) says in
       (said.0, said.1, (new, said.2, refl))
-  said_swept_by true output error part reached mid new first behind at swept says =
+  said_swept_by true output error part reached mid new first past at swept says =
       let top = adds (told_of told part.out) output in
       let first_swept = subst (λ slots. SweptFrom first slots mid) at.slots swept in
-      let left = streams_left top error at.since mid first behind first_swept in
+      let left = streams_left top error at.since mid first past first_swept in
       let said = says top error left.0 left.1 in (
         said.0,
         said.1,
@@ -218,7 +218,7 @@ module _ (told : Bool) (tool : Tool) (text : List ℕ) where
           top ∷ said.0 ∷ at.since,
           record { standard = lit< tt; since = at.since; slots = refl; files = at.files },
           subst (λ slots. SweptFrom first (top ∷ said.0 ∷ at.since) slots) (sym said.2)
-              (swept_streams top error said.0 at.since left.0 first behind (subst (λ slots. SweptFrom first (top ∷ error ∷ at.since) slots) left.1 first_swept)),
+              (swept_streams top error said.0 at.since left.0 first past (subst (λ slots. SweptFrom first (top ∷ error ∷ at.since) slots) left.1 first_swept)),
         ),
       )
 
@@ -269,30 +269,30 @@ pub record ToldStop (told : Bool) (tool : Tool) (text : List ℕ) (step : Step) 
 
 pub stop_swept : (told : Bool) (tool : Tool) (text : List ℕ) (step : Step) (clears : Bool) (output error : Slot) (low high : Part) (fault : Fault) (reached mid new : List Slot) (first : ℕ) → 0 < length text → 2 ≤ first → is_open error.state ≡ true
     → StoppedBetween told (output ∷ error ∷ []) low high fault reached → Stops step reached fault → Swept clears first reached mid → SaysOn told tool text mid new → ToldStop told tool text step output error low high fault clears first mid new
-stop_swept told tool text step false output error low high fault reached mid new first some behind opened stop why same says =
+stop_swept told tool text step false output error low high fault reached mid new first some past opened stop why same says =
     let here = subst (λ slots. StoppedBetween told (output ∷ error ∷ []) low high fault slots) (sym same) stop in
-    let told_so = stop_told told tool text some output error low high fault mid new here says in record {
-      after = told_so.0;
-      says = told_so.1;
+    let said_so = stop_said told tool text some output error low high fault mid new here says in record {
+      after = said_so.0;
+      says = said_so.1;
       reached = new;
-      stop = told_so.2;
+      stop = said_so.2;
       why = stops_still told tool text step mid new fault (stop_error told output error low high fault mid opened here) says (subst (λ slots. Stops step slots fault) (sym same) why);
       swept = refl;
-      named = told_so.3;
+      named = said_so.3;
     }
-stop_swept told tool text step true output error low high fault reached mid new first some behind opened stop why swept says =
+stop_swept told tool text step true output error low high fault reached mid new first some past opened stop why swept says =
     let has = stop_error told output error low high fault reached opened stop in
     let first_swept = subst (λ slots. SweptFrom first slots mid) has.are swept in
-    let left = streams_left has.output has.error has.since mid first behind first_swept in
+    let left = streams_left has.output has.error has.since mid first past first_swept in
     let said = says has.output has.error left.0 left.1 in
     let now = has.output ∷ said.0 ∷ has.since in
     let too = said_too told tool text has.output has.error said.0 has.since reached has.are said.1 in
-    let told_so = stop_told told tool text some output error low high fault reached now stop too in record {
-      after = told_so.0;
-      says = told_so.1;
+    let said_so = stop_said told tool text some output error low high fault reached now stop too in record {
+      after = said_so.0;
+      says = said_so.1;
       reached = now;
-      stop = told_so.2;
+      stop = said_so.2;
       why = stops_still told tool text step reached now fault has too why;
-      swept = subst (λ slots. SweptFrom first now slots) (sym said.2) (swept_streams has.output has.error said.0 has.since left.0 first behind (subst (λ slots. SweptFrom first (has.output ∷ has.error ∷ has.since) slots) left.1 first_swept));
+      swept = subst (λ slots. SweptFrom first now slots) (sym said.2) (swept_streams has.output has.error said.0 has.since left.0 first past (subst (λ slots. SweptFrom first (has.output ∷ has.error ∷ has.since) slots) left.1 first_swept));
       named = ap (λ slots. output_named slots fault) said.2 ∙ named_same fault has.output has.error said.0 left.0 (printed_named told said.1.said has.error said.0 said.1.printed) ∙ sym (ap (λ slots. output_named slots fault) left.1);
     }

@@ -1,5 +1,5 @@
 -- What a run makes of its inputs: one tool's work on each, one after another.
-use Rattle.std.specs.Prelude.{ℕ, ◌||◌, ◌&&◌, Bool, true, false, List, [], ◌∷◌, ◌++◌, Option, Some, None, if◌then◌else◌}
+use Rattle.std.specs.Prelude.{is_some, ℕ, ◌||◌, ◌&&◌, Bool, true, false, List, [], ◌∷◌, ◌++◌, Option, Some, None, if◌then◌else◌}
 use Rattle.ports_core.specs.Part.{Part, nothing, only_out}
 use Rattle.ports_core.specs.Source.{Content}
 use Rattle.ports_core.specs.Work.{Work, Needs}
@@ -54,10 +54,6 @@ joined first next = record {
 abbrev pub header_text : Bool → Bool → List ℕ → List ℕ
 header_text with_header is_first name = if with_header then header_of name is_first else []
 
-abbrev pub is_given : Option Fault → Bool
-is_given None = false
-is_given (Some fault) = true
-
 -- the message for the fault with which the work ends, if there is one
 abbrev pub verdict_messages : Task → Option Fault → List (List ℕ)
 verdict_messages task None = []
@@ -65,7 +61,7 @@ verdict_messages task (Some fault) = message_of task.tool fault (task.subject fa
 
 -- the work ends with a fault of its own, or the input breaks off before it is done
 abbrev pub ends_badly : Work → Content → Bool
-ends_badly work content = if is_enough work content then is_given (work.verdict content.bytes) else true
+ends_badly work content = if is_enough work content then is_some (work.verdict content.bytes) else true
 
 -- One input: a message where it can't be opened (its number stands in no message); else its header, what the tool makes
 -- of it, and a message for the fault with which its work ends, or where the input breaks off. After such a fault the

@@ -12,28 +12,46 @@ use tools_core::run_follow;
 use watch_core::{Edit, MemWatch};
 
 /// A run that follows: its words, the edits before each look, and what it is to leave.
-struct Row<'a> {
-    words: &'a [&'a str],
-    looks: &'a [&'a [Edit<'a>]],
-    output: &'a [u8],
-    messages: &'a [u8],
-    status: u8,
+#[derive(Clone, Copy)]
+pub(crate) struct Row<'a> {
+    pub(crate) words: &'a [&'a str],
+    pub(crate) looks: &'a [&'a [Edit<'a>]],
+    pub(crate) output: &'a [u8],
+    pub(crate) messages: &'a [u8],
+    pub(crate) status: u8,
 }
 
+/// A file that is appended to, truncated and replaced.
+pub(crate) const TRUNCATED: Row<'static> = Row {
+    words: &["tail", "-F", "-n", "1", "f"],
+    looks: &[
+        &[Edit::Replace("f", b"a\nb\n")],
+        &[Edit::Append("f", b"c")],
+        &[Edit::Truncate("f", 0)],
+        &[Edit::Append("f", b"z\n")],
+        &[Edit::Append("f", b"w"), Edit::Replace("f", b"q\n")],
+    ],
+    output: b"b\ncz\nwq\n",
+    messages: b"tail: 'f': file truncated\ntail: 'f': file replaced\n",
+    status: 0,
+};
+
+/// Two files that are appended to.
+pub(crate) const TWO_FILES: Row<'static> = Row {
+    words: &["tail", "-f", "-n", "1", "f", "g"],
+    looks: &[
+        &[Edit::Replace("f", b"a\n"), Edit::Replace("g", b"b\n")],
+        &[Edit::Append("f", b"c\n")],
+        &[Edit::Append("f", b"d\n")],
+        &[Edit::Append("g", b"e\n")],
+    ],
+    output: b"==> f <==\na\n\n==> g <==\nb\n\n==> f <==\nc\nd\n\n==> g <==\ne\n",
+    messages: b"",
+    status: 0,
+};
+
 const ROWS: [Row<'static>; 16] = [
-    Row {
-        words: &["tail", "-F", "-n", "1", "f"],
-        looks: &[
-            &[Edit::Replace("f", b"a\nb\n")],
-            &[Edit::Append("f", b"c")],
-            &[Edit::Truncate("f", 0)],
-            &[Edit::Append("f", b"z\n")],
-            &[Edit::Append("f", b"w"), Edit::Replace("f", b"q\n")],
-        ],
-        output: b"b\ncz\nwq\n",
-        messages: b"tail: 'f': file truncated\ntail: 'f': file replaced\n",
-        status: 0,
-    },
+    TRUNCATED,
     Row {
         words: &["tail", "-F", "f"],
         looks: &[&[], &[Edit::Replace("f", b"x\n")]],
@@ -41,18 +59,7 @@ const ROWS: [Row<'static>; 16] = [
         messages: b"tail: cannot open 'f'\ntail: 'f': file appeared\n",
         status: 1,
     },
-    Row {
-        words: &["tail", "-f", "-n", "1", "f", "g"],
-        looks: &[
-            &[Edit::Replace("f", b"a\n"), Edit::Replace("g", b"b\n")],
-            &[Edit::Append("f", b"c\n")],
-            &[Edit::Append("f", b"d\n")],
-            &[Edit::Append("g", b"e\n")],
-        ],
-        output: b"==> f <==\na\n\n==> g <==\nb\n\n==> f <==\nc\nd\n\n==> g <==\ne\n",
-        messages: b"",
-        status: 0,
-    },
+    TWO_FILES,
     Row {
         words: &["tail", "-f", "-c", "2", "f"],
         looks: &[

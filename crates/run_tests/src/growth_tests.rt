@@ -7,38 +7,26 @@ ghost use Rattle.ports_core.specs.Slot.{streams};
 ghost use Rattle.watch_core.specs.MemWatchState.{seen};
 
 use crate::args_tests::Args;
-use crate::follow_tests::watch_of;
-use crate::left::{File, Left, NOTHING, Plan, Run, has_name, planned_inputs, planned_outs};
-use crate::refused_tests::Then;
+use crate::follow_tests::{Row as Followed, TRUNCATED, TWO_FILES, watch_of};
+use crate::left::{File, Left, NOTHING, Plan, Run as Planned, has_name, planned_inputs, planned_outs};
+use crate::refused_tests::{
+    BEFORE_A_LINE, BEFORE_EACH_LINE, Ended, KEPT_SECTIONS, ONE_IS_MISSING, ROUND, Run, SECTIONS,
+    TWO_LINES, Then, output_has_begun,
+};
 use ports_core::{Fault, MemOut, Outs};
 use std::alloc::Global;
 use std::process::Abort;
 use std::test::Fail;
 use tools_core::run::run;
 use tools_core::{ArgsFault, read_args, run_follow};
-use watch_core::{Edit, MemWatch};
+use watch_core::MemWatch;
 
-/// A run, what it does at a fault, and all that it may say where a growth is refused.
+/// A run, what is planned for it, and all that it may say where a growth is refused.
 #[derive(Clone, Copy)]
 struct Row<'a> {
-    words: &'a [&'a str],
-    files: &'a [File<'a>],
-    input: &'a [u8],
+    run: Run<'a>,
     plans: &'a [Plan],
-    left: Left<'a>,
-    then: Then,
     said: &'a [&'a [u8]],
-}
-
-/// How a run ended.
-#[derive(Clone, Copy, PartialEq, Eq)]
-enum Ended {
-    /// It left just what it is to leave.
-    Whole,
-    /// Something was refused, and it left each output as it is to then.
-    Begun,
-    /// It left something else.
-    Wrong,
 }
 
 /// No growth is the test's own.
@@ -49,7 +37,7 @@ fn nothing() {}
 fn runs_leave_their_rows(rt: HostRuntime) -> Result<(), Fail> {
     for row in ROWS {
         let ended = end_of(rt.alloc(), row)?;
-        assert!(rt; ended == Ended::Whole, "of {:?}", row.words);
+        assert!(rt; ended == Ended::Whole, "of {:?}", row.run.words);
     }
     Ok(())
 }
@@ -59,28 +47,28 @@ fn runs_leave_their_rows_or_begin(rt: HostRuntime) {
     for row in ROWS {
         // Without memory for its inputs and outputs nothing is run.
         if let Ok(ended) = end_of(rt.alloc(), row) {
-            assert!(rt; ended != Ended::Wrong, "of {:?}", row.words);
+            assert!(rt; ended != Ended::Wrong, "of {:?}", row.run.words);
         }
     }
 }
 
 /// How the run of a row ends.
 fn end_of(alloc: Global, row: &Row<'_>) -> Result<Ended, Fault> {
-    let planned = Run {
-        words: row.words,
-        files: row.files,
-        input: row.input,
+    let planned = Planned {
+        words: row.run.words,
+        files: row.run.files,
+        input: row.run.input,
         plans: row.plans,
-        left: row.left,
+        left: row.run.left,
     };
     let mut inputs = planned_inputs(alloc, &planned)?;
     let mut outs = planned_outs(alloc, row.plans)?;
-    let status = run(alloc, row.words, &mut inputs, &mut outs);
+    let status = run(alloc, row.run.words, &mut inputs, &mut outs);
     Ok(judged(&outs, status, row))
 }
 
 fn judged(outs: &MemOut, status: u8, row: &Row<'_>) -> Ended {
-    if is_left(outs, status, &row.left) {
+    if is_left(outs, status, &row.run.left) {
         return Ended::Whole;
     }
     if has_begun(outs, status, row) {
@@ -109,12 +97,12 @@ fn is_file(outs: &MemOut, slot: usize, file: &File<'_>, left: &Left<'_>) -> bool
 
 /// Whether a run of which something was refused left each output as it is to.
 fn has_begun(outs: &MemOut, status: u8, row: &Row<'_>) -> bool {
-    if status != 1 || !is_told(outs, row.said) || !output_has_begun(outs, row) {
+    if status != 1 || !is_told(outs, row.said) || !output_has_begun(outs, &row.run) {
         return false;
     }
     let mut slot: usize = 2;
-    for file in row.left.files {
-        if !file_has_begun(outs, slot, file, row) {
+    for file in row.run.left.files {
+        if !file_has_begun(outs, slot, file, row.run.then) {
             return false;
         }
         slot = slot.saturating_add(1);
@@ -132,14 +120,7 @@ fn is_told(outs: &MemOut, said: &[&[u8]]) -> bool {
     outs.broken(1) && outs.bytes(1).is_empty()
 }
 
-fn output_has_begun(outs: &MemOut, row: &Row<'_>) -> bool {
-    if is_unopened(outs) || row.then != Then::GoesOn || outs.broken(0) {
-        return row.left.output.starts_with(outs.bytes(0));
-    }
-    outs.bytes(0) == row.left.output
-}
-
-fn file_has_begun(outs: &MemOut, slot: usize, file: &File<'_>, row: &Row<'_>) -> bool {
+fn file_has_begun(outs: &MemOut, slot: usize, file: &File<'_>, then: Then) -> bool {
     let (name, bytes) = *file;
     if outs.name(slot).is_empty() {
         return outs.bytes(slot).is_empty();
@@ -147,16 +128,11 @@ fn file_has_begun(outs: &MemOut, slot: usize, file: &File<'_>, row: &Row<'_>) ->
     if outs.name(slot) != name || !bytes.starts_with(outs.bytes(slot)) {
         return false;
     }
-    match row.then {
+    match then {
         Then::Stops => !outs.removed(slot),
         Then::Removes => outs.removed(slot) || outs.broken(slot) && outs.bytes(slot).is_empty(),
         Then::GoesOn => outs.broken(slot) || outs.bytes(slot) == bytes,
     }
-}
-
-/// Whether no file was opened, since there was no memory for the run.
-fn is_unopened(outs: &MemOut) -> bool {
-    outs.name(2).is_empty() && !outs.broken(2)
 }
 
 const SAID_BY_SPLIT: &[&[u8]] = &[
@@ -209,183 +185,137 @@ const SAID_BY_TEE: &[&[u8]] = &[
 
 /// A run of `split`, which keeps what it wrote.
 const SPLIT: Row<'static> = Row {
-    words: &[],
-    files: &[],
-    input: b"a\nb\nc",
+    run: TWO_LINES,
     plans: &[],
-    left: NOTHING,
-    then: Then::Stops,
     said: SAID_BY_SPLIT,
 };
 
 /// A run of `csplit`, which removes its files at a fault.
 const CSPLIT: Row<'static> = Row {
-    input: b"b1\nx\nb2\ny\n",
-    then: Then::Removes,
+    run: SECTIONS,
     said: SAID_BY_CSPLIT,
     ..SPLIT
 };
 
-/// A run of `head` over standard input in pieces of one byte.
+/// A run of `head` over standard input in pieces of one byte, that leaves one line.
 const HEAD: Row<'static> = Row {
+    run: ALL_BUT_TWO,
     plans: &[Plan::Pieces(1)],
     said: SAID_BY_HEAD,
-    ..SPLIT
 };
 
-/// What `csplit` makes of its input with a section for each line that begins with `b`.
-const SECTIONS: Left<'static> = Left {
-    output: b"0\n5\n5\n",
-    files: &[("xx00", b""), ("xx01", b"b1\nx\n"), ("xx02", b"b2\ny\n")],
-    ..NOTHING
-};
-
-const ONE_LINE: Left<'static> = Left {
-    output: b"a\n",
-    ..NOTHING
+const ALL_BUT_TWO: Run<'static> = Run {
+    words: &["head", "-n", "-2"],
+    left: Left {
+        output: b"a\n",
+        ..NOTHING
+    },
+    ..TWO_LINES
 };
 
 const ROWS: &[Row<'static>] = &[
+    SPLIT,
     Row {
-        words: &["split", "-l", "2"],
-        left: Left {
-            files: &[("xaa", b"a\nb\n"), ("xab", b"c")],
-            ..NOTHING
+        run: Run {
+            words: &["split", "-C", "4"],
+            input: b"a\nbc",
+            left: Left {
+                files: &[("xaa", b"a\n"), ("xab", b"bc")],
+                ..NOTHING
+            },
+            ..TWO_LINES
         },
         ..SPLIT
     },
     Row {
-        words: &["split", "-C", "4"],
-        input: b"a\nbc",
-        left: Left {
-            files: &[("xaa", b"a\n"), ("xab", b"bc")],
-            ..NOTHING
+        run: Run {
+            words: &["split", "-C", "5"],
+            input: b"a\nbc",
+            left: Left {
+                files: &[("xaa", b"a\nbc")],
+                ..NOTHING
+            },
+            ..TWO_LINES
         },
         ..SPLIT
     },
     Row {
-        words: &["split", "-C", "5"],
-        input: b"a\nbc",
-        left: Left {
-            files: &[("xaa", b"a\nbc")],
-            ..NOTHING
-        },
+        run: ROUND,
         ..SPLIT
     },
+    CSPLIT,
     Row {
-        words: &["split", "-n", "r/3"],
-        input: b"a\nb\nc\nd",
-        left: Left {
-            files: &[("xaa", b"a\nd"), ("xab", b"b\n"), ("xac", b"c\n")],
-            ..NOTHING
-        },
-        ..SPLIT
-    },
-    Row {
-        words: &["csplit", "-", "/^b/", "{*}"],
-        left: SECTIONS,
-        ..CSPLIT
-    },
-    Row {
-        words: &["csplit", "-z", "-", "/^b/", "{*}"],
-        left: Left {
-            output: b"5\n5\n",
-            files: &[("xx00", b"b1\nx\n"), ("xx01", b"b2\ny\n")],
-            ..NOTHING
+        run: Run {
+            words: &["csplit", "-z", "-", "/^b/", "{*}"],
+            left: Left {
+                output: b"5\n5\n",
+                files: &[("xx00", b"b1\nx\n"), ("xx01", b"b2\ny\n")],
+                ..NOTHING
+            },
+            ..SECTIONS
         },
         ..CSPLIT
     },
     Row {
-        words: &["csplit", "-k", "-", "/^b/", "{*}"],
-        left: SECTIONS,
-        then: Then::Stops,
+        run: KEPT_SECTIONS,
         ..CSPLIT
     },
     Row {
-        words: &["csplit", "-", "/c/-1"],
-        input: b"a\nb\nc\nd\n",
-        left: Left {
-            output: b"2\n6\n",
-            files: &[("xx00", b"a\n"), ("xx01", b"b\nc\nd\n")],
-            ..NOTHING
-        },
+        run: BEFORE_A_LINE,
         ..CSPLIT
     },
     Row {
-        words: &["csplit", "-", "/b/-1", "{*}"],
-        input: b"a\nb\nb\nc\n",
-        left: Left {
-            output: b"0\n2\n6\n",
-            files: &[("xx00", b""), ("xx01", b"a\n"), ("xx02", b"b\nb\nc\n")],
-            ..NOTHING
-        },
+        run: BEFORE_EACH_LINE,
         ..CSPLIT
     },
+    HEAD,
     Row {
-        words: &["head", "-n", "-2"],
-        left: ONE_LINE,
-        ..HEAD
-    },
-    Row {
-        words: &["head", "-c", "9", "-n", "-2"],
-        left: ONE_LINE,
-        ..HEAD
-    },
-    Row {
-        words: &["head", "-c", "-3"],
-        input: b"abcde",
-        left: Left {
-            output: b"ab",
-            ..NOTHING
+        run: Run {
+            words: &["head", "-c", "9", "-n", "-2"],
+            ..ALL_BUT_TWO
         },
         ..HEAD
     },
     Row {
-        words: &["head", "-n", "1", "f", "g"],
-        files: &[("f", b"a\nb\n")],
+        run: Run {
+            words: &["head", "-c", "-3"],
+            input: b"abcde",
+            left: Left {
+                output: b"ab",
+                ..NOTHING
+            },
+            ..ALL_BUT_TWO
+        },
+        ..HEAD
+    },
+    Row {
+        run: ONE_IS_MISSING,
         plans: &[],
-        left: Left {
-            output: b"==> f <==\na\n",
-            messages: b"head: cannot open 'g'\n",
-            status: 1,
-            ..NOTHING
-        },
         said: SAID_OF_G,
-        ..HEAD
     },
     Row {
-        words: &["tee", "s", "t"],
-        input: b"abcdef",
-        plans: &[Plan::Limit(2, 3)],
-        left: Left {
-            output: b"abcdef",
-            files: &[("s", b"abc"), ("t", b"abcdef")],
-            messages: b"tee: cannot write 's'\n",
-            status: 1,
-            ..NOTHING
+        run: Run {
+            words: &["tee", "s", "t"],
+            input: b"abcdef",
+            left: Left {
+                output: b"abcdef",
+                files: &[("s", b"abc"), ("t", b"abcdef")],
+                messages: b"tee: cannot write 's'\n",
+                status: 1,
+                ..NOTHING
+            },
+            then: Then::GoesOn,
+            ..TWO_LINES
         },
-        then: Then::GoesOn,
+        plans: &[Plan::Limit(2, 3)],
         said: SAID_BY_TEE,
-        ..SPLIT
     },
 ];
 
-/// A run that follows: its words, the edits before each look, what it writes and says, its status, and all that it may say where a
-/// growth is refused.
-#[derive(Clone, Copy)]
-struct Followed<'a> {
-    words: &'a [&'a str],
-    looks: &'a [&'a [Edit<'a>]],
-    output: &'a [u8],
-    messages: &'a [u8],
-    status: u8,
-    said: &'a [&'a [u8]],
-}
-
 #[test]
 fn following_leaves_its_rows(rt: HostRuntime) -> Result<(), Fail> {
-    for row in FOLLOWED {
-        let ended = end_of_following(rt.alloc(), row)?;
+    for (row, said) in FOLLOWED {
+        let ended = end_of_following(rt.alloc(), row, said)?;
         assert!(rt; ended == Ended::Whole, "of {:?}", row.words);
     }
     Ok(())
@@ -393,21 +323,25 @@ fn following_leaves_its_rows(rt: HostRuntime) -> Result<(), Fail> {
 
 #[test]
 fn following_leaves_its_rows_or_begin(rt: HostRuntime) {
-    for row in FOLLOWED {
-        if let Ok(ended) = end_of_following(rt.alloc(), row) {
+    for (row, said) in FOLLOWED {
+        if let Ok(ended) = end_of_following(rt.alloc(), row, said) {
             assert!(rt; ended != Ended::Wrong, "of {:?}", row.words);
         }
     }
 }
 
-fn end_of_following(alloc: Global, row: &Followed<'_>) -> Result<Ended, Fault> {
+fn end_of_following(
+    alloc: Global,
+    row: &Followed<'_>,
+    said: &[&[u8]],
+) -> Result<Ended, Fault> {
     let watch = watch_of(alloc, row.looks)?;
     let mut outs = MemOut::new(alloc)?;
     let status = follows(alloc, row, watch, &mut outs);
     if outs.bytes(0) == row.output && outs.bytes(1) == row.messages && status == row.status {
         return Ok(Ended::Whole);
     }
-    if following_has_begun(&outs, status, row) {
+    if following_has_begun(&outs, status, row, said) {
         return Ok(Ended::Begun);
     }
     Ok(Ended::Wrong)
@@ -423,50 +357,37 @@ fn follows(alloc: Global, row: &Followed<'_>, mut watch: MemWatch, outs: &mut Me
 
 /// Whether following left beginnings, with status 1. A line that standard error finds no memory for is passed over: then nothing
 /// else is lost, and the status is the row's.
-fn following_has_begun(outs: &MemOut, status: u8, row: &Followed<'_>) -> bool {
+fn following_has_begun(
+    outs: &MemOut,
+    status: u8,
+    row: &Followed<'_>,
+    said: &[&[u8]],
+) -> bool {
     if outs.broken(1) && row.messages.starts_with(outs.bytes(1)) {
         return outs.bytes(0) == row.output && status == row.status;
     }
-    status == 1 && row.output.starts_with(outs.bytes(0)) && is_told(outs, row.said)
+    status == 1 && row.output.starts_with(outs.bytes(0)) && is_told(outs, said)
 }
 
-const FOLLOWED: &[Followed<'static>] = &[
-    Followed {
-        words: &["tail", "-F", "-n", "1", "f"],
-        looks: &[
-            &[Edit::Replace("f", b"a\nb\n")],
-            &[Edit::Append("f", b"c")],
-            &[Edit::Truncate("f", 0)],
-            &[Edit::Append("f", b"z\n")],
-            &[Edit::Append("f", b"w"), Edit::Replace("f", b"q\n")],
-        ],
-        output: b"b\ncz\nwq\n",
-        messages: b"tail: 'f': file truncated\ntail: 'f': file replaced\n",
-        status: 0,
-        said: &[
+/// Runs that follow, and all that each may say where a growth is refused.
+const FOLLOWED: &[(Followed<'static>, &[&[u8]])] = &[
+    (
+        TRUNCATED,
+        &[
             b"tail: memory exhausted\n",
             b"tail: cannot write 'standard output'\n",
             b"tail: 'f': file truncated\ntail: memory exhausted\n",
             b"tail: 'f': file truncated\ntail: cannot write 'standard output'\n",
             b"tail: 'f': file truncated\ntail: 'f': file replaced\ntail: cannot write 'standard output'\n",
         ],
-    },
-    Followed {
-        words: &["tail", "-f", "-n", "1", "f", "g"],
-        looks: &[
-            &[Edit::Replace("f", b"a\n"), Edit::Replace("g", b"b\n")],
-            &[Edit::Append("f", b"c\n")],
-            &[Edit::Append("f", b"d\n")],
-            &[Edit::Append("g", b"e\n")],
-        ],
-        output: b"==> f <==\na\n\n==> g <==\nb\n\n==> f <==\nc\nd\n\n==> g <==\ne\n",
-        messages: b"",
-        status: 0,
-        said: &[
+    ),
+    (
+        TWO_FILES,
+        &[
             b"tail: memory exhausted\n",
             b"tail: cannot write 'standard output'\n",
         ],
-    },
+    ),
 ];
 
 /// A tool's name by which the program is called, and a word that needs more room than words are first given.
@@ -498,8 +419,12 @@ fn has_args(read: &Result<Vec<String>, ArgsFault>) -> bool {
 /// `tail -n +2` of these bytes, none of which ends a line, writes nothing.
 fn passes_over(rt: &impl Abort, alloc: Global, input: &[u8]) -> Result<(), Fault> {
     let row = Row {
-        words: &["tail", "-n", "+2"],
-        input,
+        run: Run {
+            words: &["tail", "-n", "+2"],
+            input,
+            left: NOTHING,
+            ..TWO_LINES
+        },
         ..SPLIT
     };
     let ended = end_of(alloc, &row)?;

@@ -23,47 +23,109 @@ pub(crate) enum Then {
 }
 
 /// A run: what it is given, what it does at a fault, and what it leaves where there is none.
-struct Run<'a> {
-    words: &'a [&'a str],
-    files: &'a [File<'a>],
-    input: &'a [u8],
-    then: Then,
-    left: Left<'a>,
+#[derive(Clone, Copy)]
+pub(crate) struct Run<'a> {
+    pub(crate) words: &'a [&'a str],
+    pub(crate) files: &'a [File<'a>],
+    pub(crate) input: &'a [u8],
+    pub(crate) then: Then,
+    pub(crate) left: Left<'a>,
 }
 
+/// Two lines a file.
+pub(crate) const TWO_LINES: Run<'static> = Run {
+    words: &["split", "-l", "2"],
+    files: &[],
+    input: b"a\nb\nc",
+    then: Then::Stops,
+    left: Left {
+        files: &[("xaa", b"a\nb\n"), ("xab", b"c")],
+        ..NOTHING
+    },
+};
+
+/// Lines dealt to three files.
+pub(crate) const ROUND: Run<'static> = Run {
+    words: &["split", "-n", "r/3"],
+    files: &[],
+    input: b"a\nb\nc\nd",
+    then: Then::Stops,
+    left: Left {
+        files: &[("xaa", b"a\nd"), ("xab", b"b\n"), ("xac", b"c\n")],
+        ..NOTHING
+    },
+};
+
+/// Two files, of which one is missing.
+pub(crate) const ONE_IS_MISSING: Run<'static> = Run {
+    words: &["head", "-n", "1", "f", "g"],
+    files: &[("f", b"a\nb\n")],
+    input: b"",
+    then: Then::Stops,
+    left: Left {
+        output: b"==> f <==\na\n",
+        messages: b"head: cannot open 'g'\n",
+        status: 1,
+        ..NOTHING
+    },
+};
+
+/// A section for each line that begins with `b`.
+pub(crate) const SECTIONS: Run<'static> = Run {
+    words: &["csplit", "-", "/^b/", "{*}"],
+    files: &[],
+    input: b"b1\nx\nb2\ny\n",
+    then: Then::Removes,
+    left: Left {
+        output: b"0\n5\n5\n",
+        files: &[("xx00", b""), ("xx01", b"b1\nx\n"), ("xx02", b"b2\ny\n")],
+        ..NOTHING
+    },
+};
+
+/// The same, and no file is removed.
+pub(crate) const KEPT_SECTIONS: Run<'static> = Run {
+    words: &["csplit", "-k", "-", "/^b/", "{*}"],
+    files: &[],
+    input: b"b1\nx\nb2\ny\n",
+    then: Then::Stops,
+    left: Left {
+        output: b"0\n5\n5\n",
+        files: &[("xx00", b""), ("xx01", b"b1\nx\n"), ("xx02", b"b2\ny\n")],
+        ..NOTHING
+    },
+};
+
+/// A cut one line before a line.
+pub(crate) const BEFORE_A_LINE: Run<'static> = Run {
+    words: &["csplit", "-", "/c/-1"],
+    files: &[],
+    input: b"a\nb\nc\nd\n",
+    then: Then::Removes,
+    left: Left {
+        output: b"2\n6\n",
+        files: &[("xx00", b"a\n"), ("xx01", b"b\nc\nd\n")],
+        ..NOTHING
+    },
+};
+
+/// A cut before each line of this kind.
+pub(crate) const BEFORE_EACH_LINE: Run<'static> = Run {
+    words: &["csplit", "-", "/b/-1", "{*}"],
+    files: &[],
+    input: b"a\nb\nb\nc\n",
+    then: Then::Removes,
+    left: Left {
+        output: b"0\n2\n6\n",
+        files: &[("xx00", b""), ("xx01", b"a\n"), ("xx02", b"b\nb\nc\n")],
+        ..NOTHING
+    },
+};
+
 const RUNS: [Run<'static>; 12] = [
-    Run {
-        words: &["split", "-l", "2"],
-        files: &[],
-        input: b"a\nb\nc",
-        then: Then::Stops,
-        left: Left {
-            files: &[("xaa", b"a\nb\n"), ("xab", b"c")],
-            ..NOTHING
-        },
-    },
-    Run {
-        words: &["split", "-n", "r/3"],
-        files: &[],
-        input: b"a\nb\nc\nd",
-        then: Then::Stops,
-        left: Left {
-            files: &[("xaa", b"a\nd"), ("xab", b"b\n"), ("xac", b"c\n")],
-            ..NOTHING
-        },
-    },
-    Run {
-        words: &["head", "-n", "1", "f", "g"],
-        files: &[("f", b"a\nb\n")],
-        input: b"",
-        then: Then::Stops,
-        left: Left {
-            output: b"==> f <==\na\n",
-            messages: b"head: cannot open 'g'\n",
-            status: 1,
-            ..NOTHING
-        },
-    },
+    TWO_LINES,
+    ROUND,
+    ONE_IS_MISSING,
     Run {
         words: &["tee", "s", "t"],
         files: &[],
@@ -75,50 +137,10 @@ const RUNS: [Run<'static>; 12] = [
             ..NOTHING
         },
     },
-    Run {
-        words: &["csplit", "-", "/^b/", "{*}"],
-        files: &[],
-        input: b"b1\nx\nb2\ny\n",
-        then: Then::Removes,
-        left: Left {
-            output: b"0\n5\n5\n",
-            files: &[("xx00", b""), ("xx01", b"b1\nx\n"), ("xx02", b"b2\ny\n")],
-            ..NOTHING
-        },
-    },
-    Run {
-        words: &["csplit", "-k", "-", "/^b/", "{*}"],
-        files: &[],
-        input: b"b1\nx\nb2\ny\n",
-        then: Then::Stops,
-        left: Left {
-            output: b"0\n5\n5\n",
-            files: &[("xx00", b""), ("xx01", b"b1\nx\n"), ("xx02", b"b2\ny\n")],
-            ..NOTHING
-        },
-    },
-    Run {
-        words: &["csplit", "-", "/c/-1"],
-        files: &[],
-        input: b"a\nb\nc\nd\n",
-        then: Then::Removes,
-        left: Left {
-            output: b"2\n6\n",
-            files: &[("xx00", b"a\n"), ("xx01", b"b\nc\nd\n")],
-            ..NOTHING
-        },
-    },
-    Run {
-        words: &["csplit", "-", "/b/-1", "{*}"],
-        files: &[],
-        input: b"a\nb\nb\nc\n",
-        then: Then::Removes,
-        left: Left {
-            output: b"0\n2\n6\n",
-            files: &[("xx00", b""), ("xx01", b"a\n"), ("xx02", b"b\nb\nc\n")],
-            ..NOTHING
-        },
-    },
+    SECTIONS,
+    KEPT_SECTIONS,
+    BEFORE_A_LINE,
+    BEFORE_EACH_LINE,
     Run {
         words: &["csplit", "-", "/c/-3"],
         files: &[],
@@ -235,10 +257,10 @@ fn end_over(alloc: Global, row: &Run<'_>, mut inputs: MemIn, mut outs: MemOut) -
 
 /// How a run ended.
 #[derive(Clone, Copy, PartialEq, Eq)]
-enum Ended {
+pub(crate) enum Ended {
     /// It left just what it is to leave.
     Whole,
-    /// It met a fault, and left each output as it is to then.
+    /// It met a fault, or a growth was refused, and it left each output as it is to then.
     Begun,
     /// It left something else.
     Wrong,
@@ -286,7 +308,7 @@ fn has_begun(outs: &MemOut, status: u8, row: &Run<'_>) -> bool {
     outs.name(slot).is_empty()
 }
 
-fn output_has_begun(outs: &MemOut, row: &Run<'_>) -> bool {
+pub(crate) fn output_has_begun(outs: &MemOut, row: &Run<'_>) -> bool {
     if is_unopened(outs) || row.then != Then::GoesOn || outs.broken(0) {
         return row.left.output.starts_with(outs.bytes(0));
     }

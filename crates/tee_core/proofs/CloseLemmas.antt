@@ -9,14 +9,12 @@ use Rattle.ports_core.specs.declared.tool.Tool.TheVariants.{Tee}
 use Rattle.ports_core.specs.declared.fault.Fault.{Fault}
 use Rattle.ports_core.proofs.MessageLemmas.{all_said_state, says_behind}
 use Rattle.ports_core.specs.Streams.{standard_error}
-use Rattle.tee_core.specs.Outputs.{ChangesEach, Closes, is_closed, fails_to_close, was_broken, IsFile, newly_broken}
-use Rattle.tee_core.specs.Run.{OutputLeft, output_whole, output_cut, FileLeft, file_whole, file_unopened, file_cut, file_unclosed, FilesLeft, no_file, one_file, fault_in, is_sound, messages_of, output_names, said_before, said_of_input}
+use Rattle.tee_core.specs.Outputs.{ChangesEach, Closes, is_closed, fails_to_close, was_broken, IsFile}
+use Rattle.tee_core.specs.Run.{OutputLeft, output_whole, output_cut, FileLeft, file_whole, file_unopened, file_cut, file_unclosed, FilesLeft, no_file, one_file, fault_in, messages_of, output_names, said_before, said_of_input}
+use Rattle.std.specs.Prelude.{is_none}
 use Rattle.tee_core.specs.inner.Steps.{HasCopied, Copies, FileHas, has_all, has_none, has_begun, FilesHave, no_more, one_more, HasStreams, IsTeeOf, SaysTo, broken_of, said_since}
 use Rattle.tee_core.specs.TeeState.{TeeState}
-use Rattle.tee_core.proofs.ChangeLemmas.{is_between, stay_broken}
-use Rattle.tee_core.proofs.GetsLemmas.{closed_broken}
-use Rattle.tee_core.proofs.CopyLemmas.{AllMark, Marks, all_marked, all_older, call_before, error_no_output, length-files, marked_before, marked_none, marked_now, none_marked, place_file, file_place, said_marked, said_none, same_broken}
-use Rattle.tee_core.proofs.TellLemmas.{says_nothing}
+use Rattle.tee_core.proofs.CopyLemmas.{AllMark, Marks, all_marked, all_older, call_before, error_no_output, length-files, marked_before, marked_none, marked_now, none_marked, place_file, file_place, said_marked}
 
 -- an output that isn't closed
 output_kept : (told : Bool) (pieces : List (List ℕ)) (first : Option ℕ) (output : Slot) → OutputLeft told pieces first output → Marks (suc (length pieces)) first first output.is_broken output.is_broken
@@ -54,21 +52,21 @@ files_end told mode pieces _ _ _ (new ∷ news) many closes (one_more name names
 
 -- a broken output is one that broke in some call
 
-output_flag : (told : Bool) (pieces : List (List ℕ)) (first : Option ℕ) (output : Slot) → OutputLeft told pieces first output → output.is_broken ≡ not (is_sound first)
+output_flag : (told : Bool) (pieces : List (List ℕ)) (first : Option ℕ) (output : Slot) → OutputLeft told pieces first output → output.is_broken ≡ not (is_none first)
 output_flag told pieces _ _ output_whole = refl
 output_flag told pieces _ _ (output_cut before that after n is within) = refl
 
-file_flag : (told : Bool) (mode : Mode) (pieces : List (List ℕ)) (name : List ℕ) (first : Option ℕ) (file : Slot) → FileLeft told mode pieces name first file → file.is_broken ≡ not (is_sound first)
+file_flag : (told : Bool) (mode : Mode) (pieces : List (List ℕ)) (name : List ℕ) (first : Option ℕ) (file : Slot) → FileLeft told mode pieces name first file → file.is_broken ≡ not (is_none first)
 file_flag told mode pieces name _ _ file_whole = refl
 file_flag told mode pieces name _ _ (file_unopened kept named) = refl
 file_flag told mode pieces name _ _ (file_cut before that after n is within) = refl
 file_flag told mode pieces name _ _ file_unclosed = refl
 
-file_flags : (told : Bool) (mode : Mode) (pieces : List (List ℕ)) (names : List (List ℕ)) (broke : List (Option ℕ)) (files : List Slot) → FilesLeft told mode pieces names broke files → map (λ (file : Slot). file.is_broken) files ≡ map (λ (when : Option ℕ). not (is_sound when)) broke
+file_flags : (told : Bool) (mode : Mode) (pieces : List (List ℕ)) (names : List (List ℕ)) (broke : List (Option ℕ)) (files : List Slot) → FilesLeft told mode pieces names broke files → map (λ (file : Slot). file.is_broken) files ≡ map (λ (when : Option ℕ). not (is_none when)) broke
 file_flags told mode pieces _ _ _ no_file = refl
 file_flags told mode pieces _ _ _ (one_file name names first broke file files one rest) =
     ap (λ (flag : Bool). flag ∷ map (λ (file : Slot). file.is_broken) files) (file_flag told mode pieces name first file one)
-    ∙ ap (λ flags. not (is_sound first) ∷ flags) (file_flags told mode pieces names broke files rest)
+    ∙ ap (λ flags. not (is_none first) ∷ flags) (file_flags told mode pieces names broke files rest)
 
 left_count : (told : Bool) (mode : Mode) (pieces : List (List ℕ)) (names : List (List ℕ)) (broke : List (Option ℕ)) (files : List Slot) → FilesLeft told mode pieces names broke files → length files ≡ length names
 left_count told mode pieces _ _ _ no_file = refl
@@ -147,18 +145,12 @@ module _ (told : Bool) (mode : Mode) (names : List (List ℕ)) where
     said = subst (λ texts. SaysAll told Tee texts standard_error says.0) messages
         (says_behind told Tee (said_before (suc (length pieces)) (output_names names) (copies.first ∷ copies.broke) ++ said_of_input fault) _ standard_error copies.error says.0 copies.said (subst (λ slot. SaysAll told Tee (said_since (fault_in (suc (length pieces))) (output_names names) known (broken_of mid)) slot says.0) (ap (λ those. slot_at those 1) next.are) says.1));
     known_are = flags ∙ ap broken_of next.are ∙ ap (λ (flag : Bool). flag ∷ map (λ (file : Slot). file.is_broken) next.files) (output_flag told pieces copies.first copies.output copies.output_has)
-        ∙ ap (λ flags. not (is_sound copies.first) ∷ flags) (file_flags told mode pieces names next.broke next.files next.files_left);
+        ∙ ap (λ flags. not (is_none copies.first) ∷ flags) (file_flags told mode pieces names next.broke next.files next.files_left);
   } where
     messages : (said_before (suc (length pieces)) (output_names names) (copies.first ∷ copies.broke) ++ said_of_input fault) ++ said_since (fault_in (suc (length pieces))) (output_names names) known (broken_of mid) ≡ messages_of names (copies.first ∷ next.broke) (length pieces) fault
     messages = ap (λ texts. (texts ++ said_of_input fault) ++ said_since (fault_in (suc (length pieces))) (output_names names) known (broken_of mid)) (sym (all_older (suc (length pieces)) (suc (length pieces)) (output_names names) _ _ _ _ (omega arith) next.marked))
         ∙ ap (λ texts. (said_before (suc (length pieces)) (output_names names) (copies.first ∷ next.broke) ++ said_of_input fault) ++ texts)
         (ap (λ flags. said_since (fault_in (suc (length pieces))) (output_names names) flags (broken_of mid)) copies.known_are ∙ sym (said_marked (suc (length pieces)) (output_names names) _ _ _ _ next.marked))
-
-  pub closing_quiet : (pieces : List (List ℕ)) (fault : Option Fault) (old mid : List Slot) (known : List Bool) (tee : TeeState) → IsTeeOf names tee → Copies told mode names pieces (said_of_input fault) old known → ChangesEach Closes (IsFile tee) old mid → newly_broken old mid ≡ 0 → HasCopied told mode names pieces fault mid known
-  closing_quiet pieces fault old mid known tee is copies closes few =
-      let same : known ≡ broken_of mid = copies.known_are ∙ same_broken old mid closes.count (stay_broken old mid closed_broken (is_between tee.first (tee.first + tee.count)) closes) few in
-      closing_said pieces fault old mid mid known known copies (closed_next pieces (said_of_input fault) old mid known tee is copies closes)
-      (subst (λ texts. SaysTo told texts mid mid) (sym (ap (λ flags. said_since (fault_in (suc (length pieces))) (output_names names) flags (broken_of mid)) same ∙ said_none (fault_in (suc (length pieces))) (output_names names) (broken_of mid))) (says_nothing told mid)) same
 
   pub ending_streams : (pieces : List (List ℕ)) (messages : List (List ℕ)) (old mid : List Slot) (known : List Bool) (tee : TeeState) → IsTeeOf names tee → Copies told mode names pieces messages old known → ChangesEach Closes (IsFile tee) old mid → HasStreams mid (length names)
   ending_streams pieces messages old mid known tee is copies closes =

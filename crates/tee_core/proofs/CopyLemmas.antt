@@ -1,5 +1,5 @@
 -- Lemmas on copying a piece: what the outputs have after it, and what is said of it.
-use Rattle.std.proofs.Common.{append_assoc, ◌≡◌, ℕ, ◌+◌, ◌<◌, ◌≤◌, zero, suc, eqb, List, [], ◌∷◌, ◌++◌, length, map, take, Bool, true, false, not, ◌&&◌, if◌then◌else◌, Option, Some, None, ◌⊎◌, inl, inr, refl, sym, ◌∙◌, ap, subst, arith, length-append}
+use Rattle.std.proofs.Common.{append_assoc, ◌≡◌, ℕ, ◌+◌, ◌<◌, ◌≤◌, zero, suc, eqb, List, [], ◌∷◌, ◌++◌, length, map, take, Bool, true, false, not, ◌&&◌, if◌then◌else◌, Option, Some, None, inl, inr, refl, sym, ◌∙◌, ap, subst, arith, length-append}
 use Rattle.std.specs.List.{concat}
 use Rattle.std.proofs.lemmas.List.Folds.{concat-append}
 use Rattle.std.proofs.lemmas.List.{append-nil}
@@ -9,17 +9,14 @@ use Rattle.ports_core.specs.Message.{SaysAll}
 use Rattle.ports_core.specs.Text.{message_of}
 use Rattle.ports_core.specs.declared.slot.Mode.{Mode}
 use Rattle.ports_core.specs.declared.tool.Tool.TheVariants.{Tee}
-use Rattle.ports_core.specs.declared.fault.Fault.{Fault}
 use Rattle.ports_core.proofs.MessageLemmas.{all_said_state, says_behind}
 use Rattle.ports_core.specs.Streams.{standard_output, standard_error}
-use Rattle.tee_core.specs.Outputs.{ChangesEach, Gets, gets_all, breaks_off, gets_none, IsFile, IsOutput, IsReady, IsUsable, newly_broken}
+use Rattle.tee_core.specs.Outputs.{ChangesEach, Gets, gets_all, breaks_off, gets_none, IsFile, IsOutput, IsReady, IsUsable}
 use Rattle.tee_core.specs.Run.{OutputLeft, output_whole, output_cut, broke_in, fault_in, output_names, said_in, said_before}
 use Rattle.tee_core.specs.inner.Steps.{Copies, FileHas, has_all, has_none, has_begun, FilesHave, no_more, one_more, HasStreams, IsTeeOf, SaysTo, broken_of, said_since}
 use Rattle.tee_core.specs.TeeState.{TeeState}
-use Rattle.tee_core.proofs.ChangeLemmas.{StayBroken, is_between, is_place, stay_broken}
-use Rattle.tee_core.proofs.GetsLemmas.{still_broken}
 use Rattle.ports_core.proofs.Runs.{adds_both}
-use Rattle.tee_core.proofs.TellLemmas.{count_broken, says_nothing}
+use Rattle.tee_core.proofs.TellLemmas.{count_broken}
 
 -- in which call
 
@@ -135,56 +132,6 @@ files_more told mode pieces piece _ _ _ (new ∷ news) many gets (one_more name 
     let there = files_more told mode pieces piece names broke olds news (omega (arith, many)) (λ n within. gets (suc n) (omega arith)) rest in
     (here.0 ∷ there.0, one_more name names here.0 there.0 new news here.1 there.1, all_marked first here.0 old.is_broken new.is_broken broke there.0 _ _ here.2 there.2)
 
--- where nothing broke, nothing is said
-
-pub said_none : (fault : Fault) (names : List (List ℕ)) (flags : List Bool) → said_since fault names flags flags ≡ []
-said_none fault [] flags = refl
-said_none fault (name ∷ names) [] = refl
-said_none fault (name ∷ names) (flag ∷ flags) = by flag (said_none fault names flags) where
-  by : (b : Bool) → said_since fault names flags flags ≡ [] → (if not b && b then message_of Tee fault name ∷ said_since fault names flags flags else said_since fault names flags flags) ≡ []
-  by true is = is
-  by false is = is
-
-same_flag : (a b : Bool) (rest : ℕ) → (a ≡ true → b ≡ true) → (if not a && b then 1 else 0) + rest ≡ 0 → (a ≡ b) × (rest ≡ 0)
-same_flag true true rest stays none = (refl, omega (arith, none))
-same_flag true false rest stays none = absurd (false≢true (stays refl))
-same_flag false true rest stays none = absurd (omega (arith, none))
-same_flag false false rest stays none = (refl, omega (arith, none))
-
-same_flags : (olds news : List Slot) → length news ≡ length olds → StayBroken olds news → newly_broken olds news ≡ 0 → map (λ (slot : Slot). slot.is_broken) olds ≡ map (λ (slot : Slot). slot.is_broken) news
-same_flags [] [] many stay few = refl
-same_flags [] (new ∷ news) many stay few = absurd (omega (arith, many))
-same_flags (old ∷ olds) [] many stay few = absurd (omega (arith, many))
-same_flags (old ∷ olds) (new ∷ news) many stay few =
-    let here = same_flag old.is_broken new.is_broken (newly_broken olds news) (stay 0) few in
-    ap (λ (flag : Bool). flag ∷ map (λ (slot : Slot). slot.is_broken) olds) here.0 ∙ ap (λ flags. new.is_broken ∷ flags) (same_flags olds news (omega (arith, many)) (λ place broken. stay (suc place) broken) here.1)
-
-but_second : List Bool → List Bool
-but_second [] = []
-but_second (one ∷ []) = []
-but_second (one ∷ two ∷ rest) = one ∷ rest
-
-broken_are : (slots : List Slot) → broken_of slots ≡ but_second (map (λ (slot : Slot). slot.is_broken) slots)
-unfolding but_second
-broken_are [] = refl
-broken_are (output ∷ []) = refl
-broken_are (output ∷ error ∷ files) = refl
-
-pub same_broken : (old new : List Slot) → length new ≡ length old → StayBroken old new → newly_broken old new ≡ 0 → broken_of old ≡ broken_of new
-same_broken old new many stay few = broken_are old ∙ ap but_second (same_flags old new many stay few) ∙ sym (broken_are new)
-
-pub is_output : (tee : TeeState) (place : ℕ) → IsOutput tee place ⊎ (IsOutput tee place → ⊥)
-is_output tee place = elim (is_place 0 place) [
-  | inl here ↦ inl (inl here)
-  | inr differs ↦ elim (is_between tee.first (tee.first + tee.count) place) [
-    | inl file ↦ inl (inr file)
-    | inr other ↦ inr (λ is. elim is [
-      | inl here ↦ differs here
-      | inr file ↦ other file
-    ])
-  ]
-]
-
 -- the outputs of a run
 
 pub length-files : (told : Bool) (mode : Mode) (pieces : List (List ℕ)) (names : List (List ℕ)) (broke : List (Option ℕ)) (files : List Slot) → FilesHave told mode pieces names broke files → length files ≡ length names
@@ -289,13 +236,6 @@ module _ (told : Bool) (mode : Mode) (names : List (List ℕ)) where
         (ap (λ flags. said_since (fault_in (suc (length pieces))) (output_names names) flags (broken_of mid)) copies.known_are ∙ sym (said_marked (suc (length pieces)) (output_names names) _ _ _ _ next.marked))
         ∙ ap (λ texts. texts ++ said_in (suc (length pieces)) (output_names names) (next.first ∷ next.broke)) (sym (all_older (suc (length pieces)) (suc (length pieces)) (output_names names) _ _ _ _ (omega arith) next.marked))
         ∙ sym (append-nil _) ∙ ap (λ call. said_before (suc call) (output_names names) (next.first ∷ next.broke) ++ []) (let e : suc (length pieces) ≡ length (pieces ++ piece ∷ []) = omega (arith, length-append pieces (piece ∷ [])) in e)
-
-  -- nothing broke, and nothing has to be said
-  pub piece_quiet : (pieces : List (List ℕ)) (piece : List ℕ) (old mid : List Slot) (known : List Bool) (tee : TeeState) → IsTeeOf names tee → Copies told mode names pieces [] old known → ChangesEach (Gets told piece) (IsOutput tee) old mid → newly_broken old mid ≡ 0 → Copies told mode names (pieces ++ piece ∷ []) [] mid known
-  piece_quiet pieces piece old mid known tee is copies gets few =
-      let same : known ≡ broken_of mid = copies.known_are ∙ same_broken old mid gets.count (stay_broken old mid (still_broken told piece) (is_output tee) gets) few in
-      piece_said pieces piece old mid mid known known copies (fed_next pieces piece [] old mid known tee is copies gets)
-      (subst (λ texts. SaysTo told texts mid mid) (sym (ap (λ flags. said_since (fault_in (suc (length pieces))) (output_names names) flags (broken_of mid)) same ∙ said_none (fault_in (suc (length pieces))) (output_names names) (broken_of mid))) (says_nothing told mid)) same
 
   pub next_streams : (pieces : List (List ℕ)) (piece : List ℕ) (messages : List (List ℕ)) (old mid : List Slot) (known : List Bool) (tee : TeeState) → IsTeeOf names tee → Copies told mode names pieces messages old known → ChangesEach (Gets told piece) (IsOutput tee) old mid → HasStreams mid (length names)
   next_streams pieces piece messages old mid known tee is copies gets =

@@ -13,14 +13,15 @@ use Rattle.ports_core.specs.declared.fault.Fault.TheVariants.{Memory}
 use Rattle.ports_core.specs.Inputs.{BreaksOnly, OfContent, empty}
 use Rattle.ports_core.specs.Streams.{standard_output, standard_error}
 use Rattle.ports_core.proofs.InputsLemmas.{of_content}
-use Rattle.tee_core.specs.Run.{EndsAs, copied, no_room, file_whole, file_unopened, file_cut, file_unclosed, FilesLeft, no_file, one_file, IsRead, to_end, to_break, to_limit, LeavesOf, OutputLeft, output_whole, output_cut, all_copied, are_sound, is_sound, messages_of, output_names, said_before, said_in, status_of}
+use Rattle.tee_core.specs.Run.{EndsAs, copied, no_room, file_whole, file_unopened, file_cut, file_unclosed, FilesLeft, no_file, one_file, IsRead, to_end, to_break, to_limit, LeavesOf, OutputLeft, output_whole, output_cut, all_copied, are_sound, messages_of, output_names, said_before, said_in, status_of}
+use Rattle.std.specs.Prelude.{is_none}
 use Rattle.tee_core.specs.inner.Steps.{CopiesInput, any_of}
 
 -- the status
 
-any_broken : (broke : List (Option ℕ)) → any_of (map (λ (when : Option ℕ). not (is_sound when)) broke) ≡ not (are_sound broke)
+any_broken : (broke : List (Option ℕ)) → any_of (map (λ (when : Option ℕ). not (is_none when)) broke) ≡ not (are_sound broke)
 any_broken [] = refl
-any_broken (first ∷ broke) = ap (λ (flag : Bool). not (is_sound first) || flag) (any_broken broke) ∙ by (is_sound first) (are_sound broke) where
+any_broken (first ∷ broke) = ap (λ (flag : Bool). not (is_none first) || flag) (any_broken broke) ∙ by (is_none first) (are_sound broke) where
   by : (a b : Bool) → (not a || not b) ≡ not (a && b)
   by true b = refl
   by false b = refl
@@ -31,10 +32,10 @@ one_fails true false = refl
 one_fails false true = refl
 one_fails false false = refl
 
-status_is : (broke : List (Option ℕ)) (fault : Option Fault) (failed : Bool) (known : List Bool) → failed ≡ (not (is_sound fault) || any_of known) → known ≡ map (λ (when : Option ℕ). not (is_sound when)) broke → (if failed then 1 else 0) ≡ status_of broke fault
+status_is : (broke : List (Option ℕ)) (fault : Option Fault) (failed : Bool) (known : List Bool) → failed ≡ (not (is_none fault) || any_of known) → known ≡ map (λ (when : Option ℕ). not (is_none when)) broke → (if failed then 1 else 0) ≡ status_of broke fault
 status_is broke fault failed known failing is =
-    ap (λ (flag : Bool). if flag then 1 else 0) (failing ∙ ap (λ flags. not (is_sound fault) || any_of flags) is ∙ ap (λ (flag : Bool). not (is_sound fault) || flag) (any_broken broke))
-    ∙ one_fails (is_sound fault) (are_sound broke)
+    ap (λ (flag : Bool). if flag then 1 else 0) (failing ∙ ap (λ flags. not (is_none fault) || any_of flags) is ∙ ap (λ (flag : Bool). not (is_none fault) || flag) (any_broken broke))
+    ∙ one_fails (is_none fault) (are_sound broke)
 
 pub ends_copied : (told_in told : Bool) (mode : Mode) (names : List (List ℕ)) (content : Content) (source : Source) (new : List Slot) (failed : Bool) (status : ℕ) → status ≡ (if failed then 1 else 0) → CopiesInput told_in told mode names content source new failed → EndsAs told_in told mode names content source new status
 ends_copied told_in told mode names content source new failed status is copies =
@@ -61,7 +62,7 @@ ends_at_once told_in told mode names old new_sources first mid new fault is at s
 
 -- nothing broke
 
-sound_first : {X : Type 0} (first : Option X) (rest : Bool) → (is_sound first && rest) ≡ true → (first ≡ None) × (rest ≡ true)
+sound_first : {X : Type 0} (first : Option X) (rest : Bool) → (is_none first && rest) ≡ true → (first ≡ None) × (rest ≡ true)
 sound_first None rest is = (refl, is)
 sound_first (Some x) rest is = absurd (false≢true is)
 
@@ -79,7 +80,7 @@ whole_output : (told : Bool) (pieces : List (List ℕ)) (first : Option ℕ) (ou
 whole_output told pieces _ _ is output_whole = refl
 whole_output told pieces _ _ is (output_cut before that after n is_there within) = absurd (some_none is) where
   some_none : {a : ℕ} → Some a ≡ None → ⊥
-  some_none is = false≢true (ap is_sound is)
+  some_none is = false≢true (ap is_none is)
 
 whole_files : (told : Bool) (mode : Mode) (pieces : List (List ℕ)) (names : List (List ℕ)) (broke : List (Option ℕ)) (files : List Slot) → are_sound broke ≡ true → FilesLeft told mode pieces names broke files → files ≡ map (λ name. closes (adds (told_of told (concat pieces)) (opened name mode))) names
 whole_files told mode pieces _ _ _ sound no_file = refl
@@ -94,7 +95,7 @@ status_zero true false is = absurd (omega (arith, is))
 status_zero false true is = absurd (omega (arith, is))
 status_zero false false is = absurd (omega (arith, is))
 
-read_whole : (content : Content) (Leaves : List ℕ → Type 0) (x : List ℕ) (fault : Option Fault) → is_sound fault ≡ true → IsRead content Leaves x fault → content.bytes ≡ x
+read_whole : (content : Content) (Leaves : List ℕ → Type 0) (x : List ℕ) (fault : Option Fault) → is_none fault ≡ true → IsRead content Leaves x fault → content.bytes ≡ x
 read_whole content Leaves _ _ sound (to_end x is ended left) = is
 read_whole content Leaves _ _ sound (to_break x is breaks left) = absurd (false≢true sound)
 read_whole content Leaves _ _ sound (to_limit x piece rest is many left) = absurd (false≢true sound)
@@ -102,14 +103,14 @@ read_whole content Leaves _ _ sound (to_limit x piece rest is many left) = absur
 pub whole_if : (told_in told : Bool) (mode : Mode) (names : List (List ℕ)) (content : Content) (source : Source) (new : List Slot) (status : ℕ) → status ≡ 0 → EndsAs told_in told mode names content source new status → new ≡ all_copied told mode names content.bytes
 whole_if told_in told mode names content source new status zero_is (no_room error said left at one) = absurd (omega (arith, zero_is, one))
 whole_if told_in told mode names content source new status zero_is (copied pieces fault first broke output error files read output_left files_left said at is) =
-    let good = status_zero (is_sound fault) (are_sound (first ∷ broke)) (sym is ∙ zero_is) in
+    let good = status_zero (is_none fault) (are_sound (first ∷ broke)) (sym is ∙ zero_is) in
     let sounds = sound_first first (are_sound broke) good.0 in
     let silent : messages_of names (first ∷ broke) (length pieces) fault ≡ [] = quiet fault (length pieces) (first ∷ broke) good.1 good.0 in
     at ∙ ap (λ slot. slot ∷ error ∷ files) (whole_output told pieces first output sounds.0 output_left)
     ∙ ap (λ slot. adds (told_of told (concat pieces)) standard_output ∷ slot ∷ files) (subst (λ texts. SaysAll told Tee texts standard_error error) silent said)
     ∙ ap (λ those. adds (told_of told (concat pieces)) standard_output ∷ standard_error ∷ those) (whole_files told mode pieces names broke files sounds.1 files_left)
     ∙ ap (all_copied told mode names) (sym (read_whole content _ (concat pieces) fault good.1 read)) where
-      quiet : (fault : Option Fault) (pieces : ℕ) (broke : List (Option ℕ)) → is_sound fault ≡ true → are_sound broke ≡ true → messages_of names broke pieces fault ≡ []
+      quiet : (fault : Option Fault) (pieces : ℕ) (broke : List (Option ℕ)) → is_none fault ≡ true → are_sound broke ≡ true → messages_of names broke pieces fault ≡ []
       quiet None pieces broke ended sound =
           ap (λ texts. (texts ++ []) ++ said_in (suc pieces) (output_names names) broke) (nothing_before (suc pieces) (output_names names) broke sound) ∙ nothing_in (suc pieces) (output_names names) broke sound
       quiet (Some fault) pieces broke ended sound = absurd (false≢true ended)

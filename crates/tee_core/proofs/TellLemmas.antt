@@ -1,7 +1,7 @@
 -- Lemmas on the messages for outputs that broke.
 use Rattle.std.proofs.Common.{◌≡◌, ℕ, ◌+◌, ◌<◌, zero, suc, List, [], ◌∷◌, ◌++◌, length, map, take, drop, get_or, set, Bor, Bool, true, false, not, ◌&&◌, if◌then◌else◌, refl, sym, ◌∙◌, ap, subst, arith, append_assoc}
 use Rattle.std.proofs.lemmas.List.{length-map}
-use Rattle.ports_core.specs.Slot.{Slot, slot_at, changed_at, is_open}
+use Rattle.ports_core.specs.Slot.{Slot, slot_at, is_open}
 use Rattle.ports_core.specs.Text.{message_of}
 use Rattle.ports_core.specs.Message.{SaysOn}
 use Rattle.ports_core.specs.declared.tool.Tool.TheVariants.{Tee}
@@ -56,14 +56,6 @@ pub count_broken : (slots : List Slot) (count : ℕ) → HasStreams slots count 
 count_broken slots count has = ap (λ those. length (broken_of those)) has.are ∙ (let many : length (map (λ (file : Slot). file.is_broken) has.files) ≡ length has.files = length-map has.files _ in let same : length has.files ≡ count = has.files_are in let e : suc (length (map (λ (file : Slot). file.is_broken) has.files)) ≡ count + 1 = omega arith in e)
 
 -- standard error alone is written
-
-unchanged : (place : ℕ) (slots : List Slot) → slots ≡ changed_at place (λ _. slot_at slots place) slots
-unchanged place [] = refl
-unchanged zero (slot ∷ slots) = refl
-unchanged (suc place) (slot ∷ slots) = ap (λ rest. slot ∷ rest) (unchanged place slots)
-
-pub says_nothing : (told : Bool) (slots : List Slot) → SaysTo told [] slots slots
-says_nothing told slots = (slot_at slots 1, refl, unchanged 1 slots)
 
 says_after : (told : Bool) (texts : List (List ℕ)) (text : List ℕ) (output error : Slot) (files now new : List Slot) → SaysTo told texts (output ∷ error ∷ files) now → SaysOn told Tee text now new → SaysTo told (texts ++ text ∷ []) (output ∷ error ∷ files) new
 says_after told texts text output error files now new so_far says =

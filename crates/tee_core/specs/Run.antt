@@ -1,5 +1,5 @@
 -- What a run of `tee` leaves, of its input and of what broke when.
-use Rattle.std.specs.Prelude.{◌≡◌, ℕ, ◌≤◌, ◌<◌, ◌^◌, zero, suc, ◌==◌, ◌&&◌, Bool, true, false, List, [], ◌∷◌, ◌++◌, length, map, take, Option, Some, None, ◌⊎◌, codes, if◌then◌else◌}
+use Rattle.std.specs.Prelude.{is_none, ◌≡◌, ℕ, ◌≤◌, ◌<◌, ◌^◌, zero, suc, ◌==◌, ◌&&◌, Bool, true, false, List, [], ◌∷◌, ◌++◌, length, map, take, Option, Some, None, ◌⊎◌, codes, if◌then◌else◌}
 use Rattle.std.specs.List.{concat}
 use Rattle.ports_core.specs.Slot.{Slot, opened, unopened, adds, breaks, closes, told_of}
 use Rattle.ports_core.specs.Source.{Content, Source}
@@ -51,16 +51,12 @@ messages_of names broke pieces fault =
     said_before (suc pieces) (output_names names) broke ++ said_of_input fault
     ++ said_in (suc pieces) (output_names names) broke
 
-abbrev pub is_sound : {X : Type 0} → Option X → Bool
-is_sound None = true
-is_sound (Some x) = false
-
 abbrev pub are_sound : List (Option ℕ) → Bool
 are_sound [] = true
-are_sound (first ∷ broke) = is_sound first && are_sound broke
+are_sound (first ∷ broke) = is_none first && are_sound broke
 
 abbrev pub status_of : List (Option ℕ) → Option Fault → ℕ
-status_of broke fault = if are_sound broke && is_sound fault then 0 else 1
+status_of broke fault = if are_sound broke && is_none fault then 0 else 1
 
 -- How an input is read: to its end; or until it breaks off; or up to a piece with which it has more bytes than any tool
 -- takes. HasCopied is all that came before, and `Leaves` says what is left unread.

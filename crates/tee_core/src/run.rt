@@ -1,5 +1,5 @@
 //! A whole run of `tee`.
-ghost use Rattle.std.specs.Prelude.{◌≡◌, ◌∷◌, ◌+◌, ◌-◌, ◌^◌, ◌<◌, ◌≤◌, not, ◌&&◌, ◌||◌, replicate, suc, ◌++◌, ℕ, List, Option, Bool, [], true, false, map, length, get_or, IfOk, IfErr, IsTrue};
+ghost use Rattle.std.specs.Prelude.{◌≡◌, ◌∷◌, ◌+◌, ◌-◌, ◌^◌, ◌<◌, ◌≤◌, not, ◌&&◌, ◌||◌, replicate, suc, ◌++◌, ℕ, List, Option, Bool, [], true, false, map, length, get_or, IfOk, IfErr, IsTrue, is_none};
 ghost use Rattle.ports_core.specs.declared.fault.Fault.{Fault};
 ghost use Rattle.ports_core.specs.declared.slot.Mode.{Mode};
 ghost use Rattle.ports_core.specs.Slot.{Slot, is_open, slot_at, streams};
@@ -8,7 +8,7 @@ ghost use Rattle.ports_core.specs.Message.{SaysOn};
 ghost use Rattle.ports_core.specs.Source.{source_at, is_readable, IsFresh};
 ghost use Rattle.ports_core.specs.Inputs.{BreaksOnly, KeepsOthers, OfContent, AsksAtMost, largest_piece};
 ghost use Rattle.tee_core.specs.Opening.{Opens};
-ghost use Rattle.tee_core.specs.Run.{EndsAs, all_copied, is_sound, output_names, said_of_input};
+ghost use Rattle.tee_core.specs.Run.{EndsAs, all_copied, output_names, said_of_input};
 ghost use Rattle.tee_core.specs.inner.Steps.{HasCopied, Copies, CopiesInput, CopiesRead, HasStreams, IsTeeOf, SaysTo, any_of, broken_of, output_slot, said_since};
 
 use crate::tee::Tee;
@@ -108,7 +108,7 @@ fn copy_all<I: Inputs, O: Outs>(
 
 /// Whether a fault ended the reading, or some output broke.
 fn has_failed(fault: &Option<Fault>, known: &[bool]) -> bool
-    ensures { result ≡ (not (is_sound fault.now) || any_of known.now) }
+    ensures { result ≡ (not (is_none fault.now) || any_of known.now) }
 {
     fault.is_some() || any_is(known)
 }
@@ -166,9 +166,7 @@ fn copy_piece<O: Outs>(
     ensures same { tee.new ≡ tee.old }
     ensures copies { (mode : Mode) (pieces : List (List ℕ)) → Copies O.told mode (map (λ name. name.now) names.now) pieces [] (O.slots outs.old) known.old → Copies O.told mode (map (λ name. name.now) names.now) (pieces ++ piece.now ∷ []) [] (O.slots outs.new) known.new }
 {
-    if tee.feed(piece, outs) == 0 {
-        return;
-    }
+    tee.feed(piece, outs);
     tell_broken(alloc, &Fault::Write(0), names, known, outs);
 }
 
@@ -184,9 +182,7 @@ fn close_all<O: Outs>(
     requires copies { (mode : Mode) × (pieces : List (List ℕ)) × (messages : List (List ℕ)) × Copies O.told mode (map (λ name. name.now) names.now) pieces messages (O.slots outs.old) known.old }
     ensures { (mode : Mode) (pieces : List (List ℕ)) (fault : Option Fault) → Copies O.told mode (map (λ name. name.now) names.now) pieces (said_of_input fault) (O.slots outs.old) known.old → HasCopied O.told mode (map (λ name. name.now) names.now) pieces fault (O.slots outs.new) known.new }
 {
-    if tee.close(outs) == 0 {
-        return;
-    }
+    tee.close(outs);
     tell_broken(alloc, &Fault::Write(0), names, known, outs);
 }
 

@@ -1,5 +1,5 @@
 -- The names that are watched: which file of each is open, and whether it broke.
-use Rattle.std.specs.Prelude.{◌≡◌, ℕ, Bool, true, false, not, ◌&&◌, List, [], Option, Some, None, length, drop, option_map, slice_index_or}
+use Rattle.std.specs.Prelude.{is_some, ◌≡◌, ℕ, Bool, true, false, not, ◌&&◌, List, [], Option, Some, None, length, drop, option_map, slice_index_or}
 use Rattle.ports_core.specs.Slot.{changed_at}
 use Rattle.ports_core.specs.Source.{Gave}
 use Rattle.watch_core.specs.Snapshot.{Snapshot}
@@ -28,10 +28,6 @@ opens file watched = record watched { opened = file }
 
 abbrev pub breaks : Watched → Watched
 breaks watched = record watched { is_broken = true }
-
-abbrev pub is_some : Option ℕ → Bool
-is_some None = false
-is_some (Some file) = true
 
 -- there is such a name, and it is not broken
 abbrev pub is_watchable : List Watched → ℕ → Bool

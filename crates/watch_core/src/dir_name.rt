@@ -1,5 +1,5 @@
-ghost use Rattle.std.specs.Prelude.{◌≡◌, ◌≤◌, ◌<◌, ◌+◌, ◌*◌, ◌^◌, length, string_bytes, IfOk, OnOk, OnErr, IfSome, IfNone, OnSome};
-ghost use Rattle.watch_core.specs.Watched.{Watched, added, breaks, is_some, opens};
+ghost use Rattle.std.specs.Prelude.{◌≡◌, ◌≤◌, ◌<◌, ◌+◌, ◌*◌, ◌^◌, length, string_bytes, IfOk, OnOk, OnErr, IfSome, IfNone, OnSome, is_some};
+ghost use Rattle.watch_core.specs.Watched.{Watched, added, breaks, opens};
 
 use crate::Seen;
 use ports_core::MOST_BYTES;

@@ -1,8 +1,8 @@
-ghost use Rattle.std.specs.Prelude.{◌≡◌, ◌<◌, ◌≤◌, ◌-◌, ◌^◌, ◌∷◌, ◌++◌, [], ℕ, map, length, true, false, string_bytes, IfOk, IfErr, OnOk, IfSome, IfNone, IsTrue};
+ghost use Rattle.std.specs.Prelude.{◌≡◌, ◌<◌, ◌≤◌, ◌-◌, ◌^◌, ◌∷◌, ◌++◌, [], ℕ, map, length, true, false, string_bytes, IfOk, IfErr, OnOk, IfSome, IfNone, IsTrue, is_some};
 ghost use Rattle.watch_core.specs.Edits.{empty_world, seen_in};
 ghost use Rattle.watch_core.specs.Snapshot.{latest};
 ghost use Rattle.watch_core.specs.MemWatchState.{MemWatchState, edit_of, no_looks, seen, shows, with_look, world_at};
-ghost use Rattle.watch_core.specs.Watched.{Finds, GaveFrom, Watched, added, breaks, is_readable, is_some, open_contents, opens, watched_at};
+ghost use Rattle.watch_core.specs.Watched.{Finds, GaveFrom, Watched, added, breaks, is_readable, open_contents, opens, watched_at};
 
 use crate::mem_world::MemWorld;
 use crate::{Edit, Seen, Watch};

@@ -1,10 +1,10 @@
 -- What a look gives for one name, call by call: bytes on standard output, under headers, and lines on standard error.
-use Rattle.std.specs.Prelude.{◌≡◌, ◌&&◌, not, ℕ, Bool, true, Some, List, [], ◌∷◌, ◌++◌, Result, Ok, Err, if◌then◌else◌}
+use Rattle.std.specs.Prelude.{◌≡◌, ◌&&◌, not, ℕ, Bool, true, Some, List, [], ◌∷◌, ◌++◌, Result, Ok, Err, if◌then◌else◌, is_none}
 use Rattle.ports_core.specs.Slot.{Slot, adds, told_of, with_written}
 use Rattle.ports_core.specs.declared.fault.Fault.{Fault}
 use Rattle.follow_core.specs.declared.visitor.Stop.{Stop}
 use Rattle.follow_core.specs.declared.visitor.Stop.TheVariants.{Broke, Over}
-use Rattle.follow_core.specs.Followed.{header_after, is_empty, is_last, is_none, share_text}
+use Rattle.follow_core.specs.Followed.{header_after, is_empty, is_last, share_text}
 use Rattle.ports_core.specs.Text.{header_of}
 use Rattle.follow_core.specs.Printing.{PrinterState, Short}
 use Rattle.follow_core.specs.Share.{IsFront, Share}

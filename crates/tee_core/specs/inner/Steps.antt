@@ -1,5 +1,5 @@
 -- What each step of a run leaves.
-use Rattle.std.specs.Prelude.{◌≡◌, ℕ, ◌<◌, zero, suc, not, ◌&&◌, ◌||◌, Bool, true, false, List, [], ◌∷◌, ◌++◌, length, map, take, Option, Some, None, ◌⊎◌, if◌then◌else◌}
+use Rattle.std.specs.Prelude.{◌≡◌, ℕ, ◌<◌, zero, suc, not, ◌&&◌, ◌||◌, Bool, true, false, List, [], ◌∷◌, ◌++◌, length, map, take, Option, Some, None, ◌⊎◌, if◌then◌else◌, is_none}
 use Rattle.std.specs.List.{concat}
 use Rattle.ports_core.specs.Slot.{Slot, slot_at, changed_at, is_open, opened, unopened, adds, breaks, told_of}
 use Rattle.ports_core.specs.Source.{Content, Source}
@@ -9,7 +9,7 @@ use Rattle.ports_core.specs.declared.slot.Mode.{Mode}
 use Rattle.ports_core.specs.declared.tool.Tool.TheVariants.{Tee}
 use Rattle.ports_core.specs.declared.fault.Fault.{Fault}
 use Rattle.ports_core.specs.Streams.{standard_error}
-use Rattle.tee_core.specs.Run.{FilesLeft, IsRead, LeavesOf, OutputLeft, is_sound, messages_of, output_names, said_before}
+use Rattle.tee_core.specs.Run.{FilesLeft, IsRead, LeavesOf, OutputLeft, messages_of, output_names, said_before}
 use Rattle.tee_core.specs.TeeState.{TeeState}
 
 abbrev pub any_of : List Bool → Bool
@@ -106,7 +106,7 @@ pub record HasCopied (told : Bool) (mode : Mode) (names : List (List ℕ)) (piec
   pub output_left : OutputLeft told pieces first output
   pub files_left : FilesLeft told mode pieces names broke files
   pub said : SaysAll told Tee (messages_of names (first ∷ broke) (length pieces) fault) standard_error error
-  pub known_are : known ≡ map (λ when. not (is_sound when)) (first ∷ broke)
+  pub known_are : known ≡ map (λ when. not (is_none when)) (first ∷ broke)
 
 -- the whole input was copied, and this tells whether a fault was met
 pub record CopiesInput (told_in told : Bool) (mode : Mode) (names : List (List ℕ)) (content : Content) (source : Source)
@@ -116,4 +116,4 @@ pub record CopiesInput (told_in told : Bool) (mode : Mode) (names : List (List �
   pub known : List Bool
   pub read : IsRead content (LeavesOf told_in source) (concat pieces) fault
   pub copied : HasCopied told mode names pieces fault slots known
-  pub failed_is : failed ≡ (not (is_sound fault) || any_of known)
+  pub failed_is : failed ≡ (not (is_none fault) || any_of known)

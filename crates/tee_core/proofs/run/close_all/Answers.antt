@@ -1,16 +1,13 @@
-use Rattle.std.proofs.Common.{◌+◌, ap, subst, sym, ◌∙◌}
+use Rattle.std.proofs.Common.{◌+◌, ap, subst, ◌∙◌}
 use Rattle.std.proofs.lemmas.List.{length-map}
 use Rattle.tee_core.specs.inner.Steps.{HasStreams}
 use Rattle.tee_core.specs.Run.{said_of_input}
 use Rattle.tee_core.proofs.CopyLemmas.{copies_ready, known_many}
-use Rattle.tee_core.proofs.CloseLemmas.{closed_next, closing_quiet, closing_said, ending_streams}
+use Rattle.tee_core.proofs.CloseLemmas.{closed_next, closing_said, ending_streams}
 use Rattle.tee_core.proofs.run.close_all.Goals as goal
 
 pub close-requires : goal.close-requires
 close-requires g c = λ live. let (mode, pieces, messages, copies) = c.requires.copies in copies_ready _ mode _ pieces _ _ _ _ c.requires.tee copies
-
-pub returns-then-close-eq0 : goal.returns-then-close-eq0
-returns-then-close-eq0 g c mode pieces fault copies = closing_quiet _ mode _ pieces fault _ _ _ _ c.requires.tee copies (c.close.ensures.closes c.requires.tee.live) (sym c.close.ensures.broke ∙ c.if-close-eq0.true)
 
 pub tell_broken-requires-clause-streams : goal.tell_broken-requires-clause-streams
 tell_broken-requires-clause-streams g c =

@@ -1,14 +1,11 @@
-use Rattle.std.proofs.Common.{◌+◌, [], ap, subst, sym, ◌∙◌}
+use Rattle.std.proofs.Common.{◌+◌, [], ap, subst, ◌∙◌}
 use Rattle.std.proofs.lemmas.List.{length-map}
 use Rattle.tee_core.specs.inner.Steps.{HasStreams}
-use Rattle.tee_core.proofs.CopyLemmas.{copies_ready, fed_next, known_many, next_streams, piece_quiet, piece_said}
+use Rattle.tee_core.proofs.CopyLemmas.{copies_ready, fed_next, known_many, next_streams, piece_said}
 use Rattle.tee_core.proofs.run.copy_piece.Goals as goal
 
 pub feed-requires : goal.feed-requires
 feed-requires g c = λ live. let (mode, pieces, copies) = c.requires.copies in copies_ready _ mode _ pieces _ _ _ _ c.requires.tee copies
-
-pub returns-then-feed-eq0-clause-copies : goal.returns-then-feed-eq0-clause-copies
-returns-then-feed-eq0-clause-copies g c mode pieces copies = piece_quiet _ mode _ pieces _ _ _ _ _ c.requires.tee copies (c.feed.ensures.gets c.requires.tee.live) (sym c.feed.ensures.broke ∙ c.if-feed-eq0.true)
 
 pub tell_broken-requires-clause-streams : goal.tell_broken-requires-clause-streams
 tell_broken-requires-clause-streams g c =

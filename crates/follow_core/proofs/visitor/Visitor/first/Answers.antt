@@ -22,7 +22,7 @@ returns-in-Ok-clause-looks g c by_name =
     let leaves = opened_leaves (ap latest c.reopen.ensures.seen) c.requires.watchable c.in-Ok-true.ensures.ok c.in-Ok-true.field-0-test c.requires.name c.in-Ok.ensures.keeps c.in-Ok.ensures.len in
     first_looks
     (first_whole c.self.view_is (led_file c.in-Ok-true.ensures.ok c.in-Ok-true.field-0-test c.requires.name)
-    (contents_led g.W.Watch.told (latest (g.W.Watch.seen c.args.watch.now)) (latest (g.W.Watch.seen c.reopen.new.self)) (g.W.Watch.watched c.args.watch.now) (g.W.Watch.watched c.reopen.new.self) c.args.place c.args.name.now c.in-Ok-true.field-0 (ap latest c.reopen.ensures.seen) c.requires.watchable c.in-Ok-true.ensures.ok c.requires.name) c.in_default.ensures.out c.in_default.ensures.last c.in-Ok.ensures.len c.in-Ok.ensures.ends) leaves.0 leaves.1
+    (contents_led g.W.Watch.told (latest (g.W.Watch.seen c.args.watch.now)) (latest (g.W.Watch.seen c.reopen.new.self)) (g.W.Watch.watched c.args.watch.now) (g.W.Watch.watched c.reopen.new.self) c.args.place c.args.name.now c.in-Ok-true.field-0 (ap latest c.reopen.ensures.seen) c.requires.watchable c.in-Ok-true.ensures.ok c.requires.name) c.in_default.ensures.out c.in_default.ensures.last c.in-Ok.ensures.ends) leaves.0 leaves.1
 
 pub returns-in-Err-write_start-clause-looks : goal.returns-in-Err-write_start-clause-looks
 returns-in-Err-write_start-clause-looks g c by_name = first_fails _ c.in-Ok-true.ensures.ok c.in-Err-write_start.ensures.keeps
