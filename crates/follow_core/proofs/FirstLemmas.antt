@@ -1,6 +1,6 @@
 -- The first look at a name, with what is told of it.
 use Rattle.follow_core.specs.declared.visitor.Came.{Came}
-use Rattle.std.proofs.Common.{◌≡◌, ℕ, true, false, List, [], ◌∷◌, ◌++◌, length, take, drop, map, Option, Some, None, refl, sym, ◌∙◌, ap, arith, Bool, Ok, Err, inl, subst, Result, not, ◌&&◌}
+use Rattle.std.proofs.Common.{if◌then◌else◌, ◌≡◌, ℕ, true, false, List, [], ◌∷◌, ◌++◌, length, take, drop, map, Option, Some, None, refl, sym, ◌∙◌, ap, arith, Bool, Ok, Err, inl, subst, Result, not, ◌&&◌}
 use Rattle.std.proofs.lemmas.List.{append-nil, drop_all}
 use Rattle.std.proofs.Math.Seq.{take-append_seam}
 use Rattle.ports_core.specs.Text.{message_of}
@@ -136,7 +136,7 @@ looked_failed told_in told ways before snapshot name printer after old mid new b
   fate = fate;
   share = failed_share opened name bytes (lines ++ line ∷ []);
   is_share = λ is fates. let front = fronts is fates in
-      ap (λ those. failed_share opened name those (lines ++ line ∷ [])) (sym (front_taken bytes _ front.0)) ∙ ap (λ those. failed_share opened name _ (those ++ line ∷ [])) (sym (front_taken lines _ front.1)) ∙ share_is fates;
+      ap (λ those. failed_share opened name those (lines ++ line ∷ [])) (sym (front_taken bytes _ front.0)) ∙ ap (λ those. failed_share opened name (take (length bytes) (gain ways name before (record { snapshot = snapshot; fates = fates }))) (those ++ line ∷ [])) (sym (front_taken lines _ front.1)) ∙ share_is fates;
   through = unsound;
   failed = refl;
   shared = said_after told printer after (given_share opened name bytes lines) line old mid new shared failure says;
@@ -179,8 +179,8 @@ first_fronts : (told_in : Bool) (ways : Ways) (snapshot : Snapshot) (name bytes 
     → Dues told_in ways [] snapshot name (λ due said. IsFront bytes due × IsFront lines said)
 first_fronts told_in ways snapshot name bytes lines found is fates =
     let those = found is in
-    let due = first_dues ways snapshot name those.0 those.1.0 refl fates in
-    (due.0, (subst (IsFront bytes) (sym due.1.0) those.1.1.0, subst (IsFront lines) (sym due.1.1) those.1.1.1))
+    let due = first_dues ways snapshot name those.0 those.1 refl fates in
+    (due.0, (subst (IsFront bytes) (sym due.1.0) those.2, subst (IsFront lines) (sym due.1.1) those.3))
 
 -- what the first look at a file gives
 
@@ -248,7 +248,7 @@ pub first_short : {told_in told : Bool} {ways : Ways} {snapshot : Snapshot} {nam
     → Short told (opening_under inside name) old new why → Stopped told_in told ways [] snapshot name printer old new why
 first_short {told_in} {told} {ways} {snapshot} {name} {printer} {inside} {old} {new} {why} viewed found short =
     subst (λ (p : PrinterState). Stopped told_in told ways [] snapshot name p old new why) viewed (
-    looked_over told_in told ways [] snapshot name inside old new why [] [] (first_fronts told_in ways snapshot name [] [] (λ is. ((found is).0, (found is).1, (front_nil _, front_nil _))))
+    looked_over told_in told ways [] snapshot name inside old new why [] [] (first_fronts told_in ways snapshot name [] [] (λ is. ((found is).0, (found is).1, front_nil _, front_nil _)))
     (record { slots = λ output error others is. (error, refl, subst (λ text. Short told text (output ∷ error ∷ others) new why) (share_bytes inside name [] []) (short_more told (opening_under inside name) [] (output ∷ error ∷ others) new why (subst (λ those. Short told (opening_under inside name) those new why) is short))) }))
 
 held_file : (snapshot : Snapshot) (name contents : List ℕ) (id : ℕ) → snapshot.leads name ≡ Some id → contents ≡ held_at snapshot (snapshot.leads name) → contents ≡ snapshot.holds id
@@ -282,7 +282,7 @@ first_cut {told_in} {told} {ways} {snapshot} {name} {contents} {printer} {inside
     subst (λ (p : PrinterState). FirstCut told_in told ways snapshot name p old after new stop) viewed
     (by stop (subst (λ (p : PrinterState). Ends {T = ℕ} told_in told p name (ways.start contents) [] mid after new (Err stop)) is_under ends)) where
       front : (bytes : List ℕ) (lines : List (List ℕ)) → (told_in ≡ true → IsFront bytes (ways.start contents) × IsFront lines []) → Dues told_in ways [] snapshot name (λ due said. IsFront bytes due × IsFront lines said)
-      front bytes lines are = first_fronts told_in ways snapshot name bytes lines (λ is. ((found is).0, (found is).1, (subst (λ those. IsFront bytes (ways.start those)) (held_file snapshot name contents (found is).0 (found is).1 (same is)) (are is).0, (are is).1)))
+      front bytes lines are = first_fronts told_in ways snapshot name bytes lines (λ is. ((found is).0, (found is).1, subst (λ those. IsFront bytes (ways.start those)) (held_file snapshot name contents (found is).0 (found is).1 (same is)) (are is).0, (are is).1))
 
       by : (stop : Stop) → Ends {T = ℕ} told_in told (opened_under inside name) name (ways.start contents) [] mid after new (Err stop) → FirstCut told_in told ways snapshot name inside old after new stop
       by _ (broke why bytes lines are gives) = cut_read why bytes lines (front bytes lines are) (opened_gives told inside after name bytes lines old mid new first gives)
