@@ -7,7 +7,7 @@ use Rattle.ports_core.specs.Message.{Says}
 use Rattle.ports_core.specs.declared.tool.Tool.{Tool}
 use Rattle.ports_core.specs.declared.tool.Tool.TheVariants as tool
 use Rattle.ports_core.specs.declared.fault.Fault.{Fault}
-use Rattle.ports_core.specs.declared.fault.Fault.TheVariants.{Memory, Write, Read, Open, Suffixes, NoMatch, Range, Usage, Failed, TooLong}
+use Rattle.ports_core.specs.declared.fault.Fault.TheVariants.{Memory, Usage}
 use Rattle.operand_core.specs.declared.operand.Operand.{Operand}
 use Rattle.operand_core.specs.Reading.{Asks}
 use Rattle.ports_core.specs.Inputs.{BreaksOnly}
@@ -35,15 +35,7 @@ speaker (name ∷ words) = or_cutters (tool_named name)
 -- the word that a fault of words speaks of
 abbrev pub word_of : List (List ℕ) → Fault → List ℕ
 word_of words (Usage kind place) = slice_index_or words place []
-word_of words Memory = []
-word_of words (Write slot) = []
-word_of words (Read slot) = []
-word_of words (Open slot) = []
-word_of words Suffixes = []
-word_of words (NoMatch operand repetition) = []
-word_of words (Range operand repetition) = []
-word_of words Failed = []
-word_of words TooLong = []
+word_of words fault = []
 
 -- words that are refused: a message, status 1, and nothing else
 pub record Refuses (told : Bool) (tool : Tool) (text : List ℕ) (new : List Slot) (status : ℕ) : Type 0 where
