@@ -1,5 +1,5 @@
 -- A turn is one constructor of the plan, and what the next turn has to look at.
-use Rattle.std.proofs.Common.{◌≡◌, ℕ, ◌-◌, Bool, List, ◌∷◌, length, refl, sym, subst, arith}
+use Rattle.std.proofs.Common.{◌≡◌, ℕ, Bool, List, ◌∷◌, length, refl, sym, subst, arith}
 use Rattle.csplit_core.specs.Operand.{Line}
 use Rattle.csplit_core.specs.Plan.{State, state_after, step_of, Runs, is_used_up, misses, is_above, is_below, cuts}
 use Rattle.csplit_core.specs.inner.Progress.{Turns, Advances}

@@ -31,6 +31,7 @@ use Rattle.csplit_core.proofs.SettledLemmas.{last_kept, settled_part_is}
 use Rattle.csplit_core.proofs.CutterLemmas.{runs_to, live_part}
 use Rattle.csplit_core.proofs.HoldLemmas.{went_as, stopped_as}
 use Rattle.csplit_core.proofs.WriterLemmas.{moves_again, moves_as, halts_after, halts_as, halts_wider, bytes_begin, end_begins, breaks_later, owns_again}
+use Rattle.csplit_core.proofs.WholeLemmas.{ends_after_all}
 
 -- the whole of lines, where they end
 abbrev pub whole_draft : Bool → List Operand → List Line → Draft
@@ -55,12 +56,6 @@ whole_part_is style operands lines =
 
 -- The last section has all lines that are left, and none where the cut is below the current line.
 
-whole_live : (total : ℕ) (ending : Ending) → is_final ending ≡ false → whole_end total ending ≡ suc total
-whole_live total used_up live = refl
-whole_live total (missed operand repetition) live = refl
-whole_live total (above operand repetition matched cut) live = refl
-whole_live total (below operand repetition) live = absurd (false≢true (sym live))
-
 whole_past : (total : ℕ) (ending : Ending) → is_final ending ≡ true → settled_end total ending ≡ whole_end total ending
 whole_past total used_up past = absurd (false≢true past)
 whole_past total (missed operand repetition) past = absurd (false≢true past)
@@ -74,7 +69,7 @@ all_written : (x written held : List ℕ) (current taken : ℕ) (ending : Ending
     → written ++ held ≡ first_lines newline (whole_end (line_count newline x) ending - current) (text_from current x)
 all_written x written held current taken ending some live written_is held_is =
     let all : first_lines newline taken (text_from current x) ++ after_lines newline taken (text_from current x) ≡ text_from current x = first_lines_then_rest newline taken (text_from current x) in
-    let end : whole_end (line_count newline x) ending ≡ suc (line_count newline x) = whole_live (line_count newline x) ending live in
+    let end : whole_end (line_count newline x) ending ≡ suc (line_count newline x) = ends_after_all (line_count newline x) ending live in
     let count : line_count newline (text_from current x) ≡ line_count newline x - (current - 1) = count_from current x in
     ap (λ those. those ++ held) written_is
     ∙ ap (λ those. first_lines newline taken (text_from current x) ++ those) (held_is ∙ sym (from_further current taken x some))

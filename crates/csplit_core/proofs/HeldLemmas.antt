@@ -19,7 +19,7 @@ use Rattle.csplit_core.specs.declared.progress.Turn.TheVariants.{Below}
 use Rattle.csplit_core.specs.Writer.{WriterState, Writes, IsReady, size_of}
 use Rattle.csplit_core.specs.inner.Writer.{Went, Stopped, Goes}
 use Rattle.csplit_core.specs.Cutter.{CutterState, suppress_in, state_in, kept_by, text_from, draft_by, settled_draft, IsFit, IsAt, EndsNow, IsLive, IsPast}
-use Rattle.csplit_core.specs.inner.Cutter.{settled_part, part_at, Arrives, Held, HeldNot, Holds}
+use Rattle.csplit_core.specs.inner.Cutter.{settled_part, Arrives, Held, HeldNot, Holds}
 use Rattle.csplit_core.proofs.LineLemmas.{count_from, first_further}
 use Rattle.csplit_core.proofs.SettledLemmas.{settled_draft_is, settled_part_is, settled_count, final_count, most_is, aims_live, aims_past}
 use Rattle.csplit_core.proofs.CutterLemmas.{runs_to, at_held, taken_all}

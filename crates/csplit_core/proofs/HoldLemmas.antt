@@ -19,7 +19,7 @@ use Rattle.csplit_core.specs.Output.{Style, makes_file, files_of}
 use Rattle.csplit_core.specs.Draft.{Draft, draft_part, last_contents, AreClosed}
 use Rattle.csplit_core.specs.inner.Draft.{with_bytes}
 use Rattle.csplit_core.specs.Writer.{WriterState, Writes, IsReady, size_of}
-use Rattle.csplit_core.specs.inner.Writer.{Moves, Halts, Went, Stopped, Goes}
+use Rattle.csplit_core.specs.inner.Writer.{Halts, Went, Stopped, Goes}
 use Rattle.csplit_core.proofs.WriterLemmas.{moves_again, halts_after, halts_wider, bytes_begin, breaks_later, owns_again, moves_same, moves_as, halts_as}
 use Rattle.csplit_core.proofs.DraftLemmas.{open_part, part_none, closed_files}
 

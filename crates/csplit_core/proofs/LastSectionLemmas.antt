@@ -1,5 +1,5 @@
 -- The last section: all of its lines but the last ones are settled, as many as the offset goes back.
-use Rattle.std.proofs.Common.{ℕ, suc, ◌-◌, ◌≤◌, Bool, true, false, arith}
+use Rattle.std.proofs.Common.{ℕ, suc, ◌≤◌, Bool, true, false, arith}
 use Rattle.csplit_core.specs.Plan.{line_after}
 
 -- the current line is at most one past the last

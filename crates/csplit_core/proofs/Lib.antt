@@ -4,8 +4,6 @@ pub mod AgreedLemmas
 pub mod WaitLemmas
 pub mod StayLemmas
 pub mod LastSectionLemmas
-pub mod Examples
-pub mod ByteExamples
 pub mod TurnLemmas
 pub mod MoveLemmas
 pub mod AdvanceLemmas

@@ -1,5 +1,5 @@
 -- A cut moves on, and the numbers stay small.
-use Rattle.std.proofs.Common.{◌≡◌, ℕ, zero, suc, ◌+◌, ◌-◌, ◌*◌, ◌<◌, ◌≤◌, Bool, true, false, List, [], ◌∷◌, drop, get_or, refl, sym, ◌∙◌, subst, arith}
+use Rattle.std.proofs.Common.{◌≡◌, ℕ, zero, suc, ◌+◌, ◌*◌, ◌<◌, ◌≤◌, Bool, true, false, List, [], ◌∷◌, drop, get_or, refl, sym, ◌∙◌, subst, arith}
 use Rattle.csplit_core.specs.Operand.{Target, Number, Search, Operand, has_more}
 use Rattle.csplit_core.specs.Plan.{State, line_after, operands_after, repetition_after, state_after}
 use Rattle.csplit_core.specs.Progress.{state_of}

@@ -3,11 +3,11 @@ use Rattle.std.proofs.Common.{◌≡◌, inl, inr, ℕ, ◌+◌, ◌-◌, ◌≤
 use Rattle.std.proofs.lemmas.Bool.{false≢true}
 use Rattle.bre_core.specs.Pattern.{Pattern}
 use Rattle.seg_core.specs.Window.{Window}
-use Rattle.ports_core.specs.Part.{Part, Begins, nothing}
+use Rattle.ports_core.specs.Part.{nothing}
 use Rattle.ports_core.specs.Slot.{Slot}
 use Rattle.ports_core.specs.declared.fault.Fault.{Fault}
 use Rattle.ports_core.specs.declared.fault.Fault.TheVariants.{Memory}
-use Rattle.ports_core.proofs.PartLemmas.{part_begins_itself}
+use Rattle.ports_core.proofs.PartLemmas.{part_begins_itself, nothing_begins_part}
 use Rattle.csplit_core.specs.Csplit.{settled_of}
 use Rattle.csplit_core.specs.Draft.{draft_part}
 use Rattle.csplit_core.specs.inner.Draft.{first_draft}
@@ -205,12 +205,9 @@ nothing_halts told slots before at = record {
   from = tt;
 }
 
-nothing_begins : (part : Part) → Begins nothing part
-nothing_begins part = record { out = (part.out, refl); files = tt }
-
 opened_none : (told : Bool) (style : Style) (operands : List Operand) (slots : List Slot) → OpenedNot told style operands slots slots Memory
 opened_none told style operands slots = record {
-  halts = halts_wider told nothing nothing (settled_of style operands []) slots slots Memory (nothing_halts told slots) (nothing_begins (settled_of style operands []));
+  halts = halts_wider told nothing nothing (settled_of style operands []) slots slots Memory (nothing_halts told slots) (nothing_begins_part (settled_of style operands []));
   breaks = tt;
   none = λ place past. record { files = λ at above within. absurd (omega (arith, above, within)); none_after = λ at beyond. none_past slots at (omega (arith, past, beyond)) };
 }

@@ -11,7 +11,7 @@ use Rattle.ports_core.specs.declared.slot.State.{State}
 use Rattle.ports_core.specs.declared.slot.State.TheVariants as state
 use Rattle.ports_core.proofs.SlotLemmas.{length-changed_at}
 use Rattle.ports_core.proofs.FileLemmas.{gets, ended, file_more, last_changes, write_makes, close_makes}
-use Rattle.ports_core.proofs.PartLemmas.{begins_itself, begins_more, take_begins_behind, files_begin_themselves, part_begins_itself, out_more, outputs_count, turn_last, turn_next}
+use Rattle.ports_core.proofs.PartLemmas.{begins_itself, begins_more, take_begins_after, files_begin_themselves, part_begins_itself, out_more, outputs_count, turn_last, turn_next}
 use Rattle.ports_core.specs.inner.Write.{WritesShort}
 use Rattle.csplit_core.specs.inner.Writer.{Moves, Halts}
 use Rattle.csplit_core.specs.inner.WriterSteps.{MakesNone, unnamed, failed}
@@ -46,7 +46,7 @@ pub bytes_more : (out : List ℕ) (front : List File) (name bytes more : List �
 bytes_more out front name bytes more = record { out = begins_itself out; files = front_begins front (file_of name bytes state.Open ∷ []) (file_of name (bytes ++ more) state.Open ∷ []) (refl, refl, refl, inl refl, begins_more bytes more, tt) }
 
 taken_more : (out : List ℕ) (front : List File) (name bytes more : List ℕ) (n : ℕ) → Begins (with_last out front (file_of name (bytes ++ take n more) state.Open)) (with_last out front (file_of name (bytes ++ more) state.Open))
-taken_more out front name bytes more n = record { out = begins_itself out; files = front_begins front (file_of name (bytes ++ take n more) state.Open ∷ []) (file_of name (bytes ++ more) state.Open ∷ []) (refl, refl, refl, inl refl, take_begins_behind n bytes more, tt) }
+taken_more out front name bytes more n = record { out = begins_itself out; files = front_begins front (file_of name (bytes ++ take n more) state.Open ∷ []) (file_of name (bytes ++ more) state.Open ∷ []) (refl, refl, refl, inl refl, take_begins_after n bytes more, tt) }
 
 pub close_begins : (out : List ℕ) (front : List File) (name bytes : List ℕ) → Begins (with_last out front (file_of name bytes state.Open)) (with_last out front (file_of name bytes state.Closed))
 close_begins out front name bytes = record { out = begins_itself out; files = front_begins front (file_of name bytes state.Open ∷ []) (file_of name bytes state.Closed ∷ []) (refl, refl, refl, inl refl, begins_itself bytes, tt) }
@@ -129,7 +129,7 @@ line_halts told out line files old new _ closed some (short.broke n cut) =
     halts_after told _ (record { out = out ++ take n line; files = files }) _ old (with_written 0 (told_of told (take n line)) old) new (fault.Write 0)
     (line_begins out (take n line) files)
     (line_moves told out (take n line) files old _ refl)
-    (halts_here told _ _ _ new (fault.Write 0) (length files) (record { out = take_begins_behind n out line; files = files_begin_themselves files })
+    (halts_here told _ _ _ new (fault.Write 0) (length files) (record { out = take_begins_after n out line; files = files_begin_themselves files })
     (turn_next files closed)
     (let size : length (with_written 0 (told_of told (take n line)) old) ≡ length old = length-changed_at 0 _ old in omega (arith, some), cut.slots)
     (λ before at. inl refl))

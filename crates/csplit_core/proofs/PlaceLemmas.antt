@@ -9,19 +9,10 @@ use Rattle.csplit_core.specs.Plan.{State, start, Step, Ending, used_up, missed, 
 use Rattle.csplit_core.specs.Planned.{Plan, plan}
 use Rattle.csplit_core.specs.Section.{whole_end, settled_end, is_final}
 use Rattle.csplit_core.specs.Place.{Place, in_section, left_out, nowhere, place_from, place_of, WaitsAt, IsUndecided}
-use Rattle.csplit_core.specs.laws.PlanLaws.{line_some, cuts_still, plan_runs, plan_once, goes_on}
+use Rattle.csplit_core.specs.laws.PlanLaws.{line_some, cuts_still, plan_runs, plan_once, goes_on, from_not_less, less_test, not_less_test}
 use Rattle.csplit_core.specs.inner.SectionLaws.{EndsAs}
 use Rattle.csplit_core.specs.laws.SectionLaws.{ends_as, are_within, plan_goes_on, missed_cut, front_of, none_there, cut_once, cuts_or_misses}
 use Rattle.csplit_core.proofs.TurnedLemmas.{search_within, search_at_start, matching_line, Turned, too_low, turns, turned}
-
-lt_false : (a b : ℕ) → b ≤ a → nat_lt a b ≡ false
-lt_false a b less = grind (arith, nat_tests, less)
-
-lt_true : (a b : ℕ) → a < b → nat_lt a b ≡ true
-lt_true a b less = grind (arith, nat_tests, less)
-
-from_lt_false : (a b : ℕ) → nat_lt a b ≡ false → b ≤ a
-from_lt_false a b is = grind (arith, nat_tests, is)
 
 le_false : (a b : ℕ) → b < a → nat_le a b ≡ false
 le_false a b less = grind (arith, nat_tests, less)
@@ -32,7 +23,7 @@ from_le_false a b is = grind (arith, nat_tests, is)
 -- a line after a cut is after the one that is left out there
 left_by : (suppress : Bool) (line cut : ℕ) → nat_lt line cut ≡ false → (suppress && nat_le line cut) ≡ false → line_after suppress cut ≤ line
 left_by true line cut is are = omega (arith, from_le_false line cut are)
-left_by false line cut is are = from_lt_false line cut is
+left_by false line cut is are = from_not_less line cut is
 
 not_left : (suppress : Bool) (line cut : ℕ) → line_after suppress cut ≤ line → (suppress && nat_le line cut) ≡ false
 not_left true line cut rest' = le_false line cut rest'
@@ -74,7 +65,7 @@ place_after suppress lines first steps last ending (is_below state operand opera
 place_after suppress lines first steps last ending (cuts state operand operands matched cut steps' last' ending' is at least within rest) total index line more how from =
     let on : line_after suppress cut ≤ last'.current = current_grows suppress lines (state_after suppress operand operands state.repetition matched cut) steps' last' ending' rest in
     let more_cut : cut ≤ line_after suppress cut = line_some suppress cut in
-    ap (λ b. cond b (in_section index) (cond (suppress && nat_le line cut) (left_out index) (place_from suppress total (index + 1) (steps' ++ more) how line))) (lt_false line cut (omega (arith, more_cut, on, from)))
+    ap (λ b. cond b (in_section index) (cond (suppress && nat_le line cut) (left_out index) (place_from suppress total (index + 1) (steps' ++ more) how line))) (not_less_test line cut (omega (arith, more_cut, on, from)))
     ∙ ap (λ b. cond b (left_out index) (place_from suppress total (index + 1) (steps' ++ more) how line)) (not_left suppress line cut (omega (arith, on, from)))
     ∙ place_after suppress lines (state_after suppress operand operands state.repetition matched cut) steps' last' ending' rest total (index + 1) line more how from
     ∙ ap (λ i. place_from suppress total i more how line) (let e : index + 1 + length steps' ≡ index + suc (length steps') = omega arith in e)
@@ -82,7 +73,7 @@ place_after suppress lines first steps last ending (cuts state operand operands 
 -- What is settled of the open section is in it whatever comes
 
 in_rest : (total index line : ℕ) (how : Ending) → line < whole_end total how → cond (nat_lt line (whole_end total how)) (in_section index) nowhere ≡ in_section index
-in_rest total index line how less = ap (λ b. cond b (in_section index) nowhere) (lt_true line (whole_end total how) less)
+in_rest total index line how less = ap (λ b. cond b (in_section index) nowhere) (less_test line (whole_end total how) less)
 
 settled_with : (suppress : Bool) (a b : List Line) (first : State) (operand : Operand) (operands : List Operand) (past : ℕ) → past ≤ suc (length a) → first.operands ≡ operand ∷ operands
     → ((matched cut : ℕ) → CutsAt suppress (a ++ b) first operand operand.target matched cut → past ≤ cut)
@@ -99,7 +90,7 @@ settled_with suppress a b first operand operands past within is cut_at more end 
 settled_with suppress a b first operand operands past within is cut_at more end how (cuts state operand' operands' matched cut steps' last' ending' are at least in_lines rest) index line from before =
     let same = front_of operand operand' operands operands' (sym is ∙ are) in
     let most : past ≤ cut = cut_at matched cut (subst (λ o. CutsAt suppress (a ++ b) state o o.target matched cut) (sym same) at) in
-    ap (λ has. cond has (in_section index) (cond (suppress && nat_le line cut) (left_out index) (place_from suppress (length (a ++ b)) (index + 1) steps' ending' line))) (lt_true line cut (omega (arith, most, before)))
+    ap (λ has. cond has (in_section index) (cond (suppress && nat_le line cut) (left_out index) (place_from suppress (length (a ++ b)) (index + 1) steps' ending' line))) (less_test line cut (omega (arith, most, before)))
 
 settled_used_up : (suppress : Bool) (a b : List Line) (first : State) → first.operands ≡ [] → (more : List Step) (end : State) (how : Ending) → Runs suppress (a ++ b) first more end how
     → (index line : ℕ) → line ≤ length a → place_from suppress (length (a ++ b)) index more how line ≡ in_section index
@@ -134,7 +125,7 @@ nowhere_by suppress lines first operand operands matched cut is at within low mo
     let one = cut_once suppress lines state operand operand.target matched cut matched' cut' at (subst (λ o. CutsAt suppress lines state o o.target matched' cut') same at') in
     absurd (omega (arith, one.1, within, far))
 nowhere_by suppress lines first operand operands matched cut is at within low more end how (is_below state operand' operands' matched' cut' are at' in_lines low') index line =
-    ap (λ b. cond b (in_section index) nowhere) (lt_false line 0 (omega arith))
+    ap (λ b. cond b (in_section index) nowhere) (not_less_test line 0 (omega arith))
 nowhere_by suppress lines first operand operands matched cut is at within low more end how (cuts state operand' operands' matched' cut' steps' last' ending' are at' least in_lines rest) index line =
     let same = front_of operand' operand operands' operands (sym are ∙ is) in
     let one = cut_once suppress lines state operand operand.target matched cut matched' cut' at (subst (λ o. CutsAt suppress lines state o o.target matched' cut') same at') in
@@ -202,7 +193,7 @@ in_later suppress total index other line (step ∷ steps) how less is =
 -- a line after the cut isn't in the section
 cut_before : (suppress : Bool) (total index line : ℕ) (step : Step) (steps : List Step) (how : Ending) → step.cut ≤ line → place_from suppress total index (step ∷ steps) how line ≡ in_section index → ⊥
 cut_before suppress total index line step steps how before is =
-    left_later (suppress && nat_le line step.cut) (sym (ap (λ has. cond has (in_section index) (cond (suppress && nat_le line step.cut) (left_out index) (place_from suppress total (index + 1) steps how line))) (lt_false line step.cut before)) ∙ is)
+    left_later (suppress && nat_le line step.cut) (sym (ap (λ has. cond has (in_section index) (cond (suppress && nat_le line step.cut) (left_out index) (place_from suppress total (index + 1) steps how line))) (not_less_test line step.cut before)) ∙ is)
   where
     left_later : (le : Bool) → cond le (left_out index) (place_from suppress total (index + 1) steps how line) ≡ in_section index → ⊥
     left_later true same = no_kind index (ap kind_of same)
@@ -215,7 +206,7 @@ turned_away suppress x state operand k line (too_low low rest) from = (
   state,
   below operand state.repetition,
   rest,
-  λ index is. no_kind index (ap kind_of (sym (ap (λ has. cond has (in_section index) nowhere) (lt_false line 0 (omega arith))) ∙ is)),
+  λ index is. no_kind index (ap kind_of (sym (ap (λ has. cond has (in_section index) nowhere) (not_less_test line 0 (omega arith))) ∙ is)),
 )
 turned_away suppress x state operand k line (turns least steps end how rest) from = (
   step_of state operand (suc (length x)) (suc (length x) - k) ∷ steps,

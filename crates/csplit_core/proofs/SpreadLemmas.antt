@@ -56,10 +56,10 @@ spread_once told cutter next cut place waiting line left old new at_cut = record
 
 -- the next operand cuts as well
 
-settled_same : (cutter next : CutterState) (x : List ℕ) → IsSame cutter next → settled_part next x ≡ settled_part cutter x
+pub settled_same : (cutter next : CutterState) (x : List ℕ) → IsSame cutter next → settled_part next x ≡ settled_part cutter x
 settled_same cutter next x same = ap (λ (s : Style). Rattle.csplit_core.specs.Csplit.settled_of s next.operands (all_lines x)) same.style ∙ ap (λ operands. Rattle.csplit_core.specs.Csplit.settled_of cutter.writer.style operands (all_lines x)) same.operands
 
-same_again : (one two three : CutterState) → IsSame one two → IsSame two three → IsSame one three
+pub same_again : (one two three : CutterState) → IsSame one two → IsSame two three → IsSame one three
 same_again one two three first second = record { operands = second.operands ∙ first.operands; style = second.style ∙ first.style }
 
 cuts_again : (told : Bool) (cutter now : CutterState) (aim : Turn) (cut : Cut) (x line left : List ℕ) (low : Part) (old new : List Slot) (after : IsAfter told cutter x line now left low old new) → Tries now line (record now { aim = aim }) (Some cut) → WillCut now cut

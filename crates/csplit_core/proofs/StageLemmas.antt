@@ -8,7 +8,7 @@ use Rattle.ports_core.specs.Slot.{Slot}
 use Rattle.ports_core.specs.declared.fault.Fault.{Fault}
 use Rattle.ports_core.specs.declared.fault.Fault.TheVariants.{Memory}
 use Rattle.ports_core.proofs.SlotSteps.{keeps_again}
-use Rattle.csplit_core.specs.Csplit.{settled_of, whole_of, verdict_of}
+use Rattle.csplit_core.specs.Csplit.{whole_of, verdict_of}
 use Rattle.csplit_core.specs.Draft.{draft_part, AreClosed}
 use Rattle.csplit_core.specs.Input.{newline, all_lines}
 use Rattle.csplit_core.specs.Operand.{Operand, Line}
@@ -18,30 +18,27 @@ use Rattle.csplit_core.specs.Planned.{Plan, plan}
 use Rattle.csplit_core.specs.laws.PlanLaws.{plan_runs}
 use Rattle.csplit_core.specs.Section.{section, section_of, lines_between, is_last_kept, whole_end, is_final, whole_sections}
 use Rattle.csplit_core.specs.inner.SectionLaws.{AreWithin}
-use Rattle.csplit_core.specs.laws.SectionLaws.{are_within, closed_still, grows, ends_with}
+use Rattle.csplit_core.specs.laws.SectionLaws.{are_within, closed_still, ends_with}
 use Rattle.csplit_core.specs.Writer.{IsReady}
 use Rattle.csplit_core.specs.inner.Writer.{Moves, Halts}
 use Rattle.csplit_core.specs.declared.progress.Turn.TheVariants.{Below}
-use Rattle.csplit_core.specs.Cutter.{CutterState, IsPast, IsSound, Stands, kept_by, load, settled_draft, suppress_in, draft_by}
+use Rattle.csplit_core.specs.Cutter.{CutterState, IsPast, IsSound, Stands, kept_by, settled_draft, suppress_in, draft_by}
 use Rattle.csplit_core.specs.inner.Cutter.{EndedAll, EndedNone, IsSame, IsWhole, Took, TookNot, settled_part, whole_part}
 use Rattle.csplit_core.specs.CsplitState.{CsplitState}
 use Rattle.csplit_core.specs.inner.CsplitState.{Closed, ClosedNot}
 use Rattle.csplit_core.proofs.HoldLemmas.{memory_halts}
-use Rattle.csplit_core.proofs.LineLemmas.{all_lines-append, whole-append}
+use Rattle.csplit_core.proofs.LineLemmas.{all_lines-append}
 use Rattle.csplit_core.proofs.SettledLemmas.{settled_draft_is, settled_part_is, final_count, ended_still, aims_past}
-use Rattle.csplit_core.proofs.StayLemmas.{StaysFor, stays}
+use Rattle.csplit_core.proofs.StayLemmas.{stays}
 use Rattle.csplit_core.proofs.WriterLemmas.{moves_again, moves_same, moves_as, halts_after, halts_as, halts_wider, breaks_later, owns_again}
+use Rattle.csplit_core.proofs.SpreadLemmas.{settled_same, same_again}
+use Rattle.csplit_core.proofs.TakeLemmas.{final_stays, still_past}
+use Rattle.csplit_core.proofs.StretchLemmas.{more_settled}
 
 -- once lines go nowhere, more of them change nothing
 
-stays_final : (lines : List Line) (total : ℕ) (ending : Ending) → is_final ending ≡ true → StaysFor lines total ending
-stays_final lines total used_up final = absurd (false≢true final)
-stays_final lines total (missed operand repetition) final = absurd (false≢true final)
-stays_final lines total (above operand repetition matched cut) final = absurd (false≢true final)
-stays_final lines total (below operand repetition) final = tt
-
 past_plan : (suppress : Bool) (operands : List Operand) (x t : List ℕ) → IsWhole x → is_final (plan suppress operands (all_lines x)).ending ≡ true → plan suppress operands (all_lines (x ++ t)) ≡ plan suppress operands (all_lines x)
-past_plan suppress operands x t whole final = ap (plan suppress operands) (all_lines-append x t whole) ∙ stays suppress operands (all_lines x) (all_lines t) (stays_final (all_lines t) (length (all_lines x ++ all_lines t)) (plan suppress operands (all_lines x)).ending final)
+past_plan suppress operands x t whole final = ap (plan suppress operands) (all_lines-append x t whole) ∙ stays suppress operands (all_lines x) (all_lines t) (final_stays (all_lines t) (length (all_lines x ++ all_lines t)) (plan suppress operands (all_lines x)).ending final)
 
 final_draft : (suppress : Bool) (operands : List Operand) (x : List ℕ) → is_final (plan suppress operands (all_lines x)).ending ≡ true
     → draft_by (all_lines x) (plan suppress operands (all_lines x)).steps (kept_by (plan suppress operands (all_lines x)).last.operands) [] ≡ settled_draft suppress operands (all_lines x)
@@ -63,16 +60,6 @@ past_part cutter x t whole past =
     ∙ ap (draft_part cutter.writer.style) (past_draft cutter.writer.style cutter.operands x t whole past.past)
     ∙ settled_part_is cutter.writer.style cutter.operands (all_lines (x ++ t))
 
-past_stays : (cutter : CutterState) (x t : List ℕ) → IsWhole x → IsPast cutter x → IsPast cutter (x ++ t)
-past_stays cutter x t whole past =
-    let same = past_plan (suppress_in cutter) cutter.operands x t whole past.past in record {
-      aim = past.aim;
-      past = ap (λ (p : Plan). is_final p.ending) same ∙ past.past;
-      last = past.last ∙ sym (ap (λ (p : Plan). p.last) same);
-      none = past.none;
-      writes = subst (Rattle.csplit_core.specs.Writer.Writes cutter.writer) (past_draft cutter.writer.style cutter.operands x t whole past.past) past.writes;
-    }
-
 pub is_past : (cutter : CutterState) (x : List ℕ) → cutter.aim ≡ Below → Stands cutter x → IsPast cutter x
 is_past cutter x aim (inl live) = absurd (false≢true (sym live.live ∙ aims_past live.ends.ending (subst (λ turn. Rattle.csplit_core.specs.Progress.AimsAt turn live.ends.ending) aim live.ends.aims)))
 is_past cutter x aim (inr past) = past
@@ -80,7 +67,7 @@ is_past cutter x aim (inr past) = past
 pub took_past : (told : Bool) (cutter : CutterState) (t : List ℕ) (slots : List Slot) → cutter.aim ≡ Below → IsReady cutter.writer slots → IsSound cutter → Took told cutter t slots slots cutter
 took_past told cutter t slots aim ready sound = record {
   same = record { operands = refl; style = refl };
-  stands = λ x whole stands. inr (past_stays cutter x t whole (is_past cutter x aim stands));
+  stands = λ x whole stands. inr (still_past cutter x t whole (is_past cutter x aim stands));
   moves = λ x whole stands. moves_same told _ _ slots (past_part cutter x t whole (is_past cutter x aim stands));
   keeps = λ place sound. sound;
   owns = λ first owns. owns;
@@ -91,7 +78,7 @@ took_past told cutter t slots aim ready sound = record {
 
 -- the same lines, once more than where they go nowhere
 pub past_whole : (cutter : CutterState) (x t : List ℕ) → IsWhole x → cutter.aim ≡ Below → Stands cutter x → Stands cutter (x ++ t)
-past_whole cutter x t whole aim stands = inr (past_stays cutter x t whole (is_past cutter x aim stands))
+past_whole cutter x t whole aim stands = inr (still_past cutter x t whole (is_past cutter x aim stands))
 
 pub past_settled : (cutter : CutterState) (x t : List ℕ) → IsWhole x → cutter.aim ≡ Below → Stands cutter x → settled_part cutter x ≡ settled_part cutter (x ++ t)
 past_settled cutter x t whole aim stands = past_part cutter x t whole (is_past cutter x aim stands)
@@ -112,49 +99,7 @@ took_none told cutter slots ready sound = record {
 
 -- what is settled grows
 
-pub settled_begins : (cutter : CutterState) (x t : List ℕ) → IsWhole x → Begins (settled_part cutter x) (settled_part cutter (x ++ t))
-settled_begins cutter x t whole = subst (λ lines. Begins (settled_part cutter x) (settled_of cutter.writer.style cutter.operands lines)) (sym (all_lines-append x t whole)) (grows cutter.writer.style cutter.operands (all_lines x) (all_lines t))
-
-same_part : (cutter next : CutterState) (x : List ℕ) → IsSame cutter next → settled_part next x ≡ settled_part cutter x
-same_part cutter next x same = ap (λ (style : Style). settled_of style next.operands (all_lines x)) same.style ∙ ap (λ operands. settled_of cutter.writer.style operands (all_lines x)) same.operands
-
-both_same : (one two three : CutterState) → IsSame one two → IsSame two three → IsSame one three
-both_same one two three first second = record { operands = second.operands ∙ first.operands; style = second.style ∙ first.style }
-
 -- One text after another
-
-pub took_more : (told : Bool) (one two three : CutterState) (a b : List ℕ) (old mid new : List Slot) → IsWhole a → Took told one a old mid two → Took told two b mid new three → Took told one (a ++ b) old new three
-took_more told one two three a b old mid new whole first second = record {
-  same = both_same one two three first.same second.same;
-  stands = λ x front stands. subst (Stands three) (append_assoc x a b) (second.stands (x ++ a) (whole-append x a front whole) (first.stands x front stands));
-  moves = λ x front stands. moves_again told _ _ _ old mid new (first.moves x front stands)
-      (moves_as told _ _ _ _ mid new (sym (same_part one two (x ++ a) first.same)) (ap (settled_part one) (sym (append_assoc x a b)) ∙ sym (same_part one two ((x ++ a) ++ b) first.same))
-      (second.moves (x ++ a) (whole-append x a front whole) (first.stands x front stands)));
-  keeps = keeps_again old mid new first.keeps second.keeps;
-  owns = owns_again one.writer two.writer three.writer old mid new first.owns second.owns;
-  ready = second.ready;
-  sound = second.sound;
-  size = (let all : length (a ++ b) ≡ length a + length b = length-append a b in let fewer : load two ≤ load one + length a = first.size in let also : load three ≤ load two + length b = second.size in omega (arith, all, fewer, also));
-}
-
-pub stopped_later : (told : Bool) (one two three : CutterState) (a b : List ℕ) (old mid new : List Slot) (fault : Fault) → IsWhole a → Took told one a old mid two → TookNot told two b mid new three fault → TookNot told one (a ++ b) old new three fault
-stopped_later told one two three a b old mid new fault whole first second = record {
-  same = both_same one two three first.same second.same;
-  halts = λ x front stands. halts_after told _ _ _ old mid new fault (subst (λ those. Begins (settled_part one x) those) refl (settled_begins one x a front)) (first.moves x front stands)
-      (halts_as told _ _ _ _ mid new fault (sym (same_part one two (x ++ a) first.same)) (ap (settled_part one) (sym (append_assoc x a b)) ∙ sym (same_part one two ((x ++ a) ++ b) first.same))
-      (second.halts (x ++ a) (whole-append x a front whole) (first.stands x front stands)));
-  breaks = breaks_later one.writer.style old mid new fault first.keeps (subst (λ (style : Style). Rattle.csplit_core.specs.Writer.Breaks style mid new fault) first.same.style second.breaks);
-  owns = owns_again one.writer two.writer three.writer old mid new first.owns second.owns;
-}
-
-pub stopped_before : (told : Bool) (one two : CutterState) (a b : List ℕ) (old new : List Slot) (fault : Fault) → IsWhole a → TookNot told one a old new two fault → TookNot told one (a ++ b) old new two fault
-stopped_before told one two a b old new fault whole first = record {
-  same = first.same;
-  halts = λ x front stands. halts_wider told _ _ _ old new fault (first.halts x front stands)
-      (subst (λ those. Begins (settled_part one (x ++ a)) (settled_part one those)) (append_assoc x a b) (settled_begins one (x ++ a) b (whole-append x a front whole)));
-  breaks = first.breaks;
-  owns = first.owns;
-}
 
 -- Want of memory
 
@@ -171,7 +116,7 @@ settled_lacks told cutter x slots =
 pub lacks_first : (told : Bool) (cutter : CutterState) (t : List ℕ) (slots : List Slot) → TookNot told cutter t slots slots cutter Memory
 lacks_first told cutter t slots = record {
   same = record { operands = refl; style = refl };
-  halts = λ x whole stands. halts_wider told _ _ _ slots slots Memory (settled_lacks told cutter x slots) (settled_begins cutter x t whole);
+  halts = λ x whole stands. halts_wider told _ _ _ slots slots Memory (settled_lacks told cutter x slots) (more_settled cutter x t whole);
   breaks = tt;
   owns = λ first owns. owns;
 }
@@ -179,7 +124,7 @@ lacks_first told cutter t slots = record {
 pub lacks_then : (told : Bool) (cutter next : CutterState) (t : List ℕ) (old new : List Slot) → Took told cutter t old new next → TookNot told cutter t old new next Memory
 lacks_then told cutter next t old new took = record {
   same = took.same;
-  halts = λ x whole stands. halts_after told _ _ _ old new new Memory (settled_begins cutter x t whole) (took.moves x whole stands) (settled_lacks told cutter (x ++ t) new);
+  halts = λ x whole stands. halts_after told _ _ _ old new new Memory (more_settled cutter x t whole) (took.moves x whole stands) (settled_lacks told cutter (x ++ t) new);
   breaks = tt;
   owns = took.owns;
 }
@@ -196,17 +141,17 @@ pub closes_after : (told : Bool) (one two three : CutterState) (t : List ℕ) (o
     → ((x : List ℕ) → IsWhole x → Stands one x → Moves told (settled_part one x) (whole_part one (x ++ t)) old new)
 closes_after told one two three t old mid new first second x front stands =
     moves_again told _ _ _ old mid new (first.moves x front stands)
-    (moves_as told _ _ _ _ mid new (sym (same_part one two (x ++ t) first.same)) (sym (same_whole one two (x ++ t) first.same)) (second.moves (x ++ t) (first.stands x front stands)))
+    (moves_as told _ _ _ _ mid new (sym (settled_same one two (x ++ t) first.same)) (sym (same_whole one two (x ++ t) first.same)) (second.moves (x ++ t) (first.stands x front stands)))
 
 pub ends_later : (told : Bool) (one two three : CutterState) (t : List ℕ) (old mid new : List Slot) (fault : Fault) → Took told one t old mid two → EndedNone told two mid new three fault
     → ((x : List ℕ) → IsWhole x → Stands one x → Halts told (settled_part one x) (whole_part one (x ++ t)) old new fault)
 ends_later told one two three t old mid new fault first second x front stands =
-    halts_after told _ _ _ old mid new fault (settled_begins one x t front) (first.moves x front stands)
-    (halts_as told _ _ _ _ mid new fault (sym (same_part one two (x ++ t) first.same)) (sym (same_whole one two (x ++ t) first.same)) (second.halts (x ++ t) (first.stands x front stands)))
+    halts_after told _ _ _ old mid new fault (more_settled one x t front) (first.moves x front stands)
+    (halts_as told _ _ _ _ mid new fault (sym (settled_same one two (x ++ t) first.same)) (sym (same_whole one two (x ++ t) first.same)) (second.halts (x ++ t) (first.stands x front stands)))
 
 pub closed_by : (told : Bool) (stage next : CsplitState) (two : CutterState) (old mid new : List Slot) → Took told stage.cutter stage.rest old mid two → EndedAll told two mid new next.cutter → Closed told stage old new next
 closed_by told stage next two old mid new first second = record {
-  same = both_same stage.cutter two next.cutter first.same second.same;
+  same = same_again stage.cutter two next.cutter first.same second.same;
   moves = closes_after told stage.cutter two next.cutter stage.rest old mid new first second;
   judged = λ x front stands. second.judged (x ++ stage.rest) (first.stands x front stands);
   keeps = keeps_again old mid new first.keeps second.keeps;
@@ -216,7 +161,7 @@ closed_by told stage next two old mid new first second = record {
 
 pub closed_not : (told : Bool) (stage next : CsplitState) (two : CutterState) (old mid new : List Slot) (fault : Fault) → Took told stage.cutter stage.rest old mid two → EndedNone told two mid new next.cutter fault → ClosedNot told stage old new next fault
 closed_not told stage next two old mid new fault first second = record {
-  same = both_same stage.cutter two next.cutter first.same second.same;
+  same = same_again stage.cutter two next.cutter first.same second.same;
   halts = ends_later told stage.cutter two next.cutter stage.rest old mid new fault first second;
   breaks = breaks_later stage.cutter.writer.style old mid new fault first.keeps (subst (λ (style : Style). Rattle.csplit_core.specs.Writer.Breaks style mid new fault) first.same.style second.breaks);
   owns = owns_again stage.cutter.writer two.writer next.cutter.writer old mid new first.owns second.owns;

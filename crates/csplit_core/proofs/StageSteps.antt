@@ -1,12 +1,11 @@
 -- The steps of the stage that takes in bytes. A stage is known by its fields and by its value.
-use Rattle.std.proofs.Common.{◌≡◌, ◌⊎◌, inl, inr, ℕ, suc, eqb, ◌+◌, ◌-◌, ◌<◌, ◌≤◌, Bool, true, false, List, [], ◌∷◌, ◌++◌, length, Result, Ok, Err, OnOk, IfErr, take, drop, append_assoc, length-drop, refl, sym, ◌∙◌, ap, subst, arith, length-append}
+use Rattle.std.proofs.Common.{◌≡◌, ◌⊎◌, inl, inr, ℕ, suc, eqb, ◌+◌, ◌<◌, ◌≤◌, Bool, true, false, List, [], ◌∷◌, ◌++◌, length, Result, Ok, Err, OnOk, IfErr, take, drop, append_assoc, refl, sym, ◌∙◌, ap, subst, arith, length-append}
 use Rattle.std.proofs.lemmas.Bool.{false≢true, eqb-true}
 use Rattle.std.proofs.lemmas.List.{take-append-drop}
 use Rattle.seg_core.specs.Line.{delimiters, ends_with, LastEndsAt}
 use Rattle.ports_core.specs.Slot.{Slot}
 use Rattle.ports_core.specs.declared.fault.Fault.{Fault}
 use Rattle.ports_core.specs.declared.fault.Fault.TheVariants.{Memory}
-use Rattle.ports_core.proofs.PartLemmas.{take_all}
 use Rattle.csplit_core.specs.Input.{newline}
 use Rattle.csplit_core.specs.Cutter.{CutterState, IsSound, load}
 use Rattle.csplit_core.specs.inner.Cutter.{EndsAll, IsLine, IsWhole, Took, TookNot, Takes}
@@ -16,7 +15,8 @@ use Rattle.csplit_core.specs.Writer.{IsReady}
 use Rattle.csplit_core.specs.declared.progress.Turn.{Turn}
 use Rattle.csplit_core.specs.declared.progress.Turn.TheVariants.{UsedUp, Missed, Above, Below, Cuts}
 use Rattle.csplit_core.proofs.ByteLemmas.{joined_line, open_is_line, open_complete, first_complete, none_lines, none_open, no_newline, piece_lines, piece_open}
-use Rattle.csplit_core.proofs.StageLemmas.{closed_by, closed_not, lacks_first, lacks_then, took_more, took_none, took_past, stopped_before, stopped_later}
+use Rattle.csplit_core.proofs.StageLemmas.{closed_by, closed_not, lacks_first, lacks_then, took_none, took_past}
+use Rattle.csplit_core.proofs.StretchLemmas.{took_again, took_then_not, not_wider}
 
 -- the open line and its end
 
@@ -35,11 +35,11 @@ pub lines_stop : (told : Bool) (one two : CutterState) (rest lines end others : 
     → TookNot told one (rest ++ end) old new two fault → TookNot told one (rest ++ lines) old new two fault
 lines_stop told one two rest lines end others old new fault is last whole stopped =
     subst (λ text. TookNot told one text old new two fault) (rest_of_lines rest lines end others is)
-    (stopped_before told one two (rest ++ end) others old new fault (open_complete rest end (first_complete lines end others last is whole)) stopped)
+    (not_wider told one two (rest ++ end) others old new fault (open_complete rest end (first_complete lines end others last is whole)) stopped)
 
 lines_by : (told : Bool) (one two three : CutterState) (a b : List ℕ) (old mid new : List Slot) (result : Result (Unit {0}) Fault) → IsWhole a → Took told one a old mid two → Takes told two b mid new three result → Takes told one (a ++ b) old new three result
-lines_by told one two three a b old mid new (Ok done) whole first second = took_more told one two three a b old mid new whole first second
-lines_by told one two three a b old mid new (Err fault) whole first second = stopped_later told one two three a b old mid new fault whole first second
+lines_by told one two three a b old mid new (Ok done) whole first second = took_again told one two three a b old mid new whole first second
+lines_by told one two three a b old mid new (Err fault) whole first second = took_then_not told one two three a b old mid new fault whole first second
 
 pub lines_after : (told : Bool) (one three : CutterState) (before mid : CsplitState) (rest lines end others : List ℕ) (old between new : List Slot) (result : Result (Unit {0}) Fault) → before ≡ mid → lines ≡ end ++ others → (ends_with newline end ≡ false → others ≡ []) → ends_with newline lines ≡ true
     → Took told one (rest ++ end) old between mid.cutter → Takes told before.cutter others between new three result → Takes told one (rest ++ lines) old new three result
@@ -99,9 +99,6 @@ none_passes told stage next piece slots (Err fault) differs none ready sound unb
     (subst (λ why. TookNot told stage.cutter (whole_lines (stage.rest ++ piece)) slots slots stage.cutter why) (sym lacks) (lacks_first told stage.cutter (whole_lines (stage.rest ++ piece)) slots))
 
 -- the lines of the piece were taken in, and what follows them is the open line
-
-pub all_after : (n : ℕ) (x : List ℕ) → take (length x - n) (drop n x) ≡ drop n x
-all_after n x = ap (λ k. take k (drop n x)) (sym (length-drop n x)) ∙ take_all (drop n x)
 
 drop_size : (n : ℕ) (x : List ℕ) → n ≤ length x → length (take n x) + length (drop n x) ≡ length x
 drop_size n x within = sym (length-append (take n x) (drop n x)) ∙ ap length (take-append-drop n x)

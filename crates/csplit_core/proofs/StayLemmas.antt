@@ -1,6 +1,6 @@
 -- What stays of a plan when more lines come, and which lines have to be looked at.
 use Rattle.std.proofs.Common.{◌≡◌, inl, inr, ℕ, suc, ◌+◌, ◌-◌, ◌<◌, ◌≤◌, max, eqb, ◌&&◌, Bool, true, false, cond, List, [], ◌++◌, length, get_or, refl, ◌∙◌, ap, arith, length-append}
-use Rattle.std.proofs.lemmas.Bool.{false≢true, cases_lt, cases_eq}
+use Rattle.std.proofs.lemmas.Bool.{cases_lt, cases_eq}
 use Rattle.std.proofs.lemmas.Bool.Decides.{nat_tests}
 use Rattle.std.proofs.lemmas.List.{append-nil}
 use Rattle.std.proofs.Math.Nat.{max-le, le-max_left, le-max_right}
@@ -10,6 +10,7 @@ use Rattle.csplit_core.specs.Plan.{State, start, Step, Ending, used_up, missed, 
 use Rattle.csplit_core.specs.Planned.{plan}
 use Rattle.csplit_core.specs.laws.MatchLaws.{search_some, match_still}
 use Rattle.csplit_core.specs.laws.PlanLaws.{cuts_still, goes_on, plan_runs, plan_once}
+use Rattle.std.proofs.lemmas.Bool.{and_parts}
 
 -- the plan goes on, from where it stands
 pub plan_more : (suppress : Bool) (operands : List Operand) (a b : List Line) (more : List Step) (end : State) (how : Ending) → Runs suppress (a ++ b) (plan suppress operands a).last more end how
@@ -50,14 +51,9 @@ at_one current matched is none = ap (λ c. from_of c matched) is ∙ ap (λ f. c
 same_from : (a b : ℕ) → eqb a b ≡ true → a ≡ b
 same_from a b is = grind (arith, nat_tests, is)
 
-both_of : (a b : Bool) → (a && b) ≡ true → (a ≡ true) × (b ≡ true)
-both_of true true is = (refl, refl)
-both_of true false is = absurd (false≢true is)
-both_of false b is = absurd (false≢true is)
-
 first_by : (current matched cut matched' : ℕ) → 1 ≤ current → current ≤ cut → matched ≤ matched' → (then : Bool) → (eqb cut 1 && eqb matched' 0) ≡ then → from_of current matched ≤ cond then 1 (suc (max cut matched'))
 first_by current matched cut matched' some least more true is =
-    let two = both_of (eqb cut 1) (eqb matched' 0) is in
+    let two = and_parts (eqb cut 1) (eqb matched' 0) is in
     let cut_is : cut ≡ 1 = same_from cut 1 two.0 in
     let none : matched' ≡ 0 = same_from matched' 0 two.1 in
     let e : from_of current matched ≡ 1 = at_one current matched (omega (arith, some, least, cut_is)) (omega (arith, more, none)) in omega (arith, e)

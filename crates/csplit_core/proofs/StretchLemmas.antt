@@ -1,10 +1,9 @@
 -- Taking a text of complete lines in, stretch by stretch.
-use Rattle.std.proofs.Common.{◌≡◌, ◌⊎◌, inl, inr, ℕ, ◌+◌, ◌-◌, ◌<◌, ◌≤◌, eqb, Bool, true, false, List, [], ◌∷◌, ◌++◌, length, take, drop, refl, sym, ◌∙◌, ap, subst, arith, append_assoc, length-append}
+use Rattle.std.proofs.Common.{◌≡◌, ◌⊎◌, inl, inr, ℕ, ◌+◌, ◌-◌, ◌<◌, ◌≤◌, Bool, true, false, List, [], ◌∷◌, ◌++◌, length, take, drop, refl, sym, ◌∙◌, ap, subst, arith, append_assoc, length-append}
 use Rattle.std.proofs.lemmas.Bool.{cases_lt}
-use Rattle.std.proofs.lemmas.List.{append-nil, take-append-drop, drop_all, length-drop}
+use Rattle.std.proofs.lemmas.List.{append-nil, take-append-drop, drop_all, drop_at, drop-drop, length-drop}
 use Rattle.std.proofs.Math.Seq.{take-add}
-use Rattle.seg_core.specs.Line.{lines_of, line_count, first_lines, joined, ends_with}
-use Rattle.seg_core.proofs.FirstLines.{lines_of-first_lines}
+use Rattle.seg_core.specs.Line.{lines_of, line_count, ends_with}
 use Rattle.seg_core.proofs.LineCounts.{ends_with-append}
 use Rattle.ports_core.specs.Part.{Begins}
 use Rattle.ports_core.specs.Slot.{Slot}
@@ -16,15 +15,14 @@ use Rattle.csplit_core.specs.laws.SectionLaws.{grows}
 use Rattle.csplit_core.specs.declared.progress.Turn.TheVariants.{Below}
 use Rattle.csplit_core.specs.Writer.{IsReady}
 use Rattle.csplit_core.specs.Cutter.{CutterState, load, IsFit, IsSound, IsLive, EndsNow}
-use Rattle.csplit_core.specs.inner.Cutter.{settled_part, IsSame, IsWhole, IsLine, Held, HeldNot, PassesOver, Took, TookNot}
+use Rattle.csplit_core.specs.inner.Cutter.{settled_part, IsWhole, IsLine, Held, HeldNot, PassesOver, Took, TookNot}
 use Rattle.csplit_core.proofs.LineLemmas.{all_lines-append, whole-append}
 use Rattle.csplit_core.proofs.TakeLemmas.{took_held, took_not_held}
 use Rattle.csplit_core.proofs.WriterLemmas.{moves_again, moves_as, moves_same, halts_after, halts_wider, halts_as, breaks_later, owns_again}
+use Rattle.csplit_core.proofs.ByteLemmas.{first_line}
+use Rattle.csplit_core.proofs.SpreadLemmas.{settled_same}
 
-settled_same : (cutter next : CutterState) (x : List ℕ) → IsSame cutter next → settled_part next x ≡ settled_part cutter x
-settled_same cutter next x same = ap (λ (s : Style). Rattle.csplit_core.specs.Csplit.settled_of s next.operands (all_lines x)) same.style ∙ ap (λ operands. Rattle.csplit_core.specs.Csplit.settled_of cutter.writer.style operands (all_lines x)) same.operands
-
-more_settled : (cutter : CutterState) (x t : List ℕ) → IsWhole x → Begins (settled_part cutter x) (settled_part cutter (x ++ t))
+pub more_settled : (cutter : CutterState) (x t : List ℕ) → IsWhole x → Begins (settled_part cutter x) (settled_part cutter (x ++ t))
 more_settled cutter x t whole = subst (λ lines. Begins (settled_part cutter x) (Rattle.csplit_core.specs.Csplit.settled_of cutter.writer.style cutter.operands lines)) (sym (all_lines-append x t whole)) (grows cutter.writer.style cutter.operands (all_lines x) (all_lines t))
 
 -- one text after another
@@ -74,11 +72,6 @@ whole_drop n text (inr ends) = elim (cases_lt n (length text)) [
   | inr past ↦ inl (drop_all n text past)
 ]
 
-pub one_line : (text line rest : List ℕ) → lines_of newline text ≡ line ∷ lines_of newline rest → IsLine line
-one_line text line rest is =
-    let first : first_lines newline 1 text ≡ line = ap (λ those. joined (take 1 those)) is ∙ append-nil line in
-    ap (lines_of newline) (sym first) ∙ lines_of-first_lines newline 1 text ∙ ap (take 1) is
-
 -- a line after the first bytes
 pub take_more : (text line rest : List ℕ) (n : ℕ) → n ≤ length text → drop n text ≡ line ++ rest → take (n + length line) text ≡ take n text ++ line
 take_more text line rest n within is = take-add n (length line) text ∙ ap (λ those. take n text ++ take (length line) those) is ∙ ap (λ those. take n text ++ those) (Rattle.std.proofs.lemmas.List.take_at line rest (length line) refl)
@@ -106,7 +99,7 @@ pub rest_some : (n : ℕ) (text : List ℕ) → n < length text → 0 < length (
 rest_some n text within = let e : length (drop n text) ≡ length text - n = length-drop n text in omega (arith, e, within)
 
 pub stretch_line : (n : ℕ) (text line rest : List ℕ) → n < length text → (0 < length (drop n text) → lines_of newline (drop n text) ≡ line ∷ lines_of newline rest) → IsLine line
-stretch_line n text line rest within first = one_line (drop n text) line rest (first (rest_some n text within))
+stretch_line n text line rest within first = first_line (drop n text) line rest (first (rest_some n text within))
 
 joined_within : (n : ℕ) (text line rest : List ℕ) → n ≤ length text → drop n text ≡ line ++ rest → n + length line ≤ length text
 joined_within n text line rest within is =
@@ -176,7 +169,7 @@ took_nothing told cutter slots sound ready = record {
 pub takes_all : (told : Bool) (cutter : CutterState) (text : List ℕ) (slots : List Slot) → IsWhole text → IsSound cutter → IsReady cutter.writer slots → Taking told cutter cutter text text slots slots
 takes_all told cutter text slots whole sound ready = record { front = []; whole = refl; complete = inl refl; rest = whole; took = took_nothing told cutter slots sound ready }
 
-rest_all : (n : ℕ) (left : List ℕ) → take (length left - n) (drop n left) ≡ drop n left
+pub rest_all : (n : ℕ) (left : List ℕ) → take (length left - n) (drop n left) ≡ drop n left
 rest_all n left = Rattle.std.proofs.lemmas.List.take_all (length left - n) (drop n left) (let e : length (drop n left) ≡ length left - n = length-drop n left in omega (arith, e))
 
 pub takes_more : (told : Bool) (cutter now next : CutterState) (text left : List ℕ) (n : ℕ) (old mid new : List Slot) → Taking told cutter now text left old mid → (0 < n) × (n ≤ length left) × IsWhole (take n left) × Took told now (take n left) mid new next
@@ -203,6 +196,3 @@ takes_fit told cutter now text left old new most so_far fits =
 
 pub takes_fewer : (n : ℕ) (left : List ℕ) → 0 < n → n ≤ length left → length (take (length left - n) (drop n left)) < length left
 takes_fewer n left some within = let e : length (take (length left - n) (drop n left)) ≡ length left - n = ap length (rest_all n left) ∙ length-drop n left in omega (arith, e, some, within)
-
-pub none_left : (left : List ℕ) (empty : Bool) → empty ≡ eqb (length left) 0 → empty ≡ true → left ≡ []
-none_left left empty is true_is = Rattle.csplit_core.proofs.CutLineLemmas.none_there left empty is true_is

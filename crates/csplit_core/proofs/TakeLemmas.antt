@@ -269,7 +269,7 @@ take_some told cutter mid next line cut old new (Err fault) fit differs one is w
 pub past_not_live : (cutter : CutterState) (x : List ℕ) → cutter.aim ≡ Below → IsLive cutter x → ⊥
 past_not_live cutter x aim live = false≢true (sym live.live ∙ aims_past live.ends.ending (subst (λ a. AimsAt a live.ends.ending) aim live.ends.aims))
 
-final_stays : (b : List Line) (total : ℕ) (ending : Ending) → is_final ending ≡ true → StaysFor b total ending
+pub final_stays : (b : List Line) (total : ℕ) (ending : Ending) → is_final ending ≡ true → StaysFor b total ending
 final_stays b total used_up past = absurd (false≢true past)
 final_stays b total (missed operand repetition) past = absurd (false≢true past)
 final_stays b total (above operand repetition matched cut) past = absurd (false≢true past)
@@ -299,7 +299,7 @@ past_draft_still cutter x t whole past =
     ∙ ap (λ ended. record { ended = map contents_of ended; is_kept = is_last_kept p.ending; bytes = bytes_of (lines_between p.last.current (settled_end (length (all_lines x)) p.ending) (all_lines x)) })
     (ap (λ lines. map (section_of lines) p.steps) (all_lines-append x t whole) ∙ closed_still (all_lines x) (all_lines t) p.steps within)
 
-still_past : (cutter : CutterState) (x t : List ℕ) → IsWhole x → IsPast cutter x → IsPast cutter (x ++ t)
+pub still_past : (cutter : CutterState) (x t : List ℕ) → IsWhole x → IsPast cutter x → IsPast cutter (x ++ t)
 still_past cutter x t whole past =
     let is = plan_past cutter x t whole past in record {
       aim = past.aim;

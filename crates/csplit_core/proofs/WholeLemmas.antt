@@ -49,7 +49,7 @@ none_lost operands x live =
     ∙ all_with false operands x (lines_between plan'.last.current (settled_end (length x) plan'.ending) x) (drop (settled_end (length x) plan'.ending - plan'.last.current) (drop (plan'.last.current - 1) x))
     (take-append-drop (settled_end (length x) plan'.ending - plan'.last.current) (drop (plan'.last.current - 1) x))
 
-ends_after_all : (total : ℕ) (ending : Ending) → is_final ending ≡ false → whole_end total ending ≡ suc total
+pub ends_after_all : (total : ℕ) (ending : Ending) → is_final ending ≡ false → whole_end total ending ≡ suc total
 ends_after_all total used_up live = refl
 ends_after_all total (missed operand repetition) live = refl
 ends_after_all total (above operand repetition matched cut) live = refl

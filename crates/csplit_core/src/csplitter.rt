@@ -101,13 +101,6 @@ impl<'o> Csplitter<'o> {
         })
     }
 
-    /// How many bytes wait: those of the lines that do, and the open line.
-    fn held(&self) -> u64
-        ensures { result ≡ min (length self.now.cutter.window.held + length self.now.rest) (2 ^ 64 - 1) }
-    {
-        self.cutter.held().saturating_add(self.rest.len() as u64)
-    }
-
     /// Takes in a piece: its lines, of which the first may complete the open line, and what follows them.
     fn take_piece<O: Outs>(&mut self, piece: &[u8], outs: &mut O) -> Result<(), Fault>
         requires fits { load self.old.cutter + length self.old.rest + length piece.now < 2 ^ 63 }
@@ -261,8 +254,10 @@ impl<'o> Stage for Csplitter<'o> {
     }
 
     /// Those of the lines that came in and that no file has yet, and of the line that lacks its newline.
-    fn waits(&self) -> u64 {
-        self.held()
+    fn waits(&self) -> u64
+        ensures { result ≡ min (length self.now.cutter.window.held + length self.now.rest) (2 ^ 64 - 1) }
+    {
+        self.cutter.held().saturating_add(self.rest.len() as u64)
     }
 
     ghost lawful = { λ stage. lawful stage.cutter.writer.style stage.cutter.operands };

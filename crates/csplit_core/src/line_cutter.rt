@@ -186,7 +186,7 @@ impl<'o> LineCutter<'o> {
         ensures past { result ≡ true → self.now.aim ≡ turn_is.Below }
         ensures live { result ≡ false → self.now.aim ≢ turn_is.Below }
     {
-        self.aim == Turn::Below
+        matches!(self.aim, Turn::Below)
     }
 
     /// Takes in a beginning of a text of complete lines, which isn't empty: a stretch that the next operand doesn't cut,
@@ -267,16 +267,15 @@ impl<'o> LineCutter<'o> {
         requires aim { (matched : ℕ) × (self.old.aim ≡ turn_is.Above matched line) }
         ensures { PassesOver self.old text.now self.new result }
     {
-        match reach(text, line - 1 - self.lines, NEWLINE) {
+        let count = match reach(text, line - 1 - self.lines, NEWLINE) {
             Reach::Ends(end) => {
                 self.lines = line - 1;
-                end
+                return end;
             }
-            Reach::Short(count) => {
-                self.lines += count as u64;
-                text.len()
-            }
-        }
+            Reach::Short(count) => count,
+        };
+        self.lines += count as u64;
+        text.len()
     }
 
     /// Counts the lines of a text before the first one with the pattern that is searched for.

@@ -10,7 +10,7 @@ ghost use Rattle.operand_core.specs.declared.operand.Operand.{Operand};
 use crate::{Offset, Operand, Target, Times};
 
 /// What the next operand does.
-#[derive(Clone, Copy, PartialEq, Eq)]
+#[derive(Clone, Copy)]
 pub enum Turn {
     /// None is left.
     UsedUp,

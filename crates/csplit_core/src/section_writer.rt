@@ -188,9 +188,7 @@ impl SectionWriter {
             self.made as u64,
         )?;
         let slot = outs.open(name.as_str(), Mode::Fresh)?;
-        if self.made == 0 {
-            self.first = slot;
-        }
+        self.first = if self.made == 0 { slot } else { self.first };
         self.made += 1;
         self.current = Current::File { slot, size: 0 };
         Ok(slot)

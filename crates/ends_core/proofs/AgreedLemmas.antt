@@ -13,7 +13,7 @@ use Rattle.ports_core.proofs.AgreedLemmas.{none_comes, one_comes, copies_come, o
 use Rattle.seg_core.specs.declared.unit.Unit.{Unit as Counted}
 use Rattle.seg_core.specs.declared.unit.Unit.TheVariants.{Lines, Bytes}
 use Rattle.ends_core.specs.Ends.{size, measure, first_of, last_of, but_last_of, tail_of}
-use Rattle.ends_core.specs.laws.EndsLaws.{measure-append, first_of-append, first_of-short, first_of-full, first_then_behind, ends_together, but_last_of-append}
+use Rattle.ends_core.specs.laws.EndsLaws.{measure-append, first_of-append, first_of-short, first_of-full, first_then_after, ends_together, but_last_of-append}
 use Rattle.ends_core.proofs.EndsLaws.{measure-delimiters, last_is_drop, last_is_small}
 use Rattle.ends_core.specs.Head.{head_work, head_waiting}
 use Rattle.ends_core.specs.Tail.{tail_work, tail_waiting}
@@ -99,7 +99,7 @@ tail_first delim unit true n x = first_of delim unit (n - 1) x
 tail_first delim unit false n x = but_last_of delim unit n x
 
 pub tail_together : (delim : ℕ) (unit : Counted) (from_nth : Bool) (n : ℕ) (x : List ℕ) → tail_first delim unit from_nth n x ++ tail_of delim unit from_nth n x ≡ x
-tail_together delim unit true n x = first_then_behind delim unit (n - 1) x
+tail_together delim unit true n x = first_then_after delim unit (n - 1) x
 tail_together delim unit false n x = ends_together delim unit n x
 
 pub tail_long : (delim : ℕ) (unit : Counted) (from_nth : Bool) (n : ℕ) (x : List ℕ) → length x ≡ length (tail_first delim unit from_nth n x) + length (tail_of delim unit from_nth n x)

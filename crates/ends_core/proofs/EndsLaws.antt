@@ -8,8 +8,8 @@ use Rattle.seg_core.proofs.FirstLines.{first_lines-nil, first_lines-more}
 use Rattle.seg_core.proofs.EndLines.{line_count_near, count_last}
 use Rattle.seg_core.specs.declared.unit.Unit.{Unit as Counted}
 use Rattle.seg_core.specs.declared.unit.Unit.TheVariants.{Lines, Bytes}
-use Rattle.ends_core.specs.Ends.{size, measure, first_of, behind_of, last_of, but_last_of}
-use Rattle.ends_core.specs.laws.EndsLaws.{measure-append, first_then_behind, ends_together, last_of-append}
+use Rattle.ends_core.specs.Ends.{size, measure, first_of, after_of, last_of, but_last_of}
+use Rattle.ends_core.specs.laws.EndsLaws.{measure-append, first_then_after, ends_together, last_of-append}
 
 pub first_of-nil : (delim : ℕ) (unit : Counted) (n : ℕ) → first_of delim unit n [] ≡ []
 first_of-nil delim Lines n = first_lines-nil delim n
@@ -36,8 +36,8 @@ pub but_last_is_take : (delim : ℕ) (unit : Counted) (n : ℕ) (x : List ℕ) �
 but_last_is_take delim unit n x = sym (ap (take (length (but_last_of delim unit n x))) (sym (ends_together delim unit n x)) ∙ take_at (but_last_of delim unit n x) (last_of delim unit n x) (length (but_last_of delim unit n x)) refl)
 
 -- what stands after the first, by how long these are
-pub behind_is_drop : (delim : ℕ) (unit : Counted) (n k : ℕ) (x : List ℕ) → take k x ≡ first_of delim unit n x → drop k x ≡ behind_of delim unit n x
-behind_is_drop delim unit n k x front = append_cancel_left (first_of delim unit n x) _ _ (ap (λ z. z ++ drop k x) (sym front) ∙ take-append-drop k x ∙ sym (first_then_behind delim unit n x))
+pub after_is_drop : (delim : ℕ) (unit : Counted) (n k : ℕ) (x : List ℕ) → take k x ≡ first_of delim unit n x → drop k x ≡ after_of delim unit n x
+after_is_drop delim unit n k x front = append_cancel_left (first_of delim unit n x) _ _ (ap (λ z. z ++ drop k x) (sym front) ∙ take-append-drop k x ∙ sym (first_then_after delim unit n x))
 
 -- there are no more among the last than were asked for
 pub last_is_few : (delim : ℕ) (unit : Counted) (n : ℕ) (x : List ℕ) → size delim unit (last_of delim unit n x) ≤ n

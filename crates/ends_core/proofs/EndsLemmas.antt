@@ -17,7 +17,7 @@ use Rattle.seg_core.specs.declared.unit.Unit.TheVariants.{Bytes}
 use Rattle.ends_core.specs.declared.ends.Ends.{Ends}
 use Rattle.ends_core.specs.declared.ends.Ends.TheVariants.{First, ButLast, FromNth, Last}
 use Rattle.ends_core.specs.declared.kept.Kept.{Kept}
-use Rattle.ends_core.specs.Ends.{measure, first_of, behind_of, last_of, but_last_of}
+use Rattle.ends_core.specs.Ends.{measure, first_of, after_of, last_of, but_last_of}
 use Rattle.ends_core.specs.Head.{head_work}
 use Rattle.ends_core.specs.inner.Head.{IsDone}
 use Rattle.ends_core.specs.Stage.{Stretch, the_first, all_but_last, from_the_nth, the_last, keeps, work_in, waiting_in, front_in, stretch_of, delim_of, unit_of, count_of, left_of, waiting_of, waiting, may_lack, work, Holds}
@@ -26,7 +26,7 @@ use Rattle.ends_core.specs.Kept.{most_of, may_lack_of, delim_of as kept_delim, u
 use Rattle.ends_core.specs.inner.Load.{Passes}
 use Rattle.ends_core.specs.inner.Stops.{Stops}
 use Rattle.ends_core.specs.laws.WorkLaws.{full_head}
-use Rattle.ends_core.specs.laws.EndsLaws.{ends_together, measure-append, first_of-append, first_of-short, behind_of-append, last_of-append, but_last_of-append}
+use Rattle.ends_core.specs.laws.EndsLaws.{ends_together, measure-append, first_of-append, first_of-short, after_of-append, last_of-append, but_last_of-append}
 use Rattle.ends_core.proofs.EndsLaws.{measure-delimiters, first_of-more, but_last_grows}
 use Rattle.ends_core.proofs.StopLemmas as stop
 use Rattle.ends_core.proofs.KeptLemmas.{full_once}
@@ -61,14 +61,14 @@ went_out (ButLast kept) x piece holds =
     ap (λ held. only_out (but_last_of (kept_delim kept) (kept_unit kept) (most_of kept) x ++ but_last_of (kept_delim kept) (kept_unit kept) (most_of kept) (held ++ piece))) holds.waits
     ∙ ap only_out (sym (but_last_of-append (kept_delim kept) (kept_unit kept) (most_of kept) x piece))
 went_out (FromNth count front) x piece holds =
-    ap (λ left. only_out (behind_of front.delim front.unit (count - 1) x ++ behind_of front.delim front.unit left piece)) (holds.left refl) ∙ ap only_out (sym (behind_of-append front.delim front.unit (count - 1) x piece))
+    ap (λ left. only_out (after_of front.delim front.unit (count - 1) x ++ after_of front.delim front.unit left piece)) (holds.left refl) ∙ ap only_out (sym (after_of-append front.delim front.unit (count - 1) x piece))
 went_out (Last kept) x piece holds = refl
 
 -- and at the end
 rest_out : (ends : Ends) (x : List ℕ) → Holds ends x → record ((work ends).settled x) { out = ((work ends).settled x).out ++ due_at_end ends } ≡ (work ends).whole x
 rest_out (First count front) x holds = ap only_out (append-nil (first_of front.delim front.unit count x))
 rest_out (ButLast kept) x holds = ap only_out (append-nil (but_last_of (kept_delim kept) (kept_unit kept) (most_of kept) x))
-rest_out (FromNth count front) x holds = ap only_out (append-nil (behind_of front.delim front.unit (count - 1) x))
+rest_out (FromNth count front) x holds = ap only_out (append-nil (after_of front.delim front.unit (count - 1) x))
 rest_out (Last kept) x holds = ap only_out holds.waits
 
 pub puts_out : (told : Bool) (ends : Ends) (piece : List ℕ) (old new : List Slot) → new ≡ with_written 0 (told_of told (due ends piece)) old → PutsOut Holds OwnsNone work ends piece told old new

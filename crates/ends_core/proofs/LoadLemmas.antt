@@ -14,8 +14,8 @@ use Rattle.ports_core.specs.Source.{Source, Shows, is_readable, skips, source_at
 use Rattle.ports_core.proofs.LoadLemmas.{none_passed, passed_at}
 use Rattle.seg_core.specs.declared.unit.Unit.{Unit as Counted}
 use Rattle.seg_core.specs.declared.unit.Unit.TheVariants.{Lines, Bytes}
-use Rattle.ends_core.specs.Ends.{size, measure, behind_of, last_of}
-use Rattle.ends_core.specs.laws.EndsLaws.{behind_of-append}
+use Rattle.ends_core.specs.Ends.{size, measure, after_of, last_of}
+use Rattle.ends_core.specs.laws.EndsLaws.{after_of-append}
 use Rattle.ends_core.specs.inner.Load.{HasSeen, Passes}
 
 size-append : (delim : ℕ) (unit : Counted) (n : ℕ) (x y : List ℕ) → n < size delim unit y → size delim unit (x ++ y) ≡ measure delim unit x + size delim unit y
@@ -23,9 +23,9 @@ size-append delim Lines n x [] many = absurd (omega (arith, many))
 size-append delim Lines n x (byte ∷ y) many = line_count-front delim x (byte ∷ y) (omega arith)
 size-append delim Bytes n x y many = length-append x y
 
-behind-past : (delim : ℕ) (unit : Counted) (n : ℕ) (x : List ℕ) → measure delim unit x < n → behind_of delim unit n x ≡ []
-behind-past delim Lines n x past = after_lines-past delim n x past
-behind-past delim Bytes n x past = drop_all n x (omega arith)
+after-past : (delim : ℕ) (unit : Counted) (n : ℕ) (x : List ℕ) → measure delim unit x < n → after_of delim unit n x ≡ []
+after-past delim Lines n x past = after_lines-past delim n x past
+after-past delim Bytes n x past = drop_all n x (omega arith)
 
 -- where a text has more than the last n, what stands before it is not among them
 last_after : (delim : ℕ) (unit : Counted) (n : ℕ) (x y : List ℕ) → n < size delim unit y → last_of delim unit n (x ++ y) ≡ last_of delim unit n y
@@ -33,9 +33,9 @@ last_after delim unit n x y many =
     let all : size delim unit (x ++ y) ≡ measure delim unit x + size delim unit y = size-append delim unit n x y many in
     let past : measure delim unit x < size delim unit (x ++ y) - n = omega arith in
     let rest : size delim unit (x ++ y) - n - measure delim unit x ≡ size delim unit y - n = omega arith in
-    behind_of-append delim unit (size delim unit (x ++ y) - n) x y
-    ∙ ap (λ none. none ++ behind_of delim unit (size delim unit (x ++ y) - n - measure delim unit x) y) (behind-past delim unit (size delim unit (x ++ y) - n) x past)
-    ∙ ap (λ k. behind_of delim unit k y) rest
+    after_of-append delim unit (size delim unit (x ++ y) - n) x y
+    ∙ ap (λ none. none ++ after_of delim unit (size delim unit (x ++ y) - n - measure delim unit x) y) (after-past delim unit (size delim unit (x ++ y) - n) x past)
+    ∙ ap (λ k. after_of delim unit k y) rest
 
 lengths : (delim n : ℕ) (y : List ℕ) → length (but_last_lines delim n y) + length (last_lines delim n y) ≡ length y
 lengths delim n y = sym (length-append (but_last_lines delim n y) (last_lines delim n y)) ∙ ap length (but_last_then_last delim n y)

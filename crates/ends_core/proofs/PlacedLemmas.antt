@@ -7,8 +7,8 @@ use Rattle.ports_core.specs.Part.{only_out}
 use Rattle.ports_core.specs.Agreed.{Spot, spot, spots_from, output_at, GoesTo, ArePlaced}
 use Rattle.ports_core.proofs.AgreedLemmas.{spot_in, spot_past}
 use Rattle.seg_core.specs.declared.unit.Unit.{Unit as Counted}
-use Rattle.ends_core.specs.Ends.{behind_of, last_of, head_of, tail_of}
-use Rattle.ends_core.specs.laws.EndsLaws.{first_then_behind, ends_together}
+use Rattle.ends_core.specs.Ends.{after_of, last_of, head_of, tail_of}
+use Rattle.ends_core.specs.laws.EndsLaws.{first_then_after, ends_together}
 use Rattle.ends_core.specs.Head.{head_work}
 use Rattle.ends_core.specs.Tail.{tail_work}
 use Rattle.ends_core.specs.Place.{head_spots, skipped, tail_spots}
@@ -35,7 +35,7 @@ StandsThere bytes at byte = (at.offset < length (output_at (only_out bytes) at.p
 -- heads
 
 head_together : (delim : ℕ) (unit : Counted) (but_last : Bool) (n : ℕ) (x : List ℕ) → (rest : List ℕ) × (x ≡ head_of delim unit but_last n x ++ rest)
-head_together delim unit false n x = (behind_of delim unit n x, sym (first_then_behind delim unit n x))
+head_together delim unit false n x = (after_of delim unit n x, sym (first_then_after delim unit n x))
 head_together delim unit true n x = (last_of delim unit n x, sym (ends_together delim unit n x))
 
 head_filled : (delim : ℕ) (unit : Counted) (but_last : Bool) (n : ℕ) (x : List ℕ) (place offset : ℕ) → offset < length (output_at (only_out (head_of delim unit but_last n x)) place)

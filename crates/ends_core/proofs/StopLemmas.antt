@@ -29,21 +29,21 @@ pub writable_still : (told : Bool) (old new : List Slot) (bytes : List ℕ) → 
 writable_still told old new bytes can wrote = subst (λ those. is_writable those 0 ≡ true) (sym wrote) (writable-written old 0 0 (told_of told bytes) ∙ can)
 
 -- the output broke in a later write
-pub broke_later : (told : Bool) (old mid new : List Slot) (first then behind : List ℕ) (n : ℕ) → mid ≡ with_written 0 (told_of told first) old → BrokeAfter told mid new 0 then n → BrokeAfter told old new 0 (first ++ (then ++ behind)) (length first + n)
-broke_later told old mid new first then behind n one cut = record {
+pub broke_later : (told : Bool) (old mid new : List Slot) (first then past : List ℕ) (n : ℕ) → mid ≡ with_written 0 (told_of told first) old → BrokeAfter told mid new 0 then n → BrokeAfter told old new 0 (first ++ (then ++ past)) (length first + n)
+broke_later told old mid new first then past n one cut = record {
   within = let short : n < length then = cut.within in
-      let long : length (first ++ (then ++ behind)) ≡ length first + length (then ++ behind) = length-append first (then ++ behind) in
-      let more : length (then ++ behind) ≡ length then + length behind = length-append then behind in omega arith;
+      let long : length (first ++ (then ++ past)) ≡ length first + length (then ++ past) = length-append first (then ++ past) in
+      let more : length (then ++ past) ≡ length then + length past = length-append then past in omega arith;
   slots = cut.slots ∙ ap (with_broken 0) (written_both told old mid (with_written 0 (told_of told (take n then)) mid) first (take n then) one refl
-      ∙ ap (λ bytes. with_written 0 (told_of told bytes) old) (sym (taken first n then behind (let short : n < length then = cut.within in omega arith))));
+      ∙ ap (λ bytes. with_written 0 (told_of told bytes) old) (sym (taken first n then past (let short : n < length then = cut.within in omega arith))));
 } where
-  taken : (first : List ℕ) (n : ℕ) (then behind : List ℕ) → n ≤ length then → take (length first + n) (first ++ (then ++ behind)) ≡ first ++ take n then
-  taken first n then behind within = take-append-add first (then ++ behind) n ∙ ap (λ z. first ++ z) (take-append-le n then behind within)
+  taken : (first : List ℕ) (n : ℕ) (then past : List ℕ) → n ≤ length then → take (length first + n) (first ++ (then ++ past)) ≡ first ++ take n then
+  taken first n then past within = take-append-add first (then ++ past) n ∙ ap (λ z. first ++ z) (take-append-le n then past within)
 
 -- what stops a write of some bytes stops a write of more
-pub stops_later : (told lacks : Bool) (old mid new : List Slot) (first then behind : List ℕ) (fault : Fault) → mid ≡ with_written 0 (told_of told first) old → Stops told false then mid new fault → Stops told lacks (first ++ (then ++ behind)) old new fault
-stops_later told lacks old mid new first then behind _ one (broke n cut) = broke (length first + n) (broke_later told old mid new first then behind n one cut)
-stops_later told lacks old mid new first then behind _ one (no_room never wrote) = absurd (false≢true never)
+pub stops_later : (told lacks : Bool) (old mid new : List Slot) (first then past : List ℕ) (fault : Fault) → mid ≡ with_written 0 (told_of told first) old → Stops told false then mid new fault → Stops told lacks (first ++ (then ++ past)) old new fault
+stops_later told lacks old mid new first then past _ one (broke n cut) = broke (length first + n) (broke_later told old mid new first then past n one cut)
+stops_later told lacks old mid new first then past _ one (no_room never wrote) = absurd (false≢true never)
 
 -- where the bytes are the next that are settled
 pub puts_out : {E : Type 0} (Holds : E → List ℕ → Type 0) (Owns : E → ℕ → List Slot → Type 0) (work : E → Work) (told : Bool) (e : E) (piece bytes : List ℕ) (old new : List Slot)

@@ -6,7 +6,7 @@ use Rattle.ports_core.specs.Engine.{IsCaused, IsMet, EndsWith}
 use Rattle.ports_core.specs.Guard.{GuardState}
 use Rattle.ports_core.specs.declared.fault.Fault.{Fault}
 use Rattle.seg_core.specs.declared.unit.Unit.{Unit as Counted}
-use Rattle.seg_core.specs.declared.unit.Unit.TheVariants.{Bytes}
+use Rattle.seg_core.specs.declared.unit.Unit.TheVariants.{Lines, Bytes}
 use Rattle.ends_core.specs.declared.ends.Ends.{Ends}
 use Rattle.ends_core.specs.declared.ends.Ends.TheVariants.{First, ButLast, FromNth, Last}
 use Rattle.ends_core.specs.Ends.{measure}
@@ -74,6 +74,13 @@ count_of (First count front) = count
 count_of (ButLast kept) = most_of kept
 count_of (FromNth count front) = count
 count_of (Last kept) = most_of kept
+
+-- what it was asked for; lines alone have a delimiter
+pub record IsAsked (stretch : Stretch) (unit : Counted) (count delim : ℕ) (ends : Ends) : Type 0 where
+  pub stretch_is : stretch_of ends ≡ stretch
+  pub unit_is : unit_of ends ≡ unit
+  pub count_is : count_of ends ≡ count
+  pub delim_is : unit ≡ Lines → delim_of ends ≡ delim
 
 -- how many of the front are still to come
 abbrev pub left_of : Ends → ℕ

@@ -8,13 +8,13 @@ ghost use Rattle.ends_core.specs.Ends.{measure};
 ghost use Rattle.ends_core.specs.Head.{head_work};
 ghost use Rattle.ends_core.specs.Tail.{tail_work};
 ghost use Rattle.ends_core.specs.inner.Stage.{FullLacksNone, SameAsked, due, due_at_end, is_done, is_full, is_last, left_waiting};
-ghost use Rattle.ends_core.specs.Stage.{Holds, all_but_last, count_of, delim_of, from_the_nth, left_of, may_lack, stretch_of, the_first, the_last, unit_of, waiting, waiting_of, work};
+ghost use Rattle.ends_core.specs.Stage.{Holds, IsAsked, all_but_last, delim_of, from_the_nth, left_of, may_lack, stretch_of, the_first, the_last, unit_of, waiting, waiting_of, work};
 ghost use Rattle.ends_core.specs.laws.WorkLaws.{lawful};
 ghost use Rattle.ends_core.specs.inner.Load.{Passes};
 ghost use Rattle.ends_core.specs.inner.Stops.{Stops};
 
 use crate::Unit;
-use crate::front::{Front, pass_behind, pass_front};
+use crate::front::{Front, pass_after, pass_front};
 use crate::kept::Kept;
 use ports_core::{Fault, Guarded, Inputs, Outs, Stage};
 use std::alloc::Global;
@@ -57,19 +57,14 @@ impl Head {
         delim: u8,
     ) -> Result<Guarded<Ends>, Fault>
         ensures holds { IfOk result (λ head. HoldsIn Holds head []) }
-        ensures unit { IfOk result (λ head. unit_of head.stage ≡ unit) }
-        ensures delim { IfOk result (λ head. unit ≡ Unit.Lines → delim_of head.stage ≡ delim) }
-        ensures stretch { IfOk result (λ head. stretch_of head.stage ≡ (if but_last then all_but_last else the_first)) }
-        ensures count { IfOk result (λ head. count_of head.stage ≡ count) }
+        ensures asked { IfOk result (λ head. IsAsked (if but_last then all_but_last else the_first) unit count delim head.stage) }
         ensures does { IfOk result (λ head. work head.stage ≡ head_work delim unit but_last count) }
         ensures bound { IfOk result (λ head. head.fed < 2 ^ 63) }
         ensures err { IfErr result (λ fault. (fault ≡ Fault.Memory) × (but_last ≡ true)) }
     {
         if but_last {
-            return match Kept::open(alloc, unit, count, delim, 0) {
-                Ok(kept) => Ok(Guarded::new(Ends::ButLast(kept))),
-                Err(fault) => Err(fault),
-            };
+            let kept = Kept::open(alloc, unit, count, delim, 0)?;
+            return Ok(Guarded::new(Ends::ButLast(kept)));
         }
         let front = Front {
             unit,
@@ -95,10 +90,7 @@ impl Tail {
         delim: u8,
     ) -> Result<Guarded<Ends>, Fault>
         ensures holds { IfOk result (λ tail. HoldsIn Holds tail []) }
-        ensures unit { IfOk result (λ tail. unit_of tail.stage ≡ unit) }
-        ensures delim { IfOk result (λ tail. unit ≡ Unit.Lines → delim_of tail.stage ≡ delim) }
-        ensures stretch { IfOk result (λ tail. stretch_of tail.stage ≡ (if from_nth then from_the_nth else the_last)) }
-        ensures count { IfOk result (λ tail. count_of tail.stage ≡ count) }
+        ensures asked { IfOk result (λ tail. IsAsked (if from_nth then from_the_nth else the_last) unit count delim tail.stage) }
         ensures does { IfOk result (λ tail. work tail.stage ≡ tail_work delim unit from_nth count) }
         ensures bound { IfOk result (λ tail. tail.fed < 2 ^ 63) }
         ensures err { IfErr result (λ fault. (fault ≡ Fault.Memory) × (from_nth ≡ false)) }
@@ -121,10 +113,7 @@ impl Tail {
         coming: u64,
     ) -> Result<Guarded<Ends>, Fault>
         ensures holds { IfOk result (λ tail. HoldsIn Holds tail []) }
-        ensures unit { IfOk result (λ tail. unit_of tail.stage ≡ unit) }
-        ensures delim { IfOk result (λ tail. unit ≡ Unit.Lines → delim_of tail.stage ≡ delim) }
-        ensures stretch { IfOk result (λ tail. stretch_of tail.stage ≡ (if from_nth then from_the_nth else the_last)) }
-        ensures count { IfOk result (λ tail. count_of tail.stage ≡ count) }
+        ensures asked { IfOk result (λ tail. IsAsked (if from_nth then from_the_nth else the_last) unit count delim tail.stage) }
         ensures does { IfOk result (λ tail. work tail.stage ≡ tail_work delim unit from_nth count) }
         ensures bound { IfOk result (λ tail. tail.fed < 2 ^ 63) }
         ensures err { IfErr result (λ fault. (fault ≡ Fault.Memory) × (from_nth ≡ false)) }
@@ -137,10 +126,8 @@ impl Tail {
             };
             return Ok(Guarded::new(Ends::FromNth(count, front)));
         }
-        match Kept::open(alloc, unit, count, delim, coming) {
-            Ok(kept) => Ok(Guarded::new(Ends::Last(kept))),
-            Err(fault) => Err(fault),
-        }
+        let kept = Kept::open(alloc, unit, count, delim, coming)?;
+        Ok(Guarded::new(Ends::Last(kept)))
     }
 }
 
@@ -183,7 +170,7 @@ impl Stage for Ends {
         match self {
             Ends::First(_, front) => pass_front(front, piece, outs),
             Ends::ButLast(kept) => kept.pass(piece, outs),
-            Ends::FromNth(_, front) => pass_behind(front, piece, outs),
+            Ends::FromNth(_, front) => pass_after(front, piece, outs),
             Ends::Last(kept) => kept.take_in(piece),
         }
     }

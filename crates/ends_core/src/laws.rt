@@ -1,7 +1,7 @@
 //! Laws of the definitions, with no code: each stands on the contract of a function whose body is empty.
 ghost use Rattle.std.specs.Prelude.{◌≡◌, ◌<◌, ◌≤◌, ◌+◌, ◌-◌, ◌++◌, ◌⊎◌, ℕ, Bool, List, length, true, false};
 ghost use Rattle.seg_core.specs.Line.{delimiters, ends_with, line_count};
-ghost use Rattle.ends_core.specs.Ends.{behind_of, but_last_of, first_of, last_of, measure, size, tail_of};
+ghost use Rattle.ends_core.specs.Ends.{after_of, but_last_of, first_of, last_of, measure, size, tail_of};
 ghost use Rattle.ends_core.specs.Head.{head_waiting, head_work};
 ghost use Rattle.ends_core.specs.Place.{head_spots, tail_spots};
 ghost use Rattle.ends_core.specs.Stage.{Holds, IsRefused, all_but_last, count_of, delim_of, keeps, may_lack, stretch_of, the_last, unit_of, waiting_of, work};
@@ -29,7 +29,7 @@ pub fn head_goes_on(unit: Unit, delim: u8)
 /// The first lines or bytes of a text and what stands after them are together the text, and so are all but the last
 /// and the last. Where all but the last are asked for, what is written and what waits are together what came in.
 pub fn nothing_is_lost(unit: Unit, delim: u8)
-    ensures first { (n : ℕ) (x : List ℕ) → first_of delim unit n x ++ behind_of delim unit n x ≡ x }
+    ensures first { (n : ℕ) (x : List ℕ) → first_of delim unit n x ++ after_of delim unit n x ≡ x }
     ensures last { (n : ℕ) (x : List ℕ) → but_last_of delim unit n x ++ last_of delim unit n x ≡ x }
     ensures waits { (head : GuardState Ends) (x : List ℕ) → HoldsIn Holds head x → stretch_of head.stage ≡ all_but_last → ((work head.stage).settled x).out ++ waiting_of head.stage ≡ x }
 {
@@ -40,7 +40,7 @@ pub fn nothing_is_lost(unit: Unit, delim: u8)
 /// stands in y after those that are still to be passed over. The last are the last of what waited with y after it. So
 /// what waits, the last of what came in, is all that has to be kept, and it is no more than was asked for.
 pub fn tail_goes_on(unit: Unit, delim: u8)
-    ensures from_nth { (n : ℕ) (x y : List ℕ) → tail_of delim unit true n (x ++ y) ≡ tail_of delim unit true n x ++ behind_of delim unit (n - 1 - measure delim unit x) y }
+    ensures from_nth { (n : ℕ) (x y : List ℕ) → tail_of delim unit true n (x ++ y) ≡ tail_of delim unit true n x ++ after_of delim unit (n - 1 - measure delim unit x) y }
     ensures last { (n : ℕ) (x y : List ℕ) → last_of delim unit n (x ++ y) ≡ last_of delim unit n (last_of delim unit n x ++ y) }
     ensures waits { (tail : GuardState Ends) (x : List ℕ) → HoldsIn Holds tail x → stretch_of tail.stage ≡ the_last → waiting_of tail.stage ≡ last_of (delim_of tail.stage) (unit_of tail.stage) (count_of tail.stage) x }
     ensures few { (n : ℕ) (x : List ℕ) → size delim unit (last_of delim unit n x) ≤ n }

@@ -14,7 +14,7 @@ use Rattle.seg_core.proofs.LineCounts.{ends_with-append, ends_with-some}
 use Rattle.seg_core.proofs.LinesOf.{joined-lines_of, lines_of-append}
 use Rattle.seg_core.proofs.FirstLines.{EndsAt-enough, EndsAt-rest}
 use Rattle.seg_core.proofs.EndLines.{after_lines-append, after_lines-past}
-use Rattle.ends_core.specs.laws.EndsLaws.{behind_of-append}
+use Rattle.ends_core.specs.laws.EndsLaws.{after_of-append}
 use Rattle.seg_core.specs.declared.unit.Unit.TheVariants.{Lines}
 
 -- filling a block of a watched file, read by read
@@ -213,7 +213,7 @@ pub passed_by : (delim left at size found : ℕ) (x block rest : List ℕ) → b
 passed_by delim left at size found x block rest are short is =
     let all : drop at x ≡ block ++ drop (at + size) x = block_then x at size ∙ ap (λ those. those ++ drop (at + size) x) (sym are) in
     let counted = short.counted in let fewer = short.fewer in
-    is ∙ ap (after_lines delim left) all ∙ behind_of-append delim Lines left block (drop (at + size) x)
+    is ∙ ap (after_lines delim left) all ∙ after_of-append delim Lines left block (drop (at + size) x)
     ∙ ap (λ none. none ++ after_lines delim (left - delimiters delim block) (drop (at + size) x)) (after_lines-past delim left block (omega (arith, counted, fewer)))
     ∙ ap (λ n. after_lines delim (left - n) (drop (at + size) x)) (sym counted)
 

@@ -41,6 +41,6 @@ pub all_said_state : (told : Bool) (tool : Tool) (texts : List (List ℕ)) (old 
 all_said_state told tool [] old new is = ap (λ slot. slot.state) is
 all_said_state told tool (text ∷ texts) old new says = all_said_state told tool texts says.0 new says.2 ∙ said_state told tool text old says.0 says.1
 
-pub says_behind : (told : Bool) (tool : Tool) (texts more : List (List ℕ)) (old mid new : Slot) → SaysAll told tool texts old mid → SaysAll told tool more mid new → SaysAll told tool (texts ++ more) old new
-says_behind told tool [] more old mid new so_far says = subst (λ slot. SaysAll told tool more slot new) so_far says
-says_behind told tool (first ∷ texts) more old mid new so_far says = (so_far.0, so_far.1, says_behind told tool texts more so_far.0 mid new so_far.2 says)
+pub says_after : (told : Bool) (tool : Tool) (texts more : List (List ℕ)) (old mid new : Slot) → SaysAll told tool texts old mid → SaysAll told tool more mid new → SaysAll told tool (texts ++ more) old new
+says_after told tool [] more old mid new so_far says = subst (λ slot. SaysAll told tool more slot new) so_far says
+says_after told tool (first ∷ texts) more old mid new so_far says = (so_far.0, so_far.1, says_after told tool texts more so_far.0 mid new so_far.2 says)

@@ -27,8 +27,8 @@ nothing_begins bytes = (bytes, refl)
 pub begins_trans : (low middle high : List ℕ) → IsBeginning low middle → IsBeginning middle high → IsBeginning low high
 begins_trans low middle high (rest, is) (more, is_too) = (rest ++ more, is_too ∙ ap (λ bytes. bytes ++ more) is ∙ append_assoc low rest more)
 
-pub take_begins_behind : (n : ℕ) (before bytes : List ℕ) → IsBeginning (before ++ take n bytes) (before ++ bytes)
-take_begins_behind n before bytes = (drop n bytes, ap (λ rest. before ++ rest) (sym (take-append-drop n bytes)) ∙ sym (append_assoc before (take n bytes) (drop n bytes)))
+pub take_begins_after : (n : ℕ) (before bytes : List ℕ) → IsBeginning (before ++ take n bytes) (before ++ bytes)
+take_begins_after n before bytes = (drop n bytes, ap (λ rest. before ++ rest) (sym (take-append-drop n bytes)) ∙ sym (append_assoc before (take n bytes) (drop n bytes)))
 
 -- a file that is open may be closed by then; any other stays
 pub kept_trans : {X : Type 0} (state_of : X → State) (low middle high : X) → (state_of low ≡ state.Open) ⊎ (low ≡ middle) → (state_of middle ≡ state.Open) ⊎ (middle ≡ high) → (state_of low ≡ state.Open) ⊎ (low ≡ high)
@@ -87,7 +87,7 @@ pub out_cut : (told : Bool) (before : List Slot) (part : Part) (old new : List S
 out_cut told before part old new more n at broke = record {
   part = record part { out = part.out ++ take n more };
   above = record { out = begins_more part.out (take n more); files = files_begin_themselves part.files };
-  below = record { out = take_begins_behind n part.out more; files = files_begin_themselves part.files };
+  below = record { out = take_begins_after n part.out more; files = files_begin_themselves part.files };
   place = 0;
   order = still_in_order part.files;
   reached = with_written 0 (told_of told (take n more)) old;
@@ -153,8 +153,8 @@ next_in part name [] file rest [] begins count place named = absurd begins
 next_in part name [] file rest (one ∷ more) begins count place named = ([], one, more, refl, place, sym begins.0 ∙ named)
 next_in part name (first ∷ front) file rest [] begins count place named = absurd begins
 next_in part name (first ∷ front) file rest (one ∷ more) begins count place named =
-    let behind = next_in part name front file rest more begins.5 (length front) refl named in
-    (one ∷ behind.0, behind.1, behind.2, ap (λ files. one ∷ files) behind.3, ap suc behind.4 ∙ place, behind.5)
+    let past = next_in part name front file rest more begins.5 (length front) refl named in
+    (one ∷ past.0, past.1, past.2, ap (λ files. one ∷ files) past.3, ap suc past.4 ∙ place, past.5)
 
 next_wider : (part high more : Part) → Begins high more → (name : List ℕ) → IsNext part high name → IsNext part more name
 next_wider part high more begins name next =

@@ -49,7 +49,7 @@ keeps_open one old new is place sound = sound_before old one place (ap (λ those
 
 -- One that breaks was sound.
 
-broken_there : (place : ℕ) (slots : List Slot) → place < length slots → (slot_at (with_broken place slots) place).is_broken ≡ true
+pub broken_there : (place : ℕ) (slots : List Slot) → place < length slots → (slot_at (with_broken place slots) place).is_broken ≡ true
 broken_there place [] within = absurd (omega (arith, within))
 broken_there zero (slot ∷ slots) within = refl
 broken_there (suc place) (slot ∷ slots) within = broken_there place slots (omega arith)

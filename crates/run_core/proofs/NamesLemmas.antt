@@ -12,7 +12,7 @@ use Rattle.ports_core.specs.Message.{SaysAll, SaysOn}
 use Rattle.ports_core.specs.declared.fault.Fault.{Fault}
 use Rattle.ports_core.specs.declared.fault.Fault.TheVariants.{Memory, Open}
 use Rattle.ports_core.proofs.PartLemmas.{nothing_out, part_begins_itself, stopped_here}
-use Rattle.ports_core.proofs.MessageLemmas.{says_behind, all_said_state}
+use Rattle.ports_core.proofs.MessageLemmas.{says_after, all_said_state}
 use Rattle.run_core.specs.declared.inputs.Progress.{Progress}
 use Rattle.run_core.specs.Reading.{AreUntouched, count_after}
 use Rattle.ports_core.specs.Inputs.{AsksAtMost, empty, largest_piece}
@@ -332,7 +332,7 @@ walk_goes_on told_in told task world names name left progress next laid new_laid
             reached = reached;
             at = at;
             swept = subst (λ (sweeps : Bool). Swept sweeps 2 reached new) (sym sweeps_one) (swept_from one.sweeps (length slots) 2 reached new (λ sweeps. (only sweeps).1) swept);
-            says = says_behind told task.tool walked.made.messages one.messages standard_error walked.error after walked.says says;
+            says = says_after told task.tool walked.made.messages one.messages standard_error walked.error after walked.says says;
             failed = ap (λ (p : Progress). p.failed) is ∙ ap (λ (b : Bool). b || one.failed) walked.failed;
             alone = λ clears. inl (taken_alone task.work.clears name left slots walked.alone clears).0;
             unswept = λ some. sweeps_one ∙ none_swept one.sweeps (λ sweeps. (only sweeps).0) some;

@@ -2,9 +2,7 @@
 use Rattle.std.proofs.Common.{◌≡◌, ℕ, ◌+◌, ◌-◌, ◌<◌, zero, suc, List, [], ◌∷◌, ◌++◌, length, map, replicate, Bool, true, false, cond, inl, inr, refl, sym, ◌∙◌, ap, subst, arith, append_assoc, length-append}
 use Rattle.std.proofs.lemmas.Bool.{cases_lt, ne_eqb}
 use Rattle.std.proofs.lemmas.List.{append-nil, take_all, length-map, length-replicate}
-use Rattle.seg_core.specs.Line.{delimiters, first_lines}
-use Rattle.seg_core.proofs.Delimiters.{delimiters-append}
-use Rattle.seg_core.proofs.FirstLines.{first_lines-full}
+use Rattle.seg_core.specs.Line.{delimiters}
 use Rattle.ports_core.specs.Name.{Naming}
 use Rattle.ports_core.specs.Part.{File}
 use Rattle.ports_core.specs.Agreed.{CanCome, IsAgreed, file_bytes, outputs_of}
@@ -14,17 +12,18 @@ use Rattle.seg_core.specs.declared.cut.Cut.{Cut}
 use Rattle.seg_core.specs.declared.cut.Cut.TheVariants as cut
 use Rattle.split_core.specs.declared.limit.Limit.{Limit}
 use Rattle.split_core.specs.declared.limit.Limit.TheVariants.{Lines, Bytes, LineBytes}
-use Rattle.split_core.specs.Parts.{whole_lines, most, behind_first, cut_up, unless_empty, parts, settled_rest}
+use Rattle.split_core.specs.Parts.{whole_lines, most, after_first, cut_up, unless_empty, parts, settled_rest}
 use Rattle.split_core.specs.Split.{Plan, Share, share, is_named, are_named, named, file_at, settled_parts, settled_by, whole_by, split_work, dealt_files}
 use Rattle.split_core.specs.Splitter.{IsPositive}
 use Rattle.split_core.specs.PartState.{parts_work}
 use Rattle.split_core.specs.Round.{round_plan, round_work}
-use Rattle.split_core.specs.laws.CutLaws.{short_some, full_from, whole_of_lines, whole_of_none, whole_some, rest_short}
+use Rattle.split_core.specs.laws.CutLaws.{short_some, full_from, whole_of_none, whole_some, rest_short}
 use Rattle.split_core.specs.laws.ShareLaws.{cut_first, parts_on, settled_count}
 use Rattle.split_core.specs.laws.PartStateLaws as part_law
 use Rattle.split_core.specs.laws.RoundLaws as round_law
 use Rattle.split_core.proofs.MoveLemmas.{named_before}
 use Rattle.split_core.proofs.SectionLemmas.{bytes_of_shares, settled_list, settled_bytes}
+use Rattle.split_core.proofs.StepLemmas.{lines_stay}
 
 -- The bytes of files that have names
 
@@ -113,19 +112,13 @@ none_among delim (suc k) =
 abbrev pub filling : (delim n : ℕ) → List ℕ → List ℕ
 filling delim n rest = replicate (n - length rest) (other delim)
 
-whole_same : (delim : ℕ) (rest y : List ℕ) → 0 < delimiters delim rest → delimiters delim y ≡ 0 → whole_lines delim (rest ++ y) ≡ whole_lines delim rest
-whole_same delim rest y some none =
-    let count : delimiters delim (rest ++ y) ≡ delimiters delim rest = (let sum = delimiters-append delim rest y in omega (arith, sum, none)) in
-    whole_of_lines delim (rest ++ y) (omega (arith, count, some)) ∙ ap (λ n. first_lines delim n (rest ++ y)) count
-    ∙ first_lines-full delim (delimiters delim rest) rest y (omega arith) ∙ sym (whole_of_lines delim rest some)
-
 -- a part that is full without a further line ends with its last one
-line_ends : (delim n : ℕ) (rest : List ℕ) → 0 < n → length rest < n → 0 < delimiters delim rest → parts (LineBytes n delim) (rest ++ filling delim n rest) ≡ whole_lines delim rest ∷ parts (LineBytes n delim) (behind_first (LineBytes n delim) (rest ++ filling delim n rest))
+line_ends : (delim n : ℕ) (rest : List ℕ) → 0 < n → length rest < n → 0 < delimiters delim rest → parts (LineBytes n delim) (rest ++ filling delim n rest) ≡ whole_lines delim rest ∷ parts (LineBytes n delim) (after_first (LineBytes n delim) (rest ++ filling delim n rest))
 line_ends delim n rest some short lines =
     let size : length (rest ++ filling delim n rest) ≡ n = (let sum = length-append rest (filling delim n rest) in let all = length-replicate (n - length rest) (other delim) in omega (arith, sum, all, short)) in
     ap (λ cut. cut.full ++ unless_empty cut.rest) (cut_first (LineBytes n delim) (rest ++ filling delim n rest) (full_from (LineBytes n delim) (rest ++ filling delim n rest) some (omega (arith, size))))
-    ∙ ap (λ part. part ∷ parts (LineBytes n delim) (behind_first (LineBytes n delim) (rest ++ filling delim n rest)))
-    (ap (whole_lines delim) (take_all n (rest ++ filling delim n rest) (omega (arith, size))) ∙ whole_same delim rest (filling delim n rest) lines (none_among delim (n - length rest)))
+    ∙ ap (λ part. part ∷ parts (LineBytes n delim) (after_first (LineBytes n delim) (rest ++ filling delim n rest)))
+    (ap (whole_lines delim) (take_all n (rest ++ filling delim n rest) (omega (arith, size))) ∙ lines_stay delim rest (filling delim n rest) lines (none_among delim (n - length rest)))
 
 pub one_of : (bytes : List ℕ) → 0 < length bytes → unless_empty bytes ≡ bytes ∷ []
 one_of [] some = absurd (omega (arith, some))
@@ -138,7 +131,7 @@ delimiters_some delim (byte ∷ x) some = omega arith
 pub decides_lines : (delim n : ℕ) (x : List ℕ) → 0 < n → 0 < delimiters delim (cut_up (LineBytes n delim) x).rest → Decides (LineBytes n delim) x
 decides_lines delim n x some lines =
     let full = (cut_up (LineBytes n delim) x).full in let rest = (cut_up (LineBytes n delim) x).rest in
-    let next = parts (LineBytes n delim) (behind_first (LineBytes n delim) (rest ++ filling delim n rest)) in record {
+    let next = parts (LineBytes n delim) (after_first (LineBytes n delim) (rest ++ filling delim n rest)) in record {
       y = filling delim n rest;
       comes = copies_come (n - length rest) (other delim) (other_comes delim);
       more = next;

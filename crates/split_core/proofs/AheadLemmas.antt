@@ -13,17 +13,11 @@ use Rattle.seg_core.proofs.LinesOf.{lines_of-complete}
 use Rattle.split_core.specs.inner.FirstLine.{IsFirstLine}
 use Rattle.split_core.specs.inner.Ahead.{Sees, delimiter_mask}
 use Rattle.split_core.specs.declared.complete_lines.Ahead.{Ahead}
+use Rattle.seg_core.proofs.NextLine.{delimiters-none}
 
 none_append : (delim : ℕ) (x y : List ℕ) → HasNone delim x → HasNone delim y → HasNone delim (x ++ y)
 none_append delim [] y first rest = rest
 none_append delim (byte ∷ x) y first rest = (first.0, none_append delim x y first.1 rest)
-
-no_delimiters : (delim : ℕ) (x : List ℕ) → HasNone delim x → delimiters delim x ≡ 0
-no_delimiters delim [] none = refl
-no_delimiters delim (byte ∷ x) none = elim_first (eqb byte delim) refl (no_delimiters delim x none.1) where
-  elim_first : (is : Bool) → eqb byte delim ≡ is → delimiters delim x ≡ 0 → cond is (delimiters delim x + 1) (delimiters delim x) ≡ 0
-  elim_first true here rest = absurd (none.0 (eqb-true byte delim here))
-  elim_first false here rest = rest
 
 -- a mask without a bit
 unmarked_step : (delim : ℕ) (is : Bool) (byte rest : ℕ) → eqb byte delim ≡ is → cond is 1 0 + 2 * rest ≡ 0 → (byte ≢ delim) × (rest ≡ 0)
@@ -64,12 +58,12 @@ half true rest = omega arith
 half false rest = omega arith
 
 -- the mask after a byte
-pub mask_behind : (delim at : ℕ) (x : List ℕ) → delimiter_mask delim x / 2 ^ at / 2 ≡ delimiter_mask delim (drop (suc at) x)
-mask_behind delim at [] = ap (λ n. n / 2) (zero-div (2 ^ at)) ∙ zero-div 2
-mask_behind delim zero (byte ∷ x) = ap (λ n. n / 2) (div-one _) ∙ half (eqb byte delim) (delimiter_mask delim x)
-mask_behind delim (suc at) (byte ∷ x) =
+pub mask_after : (delim at : ℕ) (x : List ℕ) → delimiter_mask delim x / 2 ^ at / 2 ≡ delimiter_mask delim (drop (suc at) x)
+mask_after delim at [] = ap (λ n. n / 2) (zero-div (2 ^ at)) ∙ zero-div 2
+mask_after delim zero (byte ∷ x) = ap (λ n. n / 2) (div-one _) ∙ half (eqb byte delim) (delimiter_mask delim x)
+mask_after delim (suc at) (byte ∷ x) =
     ap (λ n. n / 2) (ap (λ power. (cond (eqb byte delim) 1 0 + 2 * delimiter_mask delim x) / power) power ∙ sym (div-div-eq-div-mul (cond (eqb byte delim) 1 0 + 2 * delimiter_mask delim x) 2 (2 ^ at)) ∙ ap (λ n. n / 2 ^ at) (half (eqb byte delim) (delimiter_mask delim x)))
-    ∙ mask_behind delim at x where
+    ∙ mask_after delim at x where
       power : 2 ^ suc at ≡ 2 * 2 ^ at
       power = omega arith
 
@@ -88,7 +82,7 @@ first_line delim x at first = record {
   whole = ap (λ z. z ++ drop (at + 1) x) (sym line) ∙ take-append-drop (at + 1) x
 
   count : delimiters delim ((take at x ++ delim ∷ []) ++ drop (at + 1) x) ≡ delimiters delim (drop (at + 1) x) + 1
-  count = omega (arith, delimiters-append delim (take at x ++ delim ∷ []) (drop (at + 1) x), delimiters-append delim (take at x) (delim ∷ []), delimiters-one_yes delim delim (eq-eqb delim delim refl), no_delimiters delim (take at x) first.none)
+  count = omega (arith, delimiters-append delim (take at x ++ delim ∷ []) (drop (at + 1) x), delimiters-append delim (take at x) (delim ∷ []), delimiters-one_yes delim delim (eq-eqb delim delim refl), delimiters-none delim (take at x) first.none)
 
 -- Looking further
 
@@ -113,14 +107,14 @@ sees_further delim x ahead passed width mask sees none is wide marked = record {
 
 -- where all of the text is known and no bit is set, it has no delimiter
 pub none_seen : (delim : ℕ) (x : List ℕ) (ahead : Ahead) → Sees delim x ahead → ahead.mask ≡ 0 → ahead.passed + ahead.width ≡ length x → delimiters delim x ≡ 0
-none_seen delim x ahead sees none all = no_delimiters delim x (subst (HasNone delim) (take_all (ahead.passed + ahead.width) x (omega arith)) (all_passed delim x ahead sees none))
+none_seen delim x ahead sees none all = delimiters-none delim x (subst (HasNone delim) (take_all (ahead.passed + ahead.width) x (omega arith)) (all_passed delim x ahead sees none))
 
 -- the first delimiter
 
-get_or-behind : (k at : ℕ) (x : List ℕ) → get_or (drop k x) at 0 ≡ get_or x (k + at) 0
-get_or-behind zero at x = let same : at ≡ 0 + at = omega arith in ap (λ n. get_or x n 0) same
-get_or-behind (suc k) at [] = refl
-get_or-behind (suc k) at (byte ∷ x) = let more : suc (k + at) ≡ suc k + at = omega arith in get_or-behind k at x ∙ ap (λ n. get_or (byte ∷ x) n 0) more
+get_or-after : (k at : ℕ) (x : List ℕ) → get_or (drop k x) at 0 ≡ get_or x (k + at) 0
+get_or-after zero at x = let same : at ≡ 0 + at = omega arith in ap (λ n. get_or x n 0) same
+get_or-after (suc k) at [] = refl
+get_or-after (suc k) at (byte ∷ x) = let more : suc (k + at) ≡ suc k + at = omega arith in get_or-after k at x ∙ ap (λ n. get_or (byte ∷ x) n 0) more
 
 get_or-front : (n at : ℕ) (x : List ℕ) → at < length (take n x) → get_or (take n x) at 0 ≡ get_or x at 0
 get_or-front zero at x inside = absurd (omega arith)
@@ -137,7 +131,7 @@ first_of_text delim x k n at inside none first = record {
   within = let before : at < length (take n (drop k x)) = first.within in let wide = length-window k n x inside in omega arith;
   none = subst (HasNone delim) (ap (λ rest. take k x ++ rest) (take-take at n (drop k x) (let before : at < length (take n (drop k x)) = first.within in let wide = length-window k n x inside in omega arith)) ∙ sym (take-add k at x))
       (none_append delim (take k x) (take at (take n (drop k x))) none first.none);
-  here = sym (get_or-front n at (drop k x) first.within ∙ get_or-behind k at x) ∙ first.here;
+  here = sym (get_or-front n at (drop k x) first.within ∙ get_or-after k at x) ∙ first.here;
 }
 
 -- where the lowest bit is that of the first delimiter, the line ends there, and the rest of the mask is that of what follows
@@ -157,7 +151,7 @@ sees_rest delim x ahead at mask sees inside is = record {
   within = let all : ahead.passed + ahead.width ≤ length x = sees.within in let rest = length-drop (ahead.passed + at + 1) x in omega arith;
   narrow = let narrow : ahead.width ≤ 64 = sees.narrow in omega arith;
   none = tt;
-  marked = is ∙ ap (λ m. m / 2 ^ at / 2) sees.marked ∙ mask_behind delim at (take ahead.width (drop ahead.passed x)) ∙ ap (delimiter_mask delim) window;
+  marked = is ∙ ap (λ m. m / 2 ^ at / 2) sees.marked ∙ mask_after delim at (take ahead.width (drop ahead.passed x)) ∙ ap (delimiter_mask delim) window;
 } where
   further : suc at + (ahead.width - (at + 1)) ≡ ahead.width
   further = omega arith

@@ -1,12 +1,12 @@
 -- Laws of parts that follow one another: what a text that goes on is cut into.
-use Rattle.std.proofs.Common.{◌≡◌, ℕ, ◌+◌, ◌-◌, ◌<◌, ◌≤◌, zero, suc, List, [], ◌∷◌, ◌++◌, length, take, drop, Bool, true, false, cond, ◌&&◌, nat_lt, nat_le, refl, sym, ◌∙◌, ap, subst, arith, append_assoc}
+use Rattle.std.proofs.Common.{◌≡◌, ℕ, ◌<◌, ◌≤◌, zero, suc, List, [], ◌∷◌, ◌++◌, length, take, drop, Bool, true, false, cond, ◌&&◌, nat_lt, nat_le, refl, sym, ◌∙◌, ap, subst, arith, append_assoc}
 use Rattle.std.proofs.lemmas.Bool.Decides.{nat_tests}
 use Rattle.std.proofs.lemmas.List.{take_all, take-append-drop, drop-append-le}
 use Rattle.seg_core.specs.Line.{joined, delimiters, first_lines, after_lines}
 use Rattle.seg_core.proofs.FirstLines.{first_lines-is_take}
 use Rattle.split_core.specs.declared.limit.Limit.{Limit}
 use Rattle.split_core.specs.declared.limit.Limit.TheVariants.{Lines, Bytes, LineBytes}
-use Rattle.split_core.specs.Parts.{whole_lines, open_line, most, measure, is_full, first_part, behind_first, cut_up}
+use Rattle.split_core.specs.Parts.{whole_lines, open_line, most, measure, is_full, first_part, after_first, cut_up}
 use Rattle.split_core.specs.laws.CutLaws.{has_lines, without_lines, whole_within, cuts_up, cut_once}
 use Rattle.split_core.specs.inner.CutLaws.{Cuts, stops, goes, cut_so}
 
@@ -37,7 +37,7 @@ take-is_take zero x = refl
 take-is_take (suc n) [] = refl
 take-is_take (suc n) (byte ∷ x) = ap (λ rest. byte ∷ rest) (take-is_take n x)
 
-take-take_few : (k n : ℕ) (x : List ℕ) → k ≤ length (take n x) → take k (take n x) ≡ take k x
+pub take-take_few : (k n : ℕ) (x : List ℕ) → k ≤ length (take n x) → take k (take n x) ≡ take k x
 take-take_few zero n x few = refl
 take-take_few (suc k) zero x few = absurd (omega arith)
 take-take_few (suc k) (suc n) [] few = refl
@@ -48,13 +48,13 @@ first_is_take (Lines n delim) x = first_lines-is_take delim n x
 first_is_take (Bytes n) x = take-is_take n x
 first_is_take (LineBytes n delim) x = whole_is_take delim (take n x) ∙ take-take_few (length (whole_lines delim (take n x))) n x (whole_within delim (take n x))
 
-pub first_then_behind : (limit : Limit) (x : List ℕ) → first_part limit x ++ behind_first limit x ≡ x
-first_then_behind limit x = ap (λ front. front ++ behind_first limit x) (first_is_take limit x) ∙ take-append-drop (length (first_part limit x)) x
+pub first_then_after : (limit : Limit) (x : List ℕ) → first_part limit x ++ after_first limit x ≡ x
+first_then_after limit x = ap (λ front. front ++ after_first limit x) (first_is_take limit x) ∙ take-append-drop (length (first_part limit x)) x
 
 cuts_all : (limit : Limit) (x : List ℕ) (parts : List (List ℕ)) (rest : List ℕ) → Cuts limit x parts rest → joined parts ++ rest ≡ x
 cuts_all limit x _ _ (stops _ short) = refl
-cuts_all limit x _ rest (goes _ parts _ full behind) =
-    append_assoc (first_part limit x) (joined parts) rest ∙ ap (λ those. first_part limit x ++ those) (cuts_all limit (behind_first limit x) parts rest behind) ∙ first_then_behind limit x
+cuts_all limit x _ rest (goes _ parts _ full after) =
+    append_assoc (first_part limit x) (joined parts) rest ∙ ap (λ those. first_part limit x ++ those) (cuts_all limit (after_first limit x) parts rest after) ∙ first_then_after limit x
 
 -- nothing is lost
 pub cut_all : (limit : Limit) (x : List ℕ) → joined (cut_up limit x).full ++ (cut_up limit x).rest ≡ x
@@ -62,10 +62,10 @@ cut_all limit x = cuts_all limit x _ _ (cuts_up limit x)
 
 pub cut_two : (limit : Limit) (x first next : List ℕ) → is_full limit x ≡ true → first_part limit x ≡ first → x ≡ first ++ next → is_full limit next ≡ false → cut_up limit x ≡ cut_so (first ∷ []) next
 cut_two limit x first next full is both short =
-    let behind : behind_first limit x ≡ next = ap (λ (front : List ℕ). drop (length front) x) is ∙ ap (drop (length first)) both ∙ drop-append-le (length first) first next (omega arith) ∙ ap (λ rest. rest ++ next) (dropped first) in
+    let after : after_first limit x ≡ next = ap (λ (front : List ℕ). drop (length front) x) is ∙ ap (drop (length first)) both ∙ drop-append-le (length first) first next (omega arith) ∙ ap (λ rest. rest ++ next) (dropped first) in
     cut_once limit x (first ∷ []) next
     (subst (λ front. Cuts limit x (front ∷ []) next) is
-    (goes x [] next full (subst (λ those. Cuts limit those [] next) (sym behind) (stops next short)))) where
+    (goes x [] next full (subst (λ those. Cuts limit those [] next) (sym after) (stops next short)))) where
       dropped : (xs : List ℕ) → drop (length xs) xs ≡ []
       dropped [] = refl
       dropped (byte ∷ xs) = dropped xs

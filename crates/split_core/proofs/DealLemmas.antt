@@ -13,6 +13,7 @@ use Rattle.split_core.specs.Parts.{dealt}
 use Rattle.split_core.specs.inner.Dealt.{dealt_piece, reached_by}
 use Rattle.split_core.specs.inner.FirstLine.{IsFirstLine}
 use Rattle.split_core.proofs.DealLaws.{dealt_same}
+use Rattle.ports_core.proofs.CounterLemmas.{no_length}
 
 -- of a piece what is left is still to be gathered
 pub record Dealing (delim n start : ℕ) (piece : List ℕ) (gathered : List (List ℕ)) (next reached : ℕ) (left : List ℕ) : Type 0 where
@@ -152,14 +153,10 @@ ended delim n start piece gathered next reached so_far = record {
   reached_is = reached_all delim n start piece gathered next reached [] so_far refl;
 }
 
-none_left : (x : List ℕ) → length x ≡ 0 → x ≡ []
-none_left [] none = refl
-none_left (byte ∷ x) none = absurd (omega (arith, none))
-
 pub ends_here : (delim n start : ℕ) (piece : List ℕ) (gathered : List (List ℕ)) (next reached : ℕ) (left line : List ℕ) → Dealing delim n start piece gathered next reached left → line ≡ left → eqb (length line) 0 ≡ true
     → Gathers delim n start piece gathered next reached
 ends_here delim n start piece gathered next reached left line so_far same none =
-    ended delim n start piece gathered next reached (subst (λ those. Dealing delim n start piece gathered next reached those) (none_left left (ap length (sym same) ∙ eqb-true (length line) 0 none)) so_far)
+    ended delim n start piece gathered next reached (subst (λ those. Dealing delim n start piece gathered next reached those) (no_length left (ap length (sym same) ∙ eqb-true (length line) 0 none)) so_far)
 
 pub ends_open : (delim n start : ℕ) (piece : List ℕ) (gathered now : List (List ℕ)) (next reached reached_now : ℕ) (left line : List ℕ) → Dealing delim n start piece gathered next reached left → line ≡ left → delimiters delim left ≡ 0
     → eqb (length line) 0 ≡ false → now ≡ changed_at next (λ had. had ++ line) gathered → reached_now ≡ max reached (next + 1) → Gathers delim n start piece now next reached_now

@@ -1,27 +1,31 @@
 -- One file is opened, written or closed.
-use Rattle.std.proofs.Common.{◌≡◌, ◌≢◌, ℕ, ◌+◌, ◌-◌, ◌<◌, ◌≤◌, zero, suc, max, Bool, true, List, [], ◌∷◌, ◌++◌, length, map, take, drop, get_or, ◌⊎◌, inl, inr, refl, sym, ◌∙◌, ap, subst, arith, length-append, Ok, Err, Result, OnOk, IfErr}
-use Rattle.std.proofs.lemmas.Bool.{cases_lt}
-use Rattle.std.proofs.lemmas.List.{map-append, length-map, length-take-le, get_or-append_right, get_or_append_left, get_or_past}
+use Rattle.std.proofs.Common.{◌≡◌, ◌≢◌, ℕ, ◌+◌, ◌<◌, ◌≤◌, zero, suc, max, Bool, List, [], ◌∷◌, ◌++◌, length, map, take, drop, get_or, ◌⊎◌, inl, inr, refl, sym, ◌∙◌, ap, subst, arith, length-append, Ok, Err, Result, OnOk, IfErr}
+use Rattle.std.proofs.lemmas.Bool.{cases_lt, false≢true}
+use Rattle.std.proofs.lemmas.List.{map-append, length-map, length-take-le, get_or_append_left}
 use Rattle.ports_core.specs.Name.{Naming, next_name, with_one_drawn}
-use Rattle.ports_core.specs.Slot.{Slot, no_slot, slot_at, changed_at, opened, unopened, adds, breaks, closes, is_writable, is_closable, with_written, with_broken, told_of, broke, numberless, Rose}
+use Rattle.ports_core.specs.Slot.{Slot, slot_at, changed_at, opened, adds, breaks, closes, is_writable, is_closable, with_written, with_broken, told_of, broke, numberless, Rose}
 use Rattle.ports_core.specs.Write.{BrokeAfter}
 use Rattle.ports_core.specs.Part.{OutputsAt, Begins, Marks, IsAt}
 use Rattle.ports_core.specs.declared.slot.Mode.TheVariants.{Fresh}
 use Rattle.ports_core.specs.declared.slot.State.TheVariants.{Open}
 use Rattle.ports_core.specs.declared.fault.Fault.{Fault}
 use Rattle.ports_core.specs.declared.fault.Fault.TheVariants as fault
-use Rattle.ports_core.proofs.PartLemmas.{broken_at, sound_at}
+use Rattle.ports_core.proofs.PartLemmas.{sound_at}
 use Rattle.ports_core.proofs.SlotLemmas.{length-changed_at}
 use Rattle.ports_core.proofs.WriteLemmas.{writable-written}
 use Rattle.ports_core.proofs.FileLemmas.{file_more, file_changes, write_makes, close_makes, gets, ended}
-use Rattle.ports_core.proofs.SlotSteps.{writable_within, writable_before, opened_writable}
+use Rattle.ports_core.proofs.SlotSteps.{keeps_again, keeps_close, keeps_open, keeps_same, keeps_write, open_rose, rose_later, write_rose, writable_within, writable_before, opened_writable, broken_there}
 use Rattle.split_core.specs.Split.{share, name_of, from_start, file_at, only_files}
 use Rattle.split_core.specs.FilesState.{FilesState}
 use Rattle.split_core.specs.Round.{AreReady, OwnsFiles, output_at}
 use Rattle.split_core.specs.laws.RoundLaws.{all_begin_themselves}
-use Rattle.split_core.specs.inner.Sharing.{AllBegin, added, filled, filed, closed_first, open_part, closing_part, StayBroken, StandAt, KeepsFiles, Became, IsDue, StopsAt, StopsShort, HaveClosed, ClosesShort, with_opened, FailsToFollow, CannotClose, could_not, unnamed, IsOfFiles}
+use Rattle.split_core.specs.inner.Sharing.{AllBegin, added, filled, filed, closed_first, open_part, closing_part, StandAt, KeepsFiles, Became, IsDue, StopsAt, StopsShort, HaveClosed, ClosesShort, with_opened, FailsToFollow, CannotClose, could_not, unnamed, IsOfFiles}
+use Rattle.ports_core.specs.Engine.{is_verdict}
+use Rattle.ports_core.specs.inner.Slot.{KeepsBroken}
+use Rattle.split_core.specs.inner.Moves.{wants_memory, breaks_write, breaks_open}
 use Rattle.split_core.specs.Sharing.{CannotOpen}
-use Rattle.split_core.proofs.FilesLemmas.{filled_begin, filled_next, filled_same, length-filled, filed_more, filed_gets, filed_ends, changed_begin, cut_begin, parts_begin, closed_shares, stay_broken, stay_later, stay_changed, stay_opened, became_then, halts_then, stops_in_order, caused_later, added_next, added_begin, added_fewer, filled_again, filled_further, length-added, added_before, added_past, take_changed, drop_changed, take_filled, take_further, drop_filled, drop_past_filled, take_filed, drop_filed}
+use Rattle.split_core.proofs.FilesLemmas.{filled_begin, filled_next, filled_same, length-filled, filed_more, open_length, length-filed, filed_gets, filed_ends, changed_begin, cut_begin, parts_begin, closed_shares, became_then, halts_then, stops_in_order, caused_later, added_next, added_begin, added_fewer, filled_again, filled_further, length-added, added_before, added_past, take_changed, drop_changed, take_filled, take_further, drop_filled, drop_past_filled, take_filed, drop_filed}
+use Rattle.ports_core.proofs.CounterLemmas.{same_default}
 
 -- Opening
 
@@ -108,7 +112,7 @@ became_opened told files next old new place ready made is here = record {
   lengths = λ these long. length-filled (place + 1) these ∙ (let more : length next.outputs ≡ length files.outputs + 1 = count in omega arith);
   outputs = λ before these at. subst (λ n. OutputsAt told before (open_part files.names (filled n these)) new) further (opens told files before these old new ready.drawn at.count is at.outputs);
   owned = owned_opened files next old new (next_name files.names) ready.drawn made is;
-  sound = stay_opened old new (opened (next_name files.names) Fresh) is;
+  sound = keeps_open (opened (next_name files.names) Fresh) old new is;
 } where
   count : length next.outputs ≡ length files.outputs + 1
   count = ap (λ (those : FilesState). length those.outputs) made ∙ outputs_more files.outputs (length old)
@@ -125,7 +129,7 @@ became_same told files old place ready within = record {
   lengths = λ these long. length-filled (place + 1) these ∙ omega arith;
   outputs = λ before these at. (let long : length these ≡ length files.outputs = at.count in subst (λ those. OutputsAt told before (open_part files.names those) old) (sym (filled_same (place + 1) these (omega arith))) at.outputs);
   owned = λ first owns. owns;
-  sound = stay_broken old;
+  sound = keeps_same old old refl;
 }
 
 marks_failed : (IsName : List ℕ → Type 0) (files next : FilesState) (old new : List Slot) (why : Fault) → IsName (next_name files.names) → FailsToFollow files old next new why → Marks IsName why old new
@@ -139,27 +143,20 @@ from_next files next old new _ first place count here (could_not _ (numberless f
 from_next files next old new _ first place count here (unnamed same made) = tt
 
 pub fails_caused : (files next : FilesState) (old new : List Slot) (why : Fault) → FailsToFollow files old next new why → CannotOpen old new why
-fails_caused files next old new _ (could_not _ (broke slot kept is kept_is made) drew) = inr (
-  slot,
-  refl,
-  (
-    ap (λ those. those.is_broken) (get_or_past old slot no_slot (omega arith)),
-    ap (λ slots. (slot_at slots slot).is_broken) made
-        ∙ ap (λ those. those.is_broken) (get_or-append_right old (unopened kept ∷ []) (length old) slot no_slot refl (omega arith) ∙ ap (λ at. slot_at (unopened kept ∷ []) at) none),
-  ),
-) where
-  none : slot - length old ≡ 0
-  none = omega arith
+fails_caused files next old new _ (could_not _ (broke slot kept is kept_is made) drew) = inr (slot, refl, open_rose slot kept old new is made)
 fails_caused files next old new _ (could_not _ (numberless full same) drew) = inl refl
 fails_caused files next old new _ (unnamed same made) = inl refl
 
-pub of_files : (old new : List Slot) (why : Fault) → CannotOpen old new why → IsOfFiles old new why
-of_files old new why (inl none) = subst (IsOfFiles old new) (sym none) tt
-of_files old new why (inr (slot, is, rose)) = subst (IsOfFiles old new) (sym is) rose
+pub no_memory : {old new : List Slot} → IsOfFiles old new fault.Memory
+no_memory = (wants_memory, λ named. false≢true (ap is_verdict named))
 
-pub cannot_later : (old mid new : List Slot) (why : Fault) → StayBroken old mid → CannotOpen mid new why → CannotOpen old new why
+pub of_files : (old new : List Slot) (why : Fault) → CannotOpen old new why → IsOfFiles old new why
+of_files old new why (inl none) = subst (IsOfFiles old new) (sym none) no_memory
+of_files old new why (inr (slot, is, rose)) = subst (IsOfFiles old new) (sym is) (breaks_open slot rose, λ named. false≢true (ap is_verdict named))
+
+pub cannot_later : (old mid new : List Slot) (why : Fault) → KeepsBroken old mid → CannotOpen mid new why → CannotOpen old new why
 cannot_later old mid new why stay (inl none) = inl none
-cannot_later old mid new why stay (inr (slot, is, rose)) = inr (slot, is, (stay slot rose.0, rose.1))
+cannot_later old mid new why stay (inr (slot, is, rose)) = inr (slot, is, rose_later slot old mid new stay rose)
 
 pub stops_unopened : (told : Bool) (files next : FilesState) (old new : List Slot) (place : ℕ) (why : Fault) → files.names.drawn ≡ length files.outputs → place ≡ length files.outputs → FailsToFollow files old next new why
     → StopsAt told files (filled (place + 1)) place old new why
@@ -208,7 +205,7 @@ became_written told files old new place bytes ready within is = record {
   lengths = λ these long. length-changed_at place _ these ∙ long;
   outputs = λ before these at. writes told files before these old new place bytes within is at;
   owned = owned_same files old new (ap length is ∙ length-changed_at (output_at files place) _ old);
-  sound = stay_changed (output_at files place) (adds (told_of told bytes)) old new (λ one. refl) is;
+  sound = keeps_write (output_at files place) (told_of told bytes) old new is;
 }
 
 pub stops_written : (told : Bool) (files : FilesState) (old new : List Slot) (place : ℕ) (bytes : List ℕ) (n : ℕ) → AreReady files old → place < length files.outputs → BrokeAfter told old new (output_at files place) bytes n
@@ -227,14 +224,9 @@ stops_written told files old new place bytes n ready within cut before these at 
 
 pub rose_written : (told : Bool) (files : FilesState) (old new : List Slot) (place : ℕ) (bytes : List ℕ) (n : ℕ) → AreReady files old → place < length files.outputs → BrokeAfter told old new (output_at files place) bytes n
     → IsOfFiles old new (fault.Write (output_at files place))
-rose_written told files old new place bytes n ready within cut = (
-  (ready.closable place within).0,
-  (
-    sound_at (output_at files place) old (ready.closable place within).1,
-    ap (λ slots. (slot_at slots (output_at files place)).is_broken) cut.slots
-        ∙ broken_at (output_at files place) _ (writable-written old (output_at files place) (output_at files place) _ ∙ (ready.closable place within).1),
-  ),
-)
+rose_written told files old new place bytes n ready within cut =
+    let can = ready.closable place within in
+    (breaks_write (output_at files place) can.0 (write_rose told (output_at files place) bytes n old new can.1 cut), λ named. false≢true (ap is_verdict named))
 
 -- Closing
 
@@ -243,7 +235,7 @@ pub record Closing (told : Bool) (files : FilesState) (place : ℕ) (old now : L
   pub size : length now ≡ length old
   pub left : (other : ℕ) → place ≤ other → other < length files.outputs → is_closable now (output_at files other)
   pub closed : HaveClosed told files place old now
-  pub sound : StayBroken old now
+  pub sound : KeepsBroken old now
 
 writable_other : (slots : List Slot) (place other : ℕ) → place ≢ other → is_writable (changed_at place closes slots) other ≡ is_writable slots other
 writable_other [] place other differs = refl
@@ -265,7 +257,7 @@ one_closed told files place old now new ready within so_far is = record {
   left = λ other past inside. (let can = so_far.left other (omega arith) inside in let apart = ready.apart place other (omega arith) inside in
       (can.0, ap (λ slots. is_writable slots (output_at files other)) is ∙ writable_other now (output_at files place) (output_at files other) (λ same. omega (arith, same)) ∙ can.1));
   closed = λ before these at. subst (λ n. OutputsAt told before (closing_part files.names n these) new) further (closes_next told files before these old now new place so_far within is at);
-  sound = stay_later old now new so_far.sound (stay_changed (output_at files place) closes now new (λ one. refl) is);
+  sound = keeps_again old now new so_far.sound (keeps_close (output_at files place) now new is);
 } where
   further : suc place ≡ place + 1
   further = omega arith
@@ -305,17 +297,12 @@ stops_closing told files place old now new ready within so_far is before these a
   from = inr (at.owns.stand place within);
 }
 
-broken_now : (place : ℕ) (slots : List Slot) → place < length slots → (slot_at (with_broken place slots) place).is_broken ≡ true
-broken_now place [] within = absurd (omega arith)
-broken_now zero (one ∷ slots) within = refl
-broken_now (suc place) (one ∷ slots) within = broken_now place slots (omega arith)
-
 pub rose_closing : (told : Bool) (files : FilesState) (place : ℕ) (old now new : List Slot) → AreReady files old → place < length files.outputs → Closing told files place old now
     → new ≡ with_broken (output_at files place) (changed_at (output_at files place) closes now) → Rose (output_at files place) old new
 rose_closing told files place old now new ready within so_far is = (
   so_far.sound (output_at files place) (sound_at (output_at files place) now (so_far.left place (omega arith) within).1),
   ap (λ slots. (slot_at slots (output_at files place)).is_broken) is
-      ∙ broken_now (output_at files place) _ (let inside = output_within files old place ready within in let same : length now ≡ length old = so_far.size in let kept = length-changed_at (output_at files place) closes now in omega arith),
+      ∙ broken_there (output_at files place) _ (let inside = output_within files old place ready within in let same : length now ≡ length old = so_far.size in let kept = length-changed_at (output_at files place) closes now in omega arith),
 )
 
 -- what reaching a file owes, by the result of opening it
@@ -433,13 +420,8 @@ closes_owned told files place slot old now new so_far is = owned_same files old 
 
 -- what a field of the list of outputs shows
 
-any_default : (xs : List ℕ) (place one other : ℕ) → place < length xs → get_or xs place one ≡ get_or xs place other
-any_default [] place one other within = absurd (omega arith)
-any_default (x ∷ xs) zero one other within = refl
-any_default (x ∷ xs) (suc place) one other within = any_default xs place one other (omega arith)
-
 pub output_is : (files : FilesState) (items : List ℕ) (place slot : ℕ) → items ≡ files.outputs → place < length files.outputs → slot ≡ get_or items place slot → slot ≡ output_at files place
-output_is files items place slot same within is = is ∙ ap (λ those. get_or those place slot) same ∙ any_default files.outputs place slot 0 within
+output_is files items place slot same within is = is ∙ ap (λ those. get_or those place slot) same ∙ same_default files.outputs place slot 0 within
 
 pub unchanged : (files : FilesState) (names next : Naming) (items reserved : List ℕ) → record { names = names; outputs = items } ≡ files → reserved ≡ items → next ≡ names → record { names = next; outputs = reserved } ≡ files
 unchanged files names next items reserved is same names_same = ap (λ those. record { names = next; outputs = those }) same ∙ ap (λ those. record { names = those; outputs = items }) names_same ∙ is

@@ -1,15 +1,13 @@
 -- Lemmas on files that are opened, written and closed in order.
 use Rattle.std.proofs.Common.{◌≡◌, ℕ, ◌+◌, ◌<◌, ◌≤◌, zero, suc, max, Bool, List, [], ◌∷◌, ◌++◌, length, map, take, drop, get_or, inl, inr, refl, sym, ◌∙◌, ap, subst, arith}
-use Rattle.std.proofs.lemmas.Bool.{cases_lt}
-use Rattle.std.proofs.lemmas.List.{length-map, get_or_append_left, get_or_past}
+use Rattle.std.proofs.lemmas.List.{length-map}
 use Rattle.ports_core.specs.Name.{Naming}
-use Rattle.ports_core.specs.Slot.{Slot, no_slot, slot_at, changed_at}
+use Rattle.ports_core.specs.Slot.{Slot, changed_at}
 use Rattle.ports_core.specs.Part.{File, OutputsAt, FilesBegin, Begins, IsNext, IsAt}
 use Rattle.ports_core.specs.declared.slot.State.{State}
 use Rattle.ports_core.specs.declared.slot.State.TheVariants.{Open, Closed}
 use Rattle.ports_core.specs.declared.fault.Fault.{Fault}
-use Rattle.ports_core.specs.declared.fault.Fault.TheVariants as fault
-use Rattle.ports_core.proofs.PartLemmas.{begins_itself, begins_more, begins_trans, nothing_begins, take_begins_behind, marks_by}
+use Rattle.ports_core.proofs.PartLemmas.{begins_itself, begins_more, begins_trans, nothing_begins, take_begins_after, marks_by}
 use Rattle.ports_core.proofs.FileLemmas.{gets, ended}
 use Rattle.split_core.specs.Split.{Share, share, name_of, from_start, file_at, only_files}
 use Rattle.split_core.specs.FilesState.{FilesState}
@@ -17,7 +15,10 @@ use Rattle.split_core.specs.Round.{AreReady}
 use Rattle.split_core.specs.laws.RoundLaws.{all_begin_themselves}
 use Rattle.split_core.specs.inner.ShareLaws.{SharesBegin}
 use Rattle.split_core.specs.laws.ShareLaws.{kept_file}
-use Rattle.split_core.specs.inner.Sharing.{AllBegin, added, filled, filed, open_part, closed_first, StayBroken, StandAt, Became, IsDue, HaltedAt, StopsAt, StopsShort, IsOfFiles}
+use Rattle.ports_core.specs.inner.Slot.{KeepsBroken}
+use Rattle.ports_core.proofs.SlotSteps.{keeps_again, keeps_same}
+use Rattle.split_core.proofs.MoveLemmas.{breaks_later}
+use Rattle.split_core.specs.inner.Sharing.{AllBegin, added, filled, filed, open_part, closed_first, StandAt, Became, IsDue, HaltedAt, StopsAt, StopsShort, IsOfFiles}
 
 -- Beginnings
 
@@ -71,7 +72,7 @@ changed_begin (suc place) more (bytes ∷ these) = (begins_itself bytes, changed
 
 pub cut_begin : (place n : ℕ) (more : List ℕ) (these : List (List ℕ)) → AllBegin (changed_at place (λ had. had ++ take n more) these) (changed_at place (λ had. had ++ more) these)
 cut_begin place n more [] = tt
-cut_begin zero n more (bytes ∷ these) = (take_begins_behind n bytes more, all_begin_themselves these)
+cut_begin zero n more (bytes ∷ these) = (take_begins_after n bytes more, all_begin_themselves these)
 cut_begin (suc place) n more (bytes ∷ these) = (begins_itself bytes, cut_begin place n more these)
 
 pub filled_begin : (n : ℕ) (these : List (List ℕ)) → AllBegin these (filled n these)
@@ -178,41 +179,8 @@ renamed told before now names others these same at = subst (λ those. OutputsAt 
 
 -- Outputs
 
--- outputs that are broken stay broken
-
-broken_same : (place : ℕ) (change : Slot → Slot) (slots : List Slot) (slot : ℕ) → ((one : Slot) → (change one).is_broken ≡ one.is_broken) → (slot_at (changed_at place change slots) slot).is_broken ≡ (slot_at slots slot).is_broken
-broken_same place change [] slot keeps = refl
-broken_same zero change (one ∷ slots) zero keeps = keeps one
-broken_same zero change (one ∷ slots) (suc slot) keeps = refl
-broken_same (suc place) change (one ∷ slots) zero keeps = refl
-broken_same (suc place) change (one ∷ slots) (suc slot) keeps = broken_same place change slots slot keeps
-
-pub stay_broken : (slots : List Slot) → StayBroken slots slots
-stay_broken slots slot sound = sound
-
-pub stay_later : (old mid new : List Slot) → StayBroken old mid → StayBroken mid new → StayBroken old new
-stay_later old mid new first second slot sound = first slot (second slot sound)
-
-pub stay_changed : (place : ℕ) (change : Slot → Slot) (old new : List Slot) → ((one : Slot) → (change one).is_broken ≡ one.is_broken) → new ≡ changed_at place change old → StayBroken old new
-stay_changed place change old new keeps is slot sound = sym (broken_same place change old slot keeps) ∙ ap (λ slots. (slot_at slots slot).is_broken) (sym is) ∙ sound
-
-pub stay_opened : (old new : List Slot) (one : Slot) → new ≡ old ++ one ∷ [] → StayBroken old new
-stay_opened old new one is slot sound = elim (cases_lt slot (length old)) [
-  | inl within ↦ ap (λ those. those.is_broken) (sym (get_or_append_left old (one ∷ []) no_slot slot within)) ∙ ap (λ slots. (slot_at slots slot).is_broken) (sym is) ∙ sound
-  | inr past ↦ ap (λ those. those.is_broken) (get_or_past old slot no_slot past)
-]
-
-pub caused_later : (old mid new : List Slot) (why : Fault) → StayBroken old mid → IsOfFiles mid new why → IsOfFiles old new why
-caused_later old mid new fault.Memory stay caused = tt
-caused_later old mid new (fault.Write slot) stay caused = (caused.0, (stay slot caused.1.0, caused.1.1))
-caused_later old mid new (fault.Open slot) stay caused = (stay slot caused.0, caused.1)
-caused_later old mid new (fault.Read slot) stay caused = caused
-caused_later old mid new fault.Suffixes stay caused = caused
-caused_later old mid new (fault.NoMatch operand repetition) stay caused = caused
-caused_later old mid new (fault.Range operand repetition) stay caused = caused
-caused_later old mid new (fault.Usage kind word) stay caused = caused
-caused_later old mid new fault.Failed stay caused = caused
-caused_later old mid new fault.TooLong stay caused = caused
+pub caused_later : (old mid new : List Slot) (why : Fault) → KeepsBroken old mid → IsOfFiles mid new why → IsOfFiles old new why
+caused_later old mid new why keeps caused = (breaks_later old mid new why keeps caused.0, caused.1)
 
 -- Files in order
 
@@ -237,12 +205,12 @@ added_before (suc place) (bytes ∷ these) [] = refl
 added_before (suc place) (bytes ∷ these) (next ∷ more) = ap (λ rest. (bytes ++ next) ∷ rest) (added_before place these more)
 
 -- and the others have what they had
-pub added_behind : (place : ℕ) (these more : List (List ℕ)) → place < length more → drop place (added these (take place more)) ≡ drop place these
-added_behind place these [] within = absurd (omega arith)
-added_behind zero [] (next ∷ more) within = refl
-added_behind zero (bytes ∷ these) (next ∷ more) within = refl
-added_behind (suc place) [] (next ∷ more) within = added_behind place [] more (omega arith) ∙ drop_no_lists place
-added_behind (suc place) (bytes ∷ these) (next ∷ more) within = added_behind place these more (omega arith)
+pub added_after : (place : ℕ) (these more : List (List ℕ)) → place < length more → drop place (added these (take place more)) ≡ drop place these
+added_after place these [] within = absurd (omega arith)
+added_after zero [] (next ∷ more) within = refl
+added_after zero (bytes ∷ these) (next ∷ more) within = refl
+added_after (suc place) [] (next ∷ more) within = added_after place [] more (omega arith) ∙ drop_no_lists place
+added_after (suc place) (bytes ∷ these) (next ∷ more) within = added_after place these more (omega arith)
 
 drop_next : (place : ℕ) (these those : List (List ℕ)) → drop place these ≡ drop place those → drop (suc place) these ≡ drop (suc place) those
 drop_next place these those same = sym (drop_one place these) ∙ ap (drop 1) same ∙ drop_one place those where
@@ -252,7 +220,7 @@ drop_next place these those same = sym (drop_one place these) ∙ ap (drop 1) sa
   drop_one (suc n) (x ∷ xs) = drop_one n xs
 
 pub added_past : (place : ℕ) (these more : List (List ℕ)) → place < length more → drop (suc place) (added these (take place more)) ≡ drop (suc place) these
-added_past place these more within = drop_next place _ _ (added_behind place these more within)
+added_past place these more within = drop_next place _ _ (added_after place these more within)
 
 pub take_changed : (place : ℕ) (change : List ℕ → List ℕ) (these : List (List ℕ)) → take place (changed_at place change these) ≡ take place these
 take_changed zero change these = refl
@@ -345,7 +313,7 @@ nothing_made told files makes slots ready same = record {
   lengths = λ these is. ap length (same these) ∙ is;
   outputs = λ before these at. subst (λ those. OutputsAt told before (open_part files.names those) slots) (sym (same these)) at.outputs;
   owned = λ first owns. owns;
-  sound = stay_broken slots;
+  sound = keeps_same slots slots refl;
 }
 
 -- where the files stand after a step
@@ -366,19 +334,19 @@ became_then told files first second both one two count old mid new between next 
   outputs = λ start these at. subst (λ those. OutputsAt told start (open_part files.names those) new) (same these)
       (renamed told start new files.names between.names (second (first these)) before.names (after.outputs start (first these) (stand_then told files between first one old mid start these before at)));
   owned = λ from owns. after.owned from (before.owned from owns);
-  sound = stay_later old mid new before.sound after.sound;
+  sound = keeps_again old mid new before.sound after.sound;
 }
 
 -- A fault of a later step, on the way from what was there at first to all that was to be. By then the files before its place
 -- have all, and those after it have what they had.
 pub halted_wider : (told : Bool) (start now : List Slot) (names others : Naming) (these low high all : List (List ℕ)) (place : ℕ) (why : Fault) → from_start others ≡ from_start names → HaltedAt told start others low high place why now
     → AllBegin these low → AllBegin high all → drop (suc place) low ≡ drop (suc place) these → take place high ≡ take place all → HaltedAt told start names these all place why now
-halted_wider told start now names others these low high all place why same stop above below behind before = record {
+halted_wider told start now names others these low high all place why same stop above below past before = record {
   part = stop.part;
   above = all_trans these low stop.part above stop.above;
   below = all_trans stop.part high all stop.below below;
   done = stop.done ∙ before;
-  untouched = stop.untouched ∙ behind;
+  untouched = stop.untouched ∙ past;
   reached = stop.reached;
   outputs = renamed told start stop.reached names others stop.part same stop.outputs;
   marks = marks_by (IsDue others stop.part high) (IsDue names stop.part all) why stop.reached now
@@ -389,9 +357,9 @@ halted_wider told start now names others these low high all place why same stop 
 pub halts_then : (told : Bool) (files : FilesState) (first second all : List (List ℕ) → List (List ℕ)) (one place : ℕ) (old mid new : List Slot) (between : FilesState) (why : Fault) → Became told files first one old between mid → StopsAt told between second place mid new why
     → ((these : List (List ℕ)) → AllBegin these (first these)) → ((these : List (List ℕ)) → AllBegin (second (first these)) (all these)) → ((these : List (List ℕ)) → drop (suc place) (first these) ≡ drop (suc place) these)
     → ((these : List (List ℕ)) → length these ≡ length files.outputs → take place (second (first these)) ≡ take place (all these)) → StopsAt told files all place old new why
-halts_then told files first second all one place old mid new between why before stops low high behind done start these at =
+halts_then told files first second all one place old mid new between why before stops low high past done start these at =
     halted_wider told start new files.names between.names these (first these) (second (first these)) (all these) place why before.names
-    (stops start (first these) (stand_then told files between first one old mid start these before at)) (low these) (high these) (behind these) (done these at.count)
+    (stops start (first these) (stand_then told files between first one old mid start these before at)) (low these) (high these) (past these) (done these at.count)
 
 -- so the files are in order where the fault stopped them
 pub stops_in_order : (told : Bool) (files : FilesState) (makes : List (List ℕ) → List (List ℕ)) (place : ℕ) (old new : List Slot) (why : Fault) → StopsAt told files makes place old new why → StopsShort told files makes old new why

@@ -2,26 +2,27 @@
 use Rattle.std.proofs.Common.{◌≡◌, ℕ, ◌+◌, ◌<◌, ◌≤◌, suc, List, [], ◌∷◌, ◌++◌, length, take, Bool, true, false, cond, IsTrue, Option, Some, None, inl, inr, refl, sym, ◌∙◌, ap, subst, arith, length-append}
 use Rattle.std.proofs.lemmas.Bool.{false≢true}
 use Rattle.ports_core.specs.Name.{Naming, next_name}
-use Rattle.ports_core.specs.Slot.{Slot, changed_at, opened, unopened, adds, closes, breaks, with_written, with_broken, told_of, is_writable}
+use Rattle.ports_core.specs.Slot.{Slot, changed_at, opened, unopened, adds, closes, with_written, with_broken, told_of, is_writable}
 use Rattle.ports_core.specs.inner.Slot.{KeepsBroken}
 use Rattle.ports_core.specs.declared.slot.Mode.TheVariants.{Fresh}
 use Rattle.ports_core.specs.declared.slot.State.TheVariants as state
 use Rattle.ports_core.specs.Part.{File, Part, OutputsAt, Begins, IsNext, Marks, IsAt}
 use Rattle.ports_core.specs.inner.Part.{AllClosed, InTurn, StoppedInTurn}
+use Rattle.ports_core.specs.Engine.{IsMet, is_verdict}
 use Rattle.ports_core.specs.declared.fault.Fault.{Fault}
 use Rattle.ports_core.specs.declared.fault.Fault.TheVariants.{Memory, Write, Read, Open, Suffixes, NoMatch, Range, Usage, Failed, TooLong}
-use Rattle.ports_core.proofs.PartLemmas.{begins_itself, begins_more, take_begins_behind, turn_between, turn_last, turn_next, outputs_count, part_begins_itself}
+use Rattle.ports_core.proofs.PartLemmas.{begins_itself, begins_more, take_begins_after, turn_between, turn_last, turn_next, outputs_count, part_begins_itself}
 use Rattle.ports_core.proofs.FileLemmas.{file_more, last_changes, gets, ended, write_makes, close_makes}
 use Rattle.ports_core.proofs.SlotLemmas.{length-changed_at}
 use Rattle.ports_core.specs.inner.Write.{WritesShort, broke}
 use Rattle.ports_core.proofs.SlotSteps.{rose_later, write_rose, open_rose}
-use Rattle.split_core.specs.Split.{Share, share, is_named, file_at, named, name_of}
+use Rattle.split_core.specs.Split.{Share, share, split_means, is_named, file_at, named, name_of}
 use Rattle.split_core.specs.inner.ShareLaws.{AllShut, SharesBegin}
 use Rattle.split_core.proofs.ShareLaws.{shares_more, last_grows}
 use Rattle.split_core.specs.laws.ShareLaws.{part_begins, no_more}
 use Rattle.split_core.specs.inner.PartsState.{IsAtEnd}
 use Rattle.split_core.specs.PartsState.{OwnsFile}
-use Rattle.split_core.specs.inner.Moves.{part_of, Moves, Halts, KeepsFile, Breaks, OpensNone}
+use Rattle.split_core.specs.inner.Moves.{part_of, Moves, Halts, KeepsFile, Breaks, OpensNone, wants_memory, breaks_write, breaks_open, lacks_names}
 
 -- names
 
@@ -171,7 +172,7 @@ write_halts told names shares begun bytes old new slot _ shut is last (broke n c
     halts_after told names _ (shares ++ share state.Open (begun ++ take n bytes) ∷ []) _ old (with_written slot (told_of told (take n bytes)) old) new (Write slot)
     (last_grows shares [] (share state.Open begun) (share state.Open (begun ++ take n bytes)) (inl refl) (begins_more begun (take n bytes)))
     (write_moves told names shares begun (take n bytes) old _ slot is last refl)
-    (halts_here told names _ _ _ new (Write slot) (length shares) (last_grows shares [] (share state.Open (begun ++ take n bytes)) (share state.Open (begun ++ bytes)) (inl refl) (take_begins_behind n begun bytes))
+    (halts_here told names _ _ _ new (Write slot) (length shares) (last_grows shares [] (share state.Open (begun ++ take n bytes)) (share state.Open (begun ++ bytes)) (inl refl) (take_begins_after n begun bytes))
     (last_turn names shares (share state.Open (begun ++ take n bytes)) is shut)
     (within_last slot old (with_written slot (told_of told (take n bytes)) old) last (length-changed_at slot _ old), cut.slots)
     (λ before at. inr (last_from told names shares (share state.Open (begun ++ take n bytes)) before _ slot is (last ∙ sym (length-changed_at slot _ old)) at)))
@@ -225,24 +226,18 @@ open_halts told names shares more one old new TooLong shut drawn none = absurd n
 -- which faults come
 
 pub breaks_later : (old mid new : List Slot) (fault : Fault) → KeepsBroken old mid → Breaks mid new fault → Breaks old new fault
-breaks_later old mid new Memory keeps breaks = tt
-breaks_later old mid new (Write slot) keeps breaks = (breaks.0, rose_later slot old mid new keeps breaks.1)
-breaks_later old mid new (Open slot) keeps breaks = rose_later slot old mid new keeps breaks
-breaks_later old mid new Suffixes keeps breaks = tt
-breaks_later old mid new (Read slot) keeps breaks = absurd breaks
-breaks_later old mid new (NoMatch operand repetition) keeps breaks = absurd breaks
-breaks_later old mid new (Range operand repetition) keeps breaks = absurd breaks
-breaks_later old mid new (Usage kind word) keeps breaks = absurd breaks
-breaks_later old mid new Failed keeps breaks = absurd breaks
-breaks_later old mid new TooLong keeps breaks = absurd breaks
+breaks_later old mid new _ keeps wants_memory = wants_memory
+breaks_later old mid new _ keeps (breaks_write slot two rose) = breaks_write slot two (rose_later slot old mid new keeps rose)
+breaks_later old mid new _ keeps (breaks_open slot rose) = breaks_open slot (rose_later slot old mid new keeps rose)
+breaks_later old mid new _ keeps lacks_names = lacks_names
 
 pub write_breaks : (told : Bool) (slot : ℕ) (bytes : List ℕ) (old new : List Slot) (fault : Fault) → 2 ≤ slot → IsTrue (is_writable old slot) → WritesShort told slot bytes old new fault → Breaks old new fault
-write_breaks told slot bytes old new _ behind can (broke n cut) = (behind, write_rose told slot bytes n old new can cut)
+write_breaks told slot bytes old new _ two can (broke n cut) = breaks_write slot two (write_rose told slot bytes n old new can cut)
 
 pub open_breaks : (names : Naming) (old new : List Slot) (fault : Fault) → OpensNone names old new fault → Breaks old new fault
-open_breaks names old new Memory none = tt
-open_breaks names old new (Open slot) none = open_rose slot none.2.0 old new none.0 none.2.2
-open_breaks names old new Suffixes none = tt
+open_breaks names old new Memory none = wants_memory
+open_breaks names old new (Open slot) none = breaks_open slot (open_rose slot none.2.0 old new none.0 none.2.2)
+open_breaks names old new Suffixes none = lacks_names
 open_breaks names old new (Write slot) none = absurd none
 open_breaks names old new (Read slot) none = absurd none
 open_breaks names old new (NoMatch operand repetition) none = absurd none
@@ -251,21 +246,31 @@ open_breaks names old new (Usage kind word) none = absurd none
 open_breaks names old new Failed none = absurd none
 open_breaks names old new TooLong none = absurd none
 
+-- they are no verdict but for want of names
+pub unjudged : (old new : List Slot) (fault : Fault) → Breaks old new fault → (fault ≡ Suffixes → ⊥) → is_verdict fault ≡ false
+unjudged old new _ wants_memory named = refl
+unjudged old new _ (breaks_write slot two rose) named = refl
+unjudged old new _ (breaks_open slot rose) named = refl
+unjudged old new _ lacks_names named = absurd (named refl)
+
+pub met_files : (Ends : Fault → Type 0) (old new : List Slot) (fault : Fault) → Breaks old new fault → (fault ≡ Suffixes → Ends fault) → IsMet split_means split_means.feeding (true ≡ true) Ends old new fault
+met_files Ends old new _ wants_memory ends = (refl, refl)
+met_files Ends old new _ (breaks_write slot two rose) ends = (λ none. absurd (omega (arith, none)), λ none. absurd (false≢true (sym none)), rose)
+met_files Ends old new _ (breaks_open slot rose) ends = (refl, refl, rose)
+met_files Ends old new _ lacks_names ends = ends refl
+
 -- where the file of the part that was begun stands
 
-at_end_so : (current : Option ℕ) (first : ℕ) (slots : List Slot) → OwnsFile current first slots → IsAtEnd current slots
-at_end_so None first slots owns = tt
-at_end_so (Some slot) first slots owns = owns.1
+pub owns_last : (current : Option ℕ) (first : ℕ) (slots : List Slot) → OwnsFile current first slots → IsAtEnd current slots
+owns_last None first slots owns = tt
+owns_last (Some slot) first slots owns = owns.1
 
 owned_so : (current : Option ℕ) (slots : List Slot) → IsAtEnd current slots → OwnsFile current 0 slots
 owned_so None slots last = omega arith
 owned_so (Some slot) slots last = (omega arith, last)
 
 pub stays_last : (current next : Option ℕ) (old new : List Slot) → KeepsFile current old next new → IsAtEnd current old → IsAtEnd next new
-stays_last current next old new keeps last = at_end_so next 0 new (keeps 0 (owned_so current old last))
-
-pub owns_last : (current : Option ℕ) (first : ℕ) (slots : List Slot) → OwnsFile current first slots → IsAtEnd current slots
-owns_last current first slots owns = at_end_so current first slots owns
+stays_last current next old new keeps last = owns_last next 0 new (keeps 0 (owned_so current old last))
 
 pub owned_again : (one two three : Option ℕ) (old mid new : List Slot) → KeepsFile one old two mid → KeepsFile two mid three new → KeepsFile one old three new
 owned_again one two three old mid new before after first owns = after first (before first owns)
@@ -303,18 +308,4 @@ owned_unopened names old new TooLong none first owns = absurd none
 
 -- a write doesn't fail for want of names
 pub no_suffixes : (told : Bool) (slot : ℕ) (bytes : List ℕ) (old new : List Slot) (f : Fault) → WritesShort told slot bytes old new f → f ≡ Suffixes → ⊥
-no_suffixes told slot bytes old new _ (broke n cut) is = not_write is where
-  is_write : Fault → Bool
-  is_write (Write slot) = true
-  is_write Memory = false
-  is_write (Read slot) = false
-  is_write (Open slot) = false
-  is_write Suffixes = false
-  is_write (NoMatch operand repetition) = false
-  is_write (Range operand repetition) = false
-  is_write (Usage kind word) = false
-  is_write Failed = false
-  is_write TooLong = false
-
-  not_write : Write slot ≡ Suffixes → ⊥
-  not_write e = false≢true (sym (ap is_write e))
+no_suffixes told slot bytes old new _ (broke n cut) is = false≢true (ap is_verdict is)

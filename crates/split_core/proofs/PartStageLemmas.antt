@@ -9,7 +9,7 @@ use Rattle.ports_core.specs.inner.Part.{StoppedInTurn}
 use Rattle.ports_core.specs.Engine.{TakesIn, PutsOut, CutsOff, EndsShort, EndsWith, EndsThere, StandsAt, Ended, IsMet, KeepsOwn, is_verdict}
 use Rattle.ports_core.specs.Engine as engine
 use Rattle.ports_core.specs.declared.fault.Fault.{Fault}
-use Rattle.ports_core.specs.declared.fault.Fault.TheVariants.{Memory, Write, Read, Open, Suffixes, NoMatch, Range, Usage, Failed, TooLong}
+use Rattle.ports_core.specs.declared.fault.Fault.TheVariants.{Memory, Write, Open, Suffixes}
 use Rattle.ports_core.specs.declared.slot.State.TheVariants.{Closed}
 use Rattle.ports_core.proofs.PartLemmas.{stopped_in_turn}
 use Rattle.split_core.specs.declared.limit.Limit.{Limit}
@@ -17,9 +17,11 @@ use Rattle.split_core.specs.Parts.{parts}
 use Rattle.split_core.specs.Split.{Share, share, are_named, from_start}
 use Rattle.split_core.specs.laws.ShareLaws.{settled_count}
 use Rattle.split_core.specs.PartsState.{PartsState, Stands, IsReady}
-use Rattle.split_core.specs.PartState.{work, parts_work, Owns}
-use Rattle.split_core.specs.inner.Moves.{part_of, Passes, Stopped, Breaks, Finishes}
-use Rattle.split_core.proofs.MoveLemmas.{part_drawn, owns_last}
+use Rattle.split_core.specs.PartState.{work, parts_work}
+use Rattle.split_core.specs.Ways as ways
+use Rattle.split_core.specs.declared.splitter.Splitter.TheVariants as way
+use Rattle.split_core.specs.inner.Moves.{part_of, Passes, Stopped, Breaks, Finishes, wants_memory, breaks_write, breaks_open, lacks_names}
+use Rattle.split_core.proofs.MoveLemmas.{met_files, part_drawn, owns_last}
 use Rattle.split_core.proofs.TakenLemmas.{are_named_drawn}
 
 -- the same files, however many names were drawn
@@ -63,11 +65,11 @@ module _ (told : Bool) (state next : PartsState) (piece : List ℕ) (old new : L
   same_work (Ok done) passes = work_by state next passes.limit_same passes.names_same
   same_work (Err f) passes = work_by state next passes.limit_same passes.names_same
 
-  pub takes_in : (result : Result (Unit {0}) Fault) → Passes told state piece old new next result → OnOk result (TakesIn Stands piece state next)
+  pub takes_in : (result : Result (Unit {0}) Fault) → Passes told state piece old new next result → OnOk result (TakesIn ways.Holds piece (way.Parts state) (way.Parts next))
   takes_in (Ok done) passes = passes.stands
   takes_in (Err f) passes = tt
 
-  pub puts_out : (result : Result (Unit {0}) Fault) → Passes told state piece old new next result → OnOk result (PutsOut Stands Owns work state piece told old new)
+  pub puts_out : (result : Result (Unit {0}) Fault) → Passes told state piece old new next result → OnOk result (PutsOut ways.Holds ways.Owns ways.work (way.Parts state) piece told old new)
   puts_out (Ok done) passes = λ before x at. moved_out told state.names _ _ before old new (passes.moves x at.holds (owns_last state.current (length before) old at.owns) before) at.outputs
   puts_out (Err f) passes = tt
 
@@ -75,71 +77,53 @@ module _ (told : Bool) (state next : PartsState) (piece : List ℕ) (old new : L
   still_ready (Ok done) passes = passes.ready
   still_ready (Err f) passes = tt
 
-  pub still_owns : (result : Result (Unit {0}) Fault) → Passes told state piece old new next result → KeepsOwn Owns state next old new
+  pub still_owns : (result : Result (Unit {0}) Fault) → Passes told state piece old new next result → KeepsOwn ways.Owns (way.Parts state) (way.Parts next) old new
   still_owns (Ok done) passes = passes.owned
   still_owns (Err f) passes = passes.owned
 
   -- names ran out: the files that have a name are written, and nothing can change that
-  settles : Stopped told state piece old new next Suffixes → EndsWith Stands work state piece Suffixes
-  settles stop x stands =
-      let none = have_names state (x ++ piece) false (stop.short refl x stands).0 in
-      (ap not none, ap (λ (have : Bool). cond (not have) (Some Suffixes) None) none)
+  settles : (f : Fault) → f ≡ Suffixes → Stopped told state piece old new next f → EndsWith ways.Holds ways.work (way.Parts state) piece f
+  settles f is stop x stands =
+      let none = have_names state (x ++ piece) false (stop.short is x stands).0 in
+      (ap not none, ap (λ (have : Bool). cond (not have) (Some Suffixes) None) none ∙ ap Some (sym is))
 
-  judged_out : Stopped told state piece old new next Suffixes → CutsOff Stands Owns work state piece told old new Suffixes
+  judged_out : Stopped told state piece old new next Suffixes → CutsOff ways.Holds ways.Owns ways.work (way.Parts state) piece told old new Suffixes
   judged_out stop before x at =
       engine.judged refl new (moved_out told state.names _ _ before old new ((stop.short refl x at.holds).1 (owns_last state.current (length before) old at.owns) before) at.outputs) refl
 
-  cut_out : (f : Fault) → is_verdict f ≡ false → Stopped told state piece old new next f → CutsOff Stands Owns work state piece told old new f
+  cut_out : (f : Fault) → is_verdict f ≡ false → Stopped told state piece old new next f → CutsOff ways.Holds ways.Owns ways.work (way.Parts state) piece told old new f
   cut_out f is stop before x at = engine.cut is (halted told state.names _ _ before old new f (stop.halts x at.holds (owns_last state.current (length before) old at.owns) before) at.outputs)
 
-  cut_off : (f : Fault) → Breaks old new f → Stopped told state piece old new next f → CutsOff Stands Owns work state piece told old new f
-  cut_off Memory breaks stop = cut_out Memory refl stop
-  cut_off (Write slot) breaks stop = cut_out (Write slot) refl stop
-  cut_off (Open slot) breaks stop = cut_out (Open slot) refl stop
-  cut_off Suffixes breaks stop = judged_out stop
-  cut_off (Read slot) breaks stop = absurd breaks
-  cut_off (NoMatch operand repetition) breaks stop = absurd breaks
-  cut_off (Range operand repetition) breaks stop = absurd breaks
-  cut_off (Usage kind word) breaks stop = absurd breaks
-  cut_off Failed breaks stop = absurd breaks
-  cut_off TooLong breaks stop = absurd breaks
+  cut_off : (f : Fault) → Breaks old new f → Stopped told state piece old new next f → CutsOff ways.Holds ways.Owns ways.work (way.Parts state) piece told old new f
+  cut_off _ wants_memory stop = cut_out Memory refl stop
+  cut_off _ (breaks_write slot two rose) stop = cut_out (Write slot) refl stop
+  cut_off _ (breaks_open slot rose) stop = cut_out (Open slot) refl stop
+  cut_off _ lacks_names stop = judged_out stop
 
-  pub cuts_off : (result : Result (Unit {0}) Fault) → Passes told state piece old new next result → IfErr result (CutsOff Stands Owns work state piece told old new)
+  pub cuts_off : (result : Result (Unit {0}) Fault) → Passes told state piece old new next result → IfErr result (CutsOff ways.Holds ways.Owns ways.work (way.Parts state) piece told old new)
   cuts_off (Ok done) passes = tt
   cuts_off (Err f) passes = cut_off f passes.breaks passes
 
-  met_by : (f : Fault) → Breaks old new f → Stopped told state piece old new next f → IsMet (work state).means (work state).means.feeding (true ≡ true) (EndsWith Stands work state piece) old new f
-  met_by Memory breaks stop = (refl, refl)
-  met_by (Write slot) breaks stop = (λ none. absurd (let behind : 2 ≤ slot = breaks.0 in omega (arith, none)), λ none. absurd (false≢true (sym none)), breaks.1)
-  met_by (Open slot) breaks stop = (refl, refl, breaks)
-  met_by Suffixes breaks stop = settles stop
-  met_by (Read slot) breaks stop = absurd breaks
-  met_by (NoMatch operand repetition) breaks stop = absurd breaks
-  met_by (Range operand repetition) breaks stop = absurd breaks
-  met_by (Usage kind word) breaks stop = absurd breaks
-  met_by Failed breaks stop = absurd breaks
-  met_by TooLong breaks stop = absurd breaks
-
-  pub met : (result : Result (Unit {0}) Fault) → Passes told state piece old new next result → IfErr result (IsMet (work state).means (work state).means.feeding (true ≡ true) (EndsWith Stands work state piece) old new)
+  pub met : (result : Result (Unit {0}) Fault) → Passes told state piece old new next result → IfErr result (IsMet (work state).means (work state).means.feeding (true ≡ true) (EndsWith ways.Holds ways.work (way.Parts state) piece) old new)
   met (Ok done) passes = tt
-  met (Err f) passes = met_by f passes.breaks passes
+  met (Err f) passes = met_files (EndsWith ways.Holds ways.work (way.Parts state) piece) old new f passes.breaks (λ is x stands. settles f is passes x stands)
 
 -- the end
 
 module _ (told : Bool) (state : PartsState) (old new : List Slot) where
-  pub ends : (result : Result (Unit {0}) Fault) → Finishes told state old new result → OnOk result (engine.Finishes Stands Owns work state told old new)
+  pub ends : (result : Result (Unit {0}) Fault) → Finishes told state old new result → OnOk result (engine.Finishes ways.Holds ways.Owns ways.work (way.Parts state) told old new)
   ends (Ok done) finishes = λ before x at. (goes_well state x at.holds, moved_out told state.names _ _ before old new (finishes x at.holds (owns_last state.current (length before) old at.owns) before) at.outputs)
   ends (Err f) finishes = tt
 
-  pub ends_short : (result : Result (Unit {0}) Fault) → Finishes told state old new result → IfErr result (EndsShort Stands Owns work state told old new)
+  pub ends_short : (result : Result (Unit {0}) Fault) → Finishes told state old new result → IfErr result (EndsShort ways.Holds ways.Owns ways.work (way.Parts state) told old new)
   ends_short (Ok done) finishes = tt
   ends_short (Err f) finishes = λ before x at.
       engine.cut (ap is_verdict finishes.0.1) (halted told state.names _ _ before old new f (finishes.1 x at.holds (owns_last state.current (length before) old at.owns) before) at.outputs)
 
-  pub end_met : (result : Result (Unit {0}) Fault) → Finishes told state old new result → IfErr result (IsMet (work state).means (work state).means.closing (Unit {0}) (EndsThere Stands work state) old new)
+  pub end_met : (result : Result (Unit {0}) Fault) → Finishes told state old new result → IfErr result (IsMet (work state).means (work state).means.closing (Unit {0}) (EndsThere ways.Holds ways.work (way.Parts state)) old new)
   end_met (Ok done) finishes = tt
-  end_met (Err f) finishes = subst (λ those. IsMet (work state).means (work state).means.closing (Unit {0}) (EndsThere Stands work state) old new those) (sym finishes.0.1)
-      (λ none. absurd (let behind : 2 ≤ finishes.0.0 = finishes.0.2 in omega (arith, none)), λ none. absurd (false≢true (sym none)), finishes.0.3)
+  end_met (Err f) finishes = subst (λ those. IsMet (work state).means (work state).means.closing (Unit {0}) (EndsThere ways.Holds ways.work (way.Parts state)) old new those) (sym finishes.0.1)
+      (λ none. absurd (let two : 2 ≤ finishes.0.0 = finishes.0.2 in omega (arith, none)), λ none. absurd (false≢true (sym none)), finishes.0.3)
 
 pub on_ok : {P : Type 0} (result : Result (Unit {0}) Fault) → P → OnOk result P
 on_ok (Ok done) is = is

@@ -39,7 +39,7 @@ pub record FileFacts (told : Bool) (parts : PartsState) (old mid : List Slot) (n
   pub keeps : KeepsBroken old mid
   pub last : IsAtEnd parts.current old → suc slot ≡ length mid
   pub owned : KeepsFile parts.current old next.current mid
-  pub behind : 2 ≤ slot
+  pub after : 2 ≤ slot
   pub writable : IsTrue (is_writable mid slot)
 
 pub some_share : (begun : List ℕ) → is_some begun ≡ true → begun_share begun ≡ share state.Open begun ∷ []
@@ -67,7 +67,7 @@ there_facts told parts old slot is ready =
       keeps = slot_steps.keeps_same old old refl;
       last = λ at_end. subst (λ current. IsAtEnd current old) is at_end;
       owned = move.owned_same parts.current old old refl;
-      behind = open_file.0;
+      after = open_file.0;
       writable = open_file.1;
     } where
       one_share : (begun : List ℕ) → is_given parts.current ≡ is_some begun → begun_share begun ≡ share state.Open begun ∷ []
@@ -97,7 +97,7 @@ made_facts told parts old new next slot none ready at has next_is made_it =
       keeps = slot_steps.keeps_open (opened (next_name parts.names) Fresh) old new made_it;
       last = λ at_end. slot_steps.opened_last old new slot (next_name parts.names) Fresh at made_it;
       owned = subst (λ current. KeepsFile current old next.current new) (sym none) (subst (λ current. KeepsFile None old current new) (sym (ap (λ (those : PartsState). those.current) next_is)) (move.owned_opened slot (opened (next_name parts.names) Fresh) old new at made_it));
-      behind = omega (arith, at, streams);
+      after = omega (arith, at, streams);
       writable = slot_steps.opened_writable old new slot (next_name parts.names) Fresh at made_it;
     } where
       one_more : (n : ℕ) → n + 1 ≡ suc n
@@ -119,9 +119,6 @@ file_facts told parts old new next slot ready (made none at has next_is made_it)
 
 -- writing to the part that was begun
 
-all_behind : (begun waiting bytes : List ℕ) → (begun ++ waiting) ++ bytes ≡ begun ++ (waiting ++ bytes)
-all_behind begun waiting bytes = append_assoc begun waiting bytes
-
 pub extended : (told : Bool) (parts : PartsState) (bytes : List ℕ) (old mid wet new : List Slot) (found next : PartsState) (slot : ℕ) → FileFacts told parts old mid found slot → wet ≡ with_written slot (told_of told parts.waiting) mid → new ≡ with_written slot (told_of told bytes) wet
     → next ≡ record found { waiting = [] } → Extended told parts bytes old new next slot
 extended told parts bytes old mid wet new found next slot facts one other is = record {
@@ -133,7 +130,7 @@ extended told parts bytes old mid wet new found next slot facts one other is = r
       (move.write_moves told parts.names shares begun (parts.waiting ++ bytes) mid new slot (facts.named shares begun has) (facts.last at_end) both);
   keeps = slot_steps.keeps_again old mid new facts.keeps (slot_steps.keeps_write slot _ mid new both);
   owned = move.owned_again parts.current found.current next.current old mid new facts.owned (subst (λ current. KeepsFile found.current mid current new) (sym (ap (λ (those : PartsState). those.current) is)) (move.owned_same found.current mid new (slot_steps.written_size slot _ mid new both)));
-  ready = (facts.behind, slot_steps.written_writable mid new slot slot _ facts.writable both);
+  ready = (facts.after, slot_steps.written_writable mid new slot slot _ facts.writable both);
 } where
   both : new ≡ with_written slot (told_of told (parts.waiting ++ bytes)) mid
   both = written_both told slot parts.waiting bytes mid wet new one other
@@ -148,8 +145,8 @@ held_short told parts bytes old mid new found next slot f facts short held is = 
   halts = λ shares begun has at_end. move.halts_after told parts.names _ (shares ++ share state.Open begun ∷ []) _ old mid new f (facts.grows shares begun has) (facts.moves shares begun has)
       (move.halts_wider told parts.names _ (shares ++ share state.Open (begun ++ parts.waiting) ∷ []) _ mid new f
       (move.write_halts told parts.names shares begun parts.waiting mid new slot f has.shut (facts.named shares begun has) (facts.last at_end) short)
-      (last_grows shares [] (share state.Open (begun ++ parts.waiting)) (share state.Open (begun ++ (parts.waiting ++ bytes))) (inl refl) (bytes, sym (all_behind begun parts.waiting bytes))));
-  breaks = move.breaks_later old mid new f facts.keeps (move.write_breaks told slot parts.waiting mid new f facts.behind facts.writable short);
+      (last_grows shares [] (share state.Open (begun ++ parts.waiting)) (share state.Open (begun ++ (parts.waiting ++ bytes))) (inl refl) (bytes, sym (append_assoc begun parts.waiting bytes))));
+  breaks = move.breaks_later old mid new f facts.keeps (move.write_breaks told slot parts.waiting mid new f facts.after facts.writable short);
   owned = move.owned_again parts.current found.current next.current old mid new facts.owned (subst (λ current. KeepsFile found.current mid current new) (sym (ap (λ (those : PartsState). those.current) is)) (move.owned_same found.current mid new (slot_steps.short_size told slot parts.waiting mid new f short)));
   short = λ is_short. absurd (move.no_suffixes told slot parts.waiting mid new f short is_short);
 }
@@ -165,10 +162,10 @@ bytes_short told parts bytes old mid wet new found next slot f facts one short h
       (move.halts_after told parts.names _ (shares ++ share state.Open (begun ++ parts.waiting) ∷ []) _ mid wet new f
       (last_grows shares [] (share state.Open begun) (share state.Open (begun ++ parts.waiting)) (inl refl) (parts.waiting, refl))
       (move.write_moves told parts.names shares begun parts.waiting mid wet slot (facts.named shares begun has) (facts.last at_end) one)
-      (subst (λ those. Halts told parts.names (shares ++ share state.Open (begun ++ parts.waiting) ∷ []) (shares ++ share state.Open those ∷ []) wet new f) (all_behind begun parts.waiting bytes)
+      (subst (λ those. Halts told parts.names (shares ++ share state.Open (begun ++ parts.waiting) ∷ []) (shares ++ share state.Open those ∷ []) wet new f) (append_assoc begun parts.waiting bytes)
       (move.write_halts told parts.names shares (begun ++ parts.waiting) bytes wet new slot f has.shut (facts.named shares begun has) (slot_steps.written_last mid wet slot _ (facts.last at_end) one) short)));
   breaks = move.breaks_later old wet new f (slot_steps.keeps_again old mid wet facts.keeps (slot_steps.keeps_write slot _ mid wet one))
-      (move.write_breaks told slot bytes wet new f facts.behind (slot_steps.written_writable mid wet slot slot _ facts.writable one) short);
+      (move.write_breaks told slot bytes wet new f facts.after (slot_steps.written_writable mid wet slot slot _ facts.writable one) short);
   owned = move.owned_again parts.current found.current next.current old mid new facts.owned (subst (λ current. KeepsFile found.current mid current new) (sym (ap (λ (those : PartsState). those.current) is)) (move.owned_same found.current mid new (slot_steps.short_size told slot bytes wet new f short ∙ slot_steps.written_size slot _ mid wet one)));
   short = λ is_short. absurd (move.no_suffixes told slot bytes wet new f short is_short);
 }

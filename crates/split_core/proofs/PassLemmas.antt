@@ -2,7 +2,6 @@
 use Rattle.std.proofs.Common.{◌≡◌, ℕ, ◌-◌, ◌<◌, ◌≤◌, suc, List, [], ◌∷◌, ◌++◌, length, map, take, drop, Bool, true, false, IsTrue, Some, None, Result, Ok, Err, OnOk, IfErr, inl, refl, sym, ◌∙◌, ap, subst, arith, append_assoc, length-drop}
 use Rattle.std.proofs.lemmas.List.{append-nil, map-append, take_all, take-append-drop}
 use Rattle.std.proofs.lemmas.Bool.{false≢true}
-use Rattle.ports_core.specs.Name.{Naming}
 use Rattle.ports_core.specs.Slot.{Slot, changed_at, closes, with_written, with_broken, told_of, is_writable, is_closable, Rose}
 use Rattle.ports_core.specs.declared.slot.State.TheVariants as file_state
 use Rattle.ports_core.specs.declared.fault.Fault.{Fault}
@@ -19,11 +18,11 @@ use Rattle.split_core.specs.inner.ShareLaws.{SharesBegin, whole_parts}
 use Rattle.split_core.specs.laws.ShareLaws.{settled_grow}
 use Rattle.split_core.specs.PartsState.{PartsState, Stands, IsReady, is_given}
 use Rattle.split_core.specs.inner.PartsState.{IsAtEnd}
-use Rattle.split_core.specs.inner.Moves.{Moves, Halts, KeepsFile, Breaks, begun_share, Took, Stopped, Finishes}
+use Rattle.split_core.specs.inner.Moves.{Moves, Halts, KeepsFile, begun_share, Took, Stopped, Finishes}
 use Rattle.ports_core.proofs.SlotSteps as slot_steps
 use Rattle.split_core.proofs.MoveLemmas as move
 use Rattle.split_core.proofs.PartsLemmas.{count_one, some_share}
-use Rattle.split_core.proofs.TakenLemmas.{are_named_drawn}
+use Rattle.split_core.proofs.TakenLemmas.{are_named_drawn, names_drawn}
 
 pub took_none : (told : Bool) (parts : PartsState) (slots : List Slot) → IsReady parts.current slots → Took told parts [] slots slots parts
 took_none told parts slots ready = record {
@@ -35,9 +34,6 @@ took_none told parts slots ready = record {
   owned = move.owned_same parts.current slots slots refl;
   ready = ready;
 }
-
-names_again : (names mid next : Naming) → mid ≡ record names { drawn = mid.drawn } → next ≡ record mid { drawn = next.drawn } → next ≡ record names { drawn = next.drawn }
-names_again names mid next first second = second ∙ ap (λ (those : Naming). record those { drawn = next.drawn }) first
 
 -- what a later step does, by what was asked at first
 
@@ -58,7 +54,7 @@ halts_from told state mid x first more old new f limit names halts =
 pub took_again : (told : Bool) (state mid next : PartsState) (first more : List ℕ) (old wet new : List Slot) → Took told state first old wet mid → Took told mid more wet new next → Took told state (first ++ more) old new next
 took_again told state mid next first more old wet new one other = record {
   limit_same = other.limit_same ∙ one.limit_same;
-  names_same = names_again state.names mid.names next.names one.names_same other.names_same;
+  names_same = names_drawn state.names mid.names next.names one.names_same other.names_same;
   stands = λ x stands. subst (Stands next) (append_assoc x first more) (other.stands (x ++ first) (one.stands x stands));
   moves = λ x stands at_end. move.moves_again told state.names _ (settled_parts state.limit (x ++ first)) _ old wet new (one.moves x stands at_end)
       (moves_from told state mid x first more wet new one.limit_same one.names_same (other.moves (x ++ first) (one.stands x stands) (move.stays_last state.current mid.current old wet one.owned at_end)));
@@ -70,7 +66,7 @@ took_again told state mid next first more old wet new one other = record {
 pub stopped_again : (told : Bool) (state mid next : PartsState) (first more : List ℕ) (old wet new : List Slot) (f : Fault) → Took told state first old wet mid → Stopped told mid more wet new next f → Stopped told state (first ++ more) old new next f
 stopped_again told state mid next first more old wet new f one other = record {
   limit_same = other.limit_same ∙ one.limit_same;
-  names_same = names_again state.names mid.names next.names one.names_same other.names_same;
+  names_same = names_drawn state.names mid.names next.names one.names_same other.names_same;
   halts = λ x stands at_end. move.halts_after told state.names _ (settled_parts state.limit (x ++ first)) _ old wet new f (settled_grow state.limit x first) (one.moves x stands at_end)
       (halts_from told state mid x first more wet new f one.limit_same one.names_same (other.halts (x ++ first) (one.stands x stands) (move.stays_last state.current mid.current old wet one.owned at_end)));
   breaks = move.breaks_later old wet new f one.keeps other.breaks;
@@ -96,8 +92,8 @@ passed_more told state mid next piece left rest n old wet new (done, split, took
   took_again told state mid next done (take n left) old wet new took step,
 )
 
-pub behind_taken : (n : ℕ) (left : List ℕ) → take (length left - n) (drop n left) ≡ drop n left
-behind_taken n left = take_all (length left - n) (drop n left) (omega (arith, length-drop n left))
+pub after_taken : (n : ℕ) (left : List ℕ) → take (length left - n) (drop n left) ≡ drop n left
+after_taken n left = take_all (length left - n) (drop n left) (omega (arith, length-drop n left))
 
 pub passed_stopped : (told : Bool) (state mid next : PartsState) (piece left : List ℕ) (old wet new : List Slot) (f : Fault) → Passed told state piece left old wet mid → Stopped told mid left wet new next f → Stopped told state piece old new next f
 passed_stopped told state mid next piece left old wet new f (done, split, took) stop = subst (λ those. Stopped told state those old new next f) (sym split) (stopped_again told state mid next done left old wet new f took stop)
@@ -184,7 +180,7 @@ module _ (told : Bool) (state : PartsState) (old : List Slot) (ready : IsReady s
 
   pub held_breaks : (slot : ℕ) (new : List Slot) (f : Fault) → state.current ≡ Some slot → WritesShort told slot state.waiting old new f → Finishes told state old new (Err f)
   held_breaks slot new f is short = (
-    slot_of slot new f short (move.write_breaks told slot state.waiting old new f (open_slot slot is).0 (open_slot slot is).1 short),
+    slot_of slot new f is short,
     λ x stands at_end. move.halts_wider told state.names _ (full_shares x ++ share file_state.Open (rest_bytes x) ∷ []) _ old new f
         (subst (λ low. Halts told state.names low (full_shares x ++ share file_state.Open (rest_bytes x) ∷ []) old new f) (sym (low_is x slot stands is))
         (subst (λ rest. Halts told state.names (full_shares x ++ share file_state.Open (begun_bytes x) ∷ []) (full_shares x ++ share file_state.Open rest ∷ []) old new f) (rest_is x stands)
@@ -192,8 +188,8 @@ module _ (told : Bool) (state : PartsState) (old : List Slot) (ready : IsReady s
         (subst (SharesBegin (full_shares x ++ share file_state.Open (rest_bytes x) ∷ [])) (sym (high_is x slot stands is))
         (last_grows (full_shares x) [] (share file_state.Open (rest_bytes x)) (share file_state.Closed (rest_bytes x)) (inl refl) (begins_itself (rest_bytes x)))),
   ) where
-    slot_of : (slot : ℕ) (new : List Slot) (f : Fault) → WritesShort told slot state.waiting old new f → Breaks old new f → (at : ℕ) × (f ≡ fault.Write at) × (2 ≤ at) × Rose at old new
-    slot_of slot new _ (Rattle.ports_core.specs.inner.Write.broke n cut) breaks = (slot, refl, breaks.0, breaks.1)
+    slot_of : (slot : ℕ) (new : List Slot) (f : Fault) → state.current ≡ Some slot → WritesShort told slot state.waiting old new f → (at : ℕ) × (f ≡ fault.Write at) × (2 ≤ at) × Rose at old new
+    slot_of slot new _ is (Rattle.ports_core.specs.inner.Write.broke n cut) = (slot, refl, (open_slot slot is).0, slot_steps.write_rose told slot state.waiting n old new (open_slot slot is).1 cut)
 
   pub close_ends : (slot : ℕ) (wet new : List Slot) (result : Result (Unit {0}) Fault) → state.current ≡ Some slot → wet ≡ with_written slot (told_of told state.waiting) old → OnOk result (new ≡ changed_at slot closes wet)
       → IfErr result (λ f. (f ≡ fault.Write slot) × (new ≡ with_broken slot (changed_at slot closes wet))) → Finishes told state old new result

@@ -103,9 +103,9 @@ spots_apart place (bytes ∷ outputs) i j at goes also = elim (cases_lt i (lengt
     | inl within ↦ ap (λ those. those.offset) (sym (first_spot place i bytes outputs at less goes) ∙ first_spot place j bytes outputs at within also)
     | inr past ↦ absurd (not_both place i j bytes outputs at less past goes also)
   ]
-  | inr behind ↦ elim (cases_lt j (length bytes)) [
-    | inl within ↦ absurd (not_both place j i bytes outputs at within behind also goes)
-    | inr past ↦ (let same = spots_apart (place + 1) outputs (i - length bytes) (j - length bytes) at (later_spot place i bytes outputs at behind goes) (later_spot place j bytes outputs at past also) in omega (arith, behind, past, same))
+  | inr later ↦ elim (cases_lt j (length bytes)) [
+    | inl within ↦ absurd (not_both place j i bytes outputs at within later also goes)
+    | inr past ↦ (let same = spots_apart (place + 1) outputs (i - length bytes) (j - length bytes) at (later_spot place i bytes outputs at later goes) (later_spot place j bytes outputs at past also) in omega (arith, later, past, same))
   ]
 ]
 

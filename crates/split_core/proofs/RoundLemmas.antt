@@ -21,20 +21,24 @@ use Rattle.ports_core.specs.declared.fault.Fault.{Fault}
 use Rattle.ports_core.specs.declared.fault.Fault.TheVariants as fault
 use Rattle.ports_core.specs.declared.slot.State.{State}
 use Rattle.ports_core.specs.declared.slot.State.TheVariants.{Open, Closed}
-use Rattle.ports_core.proofs.PartLemmas.{stopped_here}
-use Rattle.ports_core.proofs.FileLemmas.{slots_counted}
+use Rattle.ports_core.proofs.PartLemmas.{stopped_here, outputs_count}
 use Rattle.split_core.specs.Parts.{dealt, round_robin}
 use Rattle.split_core.specs.Split.{Share, share, named, is_named, are_named, from_start, file_at, only_files, dealt_files, settled_by, whole_by, is_short, is_some, split_means, split_work, bytes_in, waiting}
 use Rattle.split_core.specs.inner.Dealt.{dealt_piece, dealt_first, reached_by}
 use Rattle.split_core.specs.FilesState.{FilesState}
 use Rattle.split_core.specs.RoundState.{RoundState}
-use Rattle.split_core.specs.Round.{round_plan, plan_of, round_work, work, opened_by, Holds, AreReady, OwnsFiles, Owns}
+use Rattle.split_core.specs.Round.{round_plan, plan_of, round_work, work, opened_by, Holds, AreReady, OwnsFiles}
+use Rattle.split_core.specs.Ways as ways
+use Rattle.split_core.specs.declared.splitter.Splitter.TheVariants as way
+use Rattle.split_core.specs.inner.Ways.{Deals, Closes}
 use Rattle.split_core.specs.inner.Sharing.{added, filled, filed, open_part, closing_part, StandAt, Makes, Became, StopsShort, HaveClosed, ClosesShort, CannotClose, IsOfFiles}
 use Rattle.split_core.specs.inner.DealLaws.{share_of}
-use Rattle.split_core.specs.laws.DealLaws.{dealt_append, dealt_none, dealt_files_are, share_none, line_count-append}
+use Rattle.split_core.specs.laws.DealLaws.{dealt_append, dealt_none, dealt_files_are, share_none}
 use Rattle.split_core.proofs.DealLaws.{dealt_same, opened_by-most}
 use Rattle.split_core.proofs.FilesLemmas.{closed_all, added_begin, open_begins}
+use Rattle.split_core.proofs.MoveLemmas.{met_files, unjudged}
 use Rattle.split_core.proofs.PlaceLemmas.{all_dealt}
+use Rattle.seg_core.proofs.FrontLines.{line_count-front}
 
 -- Names
 
@@ -125,7 +129,7 @@ added_maps f more whole start (suc m) (suc b) none no_more both =
     ap (λ bytes. bytes ∷ added (map f (range_with_len (start + 1) m)) (map more (range_with_len (start + 1) b))) (both start) ∙ ap (λ those. whole start ∷ those) rest ∙ ap (λ n. map whole (range_with_len start n)) count
 
 -- files that aren't open yet have nothing
-none_yet : (delim : ℕ) (elide : Bool) (n : ℕ) (x : List ℕ) (file : ℕ) → opened_by delim elide n x ≤ file → file < n → share_of delim n x file ≡ []
+pub none_yet : (delim : ℕ) (elide : Bool) (n : ℕ) (x : List ℕ) (file : ℕ) → opened_by delim elide n x ≤ file → file < n → share_of delim n x file ≡ []
 none_yet delim true n x file past within = share_none delim n x file (omega arith) within
 none_yet delim false n x file past within = absurd (omega arith)
 
@@ -137,7 +141,7 @@ lines_after delim n x [] some =
     let small = mod-le (delimiters delim x) n in
     omega arith
 lines_after delim n x (byte ∷ y) some =
-    let more = line_count-append delim x (byte ∷ y) (omega arith) in
+    let more = line_count-front delim x (byte ∷ y) (omega arith) in
     let near = (line_count_near delim x).1 in
     let low = (line_count_near delim x).0 in
     let one = line_count-some delim (byte ∷ y) (omega arith) in
@@ -194,84 +198,57 @@ made_is round x piece holds =
     ∙ sym (settled_is round.delim round.files.names round.elide round.count (x ++ piece) holds.named)
 
 -- where the stage stands, its files do
-stand_at : (told : Bool) (round : RoundState) (before : List Slot) (x : List ℕ) (now : List Slot) → StandsAt Holds Owns round told before x ((work round).settled x) now → StandAt told round.files before (files_of round.delim round.elide round.count x) now
+stand_at : (told : Bool) (round : RoundState) (before : List Slot) (x : List ℕ) (now : List Slot) → StandsAt ways.Holds ways.Owns (way.Round round) told before x ((work round).settled x) now → StandAt told round.files before (files_of round.delim round.elide round.count x) now
 stand_at told round before x now at = record {
   count = length-files_of round.delim round.elide round.count x ∙ sym at.holds.opened;
   owns = at.owns;
   outputs = subst (λ part. OutputsAt told before part now) (settled_is round.delim round.files.names round.elide round.count x at.holds.named) at.outputs;
 }
 
-pub puts_out : (told : Bool) (round : RoundState) (piece : List ℕ) (old new : List Slot) → Makes told round.files (λ these. added these (dealt_first round.delim round.count round.next piece)) old new → PutsOut Holds Owns work round piece told old new
+puts_out : (told : Bool) (round : RoundState) (piece : List ℕ) (old new : List Slot) → Makes told round.files (λ these. added these (dealt_first round.delim round.count round.next piece)) old new → PutsOut ways.Holds ways.Owns ways.work (way.Round round) piece told old new
 puts_out told round piece old new makes before x at =
     subst (λ part. OutputsAt told before part new) (made_is round x piece at.holds) (makes before (files_of round.delim round.elide round.count x) (stand_at told round before x old at))
 
-no_verdict : (old new : List Slot) (why : Fault) → IsOfFiles old new why → is_verdict why ≡ false
-no_verdict old new fault.Memory is = refl
-no_verdict old new (fault.Write slot) is = refl
-no_verdict old new (fault.Open slot) is = refl
-no_verdict old new (fault.Read slot) is = absurd is
-no_verdict old new fault.Suffixes is = absurd is
-no_verdict old new (fault.NoMatch operand repetition) is = absurd is
-no_verdict old new (fault.Range operand repetition) is = absurd is
-no_verdict old new (fault.Usage kind word) is = absurd is
-no_verdict old new fault.Failed is = absurd is
-no_verdict old new fault.TooLong is = absurd is
-
-pub cuts_off : (told : Bool) (round : RoundState) (piece : List ℕ) (old new : List Slot) (why : Fault) → IsOfFiles old new why → StopsShort told round.files (λ these. added these (dealt_first round.delim round.count round.next piece)) old new why → CutsOff Holds Owns work round piece told old new why
+cuts_off : (told : Bool) (round : RoundState) (piece : List ℕ) (old new : List Slot) (why : Fault) → IsOfFiles old new why → StopsShort told round.files (λ these. added these (dealt_first round.delim round.count round.next piece)) old new why → CutsOff ways.Holds ways.Owns ways.work (way.Round round) piece told old new why
 cuts_off told round piece old new why is stops before x at =
-    cut (no_verdict old new why is)
+    cut (unjudged old new why is.0 is.1)
     (subst (λ high. StoppedBetween told before ((work round).settled x) high why new) (made_is round x piece at.holds)
     (subst (λ low. StoppedBetween told before low (open_part round.files.names (added (files_of round.delim round.elide round.count x) (dealt_first round.delim round.count round.next piece))) why new) (sym (settled_is round.delim round.files.names round.elide round.count x at.holds.named))
     (stops before (files_of round.delim round.elide round.count x) (stand_at told round before x old at))))
 
-pub takes_in : (old new : RoundState) (piece : List ℕ) → new.delim ≡ old.delim → new.count ≡ old.count → new.elide ≡ old.elide → from_start new.files.names ≡ from_start old.files.names → new.next ≡ (old.next + delimiters old.delim piece) % old.count
-    → length new.files.outputs ≡ max (length old.files.outputs) (reached_by old.delim old.count old.next piece) → TakesIn Holds piece old new
-takes_in old new piece delim count elide names next opened x holds = record {
-  some = let some : 0 < old.count = holds.some in omega arith;
-  named = named_same old.files.names new.files.names new.count names (ap (are_named old.files.names) count ∙ holds.named);
-  next = next ∙ ap (λ place. (place + delimiters old.delim piece) % old.count) holds.next ∙ mod-add-mod (delimiters old.delim x) old.count (delimiters old.delim piece) ∙ ap (λ lines. lines % old.count) (sym (delimiters-append old.delim x piece))
-      ∙ ap (λ n. delimiters old.delim (x ++ piece) % n) (sym count) ∙ ap (λ d. delimiters d (x ++ piece) % new.count) (sym delim);
-  opened = opened ∙ ap (λ n. max n (reached_by old.delim old.count old.next piece)) holds.opened ∙ ap (λ place. max (opened_by old.delim old.elide old.count x) (reached_by old.delim old.count place piece)) holds.next
+takes_in : (told : Bool) (old new : RoundState) (piece : List ℕ) (before after : List Slot) → Deals told old piece before after new (Ok tt) → TakesIn ways.Holds piece (way.Round old) (way.Round new)
+takes_in told old new piece before after deals x holds = record {
+  some = let some : 0 < old.count = holds.some in let count : new.count ≡ old.count = deals.count in omega arith;
+  named = named_same old.files.names new.files.names new.count deals.names (ap (are_named old.files.names) deals.count ∙ holds.named);
+  next = deals.next ∙ ap (λ place. (place + delimiters old.delim piece) % old.count) holds.next ∙ mod-add-mod (delimiters old.delim x) old.count (delimiters old.delim piece) ∙ ap (λ lines. lines % old.count) (sym (delimiters-append old.delim x piece))
+      ∙ ap (λ n. delimiters old.delim (x ++ piece) % n) (sym deals.count) ∙ ap (λ d. delimiters d (x ++ piece) % new.count) (sym deals.delim);
+  opened = deals.became.opened ∙ ap (λ n. max n (reached_by old.delim old.count old.next piece)) holds.opened ∙ ap (λ place. max (opened_by old.delim old.elide old.count x) (reached_by old.delim old.count place piece)) holds.next
       ∙ opened_after old.delim old.elide old.count x piece holds.some
-      ∙ sym (ap (λ (those : Bool). opened_by old.delim those new.count (x ++ piece)) elide ∙ ap (λ n. opened_by old.delim old.elide n (x ++ piece)) count) ∙ ap (λ d. opened_by d new.elide new.count (x ++ piece)) (sym delim);
+      ∙ sym (ap (λ (those : Bool). opened_by old.delim those new.count (x ++ piece)) deals.elide ∙ ap (λ n. opened_by old.delim old.elide n (x ++ piece)) deals.count) ∙ ap (λ d. opened_by d new.elide new.count (x ++ piece)) (sym deals.delim);
 }
-
-pub caused : (round : RoundState) (piece : List ℕ) (old new : List Slot) (why : Fault) → IsOfFiles old new why → IsMet (work round).means (work round).means.feeding (true ≡ true) (EndsWith Holds work round piece) old new why
-caused round piece old new fault.Memory is = (refl, refl)
-caused round piece old new (fault.Write slot) is = (λ none. absurd (let behind : 2 ≤ slot = is.0 in omega (arith, none)), λ alone. absurd (false≢true (sym alone)), is.1)
-caused round piece old new (fault.Open slot) is = (refl, refl, is)
-caused round piece old new (fault.Read slot) is = absurd is
-caused round piece old new fault.Suffixes is = absurd is
-caused round piece old new (fault.NoMatch operand repetition) is = absurd is
-caused round piece old new (fault.Range operand repetition) is = absurd is
-caused round piece old new (fault.Usage kind word) is = absurd is
-caused round piece old new fault.Failed is = absurd is
-caused round piece old new fault.TooLong is = absurd is
 
 -- by the result of dealing it out
 
 module _ (told : Bool) (old new : RoundState) (piece : List ℕ) (before after : List Slot) where
-  pub dealt_holds : (result : Result (Unit {0}) Fault) → new.delim ≡ old.delim → new.count ≡ old.count → new.elide ≡ old.elide → from_start new.files.names ≡ from_start old.files.names → OnOk result (new.next ≡ (old.next + delimiters old.delim piece) % old.count)
-      → OnOk result (Became told old.files (λ these. added these (dealt_first old.delim old.count old.next piece)) (reached_by old.delim old.count old.next piece) before new.files after) → OnOk result (TakesIn Holds piece old new)
-  dealt_holds (Ok u) delim count elide names next became = takes_in old new piece delim count elide names next became.opened
-  dealt_holds (Err why) delim count elide names next became = tt
+  pub dealt_holds : (result : Result (Unit {0}) Fault) → Deals told old piece before after new result → OnOk result (TakesIn ways.Holds piece (way.Round old) (way.Round new))
+  dealt_holds (Ok u) deals = takes_in told old new piece before after deals
+  dealt_holds (Err why) deals = tt
 
-  pub dealt_outputs : (result : Result (Unit {0}) Fault) → OnOk result (Became told old.files (λ these. added these (dealt_first old.delim old.count old.next piece)) (reached_by old.delim old.count old.next piece) before new.files after) → OnOk result (PutsOut Holds Owns work old piece told before after)
-  dealt_outputs (Ok u) became = puts_out told old piece before after became.outputs
-  dealt_outputs (Err why) became = tt
+  pub dealt_outputs : (result : Result (Unit {0}) Fault) → Deals told old piece before after new result → OnOk result (PutsOut ways.Holds ways.Owns ways.work (way.Round old) piece told before after)
+  dealt_outputs (Ok u) deals = puts_out told old piece before after deals.became.outputs
+  dealt_outputs (Err why) deals = tt
 
-  pub dealt_ready : (result : Result (Unit {0}) Fault) → OnOk result (Became told old.files (λ these. added these (dealt_first old.delim old.count old.next piece)) (reached_by old.delim old.count old.next piece) before new.files after) → OnOk result (AreReady new.files after)
-  dealt_ready (Ok u) became = became.ready
-  dealt_ready (Err why) became = tt
+  pub dealt_ready : (result : Result (Unit {0}) Fault) → Deals told old piece before after new result → OnOk result (AreReady new.files after)
+  dealt_ready (Ok u) deals = deals.became.ready
+  dealt_ready (Err why) deals = tt
 
-  pub dealt_short : (result : Result (Unit {0}) Fault) → IfErr result (IsOfFiles before after) → IfErr result (StopsShort told old.files (λ these. added these (dealt_first old.delim old.count old.next piece)) before after)
-      → IfErr result (CutsOff Holds Owns work old piece told before after)
-  dealt_short (Ok u) is stops = tt
-  dealt_short (Err why) is stops = cuts_off told old piece before after why is stops
+  pub dealt_short : (result : Result (Unit {0}) Fault) → Deals told old piece before after new result → IfErr result (CutsOff ways.Holds ways.Owns ways.work (way.Round old) piece told before after)
+  dealt_short (Ok u) deals = tt
+  dealt_short (Err why) deals = cuts_off told old piece before after why deals.caused deals.cut
 
-  pub dealt_met : (result : Result (Unit {0}) Fault) → IfErr result (IsOfFiles before after) → IfErr result (IsMet (work old).means (work old).means.feeding (true ≡ true) (EndsWith Holds work old piece) before after)
-  dealt_met (Ok u) is = tt
-  dealt_met (Err why) is = caused old piece before after why is
+  pub dealt_met : (result : Result (Unit {0}) Fault) → Deals told old piece before after new result → IfErr result (IsMet (work old).means (work old).means.feeding (true ≡ true) (EndsWith ways.Holds ways.work (way.Round old) piece) before after)
+  dealt_met (Ok u) deals = tt
+  dealt_met (Err why) deals = met_files (EndsWith ways.Holds ways.work (way.Round old) piece) before after why deals.caused.0 (λ is. absurd (deals.caused.1 is))
 
 -- The end
 
@@ -279,34 +256,34 @@ closed_part : (round : RoundState) (x : List ℕ) → Holds round x → closing_
 closed_part round x holds = ap (λ count. closing_part round.files.names count (files_of round.delim round.elide round.count x)) holds.opened ∙ sym (whole_is round.delim round.files.names round.elide round.count x holds.named)
 
 module _ (told : Bool) (round : RoundState) (old new : List Slot) where
-  finishes : HaveClosed told round.files (length round.files.outputs) old new → Finishes Holds Owns work round told old new
+  finishes : HaveClosed told round.files (length round.files.outputs) old new → Finishes ways.Holds ways.Owns ways.work (way.Round round) told old new
   finishes closed before x at =
       (refl, subst (λ part. OutputsAt told before part new) (closed_part round x at.holds) (closed before (files_of round.delim round.elide round.count x) (stand_at told round before x old at)))
 
-  ends_short : (why : Fault) → CannotClose old new why → ClosesShort told round.files (length round.files.outputs) old new why → EndsShort Holds Owns work round told old new why
+  ends_short : (why : Fault) → CannotClose old new why → ClosesShort told round.files (length round.files.outputs) old new why → EndsShort ways.Holds ways.Owns ways.work (way.Round round) told old new why
   ends_short why is stops before x at =
       cut (ap is_verdict is.1)
       (subst (λ high. StoppedBetween told before ((work round).settled x) high why new) (closed_part round x at.holds)
       (subst (λ low. StoppedBetween told before low (closing_part round.files.names (length round.files.outputs) (files_of round.delim round.elide round.count x)) why new) (sym (settled_is round.delim round.files.names round.elide round.count x at.holds.named))
       (stops before (files_of round.delim round.elide round.count x) (stand_at told round before x old at))))
 
-  end_met : (why : Fault) → CannotClose old new why → IsMet (work round).means (work round).means.closing (Unit {0}) (EndsThere Holds work round) old new why
-  end_met why is = subst (λ those. IsMet (work round).means (work round).means.closing (Unit {0}) (EndsThere Holds work round) old new those) (sym is.1)
-      (λ none. absurd (let behind : 2 ≤ is.0 = is.2 in omega (arith, none)), λ alone. absurd (false≢true (sym alone)), is.3)
+  end_met : (why : Fault) → CannotClose old new why → IsMet (work round).means (work round).means.closing (Unit {0}) (EndsThere ways.Holds ways.work (way.Round round)) old new why
+  end_met why is = subst (λ those. IsMet (work round).means (work round).means.closing (Unit {0}) (EndsThere ways.Holds ways.work (way.Round round)) old new those) (sym is.1)
+      (λ none. absurd (let later : 2 ≤ is.0 = is.2 in omega (arith, none)), λ alone. absurd (false≢true (sym alone)), is.3)
 
   -- by the result of closing the files
 
-  pub ended : (files : FilesState) (result : Result (Unit {0}) Fault) → files ≡ round.files → OnOk result (HaveClosed told files (length files.outputs) old new) → OnOk result (Finishes Holds Owns work round told old new)
-  ended files (Ok u) same closed = finishes (subst (λ those. HaveClosed told those (length those.outputs) old new) same closed)
-  ended files (Err why) same closed = tt
+  pub ended : (next : RoundState) (result : Result (Unit {0}) Fault) → Closes told round old new next result → OnOk result (Finishes ways.Holds ways.Owns ways.work (way.Round round) told old new)
+  ended next (Ok u) closes = finishes closes.closed
+  ended next (Err why) closes = tt
 
-  pub ended_short : (files : FilesState) (result : Result (Unit {0}) Fault) → files ≡ round.files → IfErr result (CannotClose old new) → IfErr result (ClosesShort told files (length files.outputs) old new) → IfErr result (EndsShort Holds Owns work round told old new)
-  ended_short files (Ok u) same is stops = tt
-  ended_short files (Err why) same is stops = ends_short why is (subst (λ those. ClosesShort told those (length those.outputs) old new why) same stops)
+  pub ended_short : (next : RoundState) (result : Result (Unit {0}) Fault) → Closes told round old new next result → IfErr result (EndsShort ways.Holds ways.Owns ways.work (way.Round round) told old new)
+  ended_short next (Ok u) closes = tt
+  ended_short next (Err why) closes = ends_short why closes.caused closes.cut
 
-  pub ended_met : (result : Result (Unit {0}) Fault) → IfErr result (CannotClose old new) → IfErr result (IsMet (work round).means (work round).means.closing (Unit {0}) (EndsThere Holds work round) old new)
-  ended_met (Ok u) is = tt
-  ended_met (Err why) is = end_met why is
+  pub ended_met : (next : RoundState) (result : Result (Unit {0}) Fault) → Closes told round old new next result → IfErr result (IsMet (work round).means (work round).means.closing (Unit {0}) (EndsThere ways.Holds ways.work (way.Round round)) old new)
+  ended_met next (Ok u) closes = tt
+  ended_met next (Err why) closes = end_met why closes.caused
 
 -- The start
 
@@ -334,7 +311,7 @@ none_owned names slots = record { stand = λ place within. absurd (omega (arith,
 none_stand : (told : Bool) (names : Naming) (before slots : List Slot) → OutputsAt told before nothing slots → StandAt told (no_files names) before [] slots
 none_stand told names before slots at = record {
   count = refl;
-  owns = subst (λ n. OwnsFiles (no_files names) n slots) (let all : length slots ≡ length before + 0 = slots_counted told before nothing slots at in omega arith) (none_owned names slots);
+  owns = subst (λ n. OwnsFiles (no_files names) n slots) (let all : length slots ≡ length before + 0 = outputs_count told before nothing slots at in omega arith) (none_owned names slots);
   outputs = at;
 }
 
@@ -373,7 +350,7 @@ does_all delim names others elide n fresh are same =
 
 -- nothing waits
 
-joined_some : (these : List (List ℕ)) → joined (filter is_some these) ≡ joined these
+pub joined_some : (these : List (List ℕ)) → joined (filter is_some these) ≡ joined these
 joined_some [] = refl
 joined_some ([] ∷ these) = joined_some these
 joined_some ((byte ∷ bytes) ∷ these) = ap (λ rest. (byte ∷ bytes) ++ rest) (joined_some these)

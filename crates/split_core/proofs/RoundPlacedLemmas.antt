@@ -1,5 +1,5 @@
 -- The spots of split's files are right, where lines are dealt.
-use Rattle.std.proofs.Common.{◌≡◌, ℕ, ◌+◌, ◌%◌, ◌<◌, ◌≤◌, ◌&&◌, nat_lt, zero, suc, List, [], ◌∷◌, ◌++◌, length, map, take, drop, get_or, Bool, true, false, cond, eqb, inl, inr, refl, sym, ◌∙◌, ap, subst, arith, length-append}
+use Rattle.std.proofs.Common.{◌≡◌, ℕ, ◌+◌, ◌%◌, ◌<◌, ◌&&◌, nat_lt, zero, suc, List, [], ◌∷◌, ◌++◌, length, map, take, drop, get_or, Bool, true, false, cond, eqb, inl, inr, refl, sym, ◌∙◌, ap, subst, arith, length-append}
 use Rattle.std.specs.List.{range_with_len}
 use Rattle.std.proofs.Math.Nat.{mod-lt}
 use Rattle.std.proofs.Math.Seq.{drop-cons, get_or-append_seam}
@@ -19,11 +19,12 @@ use Rattle.split_core.specs.Round.{round_plan, opened_by}
 use Rattle.split_core.specs.laws.ShareLaws.{take_less}
 use Rattle.split_core.specs.Splitter.{IsPositive}
 use Rattle.split_core.specs.inner.DealLaws.{share_of}
-use Rattle.split_core.specs.laws.DealLaws.{share_none, dealt_append, dealt_first, next_place, dealt_files_are}
+use Rattle.split_core.specs.laws.DealLaws.{dealt_append, dealt_first, next_place, dealt_files_are}
 use Rattle.split_core.proofs.DealLaws.{opened_by-most}
 use Rattle.split_core.proofs.MoveLemmas.{named_before}
 use Rattle.split_core.proofs.AgreedLemmas.{named_bytes, dealt_whole, plan_by}
 use Rattle.split_core.proofs.PlacedLemmas.{only_spot, parts_placed}
+use Rattle.split_core.proofs.RoundLemmas.{none_yet}
 
 -- What a file has, byte by byte
 
@@ -121,15 +122,11 @@ find delim n file place (byte ∷ x) k less =
 all_of : (count : ℕ) (f : ℕ → List ℕ) (file : ℕ) → file < count → get_or (map f (range_with_len 0 count)) file [] ≡ f file
 all_of count f file within = get_or-map-range_with_len f 0 count file file [] within (let e : 0 + file ≡ file = omega arith in e)
 
-opened_share : (delim : ℕ) (elide : Bool) (n : ℕ) (x : List ℕ) (file : ℕ) → opened_by delim elide n x ≤ file → file < n → share_of delim n x file ≡ []
-opened_share delim true n x file past within = share_none delim n x file (omega (arith, past, within)) within
-opened_share delim false n x file past within = absurd (omega (arith, past, within))
-
 file_is : (delim : ℕ) (elide : Bool) (n : ℕ) (x : List ℕ) (file : ℕ) → file < n → get_or (dealt_files delim elide n x) file [] ≡ share_of delim n x file
 file_is delim elide n x file within = ap (λ files. get_or files file []) (dealt_files_are delim elide n x) ∙ elim (cases_lt file (opened_by delim elide n x)) [
   | inl less ↦ all_of (opened_by delim elide n x) (share_of delim n x) file less
   | inr past ↦ get_or_past (map (share_of delim n x) (range_with_len 0 (opened_by delim elide n x))) file [] (let count = length-map-range_with_len (share_of delim n x) 0 (opened_by delim elide n x) in omega (arith, past, count))
-      ∙ sym (opened_share delim elide n x file past within)
+      ∙ sym (none_yet delim elide n x file past within)
 ]
 
 named_at : (names : Naming) (place : ℕ) (those : List (List ℕ)) (k : ℕ) → is_named names (place + k) ≡ true → get_or (named_bytes names place those) k [] ≡ get_or those k []
@@ -238,7 +235,7 @@ dealt_apart delim n names x i j at goes also =
       | inl less ↦ absurd (not_before delim n names x i j at one two less)
       | inr past ↦ elim (cases_lt j i) [
         | inl less ↦ absurd (not_before delim n names x j i at two one less)
-        | inr behind ↦ (let e : i ≡ j = omega (arith, past, behind) in e)
+        | inr further ↦ (let e : i ≡ j = omega (arith, past, further) in e)
       ]
     ]
 

@@ -16,7 +16,7 @@ use Rattle.ports_core.specs.declared.slot.State.{State}
 use Rattle.ports_core.specs.declared.slot.State.TheVariants.{Open, Closed}
 use Rattle.split_core.specs.declared.limit.Limit.{Limit}
 use Rattle.split_core.specs.declared.limit.Limit.TheVariants.{Lines, Bytes, LineBytes}
-use Rattle.split_core.specs.Parts.{whole_lines, open_line, most, is_full, behind_first, cut_up, unless_empty, parts, settled_rest, waiting_rest}
+use Rattle.split_core.specs.Parts.{whole_lines, open_line, most, is_full, after_first, cut_up, unless_empty, parts, settled_rest, waiting_rest}
 use Rattle.split_core.specs.Sections.{runs_within, runs_of, line_parts, byte_parts, AreLineByteParts, none, one, more}
 use Rattle.split_core.specs.Split.{Share, share, settled_parts}
 use Rattle.split_core.specs.laws.CutLaws.{short_some, full_some, whole_some, whole_then_open, settled_then_waiting, rest_short, cuts_up}
@@ -110,10 +110,10 @@ last_lines delim n (byte ∷ x) short =
 
 lines_cut : (delim n : ℕ) (x : List ℕ) (full : List (List ℕ)) (rest : List ℕ) → 0 < n → Cuts (Lines n delim) x full rest → full ++ unless_empty rest ≡ line_parts delim n x
 lines_cut delim n x _ _ some (stops _ short) = last_lines delim n x (short_some (Lines n delim) x short some)
-lines_cut delim n x _ rest some (goes _ full _ is behind) =
+lines_cut delim n x _ rest some (goes _ full _ is past) =
     let enough : n ≤ delimiters delim x = (full_some (Lines n delim) x is).1 in
     let lines : delimiters delim x ≤ line_count delim x = (line_count_near delim x).0 in
-    ap (λ those. first_lines delim n x ∷ those) (lines_cut delim n (behind_first (Lines n delim) x) full rest some behind)
+    ap (λ those. first_lines delim n x ∷ those) (lines_cut delim n (after_first (Lines n delim) x) full rest some past)
     ∙ ap (λ those. first_lines delim n x ∷ map joined (runs_of n those)) (lines_of-behind delim n x enough)
     ∙ sym (ap (map joined) (runs_next n (lines_of delim x) some (omega arith)))
 
@@ -126,9 +126,9 @@ last_bytes n (byte ∷ x) short = sym (runs_last n (byte ∷ x) (omega arith) (o
 
 bytes_cut : (n : ℕ) (x : List ℕ) (full : List (List ℕ)) (rest : List ℕ) → 0 < n → Cuts (Bytes n) x full rest → full ++ unless_empty rest ≡ byte_parts n x
 bytes_cut n x _ _ some (stops _ short) = last_bytes n x (short_some (Bytes n) x short some)
-bytes_cut n x _ rest some (goes _ full _ is behind) =
+bytes_cut n x _ rest some (goes _ full _ is past) =
     let enough : n ≤ length x = (full_some (Bytes n) x is).1 in
-    ap (λ those. take n x ∷ those) (bytes_cut n (behind_first (Bytes n) x) full rest some behind)
+    ap (λ those. take n x ∷ those) (bytes_cut n (after_first (Bytes n) x) full rest some past)
     ∙ ap (λ k. take n x ∷ runs_of n (drop k x)) (length-take-le n x enough)
     ∙ sym (runs_next n x some (omega arith))
 
@@ -160,8 +160,8 @@ last_line_bytes delim n (byte ∷ x) short = one (byte ∷ x) (omega arith) shor
 
 line_bytes_cut : (delim n : ℕ) (x : List ℕ) (full : List (List ℕ)) (rest : List ℕ) → 0 < n → Cuts (LineBytes n delim) x full rest → AreLineByteParts delim n x (full ++ unless_empty rest)
 line_bytes_cut delim n x _ _ some (stops _ short) = last_line_bytes delim n x (short_some (LineBytes n delim) x short some)
-line_bytes_cut delim n x _ rest some (goes _ full _ is behind) =
-    more x (full ++ unless_empty rest) (full_some (LineBytes n delim) x is).1 (line_bytes_cut delim n (behind_first (LineBytes n delim) x) full rest some behind)
+line_bytes_cut delim n x _ rest some (goes _ full _ is past) =
+    more x (full ++ unless_empty rest) (full_some (LineBytes n delim) x is).1 (line_bytes_cut delim n (after_first (LineBytes n delim) x) full rest some past)
 
 pub line_bytes_are_parts : (delim n : ℕ) (x : List ℕ) → 0 < n → AreLineByteParts delim n x (parts (LineBytes n delim) x)
 line_bytes_are_parts delim n x some = line_bytes_cut delim n x _ _ some (cuts_up (LineBytes n delim) x)
@@ -176,14 +176,14 @@ not_both n all short enough = omega arith
 pub line_bytes_once : (delim n : ℕ) (x : List ℕ) (these those : List (List ℕ)) → 0 < n → AreLineByteParts delim n x these → AreLineByteParts delim n x those → these ≡ those
 line_bytes_once delim n _ _ _ some none none = refl
 line_bytes_once delim n _ _ _ some none (one _ has short) = absurd (omega (arith, has))
-line_bytes_once delim n _ _ _ some none (more _ _ enough behind) = absurd (too_few n 0 some refl enough)
+line_bytes_once delim n _ _ _ some none (more _ _ enough past) = absurd (too_few n 0 some refl enough)
 line_bytes_once delim n _ _ _ some (one _ has short) none = absurd (omega (arith, has))
 line_bytes_once delim n _ _ _ some (one x has short) (one _ _ _) = refl
-line_bytes_once delim n _ _ _ some (one x has short) (more _ _ enough behind) = absurd (not_both n (length x) short enough)
-line_bytes_once delim n _ _ _ some (more _ _ enough behind) none = absurd (too_few n 0 some refl enough)
-line_bytes_once delim n _ _ _ some (more x _ enough behind) (one _ has short) = absurd (not_both n (length x) short enough)
-line_bytes_once delim n _ _ _ some (more x these enough behind) (more _ those _ other) =
-    ap (λ rest. whole_lines delim (take n x) ∷ rest) (line_bytes_once delim n (drop (length (whole_lines delim (take n x))) x) these those some behind other)
+line_bytes_once delim n _ _ _ some (one x has short) (more _ _ enough past) = absurd (not_both n (length x) short enough)
+line_bytes_once delim n _ _ _ some (more _ _ enough past) none = absurd (too_few n 0 some refl enough)
+line_bytes_once delim n _ _ _ some (more x _ enough past) (one _ has short) = absurd (not_both n (length x) short enough)
+line_bytes_once delim n _ _ _ some (more x these enough past) (more _ those _ other) =
+    ap (λ rest. whole_lines delim (take n x) ∷ rest) (line_bytes_once delim n (drop (length (whole_lines delim (take n x))) x) these those some past other)
 
 line_bytes_first : (delim n : ℕ) (x : List ℕ) → 0 < n → n ≤ length x → (0 < length (whole_lines delim (take n x))) × (length (whole_lines delim (take n x)) ≤ n)
 line_bytes_first delim n x some enough =
@@ -195,9 +195,9 @@ line_bytes_first delim n x some enough =
 pub line_bytes_within : (delim n : ℕ) (x : List ℕ) (those : List (List ℕ)) → 0 < n → AreLineByteParts delim n x those → All (λ part. (0 < length part) × (length part ≤ n)) those
 line_bytes_within delim n _ _ some none = All-nil (λ part. (0 < length part) × (length part ≤ n))
 line_bytes_within delim n _ _ some (one x has short) = All-cons (λ part. (0 < length part) × (length part ≤ n)) x [] (has, omega (arith, short)) (All-nil (λ part. (0 < length part) × (length part ≤ n)))
-line_bytes_within delim n _ _ some (more x those enough behind) =
+line_bytes_within delim n _ _ some (more x those enough past) =
     All-cons (λ part. (0 < length part) × (length part ≤ n)) (whole_lines delim (take n x)) those (line_bytes_first delim n x some enough)
-    (line_bytes_within delim n (drop (length (whole_lines delim (take n x))) x) those some behind)
+    (line_bytes_within delim n (drop (length (whole_lines delim (take n x))) x) those some past)
 
 -- Texts that go on
 

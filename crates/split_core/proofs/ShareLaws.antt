@@ -1,5 +1,5 @@
 -- Laws of what files get: what is written once more came in, and in the end.
-use Rattle.std.proofs.Common.{◌≡◌, ℕ, ◌+◌, ◌-◌, ◌<◌, List, [], ◌∷◌, ◌++◌, length, map, ◌⊎◌, inl, inr, refl, ap, arith}
+use Rattle.std.proofs.Common.{◌≡◌, ℕ, ◌<◌, List, [], ◌∷◌, ◌++◌, length, map, ◌⊎◌, inl, inr, refl, ap, arith}
 use Rattle.seg_core.specs.Line.{joined}
 use Rattle.ports_core.specs.Part.{IsBeginning}
 use Rattle.ports_core.specs.declared.slot.State.TheVariants.{Open, Closed}
@@ -9,7 +9,7 @@ use Rattle.split_core.specs.Parts.{cut_up, unless_empty, parts}
 use Rattle.split_core.specs.Split.{Share, share}
 use Rattle.split_core.proofs.CutLaws.{cut_all}
 use Rattle.split_core.specs.inner.ShareLaws.{SharesBegin, AllShut}
-use Rattle.split_core.specs.laws.ShareLaws.{shares_behind}
+use Rattle.split_core.specs.laws.ShareLaws.{shares_after}
 
 pub shares_themselves : (shares : List Share) → SharesBegin shares shares
 shares_themselves [] = tt
@@ -27,7 +27,7 @@ shares_more (share ∷ shares) more = (inr refl, begins_itself share.bytes, shar
 
 -- the last share grew
 pub last_grows : (front more : List Share) (one other : Share) → (one.state ≡ Open) ⊎ (one ≡ other) → IsBeginning one.bytes other.bytes → SharesBegin (front ++ one ∷ []) (front ++ other ∷ more)
-last_grows front more one other kept begins = shares_behind front (one ∷ []) (other ∷ more) (kept, begins, tt)
+last_grows front more one other kept begins = shares_after front (one ∷ []) (other ∷ more) (kept, begins, tt)
 
 pub shut_map : (bytes : List (List ℕ)) → AllShut (map (share Closed) bytes)
 shut_map [] = tt
@@ -51,5 +51,5 @@ parts_some limit x some = some_by (cut_up limit x).full (cut_up limit x).rest x 
 
 -- a part that was begun, or wasn't yet, begins the same part with more bytes
 pub begun_grows : (front : List Share) (begun more : List ℕ) → IsBeginning begun more → SharesBegin (front ++ map (share Open) (unless_empty begun)) (front ++ share Open more ∷ [])
-begun_grows front [] more begins = shares_behind front [] (share Open more ∷ []) tt
-begun_grows front (byte ∷ begun) more begins = shares_behind front (share Open (byte ∷ begun) ∷ []) (share Open more ∷ []) (inl refl, begins, tt)
+begun_grows front [] more begins = shares_after front [] (share Open more ∷ []) tt
+begun_grows front (byte ∷ begun) more begins = shares_after front (share Open (byte ∷ begun) ∷ []) (share Open more ∷ []) (inl refl, begins, tt)

@@ -23,10 +23,12 @@ use Rattle.split_core.specs.laws.ShareLaws.{settled_on, parts_on, are_named_more
 use Rattle.split_core.specs.inner.Step.{IsSettled, IsTurned, IsHeld, Leads}
 use Rattle.split_core.specs.PartsState.{PartsState, Lacks, Stands, IsReady, is_given}
 use Rattle.split_core.specs.inner.PartsState.{IsAtEnd}
-use Rattle.split_core.specs.inner.Moves.{Moves, Halts, KeepsFile, Begun, begun_share, IsLast, Extended, Interrupted, Turned, TurnsNot, Took, Stopped, Steps}
+use Rattle.ports_core.specs.Engine.{is_verdict}
+use Rattle.split_core.specs.inner.Moves.{Moves, Halts, KeepsFile, Begun, begun_share, IsLast, Extended, Interrupted, Turned, TurnsNot, Took, Stopped, Steps, wants_memory}
 use Rattle.ports_core.proofs.SlotSteps as slot_steps
 use Rattle.split_core.proofs.MoveLemmas as move
 use Rattle.split_core.proofs.PartsLemmas.{count_one, some_share}
+use Rattle.split_core.proofs.TurnLemmas.{some_bytes}
 
 -- where the next bytes lead, whatever came in before
 abbrev pub LeadsOn : PartsState → List ℕ → Step → Type 0
@@ -50,11 +52,6 @@ all_of parts x more stands =
     ap (λ waits. begun_of parts x ++ (waits ++ more)) stands.waits ∙ sym (append_assoc (begun_of parts x) (waiting_rest parts.limit (rest_of parts x)) more)
     ∙ ap (λ those. those ++ more) (settled_then_waiting parts.limit (rest_of parts x))
 
-some_all : (rest more : List ℕ) → 0 < length more → is_some (rest ++ more) ≡ true
-some_all [] [] some = absurd (omega (arith, some))
-some_all [] (byte ∷ more) some = refl
-some_all (byte ∷ rest) more some = refl
-
 -- a text that is cut in this way, and what follows from that
 
 module _ (parts : PartsState) (x taken : List ℕ) where
@@ -70,7 +67,7 @@ module _ (parts : PartsState) (x taken : List ℕ) where
   shares_go : (left : ℕ) (has_line : Bool) → 0 < length taken → IsSettled parts.limit (rest_of parts x ++ taken) left has_line → settled_parts parts.limit (x ++ taken) ≡ full_of parts x ++ share file_state.Open (rest_of parts x ++ taken) ∷ []
   shares_go left has_line some leads =
       shares_by [] (rest_of parts x ++ taken) (cut_none parts.limit (rest_of parts x ++ taken) leads.short)
-      ∙ ap (λ begun. full_of parts x ++ begun_share begun) leads.settled ∙ ap (λ more. full_of parts x ++ more) (some_share (rest_of parts x ++ taken) (some_all (rest_of parts x) taken some))
+      ∙ ap (λ begun. full_of parts x ++ begun_share begun) leads.settled ∙ ap (λ more. full_of parts x ++ more) (some_share (rest_of parts x ++ taken) (some_bytes (rest_of parts x) taken some))
 
   -- the part is full, and the next has begun
   shares_turn : (first next : List ℕ) → IsTurned parts.limit (rest_of parts x ++ taken) first next → settled_parts parts.limit (x ++ taken) ≡ full_of parts x ++ share file_state.Closed first ∷ begun_share next
@@ -94,33 +91,30 @@ stands_at next x full rest is drawn enough lacks waits given = record {
   opened = given ∙ ap (λ (cut : CutUp). is_some (settled_rest next.limit cut.rest)) (sym is);
 }
 
-count_last : (shares : List Share) (one : Share) → length (shares ++ one ∷ []) ≡ suc (length shares)
-count_last shares one = count_one shares one
-
 -- the whole piece: what was taken of it, and what stands after that
-piece_behind : (x piece : List ℕ) (bytes : ℕ) → (x ++ take bytes piece) ++ drop bytes piece ≡ x ++ piece
-piece_behind x piece bytes = append_assoc x (take bytes piece) (drop bytes piece) ∙ ap (λ those. x ++ those) (take-append-drop bytes piece)
+piece_after : (x piece : List ℕ) (bytes : ℕ) → (x ++ take bytes piece) ++ drop bytes piece ≡ x ++ piece
+piece_after x piece bytes = append_assoc x (take bytes piece) (drop bytes piece) ∙ ap (λ those. x ++ those) (take-append-drop bytes piece)
 
 pub grown : (limit : Limit) (x piece : List ℕ) (bytes : ℕ) → SharesBegin (settled_parts limit (x ++ take bytes piece)) (settled_parts limit (x ++ piece))
-grown limit x piece bytes = subst (λ all. SharesBegin (settled_parts limit (x ++ take bytes piece)) (settled_parts limit all)) (piece_behind x piece bytes) (settled_grow limit (x ++ take bytes piece) (drop bytes piece))
+grown limit x piece bytes = subst (λ all. SharesBegin (settled_parts limit (x ++ take bytes piece)) (settled_parts limit all)) (piece_after x piece bytes) (settled_grow limit (x ++ take bytes piece) (drop bytes piece))
 
 taken_some : (piece : List ℕ) (bytes : ℕ) → 0 < bytes → bytes ≤ length piece → 0 < length (take bytes piece)
 taken_some piece bytes some within = let all : length (take bytes piece) ≡ bytes = length-take-le bytes piece within in omega arith
 
 -- names ran out before the part after some full ones
 
-short_by : (told : Bool) (parts : PartsState) (x piece taken behind : List ℕ) (full : List (List ℕ)) (rest : List ℕ) (old new : List Slot) → taken ++ behind ≡ piece → cut_up parts.limit (x ++ taken) ≡ cut_so full rest → 0 < length (rest ++ behind)
+short_by : (told : Bool) (parts : PartsState) (x piece taken past : List ℕ) (full : List (List ℕ)) (rest : List ℕ) (old new : List Slot) → taken ++ past ≡ piece → cut_up parts.limit (x ++ taken) ≡ cut_so full rest → 0 < length (rest ++ past)
     → is_named parts.names (length full) ≡ false → (IsAtEnd parts.current old → Moves told parts.names (settled_parts parts.limit x) (map (share file_state.Closed) full) old new)
     → (are_named parts.names (length (Rattle.split_core.specs.Parts.parts parts.limit (x ++ piece))) ≡ false) × (IsAtEnd parts.current old → Moves told parts.names (settled_parts parts.limit x) (settled_parts parts.limit (x ++ piece)) old new)
-short_by told state x piece taken behind full rest old new split is some none moves = (
+short_by told state x piece taken past full rest old new split is some none moves = (
   subst (λ all. are_named state.names (length (parts state.limit all)) ≡ false) whole nameless,
   λ at_end before at. subst (λ files. Rattle.ports_core.specs.Part.OutputsAt told before (record { out = []; files = files }) new)
       (sym (ap (λ all. named state.names 0 (settled_parts state.limit all)) (sym whole) ∙ ap (named state.names 0) shares
-      ∙ named_short state.names 0 (map (share file_state.Closed) full) (settled_parts state.limit (rest ++ behind)) (subst (λ n. is_named state.names n ≡ false) count none)))
+      ∙ named_short state.names 0 (map (share file_state.Closed) full) (settled_parts state.limit (rest ++ past)) (subst (λ n. is_named state.names n ≡ false) count none)))
       (moves at_end before at),
 ) where
-  whole : (x ++ taken) ++ behind ≡ x ++ piece
-  whole = append_assoc x taken behind ∙ ap (λ those. x ++ those) split
+  whole : (x ++ taken) ++ past ≡ x ++ piece
+  whole = append_assoc x taken past ∙ ap (λ those. x ++ those) split
 
   zero_plus : (n : ℕ) → n ≡ 0 + n
   zero_plus n = omega arith
@@ -128,15 +122,15 @@ short_by told state x piece taken behind full rest old new split is some none mo
   count : length full ≡ 0 + length (map (share file_state.Closed) full)
   count = sym (length-map full (share file_state.Closed)) ∙ zero_plus _
 
-  shares : settled_parts state.limit ((x ++ taken) ++ behind) ≡ map (share file_state.Closed) full ++ settled_parts state.limit (rest ++ behind)
-  shares = settled_on state.limit (x ++ taken) behind ∙ ap (λ (cut : CutUp). map (share file_state.Closed) cut.full ++ settled_parts state.limit (cut.rest ++ behind)) is
+  shares : settled_parts state.limit ((x ++ taken) ++ past) ≡ map (share file_state.Closed) full ++ settled_parts state.limit (rest ++ past)
+  shares = settled_on state.limit (x ++ taken) past ∙ ap (λ (cut : CutUp). map (share file_state.Closed) cut.full ++ settled_parts state.limit (cut.rest ++ past)) is
 
-  nameless : are_named state.names (length (parts state.limit ((x ++ taken) ++ behind))) ≡ false
+  nameless : are_named state.names (length (parts state.limit ((x ++ taken) ++ past))) ≡ false
   nameless =
-      let size : length (parts state.limit ((x ++ taken) ++ behind)) ≡ length full + length (parts state.limit (rest ++ behind))
-      = ap length (parts_on state.limit (x ++ taken) behind ∙ ap (λ (cut : CutUp). cut.full ++ parts state.limit (cut.rest ++ behind)) is) ∙ length-append full (parts state.limit (rest ++ behind)) in
-      let one : 0 < length (parts state.limit (rest ++ behind)) = parts_some state.limit (rest ++ behind) some in
-      are_named_more state.names (suc (length full)) (length (parts state.limit ((x ++ taken) ++ behind))) none (omega arith)
+      let size : length (parts state.limit ((x ++ taken) ++ past)) ≡ length full + length (parts state.limit (rest ++ past))
+      = ap length (parts_on state.limit (x ++ taken) past ∙ ap (λ (cut : CutUp). cut.full ++ parts state.limit (cut.rest ++ past)) is) ∙ length-append full (parts state.limit (rest ++ past)) in
+      let one : 0 < length (parts state.limit (rest ++ past)) = parts_some state.limit (rest ++ past) some in
+      are_named_more state.names (suc (length full)) (length (parts state.limit ((x ++ taken) ++ past))) none (omega arith)
 
 -- all that is left goes to the part that was begun
 
@@ -150,10 +144,10 @@ goes_on told parts found next piece bytes left slot has_line old new some within
           let settled : IsSettled parts.limit (rest_of parts x ++ taken) left has_line = leads (rest_of parts x) stands.lacks in
           let shares = shares_go parts x taken left has_line (taken_some piece bytes some within) settled in
           let last : IsLast found (full_of parts x) = extends.drawn (full_of parts x) (begun_of parts x) (begun_so parts x stands) in
-          let count = ap length shares ∙ count_last (full_of parts x) (share file_state.Open (rest_of parts x ++ taken)) in
+          let count = ap length shares ∙ count_one (full_of parts x) (share file_state.Open (rest_of parts x ++ taken)) in
           stands_at those (x ++ taken) _ (rest_of parts x ++ taken) (cut_by parts x taken [] (rest_of parts x ++ taken) (cut_none parts.limit (rest_of parts x ++ taken) settled.short))
           (last.drawn ∙ sym count) (ap (are_named found.names) count ∙ last.named) settled.lacks (sym settled.waits)
-          (sym (ap is_some settled.settled ∙ some_all (rest_of parts x) taken (taken_some piece bytes some within)));
+          (sym (ap is_some settled.settled ∙ some_bytes (rest_of parts x) taken (taken_some piece bytes some within)));
       moves = λ x stands at_end.
           let settled : IsSettled parts.limit (rest_of parts x ++ taken) left has_line = leads (rest_of parts x) stands.lacks in
           subst (λ high. Moves told parts.names (settled_parts parts.limit x) high old new)
@@ -174,17 +168,17 @@ goes_on told parts found next piece bytes left slot has_line old new some within
 
 -- the part that was begun ended, and the next has begun
 
-turned_stands : (parts mid next : PartsState) (x taken first behind : List ℕ) → mid.limit ≡ parts.limit → Stands parts x → IsTurned parts.limit (rest_of parts x ++ taken) first behind
-    → next ≡ record mid { names = next.names; left = most mid.limit - length behind; has_line = false; waiting = []; current = next.current }
-    → next.names.drawn ≡ length (full_of parts x ++ share file_state.Closed first ∷ begun_share behind) → are_named next.names (length (full_of parts x ++ share file_state.Closed first ∷ begun_share behind)) ≡ true
-    → is_given next.current ≡ is_some behind → Stands next (x ++ taken)
-turned_stands parts mid next x taken first behind limit stands leads is drawn enough given =
-    subst (λ those. Stands those (x ++ taken)) (sym (is ∙ ap (λ limit_is. record { limit = limit_is; names = next.names; left = most limit_is - length behind; has_line = false; waiting = []; current = next.current }) limit))
-    (stands_at (record { limit = parts.limit; names = next.names; left = most parts.limit - length behind; has_line = false; waiting = []; current = next.current }) (x ++ taken) _ behind
-    (cut_by parts x taken (first ∷ []) behind (cut_two parts.limit (rest_of parts x ++ taken) first behind leads.full leads.first_is leads.both leads.begun.short))
+turned_stands : (parts mid next : PartsState) (x taken first past : List ℕ) → mid.limit ≡ parts.limit → Stands parts x → IsTurned parts.limit (rest_of parts x ++ taken) first past
+    → next ≡ record mid { names = next.names; left = most mid.limit - length past; has_line = false; waiting = []; current = next.current }
+    → next.names.drawn ≡ length (full_of parts x ++ share file_state.Closed first ∷ begun_share past) → are_named next.names (length (full_of parts x ++ share file_state.Closed first ∷ begun_share past)) ≡ true
+    → is_given next.current ≡ is_some past → Stands next (x ++ taken)
+turned_stands parts mid next x taken first past limit stands leads is drawn enough given =
+    subst (λ those. Stands those (x ++ taken)) (sym (is ∙ ap (λ limit_is. record { limit = limit_is; names = next.names; left = most limit_is - length past; has_line = false; waiting = []; current = next.current }) limit))
+    (stands_at (record { limit = parts.limit; names = next.names; left = most parts.limit - length past; has_line = false; waiting = []; current = next.current }) (x ++ taken) _ past
+    (cut_by parts x taken (first ∷ []) past (cut_two parts.limit (rest_of parts x ++ taken) first past leads.full leads.first_is leads.both leads.begun.short))
     (drawn ∙ sym (ap length shares)) (ap (λ those. are_named next.names (length those)) shares ∙ enough) leads.begun.lacks (sym leads.begun.waits) (given ∙ sym (ap is_some leads.begun.settled))) where
-      shares : settled_parts parts.limit (x ++ taken) ≡ full_of parts x ++ share file_state.Closed first ∷ begun_share behind
-      shares = shares_turn parts x taken first behind leads
+      shares : settled_parts parts.limit (x ++ taken) ≡ full_of parts x ++ share file_state.Closed first ∷ begun_share past
+      shares = shares_turn parts x taken first past leads
 
 pub names_drawn : (names mid next : Naming) → mid ≡ record names { drawn = mid.drawn } → next ≡ record mid { drawn = next.drawn } → next ≡ record names { drawn = next.drawn }
 names_drawn names mid next first second = second ∙ ap (λ (those : Naming). record those { drawn = next.drawn }) first
@@ -226,14 +220,14 @@ begins_next told parts next piece bytes old new leads turns = record {
 
   last_of : (x : List ℕ) → Stands parts x → is_some (begun_of parts x) ≡ true → IsLast parts (full_of parts x)
   last_of x stands some =
-      let count = ap length (low_is x some) ∙ count_last (full_of parts x) (share file_state.Open (begun_of parts x)) in
+      let count = ap length (low_is x some) ∙ count_one (full_of parts x) (share file_state.Open (begun_of parts x)) in
       record { drawn = stands.drawn ∙ count; named = sym (ap (are_named parts.names) count) ∙ stands.enough; shut = shut_map (cut_up parts.limit x).full }
 
 -- these bytes are the last of the part
 
-pub ends_part : (told : Bool) (parts mid next : PartsState) (piece behind : List ℕ) (end bytes slot : ℕ) (old wet new : List Slot) → LeadsOn parts piece (Ends end bytes) → behind ≡ drop end (take bytes piece)
-    → Extended told parts (take end piece) old wet mid slot → Turned told mid behind wet new next → Took told parts (take bytes piece) old new next
-ends_part told parts mid next piece behind end bytes slot old wet new leads is extends turns = record {
+pub ends_part : (told : Bool) (parts mid next : PartsState) (piece past : List ℕ) (end bytes slot : ℕ) (old wet new : List Slot) → LeadsOn parts piece (Ends end bytes) → past ≡ drop end (take bytes piece)
+    → Extended told parts (take end piece) old wet mid slot → Turned told mid past wet new next → Took told parts (take bytes piece) old new next
+ends_part told parts mid next piece past end bytes slot old wet new leads is extends turns = record {
   limit_same = ap (λ (those : PartsState). those.limit) turns.same ∙ ap (λ (those : PartsState). those.limit) extends.same;
   names_same = names_all;
   stands = λ x stands.
@@ -241,10 +235,10 @@ ends_part told parts mid next piece behind end bytes slot old wet new leads is e
       let last : IsLast mid (full_of parts x) = extends.drawn (full_of parts x) (begun_of parts x) (begun_so parts x stands) in
       let drawn = turns.drawn (full_of parts x) (rest_of parts x ++ take end piece) last given in
       turned_stands parts mid next x (take bytes piece) (rest_of parts x ++ take end piece) (drop end (take bytes piece)) (ap (λ (those : PartsState). those.limit) extends.same) stands led
-      (turns.same ∙ ap (λ those. record mid { names = next.names; left = most mid.limit - length those; has_line = false; waiting = []; current = next.current }) all_behind)
-      (drawn.0 ∙ ap (λ those. length (full_of parts x ++ share file_state.Closed (rest_of parts x ++ take end piece) ∷ begun_share those)) all_behind)
-      (are_named_drawn mid.names next.names _ turns.names_same ∙ sym (ap (λ those. are_named mid.names (length (full_of parts x ++ share file_state.Closed (rest_of parts x ++ take end piece) ∷ begun_share those))) all_behind) ∙ drawn.1)
-      (turns.given ∙ ap is_some all_behind);
+      (turns.same ∙ ap (λ those. record mid { names = next.names; left = most mid.limit - length those; has_line = false; waiting = []; current = next.current }) all_after)
+      (drawn.0 ∙ ap (λ those. length (full_of parts x ++ share file_state.Closed (rest_of parts x ++ take end piece) ∷ begun_share those)) all_after)
+      (are_named_drawn mid.names next.names _ turns.names_same ∙ sym (ap (λ those. are_named mid.names (length (full_of parts x ++ share file_state.Closed (rest_of parts x ++ take end piece) ∷ begun_share those))) all_after) ∙ drawn.1)
+      (turns.given ∙ ap is_some all_after);
   moves = λ x stands at_end.
       let led = leads (rest_of parts x) stands.lacks in
       let last : IsLast mid (full_of parts x) = extends.drawn (full_of parts x) (begun_of parts x) (begun_so parts x stands) in
@@ -252,7 +246,7 @@ ends_part told parts mid next piece behind end bytes slot old wet new leads is e
       (subst (λ begun. Moves told parts.names (settled_parts parts.limit x) (full_of parts x ++ share file_state.Open begun ∷ []) old wet) (all_of parts x (take end piece) stands)
       (extends.moves (full_of parts x) (begun_of parts x) (begun_so parts x stands) at_end))
       (subst (λ high. Moves told parts.names (full_of parts x ++ share file_state.Open (rest_of parts x ++ take end piece) ∷ []) high wet new)
-      (ap (λ those. full_of parts x ++ share file_state.Closed (rest_of parts x ++ take end piece) ∷ begun_share those) all_behind
+      (ap (λ those. full_of parts x ++ share file_state.Closed (rest_of parts x ++ take end piece) ∷ begun_share those) all_after
       ∙ sym (shares_turn parts x (take bytes piece) (rest_of parts x ++ take end piece) (drop end (take bytes piece)) led))
       (move.moves_by told parts.names mid.names _ _ wet new extends.names_same (turns.moves (full_of parts x) (rest_of parts x ++ take end piece) last given (move.stays_last parts.current mid.current old wet extends.owned at_end))));
   keeps = slot_steps.keeps_again old wet new extends.keeps turns.keeps;
@@ -262,8 +256,8 @@ ends_part told parts mid next piece behind end bytes slot old wet new leads is e
   given : is_given mid.current ≡ true
   given = ap (λ (those : PartsState). is_given those.current) extends.same
 
-  all_behind : mid.waiting ++ behind ≡ drop end (take bytes piece)
-  all_behind = ap (λ (those : PartsState). those.waiting ++ behind) extends.same ∙ is
+  all_after : mid.waiting ++ past ≡ drop end (take bytes piece)
+  all_after = ap (λ (those : PartsState). those.waiting ++ past) extends.same ∙ is
 
   names_all : next.names ≡ record parts.names { drawn = next.names.drawn }
   names_all = names_drawn parts.names mid.names next.names extends.names_same turns.names_same
@@ -311,23 +305,12 @@ no_room told parts next piece old new f is same slots =
       limit_same = ap (λ (those : PartsState). those.limit) same;
       names_same = ap (λ (those : PartsState). those.names) same ∙ ap (λ n. record parts.names { drawn = n }) (sym (ap (λ (those : PartsState). those.names.drawn) same));
       halts = λ x stands at_end. move.halts_here told parts.names _ _ old new fault.Memory _ (settled_grow parts.limit x piece) (here_turn parts x stands).1 slots (λ before at. tt);
-      breaks = tt;
+      breaks = wants_memory;
       owned = subst (λ current. KeepsFile parts.current old current new) (sym (ap (λ (those : PartsState). those.current) same)) (move.owned_same parts.current old new (ap length slots));
       short = λ is_short. absurd (not_short is_short);
     }) where
       not_short : fault.Memory ≡ fault.Suffixes → ⊥
-      not_short e = false≢true (sym (ap is_memory e)) where
-        is_memory : Fault → Bool
-        is_memory fault.Memory = true
-        is_memory (fault.Write slot) = false
-        is_memory (fault.Read slot) = false
-        is_memory (fault.Open slot) = false
-        is_memory fault.Suffixes = false
-        is_memory (fault.NoMatch operand repetition) = false
-        is_memory (fault.Range operand repetition) = false
-        is_memory (fault.Usage kind word) = false
-        is_memory fault.Failed = false
-        is_memory fault.TooLong = false
+      not_short e = false≢true (ap is_verdict e)
 
 -- there is no file for the part that was begun: nothing of it is written
 short_begun : (told : Bool) (parts : PartsState) (x piece : List ℕ) (old new : List Slot) → 0 < length piece → Stands parts x → (parts.current ≡ None) × (has_next parts.names ≡ false) × (new ≡ old)
@@ -365,8 +348,8 @@ pub below_goes : (parts : PartsState) (piece : List ℕ) (bytes left : ℕ) (has
 below_goes parts piece bytes left has_line some within leads x stands =
     subst (λ low. SharesBegin low (settled_parts parts.limit (x ++ piece))) (shares_go parts x (take bytes piece) left has_line (taken_some piece bytes some within) (leads (rest_of parts x) stands.lacks)) (grown parts.limit x piece bytes)
 
-turned_below : (parts : PartsState) (piece first behind : List ℕ) (bytes : ℕ) (x : List ℕ) → IsTurned parts.limit (rest_of parts x ++ take bytes piece) first behind → SharesBegin (full_of parts x ++ share file_state.Closed first ∷ begun_share behind) (settled_parts parts.limit (x ++ piece))
-turned_below parts piece first behind bytes x led = subst (λ low. SharesBegin low (settled_parts parts.limit (x ++ piece))) (shares_turn parts x (take bytes piece) first behind led) (grown parts.limit x piece bytes)
+turned_below : (parts : PartsState) (piece first past : List ℕ) (bytes : ℕ) (x : List ℕ) → IsTurned parts.limit (rest_of parts x ++ take bytes piece) first past → SharesBegin (full_of parts x ++ share file_state.Closed first ∷ begun_share past) (settled_parts parts.limit (x ++ piece))
+turned_below parts piece first past bytes x led = subst (λ low. SharesBegin low (settled_parts parts.limit (x ++ piece))) (shares_turn parts x (take bytes piece) first past led) (grown parts.limit x piece bytes)
 
 pub below_ends : (parts : PartsState) (piece : List ℕ) (end bytes : ℕ) → LeadsOn parts piece (Ends end bytes)
     → (x : List ℕ) → Stands parts x → SharesBegin (full_of parts x ++ share file_state.Open (rest_of parts x ++ take end piece) ∷ []) (settled_parts parts.limit (x ++ piece))
@@ -375,13 +358,13 @@ below_ends parts piece end bytes leads x stands =
     (turned_below parts piece (rest_of parts x ++ take end piece) (drop end (take bytes piece)) bytes x (leads (rest_of parts x) stands.lacks))
 
 -- names ran out at the next part
-short_next : (told : Bool) (parts : PartsState) (x piece first behind : List ℕ) (bytes : ℕ) (old new : List Slot) → IsTurned parts.limit (rest_of parts x ++ take bytes piece) first behind → is_some behind ≡ true
+short_next : (told : Bool) (parts : PartsState) (x piece first past : List ℕ) (bytes : ℕ) (old new : List Slot) → IsTurned parts.limit (rest_of parts x ++ take bytes piece) first past → is_some past ≡ true
     → is_named parts.names (suc (length (full_of parts x))) ≡ false → (IsAtEnd parts.current old → Moves told parts.names (settled_parts parts.limit x) (full_of parts x ++ share file_state.Closed first ∷ []) old new)
     → (are_named parts.names (length (Rattle.split_core.specs.Parts.parts parts.limit (x ++ piece))) ≡ false) × (IsAtEnd parts.current old → Moves told parts.names (settled_parts parts.limit x) (settled_parts parts.limit (x ++ piece)) old new)
-short_next told state x piece first behind bytes old new led some none moves =
-    short_by told state x piece (take bytes piece) (drop bytes piece) ((cut_up state.limit x).full ++ first ∷ []) behind old new (take-append-drop bytes piece)
-    (cut_by state x (take bytes piece) (first ∷ []) behind (cut_two state.limit (rest_of state x ++ take bytes piece) first behind led.full led.first_is led.both led.begun.short))
-    (some_more behind (drop bytes piece) some)
+short_next told state x piece first past bytes old new led some none moves =
+    short_by told state x piece (take bytes piece) (drop bytes piece) ((cut_up state.limit x).full ++ first ∷ []) past old new (take-append-drop bytes piece)
+    (cut_by state x (take bytes piece) (first ∷ []) past (cut_two state.limit (rest_of state x ++ take bytes piece) first past led.full led.first_is led.both led.begun.short))
+    (some_more past (drop bytes piece) some)
     (ap (is_named state.names) count ∙ none)
     (λ at_end. subst (λ high. Moves told state.names (settled_parts state.limit x) high old new) (sym (map-append (share file_state.Closed) (cut_up state.limit x).full (first ∷ []))) (moves at_end)) where
       some_more : (xs ys : List ℕ) → is_some xs ≡ true → 0 < length (xs ++ ys)
@@ -418,12 +401,12 @@ begins_stopped told parts next piece bytes old new f leads cut = record {
 
   last_of : (x : List ℕ) → Stands parts x → is_some (begun_of parts x) ≡ true → IsLast parts (full_of parts x)
   last_of x stands some =
-      let count = ap length (low_is x some) ∙ count_last (full_of parts x) (share file_state.Open (begun_of parts x)) in
+      let count = ap length (low_is x some) ∙ count_one (full_of parts x) (share file_state.Open (begun_of parts x)) in
       record { drawn = stands.drawn ∙ count; named = sym (ap (are_named parts.names) count) ∙ stands.enough; shut = shut_map (cut_up parts.limit x).full }
 
-pub ends_stopped : (told : Bool) (parts mid next : PartsState) (piece behind : List ℕ) (end bytes slot : ℕ) (old wet new : List Slot) (f : Fault) → LeadsOn parts piece (Ends end bytes) → behind ≡ drop end (take bytes piece)
-    → Extended told parts (take end piece) old wet mid slot → TurnsNot told mid behind wet new next f → Stopped told parts piece old new next f
-ends_stopped told parts mid next piece behind end bytes slot old wet new f leads is extends cut = record {
+pub ends_stopped : (told : Bool) (parts mid next : PartsState) (piece past : List ℕ) (end bytes slot : ℕ) (old wet new : List Slot) (f : Fault) → LeadsOn parts piece (Ends end bytes) → past ≡ drop end (take bytes piece)
+    → Extended told parts (take end piece) old wet mid slot → TurnsNot told mid past wet new next f → Stopped told parts piece old new next f
+ends_stopped told parts mid next piece past end bytes slot old wet new f leads is extends cut = record {
   limit_same = cut.limit_same ∙ ap (λ (those : PartsState). those.limit) extends.same;
   names_same = names_drawn parts.names mid.names next.names extends.names_same cut.names_same;
   halts = λ x stands at_end.
@@ -432,7 +415,7 @@ ends_stopped told parts mid next piece behind end bytes slot old wet new f leads
       move.halts_after told parts.names _ (full_of parts x ++ share file_state.Open (rest_of parts x ++ take end piece) ∷ []) _ old wet new f
       (shares_grow x stands) (moved x stands at_end)
       (move.halts_wider told parts.names _ (full_of parts x ++ share file_state.Closed (rest_of parts x ++ take end piece) ∷ begun_share (drop end (take bytes piece))) _ wet new f
-      (subst (λ those. Halts told parts.names (full_of parts x ++ share file_state.Open (rest_of parts x ++ take end piece) ∷ []) (full_of parts x ++ share file_state.Closed (rest_of parts x ++ take end piece) ∷ begun_share those) wet new f) all_behind
+      (subst (λ those. Halts told parts.names (full_of parts x ++ share file_state.Open (rest_of parts x ++ take end piece) ∷ []) (full_of parts x ++ share file_state.Closed (rest_of parts x ++ take end piece) ∷ begun_share those) wet new f) all_after
       (move.halts_by told parts.names mid.names _ _ wet new f extends.names_same (cut.halts (full_of parts x) (rest_of parts x ++ take end piece) last given (move.stays_last parts.current mid.current old wet extends.owned at_end))))
       (turned_below parts piece _ _ bytes x led));
   breaks = move.breaks_later old wet new f extends.keeps cut.breaks;
@@ -442,7 +425,7 @@ ends_stopped told parts mid next piece behind end bytes slot old wet new f leads
       let last : IsLast mid (full_of parts x) = extends.drawn (full_of parts x) (begun_of parts x) (begun_so parts x stands) in
       let why = cut.short is_short in
       let ran = why.1 (full_of parts x) (rest_of parts x ++ take end piece) last given in
-      short_next told parts x piece (rest_of parts x ++ take end piece) (drop end (take bytes piece)) bytes old new led (sym (ap is_some all_behind) ∙ why.0)
+      short_next told parts x piece (rest_of parts x ++ take end piece) (drop end (take bytes piece)) bytes old new led (sym (ap is_some all_after) ∙ why.0)
       (sym (is_named_drawn parts.names mid.names _ extends.names_same) ∙ ran.0)
       (λ at_end. move.moves_again told parts.names _ (full_of parts x ++ share file_state.Open (rest_of parts x ++ take end piece) ∷ []) _ old wet new (moved x stands at_end)
       (move.moves_by told parts.names mid.names _ _ wet new extends.names_same (ran.1 (move.stays_last parts.current mid.current old wet extends.owned at_end))));
@@ -450,8 +433,8 @@ ends_stopped told parts mid next piece behind end bytes slot old wet new f leads
   given : is_given mid.current ≡ true
   given = ap (λ (those : PartsState). is_given those.current) extends.same
 
-  all_behind : mid.waiting ++ behind ≡ drop end (take bytes piece)
-  all_behind = ap (λ (those : PartsState). those.waiting ++ behind) extends.same ∙ is
+  all_after : mid.waiting ++ past ≡ drop end (take bytes piece)
+  all_after = ap (λ (those : PartsState). those.waiting ++ past) extends.same ∙ is
 
   moved : (x : List ℕ) → Stands parts x → IsAtEnd parts.current old → Moves told parts.names (settled_parts parts.limit x) (full_of parts x ++ share file_state.Open (rest_of parts x ++ take end piece) ∷ []) old wet
   moved x stands at_end = subst (λ begun. Moves told parts.names (settled_parts parts.limit x) (full_of parts x ++ share file_state.Open begun ∷ []) old wet) (all_of parts x (take end piece) stands)

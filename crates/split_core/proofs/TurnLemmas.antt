@@ -17,7 +17,8 @@ use Rattle.seg_core.specs.Window.{ByteWindowState}
 use Rattle.split_core.specs.declared.limit.Limit.{Limit}
 use Rattle.split_core.specs.PartsState.{PartsState, IsReady, is_given}
 use Rattle.split_core.specs.inner.PartsState.{Fits, IsAtEnd}
-use Rattle.split_core.specs.inner.Moves.{Moves, Halts, KeepsFile, Begun, begun_share, IsLast, Extended, Interrupted, EndsFile, none_there, closed, failed, Turned, TurnsNot}
+use Rattle.ports_core.specs.Engine.{is_verdict}
+use Rattle.split_core.specs.inner.Moves.{Moves, Halts, KeepsFile, Begun, begun_share, IsLast, Extended, Interrupted, EndsFile, none_there, closed, failed, breaks_write, Turned, TurnsNot}
 use Rattle.ports_core.proofs.SlotSteps as slot_steps
 use Rattle.split_core.proofs.MoveLemmas as move
 use Rattle.split_core.proofs.PartsLemmas.{count_one, some_share}
@@ -47,25 +48,14 @@ closed_facts told parts old mid next ready (closed slot is next_is changed) =
     let open_file : is_closable old slot = subst (λ current. IsReady current old) is ready in
     record {
       same = next_is;
-      streams = let size : length mid ≡ length old = ap length changed ∙ length-changed_at slot closes old in let within : slot < length old = slot_steps.writable_within slot old open_file.1 in let behind : 2 ≤ slot = open_file.0 in omega arith;
+      streams = let size : length mid ≡ length old = ap length changed ∙ length-changed_at slot closes old in let within : slot < length old = slot_steps.writable_within slot old open_file.1 in let after : 2 ≤ slot = open_file.0 in omega arith;
       keeps = slot_steps.keeps_close slot old mid changed;
       owned = file_ended parts next slot old mid is (ap (λ (those : PartsState). those.current) next_is) (ap length changed ∙ length-changed_at slot closes old);
       moves = λ shares begun last given at_end. move.close_moves told parts.names shares begun old mid slot last.named (subst (λ current. IsAtEnd current old) is at_end) changed;
     }
 
 no_write : (slot : ℕ) → fault.Write slot ≡ fault.Suffixes → ⊥
-no_write slot is = false≢true (sym (ap is_write is)) where
-  is_write : Fault → Bool
-  is_write (fault.Write slot) = true
-  is_write fault.Memory = false
-  is_write (fault.Read slot) = false
-  is_write (fault.Open slot) = false
-  is_write fault.Suffixes = false
-  is_write (fault.NoMatch operand repetition) = false
-  is_write (fault.Range operand repetition) = false
-  is_write (fault.Usage kind word) = false
-  is_write fault.Failed = false
-  is_write fault.TooLong = false
+no_write slot is = false≢true (ap is_verdict is)
 
 pub turns_not_closed : (told : Bool) (parts : PartsState) (bytes : List ℕ) (old new : List Slot) (next : PartsState) (f : Fault) → IsReady parts.current old → EndsFile parts old new next (Err f) → TurnsNot told parts bytes old new next f
 turns_not_closed told parts bytes old new next _ ready (failed slot is next_is changed) =
@@ -74,7 +64,7 @@ turns_not_closed told parts bytes old new next _ ready (failed slot is next_is c
       limit_same = ap (λ (those : PartsState). those.limit) next_is;
       names_same = ap (λ (those : PartsState). those.names) next_is ∙ ap (λ n. record parts.names { drawn = n }) (sym (ap (λ (those : PartsState). those.names.drawn) next_is));
       halts = λ shares begun last given at_end. move.close_halts told parts.names shares (begun_share (parts.waiting ++ bytes)) begun old new slot last.shut last.named (subst (λ current. IsAtEnd current old) is at_end) changed;
-      breaks = (open_file.0, slot_steps.close_rose slot old new open_file.1 (slot_steps.writable_within slot old open_file.1) changed);
+      breaks = breaks_write slot open_file.0 (slot_steps.close_rose slot old new open_file.1 (slot_steps.writable_within slot old open_file.1) changed);
       owned = file_ended parts next slot old new is (ap (λ (those : PartsState). those.current) next_is) (slot_steps.broken_size slot old new changed);
       short = λ is_short. absurd (no_write slot is_short);
     }
@@ -117,7 +107,7 @@ next_begun parts mid shares begun names none last = record {
   count : length ((shares ++ share state.Closed begun ∷ []) ++ []) ≡ suc (length shares)
   count = ap length (append-nil (shares ++ share state.Closed begun ∷ [])) ∙ count_one shares (share state.Closed begun)
 
-some_bytes : (waiting bytes : List ℕ) → 0 < length bytes → is_some (waiting ++ bytes) ≡ true
+pub some_bytes : (waiting bytes : List ℕ) → 0 < length bytes → is_some (waiting ++ bytes) ≡ true
 some_bytes [] [] some = absurd (omega (arith, some))
 some_bytes [] (byte ∷ bytes) some = refl
 some_bytes (one ∷ waiting) bytes some = refl
@@ -223,7 +213,7 @@ fits_next limit other waiting held bytes most_is size old_left has_line window i
       some = omega arith;
       room = fits.room;
       within = omega arith;
-      behind_line = λ never. absurd (false≢true never);
+      after_line = λ never. absurd (false≢true never);
     }
 
 pub no_bytes : (bytes : List ℕ) → true ≡ eqb (length bytes) 0 → length bytes ≡ 0

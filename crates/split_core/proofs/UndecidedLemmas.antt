@@ -1,6 +1,5 @@
 -- Which bytes continuations put into different files.
 use Rattle.std.proofs.Common.{◌≡◌, ◌≢◌, ◌⊎◌, ℕ, ◌+◌, ◌-◌, ◌%◌, ◌<◌, ◌≤◌, ◌&&◌, nat_lt, suc, List, [], ◌∷◌, ◌++◌, length, map, take, drop, Bool, true, false, not, cond, inl, inr, refl, sym, ◌∙◌, ap, arith, length-append}
-use Rattle.std.specs.List.{filter}
 use Rattle.std.proofs.Math.Seq.{drop-append_seam}
 use Rattle.std.proofs.lemmas.Bool.{cases_lt, false≢true, lt-ltb}
 use Rattle.std.proofs.lemmas.List.{append-nil, length-map, drop_all, take-append-le}
@@ -17,7 +16,7 @@ use Rattle.seg_core.specs.declared.cut.Cut.TheVariants as cut
 use Rattle.split_core.specs.declared.limit.Limit.{Limit}
 use Rattle.split_core.specs.declared.limit.Limit.TheVariants.{Lines, Bytes, LineBytes}
 use Rattle.split_core.specs.Parts.{whole_lines, most, cut_up, unless_empty, parts, settled_rest, waiting_rest, round_robin, dealt}
-use Rattle.split_core.specs.Split.{Plan, share, is_some, is_named, are_named, named, file_at, settled_by, is_short, split_work, dealt_files, bytes_in, waiting}
+use Rattle.split_core.specs.Split.{Plan, share, is_named, are_named, named, file_at, settled_by, is_short, split_work, dealt_files, bytes_in, waiting}
 use Rattle.split_core.specs.Splitter.{IsPositive}
 use Rattle.split_core.specs.PartState.{parts_work}
 use Rattle.split_core.specs.Place.{dealt_to, dealt_spots, split_spots}
@@ -28,6 +27,7 @@ use Rattle.split_core.specs.laws.PartStateLaws as part_law
 use Rattle.split_core.proofs.PlaceLemmas.{all_dealt}
 use Rattle.split_core.proofs.SectionLemmas.{settled_list, list_all}
 use Rattle.split_core.proofs.AgreedLemmas.{named_bytes, named_more, each_named, whole_files, settled_files, list_count, decides_lines, one_of, delimiters_some, dealt_settled, plan_by}
+use Rattle.split_core.proofs.RoundLemmas.{joined_some}
 
 -- Spots in parts that follow one another
 
@@ -182,11 +182,6 @@ parts_undecided limit names x some are = record {
 }
 
 -- Lines that are dealt: none waits
-
-joined_some : (those : List (List ℕ)) → joined (filter is_some those) ≡ joined those
-joined_some [] = refl
-joined_some ([] ∷ those) = joined_some those
-joined_some ((byte ∷ bytes) ∷ those) = ap (λ rest. (byte ∷ bytes) ++ rest) (joined_some those)
 
 dealt_bytes : (delim n : ℕ) (elide : Bool) (x : List ℕ) → 0 < n → length (joined (dealt_files delim elide n x)) ≡ length x
 dealt_bytes delim n true x some = ap length (joined_some (round_robin delim n x)) ∙ all_dealt delim n x some

@@ -33,11 +33,11 @@ all_bytes names (one ∷ shares) are = bytes_named (from_start names) 0 one shar
   none n = omega arith
 
 -- what follows a beginning
-behind : (x front rest : List ℕ) → front ++ rest ≡ x → drop (length front) x ≡ rest
-behind x front rest is = ap (drop (length front)) (sym is) ∙ drop-append_seam front rest
+after : (x front rest : List ℕ) → front ++ rest ≡ x → drop (length front) x ≡ rest
+after x front rest is = ap (drop (length front)) (sym is) ∙ drop-append_seam front rest
 
 -- what waits in a stage that cuts off parts
 pub parts_wait : (parts : PartsState) (held : List ℕ) (size : ℕ) → held ≡ parts.waiting → size ≡ length held → (x : List ℕ) → Stands parts x → size ≡ length (waiting (part.work parts) x)
 parts_wait parts held size is count x stands =
-    count ∙ ap length (is ∙ stands.waits ∙ sym (behind x (joined (shared (settled_parts parts.limit x))) (waiting_rest parts.limit (cut_up parts.limit x).rest) (settled_all parts.limit x)))
+    count ∙ ap length (is ∙ stands.waits ∙ sym (after x (joined (shared (settled_parts parts.limit x))) (waiting_rest parts.limit (cut_up parts.limit x).rest) (settled_all parts.limit x)))
     ∙ ap (λ those. length (drop (length (joined those)) x)) (sym (all_bytes parts.names (settled_parts parts.limit x) stands.enough))

@@ -1,48 +1,86 @@
--- The engine of `split` cuts in one of its two ways.
-use Rattle.std.proofs.Common.{◌≡◌, ℕ, List, Bool, false, Result, Ok, Err, OnOk, IfErr, refl, sym, subst}
+-- What the engine of `split` owes, in each of its two ways to cut.
+use Rattle.std.proofs.Common.{◌≡◌, ℕ, List, length, Bool, true, false, Result, OnOk, IfErr, refl, sym}
+use Rattle.std.proofs.lemmas.Bool.{false≢true}
 use Rattle.ports_core.specs.Guard.{GuardState, HoldsIn}
 use Rattle.ports_core.specs.Slot.{Slot}
-use Rattle.ports_core.specs.Part.{Part}
-use Rattle.ports_core.specs.Engine.{StandsAt, CutsOff, Finishes, EndsShort}
+use Rattle.ports_core.specs.Engine.{TakesIn, PutsOut, CutsOff, Finishes, EndsShort, EndsWith, EndsThere, IsMet, KeepsOwn}
 use Rattle.ports_core.specs.declared.fault.Fault.{Fault}
 use Rattle.split_core.specs.declared.splitter.Splitter.{Splitter}
 use Rattle.split_core.specs.declared.splitter.Splitter.TheVariants.{Parts, Round}
-use Rattle.split_core.specs.PartsState.{PartsState, Stands}
-use Rattle.split_core.specs.PartState as part
-use Rattle.split_core.specs.Ways.{Holds, Owns, work}
-use Rattle.split_core.proofs.PartStageLemmas.{never_done}
+use Rattle.split_core.specs.Split.{waiting}
+use Rattle.split_core.specs.Ways.{Holds, Owns, Ready, work}
+use Rattle.split_core.specs.inner.Ways.{FinishesBy, PassesBy, held, of_parts, of_round, parts_end, round_ends}
+use Rattle.split_core.proofs.PartStageLemmas as part
+use Rattle.split_core.proofs.RoundLemmas as dealing
+use Rattle.split_core.proofs.WaitingLemmas.{parts_wait}
 
 -- as long as the engine goes on, all files have names
 pub all_named : (way : Splitter) (x : List ℕ) → Holds way x → (work way).is_complete x ≡ false
-all_named (Parts parts) x holds = sym (never_done parts x holds)
+all_named (Parts parts) x holds = sym (part.never_done parts x holds)
 all_named (Round round) x holds = refl
 
 pub never_short : (engine : GuardState Splitter) (x : List ℕ) → HoldsIn Holds engine x → (work engine.stage).is_complete x ≡ false
 never_short engine x holds = all_named engine.stage x holds.within
 
--- what parts owe, the way of parts owes
+pub held_is : (way : Splitter) (x : List ℕ) → Holds way x → held way ≡ length (waiting (work way) x)
+held_is (Parts parts) x holds = parts_wait parts parts.waiting (length parts.waiting) refl refl x holds
+held_is (Round round) x holds = dealing.none_waits round x holds
 
-parts_at : (told : Bool) (parts : PartsState) (before : List Slot) (x : List ℕ) (out : Part) (now : List Slot) → StandsAt Holds Owns (Parts parts) told before x out now → StandsAt Stands part.Owns parts told before x out now
-parts_at told parts before x out now at = record { holds = at.holds; owns = at.owns; outputs = at.outputs }
+-- it writes to files alone
+pub only_files : (way : Splitter) → (work way).means.output ≡ true → ⊥
+only_files (Parts parts) is = false≢true is
+only_files (Round round) is = false≢true is
 
-module _ (told : Bool) (parts : PartsState) (way : Splitter) (old new : List Slot) (is : way ≡ Parts parts) where
-  cut_here : (piece : List ℕ) (result : Result (Unit {0}) Fault) → IfErr result (CutsOff Stands part.Owns part.work parts piece told old new) → IfErr result (CutsOff Holds Owns work (Parts parts) piece told old new)
-  cut_here piece (Ok u) cuts = tt
-  cut_here piece (Err f) cuts = λ before x at. cuts before x (parts_at told parts before x _ old at)
+-- a piece
 
-  finish_here : (result : Result (Unit {0}) Fault) → OnOk result (Finishes Stands part.Owns part.work parts told old new) → OnOk result (Finishes Holds Owns work (Parts parts) told old new)
-  finish_here (Ok u) finishes = λ before x at. finishes before x (parts_at told parts before x _ old at)
-  finish_here (Err f) finishes = tt
+module _ (told : Bool) (piece : List ℕ) (before after : List Slot) (result : Result (Unit {0}) Fault) where
+  pub same_work : (old new : Splitter) → PassesBy told piece before after result old new → work new ≡ work old
+  same_work _ _ (of_parts old new passes) = part.same_work told old new piece before after result passes
+  same_work _ _ (of_round old new deals) = dealing.same_work old new deals.delim deals.count deals.elide deals.names
 
-  short_here : (result : Result (Unit {0}) Fault) → IfErr result (EndsShort Stands part.Owns part.work parts told old new) → IfErr result (EndsShort Holds Owns work (Parts parts) told old new)
-  short_here (Ok u) short = tt
-  short_here (Err f) short = λ before x at. short before x (parts_at told parts before x _ old at)
+  pub takes_in : (old new : Splitter) → PassesBy told piece before after result old new → OnOk result (TakesIn Holds piece old new)
+  takes_in _ _ (of_parts old new passes) = part.takes_in told old new piece before after result passes
+  takes_in _ _ (of_round old new deals) = dealing.dealt_holds told old new piece before after result deals
 
-  pub parts_cut : (piece : List ℕ) (result : Result (Unit {0}) Fault) → IfErr result (CutsOff Stands part.Owns part.work parts piece told old new) → IfErr result (CutsOff Holds Owns work way piece told old new)
-  parts_cut piece result cuts = subst (λ those. IfErr result (CutsOff Holds Owns work those piece told old new)) (sym is) (cut_here piece result cuts)
+  pub puts_out : (old new : Splitter) → PassesBy told piece before after result old new → OnOk result (PutsOut Holds Owns work old piece told before after)
+  puts_out _ _ (of_parts old new passes) = part.puts_out told old new piece before after result passes
+  puts_out _ _ (of_round old new deals) = dealing.dealt_outputs told old new piece before after result deals
 
-  pub parts_finish : (result : Result (Unit {0}) Fault) → OnOk result (Finishes Stands part.Owns part.work parts told old new) → OnOk result (Finishes Holds Owns work way told old new)
-  parts_finish result finishes = subst (λ those. OnOk result (Finishes Holds Owns work those told old new)) (sym is) (finish_here result finishes)
+  pub still_ready : (old new : Splitter) → PassesBy told piece before after result old new → OnOk result (Ready new after)
+  still_ready _ _ (of_parts old new passes) = part.still_ready told old new piece before after result passes
+  still_ready _ _ (of_round old new deals) = dealing.dealt_ready told old new piece before after result deals
 
-  pub parts_short : (result : Result (Unit {0}) Fault) → IfErr result (EndsShort Stands part.Owns part.work parts told old new) → IfErr result (EndsShort Holds Owns work way told old new)
-  parts_short result short = subst (λ those. IfErr result (EndsShort Holds Owns work those told old new)) (sym is) (short_here result short)
+  pub still_owns : (old new : Splitter) → PassesBy told piece before after result old new → KeepsOwn Owns old new before after
+  still_owns _ _ (of_parts old new passes) = part.still_owns told old new piece before after result passes
+  still_owns _ _ (of_round old new deals) = deals.owned
+
+  pub cuts_off : (old new : Splitter) → PassesBy told piece before after result old new → IfErr result (CutsOff Holds Owns work old piece told before after)
+  cuts_off _ _ (of_parts old new passes) = part.cuts_off told old new piece before after result passes
+  cuts_off _ _ (of_round old new deals) = dealing.dealt_short told old new piece before after result deals
+
+  pub met : (old new : Splitter) → PassesBy told piece before after result old new → IfErr result (IsMet (work old).means (work old).means.feeding (true ≡ true) (EndsWith Holds work old piece) before after)
+  met _ _ (of_parts old new passes) = part.met told old new piece before after result passes
+  met _ _ (of_round old new deals) = dealing.dealt_met told old new piece before after result deals
+
+-- the end
+
+module _ (told : Bool) (before after : List Slot) (result : Result (Unit {0}) Fault) where
+  pub same_at_end : (old new : Splitter) → FinishesBy told before after result old new → work new ≡ work old
+  same_at_end _ _ (parts_end old new same finishes owned) = same
+  same_at_end _ _ (round_ends old new closes) = closes.same
+
+  pub ends : (old new : Splitter) → FinishesBy told before after result old new → OnOk result (Finishes Holds Owns work old told before after)
+  ends _ _ (parts_end old new same finishes owned) = part.ends told old before after result finishes
+  ends _ _ (round_ends old new closes) = dealing.ended told old before after new result closes
+
+  pub owns_at_end : (old new : Splitter) → FinishesBy told before after result old new → KeepsOwn Owns old new before after
+  owns_at_end _ _ (parts_end old new same finishes owned) = owned
+  owns_at_end _ _ (round_ends old new closes) = closes.owned
+
+  pub ends_short : (old new : Splitter) → FinishesBy told before after result old new → IfErr result (EndsShort Holds Owns work old told before after)
+  ends_short _ _ (parts_end old new same finishes owned) = part.ends_short told old before after result finishes
+  ends_short _ _ (round_ends old new closes) = dealing.ended_short told old before after new result closes
+
+  pub end_met : (old new : Splitter) → FinishesBy told before after result old new → IfErr result (IsMet (work old).means (work old).means.closing (Unit {0}) (EndsThere Holds work old) before after)
+  end_met _ _ (parts_end old new same finishes owned) = part.end_met told old before after result finishes
+  end_met _ _ (round_ends old new closes) = dealing.ended_met told old before after new result closes

@@ -7,7 +7,6 @@ mod files;
 mod gathered;
 mod laws;
 mod limit;
-mod part_stage;
 mod parts;
 mod round_files;
 mod round_splitter;

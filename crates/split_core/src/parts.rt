@@ -1,4 +1,6 @@
-//! Parts of an input that follow one another, each in a file of its own.
+//! Parts of an input that follow one another, each in a file of its own (POSIX.1-2017, XCU split; `-C` is GNU's). They
+//! take memory for names, and for the bytes that wait: fewer than a part has, and only under a limit of bytes for whole
+//! lines.
 ghost use Rattle.std.specs.Prelude.{◌≡◌, ◌+◌, ◌-◌, ◌++◌, ◌<◌, ◌≤◌, List, ℕ, [], Some, None, false, length, IfOk, IfErr, OnOk};
 ghost use Rattle.split_core.specs.inner.Moves.{EndsFile, Extends, FindsFile, Finishes, KeepsFile, Passes, Steps, Turns};
 ghost use Rattle.split_core.specs.PartState.{parts_work, work};
@@ -99,7 +101,7 @@ impl Parts {
     }
 
     /// Closes the file of the part that was begun, if it has one.
-    pub(crate) fn end_file<O: Outs>(&mut self, outs: &mut O) -> Result<(), Fault>
+    fn end_file<O: Outs>(&mut self, outs: &mut O) -> Result<(), Fault>
         requires { IsReady self.old.current (O.slots outs.old) }
         ensures { EndsFile self.old (O.slots outs.old) (O.slots outs.new) self.new result }
     {
@@ -181,7 +183,7 @@ impl Parts {
     ///
     /// `Write` where a file broke, `Open` where the next can't be opened, `Memory` where there is no room for what
     /// waits or for a name, `Suffixes` where no name is left for the next file.
-    pub(crate) fn take_in<O: Outs>(&mut self, piece: &[u8], outs: &mut O) -> Result<(), Fault>
+    pub(crate) fn pass<O: Outs>(&mut self, piece: &[u8], outs: &mut O) -> Result<(), Fault>
         requires { IsReady self.old.current (O.slots outs.old) }
         ensures { Passes O.told self.old piece.now (O.slots outs.old) (O.slots outs.new) self.new result }
     {
@@ -198,7 +200,7 @@ impl Parts {
     /// # Errors
     ///
     /// `Write` where its file broke.
-    pub(crate) fn end<O: Outs>(&mut self, outs: &mut O) -> Result<(), Fault>
+    pub(crate) fn finish<O: Outs>(&mut self, outs: &mut O) -> Result<(), Fault>
         requires { IsReady self.old.current (O.slots outs.old) }
         ensures same { work self.new ≡ work self.old }
         ensures ends { Finishes O.told self.old (O.slots outs.old) (O.slots outs.new) result }

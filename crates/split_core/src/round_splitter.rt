@@ -4,14 +4,14 @@ ghost use Rattle.ports_core.specs.Slot.{Slot};
 ghost use Rattle.ports_core.specs.Part.{OutputsAt, StoppedBetween, nothing};
 ghost use Rattle.split_core.specs.inner.Dealt.{dealt_first, reached_by};
 ghost use Rattle.split_core.specs.Round.{AreReady, Holds, Owns, Ready, round_plan, work};
-ghost use Rattle.split_core.specs.laws.RoundLaws.{lawful};
+ghost use Rattle.split_core.specs.inner.Ways.{Closes, Deals};
 ghost use Rattle.split_core.specs.inner.Sharing.{Became, IsOfFiles, KeepsFiles, StopsShort, added};
 ghost use Rattle.split_core.specs.Sharing.{CannotOpen};
-ghost use Rattle.split_core.specs.Split.{are_named, from_start, settled_by, split_work, waiting};
+ghost use Rattle.split_core.specs.Split.{are_named, from_start, settled_by, split_work};
 
 use crate::deal::Deal;
 use crate::round_files::RoundFiles;
-use ports_core::{Fault, Names, Outs, Stage};
+use ports_core::{Fault, Names, Outs};
 use std::alloc::Global;
 use std::marker::Model;
 
@@ -70,45 +70,31 @@ impl RoundSplitter {
         files.open_first(opened_at_start(count, elide), outs)?;
         Ok(RoundSplitter { deal, files, elide })
     }
-}
 
-impl Stage for RoundSplitter {
-    ghost Holds = { Holds };
-
-    ghost work = { work };
-
-    ghost held = { λ round. 0 };
-
-    ghost waiting = { λ round. waiting (work round) };
-
-    ghost may_lack = { λ round piece. true };
-
-    ghost Ready = { Ready };
-
-    ghost Owns = { Owns };
-
-    fn pass<O: Outs>(&mut self, piece: &[u8], outs: &mut O) -> Result<(), Fault> {
+    /// Deals a piece, and writes to each file what it gets.
+    ///
+    /// # Errors
+    ///
+    /// `Memory` where there is no room for a name, or for the piece, of which nothing is written then; `Write` where an
+    /// output broke, `Open` where a file can't be opened.
+    pub(crate) fn pass<O: Outs>(&mut self, piece: &[u8], outs: &mut O) -> Result<(), Fault>
+        requires { Ready self.old (O.slots outs.old) }
+        ensures { Deals O.told self.old piece.now (O.slots outs.old) (O.slots outs.new) self.new result }
+    {
         deal_out(&mut self.deal, &mut self.files, piece, outs)
     }
 
-    fn finish<O: Outs>(&mut self, outs: &mut O) -> Result<(), Fault> {
+    /// Closes all files, in order.
+    ///
+    /// # Errors
+    ///
+    /// `Write` where one broke.
+    pub(crate) fn finish<O: Outs>(&mut self, outs: &mut O) -> Result<(), Fault>
+        requires { Ready self.old (O.slots outs.old) }
+        ensures { Closes O.told self.old (O.slots outs.old) (O.slots outs.new) self.new result }
+    {
         self.files.close(outs)
     }
-
-    fn clear<O: Outs>(&mut self, outs: &mut O) {
-        let _ = outs;
-    }
-
-    fn is_done(&self) -> bool {
-        false
-    }
-
-    /// Always 0: each piece is written at once.
-    fn waits(&self) -> u64 {
-        0
-    }
-
-    ghost lawful = { λ round. lawful round.delim round.count round.elide (from_start round.files.names) };
 }
 
 /// How many files are opened before any byte came in.
@@ -119,11 +105,6 @@ fn opened_at_start(count: u64, elide: bool) -> usize
 }
 
 /// Deals a piece, and writes to each file what it gets.
-///
-/// # Errors
-///
-/// `Memory` where there is no room for a name, or for the piece, of which nothing is written then; `Write` where an
-/// output broke, `Open` where a file can't be opened.
 fn deal_out<O: Outs>(
     deal: &mut Deal,
     files: &mut RoundFiles,

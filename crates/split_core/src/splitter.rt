@@ -7,7 +7,7 @@ ghost use Rattle.split_core.specs.Sharing.{CannotOpen};
 ghost use Rattle.split_core.specs.Split.{settled_by, split_work, waiting};
 ghost use Rattle.split_core.specs.Splitter.{HasNames, IsPositive};
 ghost use Rattle.split_core.specs.Ways.{Holds, Owns, Ready, work};
-ghost use Rattle.split_core.specs.inner.Ways.{held};
+ghost use Rattle.split_core.specs.inner.Ways.{FinishesBy, PassesBy, held};
 ghost use Rattle.split_core.specs.laws.Ways.{lawful};
 
 use crate::parts::Parts;
@@ -87,14 +87,20 @@ impl Stage for Splitter {
 
     ghost Owns = { Owns };
 
-    fn pass<O: Outs>(&mut self, piece: &[u8], outs: &mut O) -> Result<(), Fault> {
+    fn pass<O: Outs>(&mut self, piece: &[u8], outs: &mut O) -> Result<(), Fault>
+        requires { Ready self.old (O.slots outs.old) }
+        ensures { PassesBy O.told piece.now (O.slots outs.old) (O.slots outs.new) result self.old self.new }
+    {
         match self {
             Splitter::Parts(parts) => parts.pass(piece, outs),
             Splitter::Round(round) => round.pass(piece, outs),
         }
     }
 
-    fn finish<O: Outs>(&mut self, outs: &mut O) -> Result<(), Fault> {
+    fn finish<O: Outs>(&mut self, outs: &mut O) -> Result<(), Fault>
+        requires { Ready self.old (O.slots outs.old) }
+        ensures { FinishesBy O.told (O.slots outs.old) (O.slots outs.new) result self.old self.new }
+    {
         match self {
             Splitter::Parts(parts) => parts.finish(outs),
             Splitter::Round(round) => round.finish(outs),
@@ -111,10 +117,13 @@ impl Stage for Splitter {
         false
     }
 
-    fn waits(&self) -> u64 {
+    /// Where lines are dealt, none: each piece is written at once.
+    fn waits(&self) -> u64
+        ensures { result ≡ held self.now }
+    {
         match self {
-            Splitter::Parts(parts) => parts.waits(),
-            Splitter::Round(round) => round.waits(),
+            Splitter::Parts(parts) => parts.held(),
+            Splitter::Round(_) => 0,
         }
     }
 

@@ -85,7 +85,7 @@ module _ (told : Bool) (mode : Mode) (names : List (List ℕ)) where
     output_has = copies.output_has;
     files_have = copies.files_have;
     said = subst (λ those. SaysAll told Tee (those ++ texts) standard_error says.0) (append-nil _)
-        (says_behind told Tee (said_before (suc (length pieces)) (output_names names) (copies.first ∷ copies.broke) ++ []) texts standard_error copies.error says.0 copies.said (subst (λ slot. SaysAll told Tee texts slot says.0) (ap (λ those. slot_at those 1) copies.are) says.1));
+        (says_after told Tee (said_before (suc (length pieces)) (output_names names) (copies.first ∷ copies.broke) ++ []) texts standard_error copies.error says.0 copies.said (subst (λ slot. SaysAll told Tee texts slot says.0) (ap (λ those. slot_at those 1) copies.are) says.1));
     known_are = copies.known_are ∙ ap broken_of copies.are ∙ sym (ap broken_of new_is);
   } where
     new_is : new ≡ copies.output ∷ says.0 ∷ copies.files
@@ -143,7 +143,7 @@ module _ (told : Bool) (mode : Mode) (names : List (List ℕ)) where
     output_left = copies.output_has;
     files_left = next.files_left;
     said = subst (λ texts. SaysAll told Tee texts standard_error says.0) messages
-        (says_behind told Tee (said_before (suc (length pieces)) (output_names names) (copies.first ∷ copies.broke) ++ said_of_input fault) _ standard_error copies.error says.0 copies.said (subst (λ slot. SaysAll told Tee (said_since (fault_in (suc (length pieces))) (output_names names) known (broken_of mid)) slot says.0) (ap (λ those. slot_at those 1) next.are) says.1));
+        (says_after told Tee (said_before (suc (length pieces)) (output_names names) (copies.first ∷ copies.broke) ++ said_of_input fault) _ standard_error copies.error says.0 copies.said (subst (λ slot. SaysAll told Tee (said_since (fault_in (suc (length pieces))) (output_names names) known (broken_of mid)) slot says.0) (ap (λ those. slot_at those 1) next.are) says.1));
     known_are = flags ∙ ap broken_of next.are ∙ ap (λ (flag : Bool). flag ∷ map (λ (file : Slot). file.is_broken) next.files) (output_flag told pieces copies.first copies.output copies.output_has)
         ∙ ap (λ flags. not (is_none copies.first) ∷ flags) (file_flags told mode pieces names next.broke next.files next.files_left);
   } where

@@ -224,7 +224,7 @@ module _ (told : Bool) (mode : Mode) (names : List (List ℕ)) where
     output_has = next.output_has;
     files_have = next.files_have;
     said = subst (λ texts. SaysAll told Tee texts standard_error says.0) messages
-        (says_behind told Tee (said_before (suc (length pieces)) (output_names names) (copies.first ∷ copies.broke) ++ []) _ standard_error copies.error says.0 copies.said (subst (λ slot. SaysAll told Tee (said_since (fault_in (suc (length pieces))) (output_names names) known (broken_of mid)) slot says.0) (ap (λ those. slot_at those 1) next.are) says.1));
+        (says_after told Tee (said_before (suc (length pieces)) (output_names names) (copies.first ∷ copies.broke) ++ []) _ standard_error copies.error says.0 copies.said (subst (λ slot. SaysAll told Tee (said_since (fault_in (suc (length pieces))) (output_names names) known (broken_of mid)) slot says.0) (ap (λ those. slot_at those 1) next.are) says.1));
     known_are = flags ∙ ap broken_of next.are ∙ sym (ap broken_of new_is);
   } where
     new_is : new ≡ next.output ∷ says.0 ∷ next.files

@@ -13,7 +13,7 @@ use Rattle.ports_core.specs.declared.fault.Fault.TheVariants.{Memory}
 use Rattle.ports_core.proofs.PartLemmas.{nothing_out, nothing_begins_part, stopped_here}
 use Rattle.seg_core.specs.declared.unit.Unit.{Unit as Counted}
 use Rattle.seg_core.specs.declared.unit.Unit.TheVariants.{Lines, Bytes}
-use Rattle.ends_core.specs.Ends.{size, behind_of, head_of, tail_of}
+use Rattle.ends_core.specs.Ends.{size, after_of, head_of, tail_of}
 use Rattle.ends_core.proofs.EndsLaws.{first_of-nil}
 use Rattle.ends_core.specs.Head.{head_work}
 use Rattle.ends_core.specs.Tail.{tail_work}
@@ -32,7 +32,7 @@ head_of-nil : (delim : ℕ) (unit : Counted) (but_last : Bool) (n : ℕ) → hea
 head_of-nil delim unit false n = first_of-nil delim unit n
 head_of-nil delim unit true n = first_of-nil delim unit (size delim unit [] - n)
 
-after_of-nil : (delim : ℕ) (unit : Counted) (n : ℕ) → behind_of delim unit n [] ≡ []
+after_of-nil : (delim : ℕ) (unit : Counted) (n : ℕ) → after_of delim unit n [] ≡ []
 after_of-nil delim Lines zero = refl
 after_of-nil delim Lines (suc n) = refl
 after_of-nil delim Bytes zero = refl

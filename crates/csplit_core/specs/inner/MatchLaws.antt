@@ -1,5 +1,5 @@
 -- What private calls say: laws of the first match of an operand.
-use Rattle.std.proofs.Common.{◌≡◌, ℕ, ◌+◌, ◌-◌, ◌<◌, true, false, List, length, get_or, Option, Some, None}
+use Rattle.std.proofs.Common.{◌≡◌, ℕ, ◌+◌, ◌<◌, true, false, List, length, get_or, Option, Some, None}
 use Rattle.csplit_core.specs.Operand.{Operand, Line, unmarked}
 use Rattle.csplit_core.specs.Plan.{IsFirst, MatchesNone}
 

@@ -1,9 +1,9 @@
 -- What private calls say: what sections are when more lines come.
-use Rattle.std.proofs.Common.{◌≡◌, ℕ, ◌+◌, ◌-◌, ◌<◌, ◌≤◌, Bool, false, List, [], ◌∷◌, ◌++◌, length}
-use Rattle.csplit_core.specs.Operand.{Operand, Line, is_kept}
+use Rattle.std.proofs.Common.{◌≡◌, ℕ, ◌<◌, ◌≤◌, Bool, false, List, [], ◌∷◌, ◌++◌, length}
+use Rattle.csplit_core.specs.Operand.{Operand, Line}
 use Rattle.csplit_core.specs.Plan.{State, Step, Ending, used_up, missed, above, below, CutsAt, Misses, Runs}
 use Rattle.csplit_core.specs.Planned.{plan}
-use Rattle.csplit_core.specs.Section.{Section, section, settled_end}
+use Rattle.csplit_core.specs.Section.{Section, settled_end}
 
 -- What stands at the end of a plan
 

@@ -1,25 +1,25 @@
 -- Laws that traits cite: the plan that is computed is the one plan there is, and it goes on as the lines do.
-use Rattle.std.proofs.Common.{◌≡◌, ℕ, zero, suc, ◌+◌, ◌-◌, ◌*◌, ◌<◌, ◌≤◌, Bool, true, false, cond, nat_lt, List, [], ◌∷◌, ◌++◌, length, Option, Some, None, refl, sym, ◌∙◌, ap, subst, arith, length-append}
+use Rattle.std.proofs.Common.{◌≡◌, ℕ, zero, suc, ◌+◌, ◌*◌, ◌<◌, ◌≤◌, Bool, true, false, cond, nat_lt, List, [], ◌∷◌, ◌++◌, length, Option, Some, None, refl, sym, ◌∙◌, ap, subst, arith, length-append}
 use Rattle.std.proofs.lemmas.Bool.Decides.{nat_tests}
 use Rattle.bre_core.specs.Pattern.{Pattern}
 use Rattle.csplit_core.specs.Operand.{Offset, Target, Number, Search, Operand, Line, moved, has_more}
 use Rattle.csplit_core.specs.Measure.{Moves}
 use Rattle.csplit_core.specs.Plan.{State, start, Step, Ending, used_up, missed, above, below, search_line, CutsAt, Misses, line_after, operands_after, repetition_after, state_after, step_of, Runs, is_used_up, misses, is_above, is_below, cuts}
-use Rattle.csplit_core.specs.Planned.{first_match, Turn, ends, goes, turn_at, turn_from, turn_to, turn_of, turn, ended, with_step, plan_within, plan}
+use Rattle.csplit_core.specs.Planned.{first_match, Turn, ends, goes, turn_at, turn_from, turn_to, turn_of, ended, with_step, plan_within, plan}
 use Rattle.csplit_core.specs.laws.MatchLaws.{first_match_as, first_is_match, none_is_match, search_some, search_past, first_still}
 use Rattle.csplit_core.specs.inner.MatchLaws.{MatchesAs}
 use Rattle.csplit_core.specs.inner.PlanLaws.{after, left_of, needed_by, needed, so, RunsAs}
 
-less_test : (a b : ℕ) → a < b → nat_lt a b ≡ true
+pub less_test : (a b : ℕ) → a < b → nat_lt a b ≡ true
 less_test a b less = grind (arith, nat_tests, less)
 
-not_less_test : (a b : ℕ) → b ≤ a → nat_lt a b ≡ false
+pub not_less_test : (a b : ℕ) → b ≤ a → nat_lt a b ≡ false
 not_less_test a b less = grind (arith, nat_tests, less)
 
 from_less : (a b : ℕ) → nat_lt a b ≡ true → a < b
 from_less a b is = grind (arith, nat_tests, is)
 
-from_not_less : (a b : ℕ) → nat_lt a b ≡ false → b ≤ a
+pub from_not_less : (a b : ℕ) → nat_lt a b ≡ false → b ≤ a
 from_not_less a b is = grind (arith, nat_tests, is)
 
 -- What a plan says, the computation does

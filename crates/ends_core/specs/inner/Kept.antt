@@ -2,7 +2,6 @@
 use Rattle.std.specs.Prelude.{◌≡◌, ◌≤◌, false, length}
 use Rattle.seg_core.specs.declared.unit.Unit.TheVariants as unit
 use Rattle.ends_core.specs.declared.kept.Kept.{Kept}
-use Rattle.ends_core.specs.declared.kept.Kept.TheVariants.{Bytes}
 use Rattle.ends_core.specs.Kept.{unit_of, delim_of, most_of, held_of, may_lack_of}
 
 -- if it keeps bytes and is full, no memory can be wanting

@@ -1,10 +1,10 @@
 -- What private calls say: the one stage of `head` and `tail`, as contracts see it.
-use Rattle.std.specs.Prelude.{◌≡◌, ℕ, ◌==◌, ◌-◌, ◌≤◌, Bool, true, false, List, [], ◌++◌, length}
+use Rattle.std.specs.Prelude.{◌≡◌, ℕ, ◌==◌, ◌≤◌, Bool, true, false, List, [], ◌++◌, length}
 use Rattle.seg_core.specs.declared.unit.Unit.{Unit as Counted}
 use Rattle.seg_core.specs.declared.unit.Unit.TheVariants.{Bytes}
 use Rattle.ends_core.specs.declared.ends.Ends.{Ends}
 use Rattle.ends_core.specs.declared.ends.Ends.TheVariants.{First, ButLast, FromNth, Last}
-use Rattle.ends_core.specs.Ends.{first_of, behind_of, last_of, but_last_of}
+use Rattle.ends_core.specs.Ends.{first_of, after_of, last_of, but_last_of}
 use Rattle.ends_core.specs.inner.Head.{IsDone}
 use Rattle.ends_core.specs.Kept.{held_of, most_of, delim_of as kept_delim, unit_of as kept_unit}
 use Rattle.ends_core.specs.Stage.{Stretch, the_first, all_but_last, from_the_nth, the_last, stretch_of, unit_of, delim_of, count_of, waiting_of, may_lack}
@@ -33,7 +33,7 @@ FullLacksNone ends = unit_of ends ≡ Bytes → count_of ends ≤ length (waitin
 abbrev pub due : Ends → List ℕ → List ℕ
 due (First count front) piece = first_of front.delim front.unit front.left piece
 due (ButLast kept) piece = but_last_of (kept_delim kept) (kept_unit kept) (most_of kept) (held_of kept ++ piece)
-due (FromNth count front) piece = behind_of front.delim front.unit front.left piece
+due (FromNth count front) piece = after_of front.delim front.unit front.left piece
 due (Last kept) piece = []
 
 -- what waits after the piece

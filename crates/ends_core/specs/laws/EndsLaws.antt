@@ -8,7 +8,7 @@ use Rattle.seg_core.proofs.FirstLines.{first_lines-append, first_lines-zero, fir
 use Rattle.seg_core.proofs.EndLines.{last_lines-append}
 use Rattle.seg_core.specs.declared.unit.Unit.{Unit as Counted}
 use Rattle.seg_core.specs.declared.unit.Unit.TheVariants.{Lines, Bytes}
-use Rattle.ends_core.specs.Ends.{measure, first_of, behind_of, last_of, but_last_of}
+use Rattle.ends_core.specs.Ends.{measure, first_of, after_of, last_of, but_last_of}
 
 pub measure-append : (delim : ℕ) (unit : Counted) (x y : List ℕ)
     → measure delim unit (x ++ y) ≡ measure delim unit x + measure delim unit y
@@ -49,60 +49,60 @@ first_of-full delim unit n x y full =
     ∙ append-nil (first_of delim unit n x)
 
 -- the first of a text and what stands after them are the text
-pub first_then_behind : (delim : ℕ) (unit : Counted) (n : ℕ) (x : List ℕ)
-    → first_of delim unit n x ++ behind_of delim unit n x ≡ x
-first_then_behind delim Lines n x = first_lines_then_rest delim n x
-first_then_behind delim Bytes n x = take-append-drop n x
+pub first_then_after : (delim : ℕ) (unit : Counted) (n : ℕ) (x : List ℕ)
+    → first_of delim unit n x ++ after_of delim unit n x ≡ x
+first_then_after delim Lines n x = first_lines_then_rest delim n x
+first_then_after delim Bytes n x = take-append-drop n x
 
 -- what stands after the first of a text that goes on
-pub behind_of-append : (delim : ℕ) (unit : Counted) (n : ℕ) (x y : List ℕ)
-    → behind_of delim unit n (x ++ y) ≡ behind_of delim unit n x ++ behind_of delim unit (n - measure delim unit x) y
-behind_of-append delim unit n x y = elim (cases_lt (measure delim unit x) n) [
-  | inl short ↦ behind_short short
-  | inr full ↦ behind_full full
+pub after_of-append : (delim : ℕ) (unit : Counted) (n : ℕ) (x y : List ℕ)
+    → after_of delim unit n (x ++ y) ≡ after_of delim unit n x ++ after_of delim unit (n - measure delim unit x) y
+after_of-append delim unit n x y = elim (cases_lt (measure delim unit x) n) [
+  | inl short ↦ after_short short
+  | inr full ↦ after_full full
 ] where
-  together : first_of delim unit n (x ++ y) ++ behind_of delim unit n (x ++ y) ≡ x ++ y
-  together = first_then_behind delim unit n (x ++ y)
+  together : first_of delim unit n (x ++ y) ++ after_of delim unit n (x ++ y) ≡ x ++ y
+  together = first_then_after delim unit n (x ++ y)
 
-  split : first_of delim unit n (x ++ y) ++ behind_of delim unit n (x ++ y) ≡ first_of delim unit n x
-      ++ (behind_of delim unit n x ++ y)
-  split = first_then_behind delim unit n (x ++ y) ∙ ap (λ z. z ++ y) (sym (first_then_behind delim unit n x))
-      ∙ append_assoc (first_of delim unit n x) (behind_of delim unit n x) y
+  split : first_of delim unit n (x ++ y) ++ after_of delim unit n (x ++ y) ≡ first_of delim unit n x
+      ++ (after_of delim unit n x ++ y)
+  split = first_then_after delim unit n (x ++ y) ∙ ap (λ z. z ++ y) (sym (first_then_after delim unit n x))
+      ∙ append_assoc (first_of delim unit n x) (after_of delim unit n x) y
 
-  behind_full : n ≤ measure delim unit x
-      → behind_of delim unit n (x ++ y) ≡ behind_of delim unit n x ++ behind_of delim unit (n - measure delim unit x) y
-  behind_full full =
+  after_full : n ≤ measure delim unit x
+      → after_of delim unit n (x ++ y) ≡ after_of delim unit n x ++ after_of delim unit (n - measure delim unit x) y
+  after_full full =
       let none : n - measure delim unit x ≡ 0 = omega arith in
-      let all : behind_of delim unit 0 y ≡ y =
-      sym (ap (λ z. z ++ behind_of delim unit 0 y) (first_of-zero delim unit y))
-      ∙ first_then_behind delim unit 0 y in
+      let all : after_of delim unit 0 y ≡ y =
+      sym (ap (λ z. z ++ after_of delim unit 0 y) (first_of-zero delim unit y))
+      ∙ first_then_after delim unit 0 y in
       append_cancel_left (first_of delim unit n x) _ _
-      (ap (λ z. z ++ behind_of delim unit n (x ++ y)) (sym (first_of-full delim unit n x y full)) ∙ split)
-      ∙ ap (λ z. behind_of delim unit n x ++ z) (sym all)
-      ∙ ap (λ left. behind_of delim unit n x ++ behind_of delim unit left y) (sym none)
+      (ap (λ z. z ++ after_of delim unit n (x ++ y)) (sym (first_of-full delim unit n x y full)) ∙ split)
+      ∙ ap (λ z. after_of delim unit n x ++ z) (sym all)
+      ∙ ap (λ left. after_of delim unit n x ++ after_of delim unit left y) (sym none)
 
-  behind_short : measure delim unit x < n
-      → behind_of delim unit n (x ++ y) ≡ behind_of delim unit n x ++ behind_of delim unit (n - measure delim unit x) y
-  behind_short short =
-      let nothing : behind_of delim unit n x ≡ [] =
-      append_cancel_left x _ _ (ap (λ z. z ++ behind_of delim unit n x) (sym (first_of-short delim unit n x short))
-      ∙ first_then_behind delim unit n x ∙ sym (append-nil x)) in
+  after_short : measure delim unit x < n
+      → after_of delim unit n (x ++ y) ≡ after_of delim unit n x ++ after_of delim unit (n - measure delim unit x) y
+  after_short short =
+      let nothing : after_of delim unit n x ≡ [] =
+      append_cancel_left x _ _ (ap (λ z. z ++ after_of delim unit n x) (sym (first_of-short delim unit n x short))
+      ∙ first_then_after delim unit n x ∙ sym (append-nil x)) in
       let front : first_of delim unit n (x ++ y) ≡ x ++ first_of delim unit (n - measure delim unit x) y =
       first_of-append delim unit n x y ∙ ap (λ z. z ++ first_of delim unit (n - measure delim unit x) y)
       (first_of-short delim unit n x short) in
       append_cancel_left (first_of delim unit n (x ++ y)) _ _
-      (first_then_behind delim unit n (x ++ y)
-      ∙ ap (λ z. x ++ z) (sym (first_then_behind delim unit (n - measure delim unit x) y))
+      (first_then_after delim unit n (x ++ y)
+      ∙ ap (λ z. x ++ z) (sym (first_then_after delim unit (n - measure delim unit x) y))
       ∙ sym (append_assoc x (first_of delim unit (n - measure delim unit x) y)
-      (behind_of delim unit (n - measure delim unit x) y))
-      ∙ ap (λ z. z ++ behind_of delim unit (n - measure delim unit x) y) (sym front))
-      ∙ ap (λ z. z ++ behind_of delim unit (n - measure delim unit x) y) (sym nothing)
+      (after_of delim unit (n - measure delim unit x) y))
+      ∙ ap (λ z. z ++ after_of delim unit (n - measure delim unit x) y) (sym front))
+      ∙ ap (λ z. z ++ after_of delim unit (n - measure delim unit x) y) (sym nothing)
 
 -- what stands before the last of a text, and these, are the text
 pub ends_together : (delim : ℕ) (unit : Counted) (n : ℕ) (x : List ℕ)
     → but_last_of delim unit n x ++ last_of delim unit n x ≡ x
-ends_together delim Lines n x = first_then_behind delim Lines (line_count delim x - n) x
-ends_together delim Bytes n x = first_then_behind delim Bytes (length x - n) x
+ends_together delim Lines n x = first_then_after delim Lines (line_count delim x - n) x
+ends_together delim Bytes n x = first_then_after delim Bytes (length x - n) x
 
 last_bytes-append : (n : ℕ) (x y : List ℕ)
     → drop (length (x ++ y) - n) (x ++ y) ≡ drop (length (drop (length x - n) x ++ y) - n) (drop (length x - n) x ++ y)

@@ -7,11 +7,11 @@ use Rattle.ports_core.proofs.PartLemmas.{out_begins, part_begins_itself, nothing
 use Rattle.seg_core.specs.declared.unit.Unit.{Unit as Counted}
 use Rattle.ends_core.specs.declared.ends.Ends.{Ends}
 use Rattle.ends_core.specs.declared.ends.Ends.TheVariants.{First, ButLast, FromNth, Last}
-use Rattle.ends_core.specs.Ends.{measure, first_of, behind_of, last_of, but_last_of, head_of, tail_of}
+use Rattle.ends_core.specs.Ends.{measure, first_of, after_of, last_of, but_last_of, head_of, tail_of}
 use Rattle.ends_core.specs.Head.{head_work}
 use Rattle.ends_core.specs.Tail.{tail_work}
 use Rattle.ends_core.specs.Stage.{count_of, delim_of, unit_of, work}
-use Rattle.ends_core.specs.laws.EndsLaws.{measure-append, first_of-append, first_of-full, but_last_of-append, behind_of-append}
+use Rattle.ends_core.specs.laws.EndsLaws.{measure-append, first_of-append, first_of-full, but_last_of-append, after_of-append}
 
 -- the head of a text that goes on begins with the head of the text
 pub head_of-grows : (delim : ℕ) (unit : Counted) (but_last : Bool) (n : ℕ) (x y : List ℕ) → (rest : List ℕ)
@@ -53,13 +53,13 @@ tail_grows : (delim : ℕ) (unit : Counted) (from_nth : Bool) (n : ℕ) (x y : L
     → Begins (cond from_nth (only_out (tail_of delim unit true n x)) nothing)
     (cond from_nth (only_out (tail_of delim unit true n (x ++ y))) nothing)
 tail_grows delim unit true n x y = out_begins _ _
-    (behind_of delim unit (n - 1 - measure delim unit x) y, behind_of-append delim unit (n - 1) x y)
+    (after_of delim unit (n - 1 - measure delim unit x) y, after_of-append delim unit (n - 1) x y)
 tail_grows delim unit false n x y = part_begins_itself nothing
 
 tail_ends : (delim : ℕ) (unit : Counted) (from_nth : Bool) (n : ℕ) (x : List ℕ)
     → Begins (cond from_nth (only_out (tail_of delim unit true n x)) nothing)
     (only_out (tail_of delim unit from_nth n x))
-tail_ends delim unit true n x = part_begins_itself (only_out (behind_of delim unit (n - 1) x))
+tail_ends delim unit true n x = part_begins_itself (only_out (after_of delim unit (n - 1) x))
 tail_ends delim unit false n x = nothing_begins_part (only_out (last_of delim unit n x))
 
 pub tail_lawful : (delim : ℕ) (unit : Counted) (from_nth : Bool) (n : ℕ) → IsLawful (tail_work delim unit from_nth n)

@@ -1,6 +1,6 @@
 -- What private calls say: the outputs of a run: a list of slots, each with its name, what was written through it and
 -- where it is in its life.
-use Rattle.std.specs.Prelude.{◌≡◌, ℕ, ◌-◌, false, List}
+use Rattle.std.specs.Prelude.{◌≡◌, ℕ, false, List}
 use Rattle.ports_core.specs.Slot.{Slot, slot_at}
 
 -- no slot that was broken is sound again

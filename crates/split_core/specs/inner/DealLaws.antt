@@ -1,5 +1,5 @@
 -- What private calls say: how the lines of a text that goes on are dealt, and which files have a line.
-use Rattle.std.proofs.Common.{ℕ, ◌-◌, ◌<◌, List, [], ◌∷◌, length}
+use Rattle.std.proofs.Common.{ℕ, ◌<◌, List, [], ◌∷◌, length}
 use Rattle.seg_core.specs.Line.{lines_of}
 use Rattle.split_core.specs.Parts.{dealt}
 

@@ -34,17 +34,11 @@ abbrev pub KeepsFile : Option ℕ → List Slot → Option ℕ → List Slot →
 KeepsFile current old next new = (first : ℕ) → OwnsFile current first old → OwnsFile next first new
 
 -- the faults of files: a slot broke in the call where the fault names one, and none of the streams by a write
-abbrev pub Breaks : List Slot → List Slot → Fault → Type 0
-Breaks old new Memory = Unit {0}
-Breaks old new (Write slot) = (2 ≤ slot) × Rose slot old new
-Breaks old new (Open slot) = Rose slot old new
-Breaks old new Suffixes = Unit {0}
-Breaks old new (Read slot) = ⊥
-Breaks old new (NoMatch operand repetition) = ⊥
-Breaks old new (Range operand repetition) = ⊥
-Breaks old new (Usage kind word) = ⊥
-Breaks old new Failed = ⊥
-Breaks old new TooLong = ⊥
+pub data Breaks (old new : List Slot) : Fault → Type 0 where
+  wants_memory : Breaks old new Memory
+  breaks_write : (slot : ℕ) → 2 ≤ slot → Rose slot old new → Breaks old new (Write slot)
+  breaks_open : (slot : ℕ) → Rose slot old new → Breaks old new (Open slot)
+  lacks_names : Breaks old new Suffixes
 
 -- why the next file wasn't opened
 abbrev pub OpensNone : Naming → List Slot → List Slot → Fault → Type 0

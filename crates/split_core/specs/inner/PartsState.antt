@@ -15,4 +15,4 @@ pub record Fits (limit : Limit) (left : ℕ) (has_line : Bool) (window : ByteWin
   pub some : 0 < left
   pub room : window.most + 1 ≡ most limit
   pub within : length window.held + left ≤ most limit
-  pub behind_line : has_line ≡ true → length window.held + left < most limit
+  pub after_line : has_line ≡ true → length window.held + left < most limit

@@ -1,12 +1,14 @@
 -- What private calls say: how files in order get more bytes, and how more of them are opened.
-use Rattle.std.specs.Prelude.{◌≡◌, ℕ, ◌+◌, ◌<◌, ◌≤◌, zero, suc, max, Bool, false, List, [], ◌∷◌, ◌++◌, length, map, take, drop}
+use Rattle.std.specs.Prelude.{◌≡◌, ℕ, ◌+◌, ◌<◌, ◌≤◌, zero, suc, max, Bool, List, [], ◌∷◌, ◌++◌, length, map, take, drop}
 use Rattle.ports_core.specs.Name.{Naming, next_name, with_one_drawn}
-use Rattle.ports_core.specs.Slot.{Slot, slot_at, Rose, FailsToOpen}
+use Rattle.ports_core.specs.Slot.{Slot, Rose, FailsToOpen}
 use Rattle.ports_core.specs.Part.{File, Part, OutputsAt, IsBeginning, Marks, IsAt, StoppedBetween}
 use Rattle.ports_core.specs.declared.fault.Fault.{Fault}
-use Rattle.ports_core.specs.declared.fault.Fault.TheVariants.{Memory, Write, Read, Open, Suffixes, NoMatch, Range, Usage, Failed, TooLong}
+use Rattle.ports_core.specs.declared.fault.Fault.TheVariants.{Memory, Write, Suffixes}
 use Rattle.ports_core.specs.declared.slot.State.TheVariants as state
 use Rattle.split_core.specs.Split.{Share, share, name_of, from_start, file_at, only_files}
+use Rattle.ports_core.specs.inner.Slot.{KeepsBroken}
+use Rattle.split_core.specs.inner.Moves.{Breaks}
 use Rattle.split_core.specs.FilesState.{FilesState}
 use Rattle.split_core.specs.Round.{AreReady, OwnsFiles}
 
@@ -46,10 +48,6 @@ closed_first (suc n) (bytes ∷ these) = share state.Closed bytes ∷ closed_fir
 abbrev pub closing_part : Naming → ℕ → List (List ℕ) → Part
 closing_part names n these = only_files (filed (from_start names) 0 (closed_first n these))
 
--- no output that is broken became sound
-abbrev pub StayBroken : List Slot → List Slot → Type 0
-StayBroken old new = (slot : ℕ) → (slot_at new slot).is_broken ≡ false → (slot_at old slot).is_broken ≡ false
-
 -- the outputs are at these bytes of the files, which are theirs from the state `before` on
 pub record StandAt (told : Bool) (files : FilesState) (before : List Slot) (these : List (List ℕ))
     (now : List Slot) : Type 0 where
@@ -76,7 +74,7 @@ pub record Became (told : Bool) (files : FilesState) (makes : List (List ℕ) �
       → length (makes these) ≡ length next.outputs
   pub outputs : Makes told files makes old new
   pub owned : KeepsFiles files old next new
-  pub sound : StayBroken old new
+  pub sound : KeepsBroken old new
 
 -- after the files of one list, the next file of the other is due, and it has this name
 abbrev pub IsDue : Naming → List (List ℕ) → List (List ℕ) → List ℕ → Type 0
@@ -132,15 +130,6 @@ pub data FailsToFollow (files : FilesState) (old : List Slot) (next : FilesState
 abbrev pub CannotClose : List Slot → List Slot → Fault → Type 0
 CannotClose old new fault = (slot : ℕ) × (fault ≡ Write slot) × (2 ≤ slot) × Rose slot old new
 
--- the faults of files, and their causes; no write to one of the streams
+-- the faults of files that have names
 abbrev pub IsOfFiles : List Slot → List Slot → Fault → Type 0
-IsOfFiles old new Memory = Unit {0}
-IsOfFiles old new (Write slot) = (2 ≤ slot) × Rose slot old new
-IsOfFiles old new (Open slot) = Rose slot old new
-IsOfFiles old new (Read slot) = ⊥
-IsOfFiles old new Suffixes = ⊥
-IsOfFiles old new (NoMatch operand repetition) = ⊥
-IsOfFiles old new (Range operand repetition) = ⊥
-IsOfFiles old new (Usage kind word) = ⊥
-IsOfFiles old new Failed = ⊥
-IsOfFiles old new TooLong = ⊥
+IsOfFiles old new fault = Breaks old new fault × (fault ≡ Suffixes → ⊥)

@@ -8,7 +8,7 @@ use Rattle.seg_core.proofs.Delimiters.{delimiters-append, delimiters-le-length}
 use Rattle.seg_core.proofs.FirstLines.{first_lines-full, first_lines_then_rest, length-first_lines-le, delimiters-first_lines}
 use Rattle.split_core.specs.declared.limit.Limit.{Limit}
 use Rattle.split_core.specs.declared.limit.Limit.TheVariants.{Lines, Bytes, LineBytes}
-use Rattle.split_core.specs.Parts.{whole_lines, open_line, most, measure, is_full, first_part, behind_first, uncut, behind_part, cut_within, cut_up, settled_rest, waiting_rest}
+use Rattle.split_core.specs.Parts.{whole_lines, open_line, most, measure, is_full, first_part, after_first, uncut, part_before, cut_within, cut_up, settled_rest, waiting_rest}
 use Rattle.split_core.specs.inner.CutLaws.{Cuts, stops, goes, cut_so}
 
 -- when a part is full
@@ -140,30 +140,30 @@ pub first-append : (limit : Limit) (x y : List ℕ) → is_full limit x ≡ true
     → first_part limit (x ++ y) ≡ first_part limit x
 first-append limit x y full = first-append_by limit x y (full_some limit x full).1
 
-pub behind-append : (limit : Limit) (x y : List ℕ) → is_full limit x ≡ true
-    → behind_first limit (x ++ y) ≡ behind_first limit x ++ y
-behind-append limit x y full =
+pub after-append : (limit : Limit) (x y : List ℕ) → is_full limit x ≡ true
+    → after_first limit (x ++ y) ≡ after_first limit x ++ y
+after-append limit x y full =
     ap (λ (first : List ℕ). drop (length first) (x ++ y)) (first-append limit x y full)
     ∙ drop-append-le (length (first_part limit x)) x y (first_within limit x)
 
-behind_less : (limit : Limit) (x : List ℕ) (bound : ℕ) → is_full limit x ≡ true → length x ≤ suc bound
-    → length (behind_first limit x) ≤ bound
-behind_less limit x bound full within =
+after_less : (limit : Limit) (x : List ℕ) (bound : ℕ) → is_full limit x ≡ true → length x ≤ suc bound
+    → length (after_first limit x) ≤ bound
+after_less limit x bound full within =
     let some : 0 < length (first_part limit x) = first_some limit x full in
-    let left : length (behind_first limit x) ≡ length x - length (first_part limit x) =
+    let left : length (after_first limit x) ≡ length x - length (first_part limit x) =
     length-drop (length (first_part limit x)) x in omega arith
 
 cuts_within : (limit : Limit) (bound : ℕ) (x : List ℕ) → length x ≤ bound
     → Cuts limit x (cut_within bound limit x).full (cut_within bound limit x).rest
 cuts_within limit zero x within = stops x (nothing_short limit x (omega arith))
 cuts_within limit (suc bound) x within =
-    by (is_full limit x) refl (λ full. cuts_within limit bound (behind_first limit x)
-    (behind_less limit x bound full within)) where
+    by (is_full limit x) refl (λ full. cuts_within limit bound (after_first limit x)
+    (after_less limit x bound full within)) where
       by : (full : Bool) → is_full limit x ≡ full
-          → (is_full limit x ≡ true → Cuts limit (behind_first limit x) (cut_within bound limit (behind_first limit x)).full
-          (cut_within bound limit (behind_first limit x)).rest)
-          → Cuts limit x (cond full (behind_part (first_part limit x) (cut_within bound limit (behind_first limit x)))
-          (uncut x)).full (cond full (behind_part (first_part limit x) (cut_within bound limit (behind_first limit x)))
+          → (is_full limit x ≡ true → Cuts limit (after_first limit x) (cut_within bound limit (after_first limit x)).full
+          (cut_within bound limit (after_first limit x)).rest)
+          → Cuts limit x (cond full (part_before (first_part limit x) (cut_within bound limit (after_first limit x)))
+          (uncut x)).full (cond full (part_before (first_part limit x) (cut_within bound limit (after_first limit x)))
           (uncut x)).rest
       by true is more = goes x _ _ is (more is)
       by false is more = stops x is
@@ -177,12 +177,12 @@ once_within limit zero x _ _ within (stops _ short) = refl
 once_within limit zero x _ _ within (goes _ parts rest full more) =
     absurd (false≢true (sym (nothing_short limit x (omega arith)) ∙ full))
 once_within limit (suc bound) x _ _ within (stops _ short) =
-    ap (λ full. cond full (behind_part (first_part limit x) (cut_within bound limit (behind_first limit x))) (uncut x))
+    ap (λ full. cond full (part_before (first_part limit x) (cut_within bound limit (after_first limit x))) (uncut x))
     short
 once_within limit (suc bound) x _ _ within (goes _ parts rest full more) =
-    ap (λ is. cond is (behind_part (first_part limit x) (cut_within bound limit (behind_first limit x))) (uncut x)) full
-    ∙ ap (behind_part (first_part limit x))
-    (once_within limit bound (behind_first limit x) parts rest (behind_less limit x bound full within) more)
+    ap (λ is. cond is (part_before (first_part limit x) (cut_within bound limit (after_first limit x))) (uncut x)) full
+    ∙ ap (part_before (first_part limit x))
+    (once_within limit bound (after_first limit x) parts rest (after_less limit x bound full within) more)
 
 -- a text is cut in one way
 pub cut_once : (limit : Limit) (x : List ℕ) (parts : List (List ℕ)) (rest : List ℕ) → Cuts limit x parts rest
@@ -192,11 +192,11 @@ cut_once limit x parts rest cuts = once_within limit (length x) x parts rest (om
 pub cuts_on : (limit : Limit) (x y : List ℕ) (parts more : List (List ℕ)) (rest left : List ℕ) → Cuts limit x parts rest
     → Cuts limit (rest ++ y) more left → Cuts limit (x ++ y) (parts ++ more) left
 cuts_on limit x y _ more _ left (stops _ short) then = then
-cuts_on limit x y _ more rest left (goes _ parts _ full behind) then =
+cuts_on limit x y _ more rest left (goes _ parts _ full after) then =
     subst (λ first. Cuts limit (x ++ y) (first ∷ (parts ++ more)) left) (first-append limit x y full)
     (goes (x ++ y) (parts ++ more) left (full-append limit x y full)
-    (subst (λ those. Cuts limit those (parts ++ more) left) (sym (behind-append limit x y full))
-    (cuts_on limit (behind_first limit x) y parts more rest left behind then)))
+    (subst (λ those. Cuts limit those (parts ++ more) left) (sym (after-append limit x y full))
+    (cuts_on limit (after_first limit x) y parts more rest left after then)))
 
 -- a text that goes on has its parts, and then those of what was left of it and what follows
 pub cut_on : (limit : Limit) (x y : List ℕ)
@@ -208,7 +208,7 @@ cut_on limit x y = cut_once limit (x ++ y) _ _
 left_short : (limit : Limit) (x : List ℕ) (parts : List (List ℕ)) (rest : List ℕ) → Cuts limit x parts rest
     → is_full limit rest ≡ false
 left_short limit x _ _ (stops _ short) = short
-left_short limit x _ rest (goes _ parts _ full behind) = left_short limit (behind_first limit x) parts rest behind
+left_short limit x _ rest (goes _ parts _ full after) = left_short limit (after_first limit x) parts rest after
 
 -- what is left has no full part
 pub rest_short : (limit : Limit) (x : List ℕ) → is_full limit (cut_up limit x).rest ≡ false

@@ -3,10 +3,8 @@ use Rattle.std.proofs.Common.{◌≡◌, ℕ, ◌+◌, ◌-◌, ◌%◌, ◌<◌
 use Rattle.std.proofs.Math.Nat.{mod-eq_of_lt}
 use Rattle.std.specs.List.{filter, range_with_len, onto_first}
 use Rattle.std.proofs.lemmas.Bool.{cases_eq, cases_lt, eq-eqb, ne_eqb}
-use Rattle.std.proofs.lemmas.List.{append-nil}
 use Rattle.seg_core.specs.Line.{lines_of, delimiters, line_count}
-use Rattle.seg_core.proofs.LineCounts.{line_count-some}
-use Rattle.seg_core.proofs.EndLines.{line_count_near}
+use Rattle.seg_core.proofs.EndLines.{line_count-grows}
 use Rattle.split_core.specs.Parts.{dealt}
 use Rattle.split_core.specs.Split.{is_some, dealt_files}
 use Rattle.split_core.specs.Round.{opened_by}
@@ -169,32 +167,6 @@ dealt_files_are delim true n x =
 dealt_files_are delim false n x = refl
 
 -- a text that goes on opens no fewer files
-
-onto_some : (byte : ℕ) (lines : List (List ℕ)) → 0 < length lines → length (onto_first byte lines) ≡ length lines
-onto_some byte [] some = absurd (omega arith)
-onto_some byte (line ∷ lines) some = refl
-
-count_step : (ends : Bool) (byte count more : ℕ) (lines : List (List ℕ)) → 0 < length lines
-    → length lines ≡ count + more
-    → length (cond ends ((byte ∷ []) ∷ lines) (onto_first byte lines)) ≡ cond ends (count + 1) count + more
-count_step true byte count more lines some is = omega arith
-count_step false byte count more lines some is = onto_some byte lines some ∙ is
-
-pub line_count-append : (delim : ℕ) (x y : List ℕ) → 0 < length y
-    → line_count delim (x ++ y) ≡ delimiters delim x + line_count delim y
-line_count-append delim [] y some = omega arith
-line_count-append delim (byte ∷ x) y some =
-    count_step (eqb byte delim) byte (delimiters delim x) (line_count delim y) (lines_of delim (x ++ y))
-    (line_count-some delim (x ++ y) (omega (arith, length-append x y))) (line_count-append delim x y some)
-
-pub line_count-grows : (delim : ℕ) (x y : List ℕ) → line_count delim x ≤ line_count delim (x ++ y)
-line_count-grows delim x [] = let same : line_count delim (x ++ []) ≡ line_count delim x =
-    ap (line_count delim) (append-nil x) in omega arith
-line_count-grows delim x (byte ∷ y) =
-    let more = line_count-append delim x (byte ∷ y) (omega arith) in
-    let near = (line_count_near delim x).1 in
-    let some = line_count-some delim (byte ∷ y) (omega arith) in
-    omega arith
 
 pub opened_by-grows : (delim : ℕ) (elide : Bool) (n : ℕ) (x y : List ℕ)
     → opened_by delim elide n x ≤ opened_by delim elide n (x ++ y)

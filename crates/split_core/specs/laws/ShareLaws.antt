@@ -12,17 +12,17 @@ use Rattle.ports_core.specs.declared.slot.State.TheVariants.{Open, Closed}
 use Rattle.ports_core.proofs.PartLemmas.{begins_itself, begins_more}
 use Rattle.split_core.specs.declared.limit.Limit.{Limit}
 use Rattle.split_core.specs.declared.limit.Limit.TheVariants.{Lines, Bytes, LineBytes}
-use Rattle.split_core.specs.Parts.{whole_lines, most, measure, is_full, first_part, behind_first, cut_up, unless_empty, parts, settled_rest}
+use Rattle.split_core.specs.Parts.{whole_lines, most, measure, is_full, first_part, after_first, cut_up, unless_empty, parts, settled_rest}
 use Rattle.split_core.specs.Split.{Share, share, is_named, file_at, named, are_named, only_files, settled_parts}
 use Rattle.split_core.specs.laws.CutLaws.{short_some, full_some, whole_of_lines, whole_of_none, settled_then_waiting, settled_some, cut_on, cut_none, cut_once, cuts_up, rest_short}
 use Rattle.split_core.specs.inner.CutLaws.{goes, cut_so}
 use Rattle.split_core.specs.inner.ShareLaws.{SharesBegin, whole_parts}
 
 -- shares that begin others still do after the same front
-pub shares_behind : (front low high : List Share) → SharesBegin low high → SharesBegin (front ++ low) (front ++ high)
-shares_behind [] low high begins = begins
-shares_behind (share ∷ front) low high begins =
-    (inr refl, begins_itself share.bytes, shares_behind front low high begins)
+pub shares_after : (front low high : List Share) → SharesBegin low high → SharesBegin (front ++ low) (front ++ high)
+shares_after [] low high begins = begins
+shares_after (share ∷ front) low high begins =
+    (inr refl, begins_itself share.bytes, shares_after front low high begins)
 
 -- the files of shares that begin others begin the files of those
 
@@ -124,8 +124,8 @@ whole_begins delim x y = whole_begins_by delim x y (delimiters delim x) (delimit
 take_begins_long : (n : ℕ) (x y : List ℕ) → length x < n → (more : List ℕ) × (take n (x ++ y) ≡ x ++ more)
 take_begins_long n [] y short = (take n y, refl)
 take_begins_long zero (byte ∷ x) y short = absurd (omega arith)
-take_begins_long (suc n) (byte ∷ x) y short = let behind =
-    take_begins_long n x y (omega arith) in (behind.0, ap (λ rest. byte ∷ rest) behind.1)
+take_begins_long (suc n) (byte ∷ x) y short = let past =
+    take_begins_long n x y (omega arith) in (past.0, ap (λ rest. byte ∷ rest) past.1)
 
 -- what is settled of a text without a full part begins the first part of the text that goes on
 
@@ -171,9 +171,9 @@ parts_on limit x y = ap (λ cut. cut.full ++ unless_empty cut.rest) (cut_on limi
 
 -- a text with a full part has that as its first
 pub cut_first : (limit : Limit) (x : List ℕ) → is_full limit x ≡ true
-    → cut_up limit x ≡ cut_so (first_part limit x ∷ (cut_up limit (behind_first limit x)).full)
-    (cut_up limit (behind_first limit x)).rest
-cut_first limit x full = cut_once limit x _ _ (goes x _ _ full (cuts_up limit (behind_first limit x)))
+    → cut_up limit x ≡ cut_so (first_part limit x ∷ (cut_up limit (after_first limit x)).full)
+    (cut_up limit (after_first limit x)).rest
+cut_first limit x full = cut_once limit x _ _ (goes x _ _ full (cuts_up limit (after_first limit x)))
 
 rest_begins_by : (limit : Limit) (rest y : List ℕ) (full : Bool) → is_full limit (rest ++ y) ≡ full
     → is_full limit rest ≡ false → SharesBegin (map (share Open) (unless_empty (settled_rest limit rest)))
@@ -209,14 +209,14 @@ rest_begins limit rest y short = rest_begins_by limit rest y (is_full limit (res
 pub settled_grow : (limit : Limit) (x y : List ℕ) → SharesBegin (settled_parts limit x) (settled_parts limit (x ++ y))
 settled_grow limit x y =
     subst (SharesBegin (settled_parts limit x)) (sym (settled_on limit x y))
-    (shares_behind (map (share Closed) (cut_up limit x).full) _ _
+    (shares_after (map (share Closed) (cut_up limit x).full) _ _
     (rest_begins limit (cut_up limit x).rest y (rest_short limit x)))
 
 pub settled_end : (limit : Limit) (x : List ℕ) → SharesBegin (settled_parts limit x) (whole_parts limit x)
 settled_end limit x =
     subst (SharesBegin (settled_parts limit x))
     (sym (map-append (share Closed) (cut_up limit x).full (unless_empty (cut_up limit x).rest)))
-    (shares_behind (map (share Closed) (cut_up limit x).full) _ _
+    (shares_after (map (share Closed) (cut_up limit x).full) _ _
     (closes (settled_rest limit (cut_up limit x).rest) (cut_up limit x).rest
     (settled_in_whole limit (cut_up limit x).rest))) where
       closes : (low high : List ℕ) → IsBeginning low high

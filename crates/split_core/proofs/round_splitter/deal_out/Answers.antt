@@ -2,11 +2,15 @@ use Rattle.std.proofs.Common.{◌∙◌, IfErr, length, subst}
 use Rattle.std.proofs.lemmas.Result.{on_ok_weaker}
 use Rattle.ports_core.proofs.HandedOn.{fault_is}
 use Rattle.split_core.specs.inner.Sharing.{StopsShort, added}
+use Rattle.split_core.proofs.FileSteps.{no_memory}
 use Rattle.split_core.proofs.RoundLemmas.{no_room, first_gathered, became_dealt}
 use Rattle.split_core.proofs.round_splitter.deal_out.Goals as goal
 
 pub returns-in_err-reached-clause-cut : goal.returns-in_err-reached-clause-cut
 returns-in_err-reached-clause-cut g c = fault_is _ _ _ c.from_residual.ensures.1 (no_room g.O.Outs.told c.args.files.now _ (g.O.Outs.slots c.args.outs.now))
+
+pub returns-in_err-reached-clause-caused : goal.returns-in_err-reached-clause-caused
+returns-in_err-reached-clause-caused g c = fault_is _ _ _ c.from_residual.ensures.1 no_memory
 
 pub returns-clause-cut : goal.returns-clause-cut
 returns-clause-cut g c =

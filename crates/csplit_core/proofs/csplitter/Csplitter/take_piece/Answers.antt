@@ -2,8 +2,9 @@ use Rattle.std.proofs.Common.{refl}
 use Rattle.ports_core.proofs.HandedOn.{result_is}
 use Rattle.csplit_core.specs.inner.CsplitState.{Passes}
 use Rattle.csplit_core.proofs.ByteLemmas.{piece_ends}
-use Rattle.csplit_core.proofs.StageSteps.{aims_other, all_after, none_passes, past_passes, some_passes, some_stop}
+use Rattle.csplit_core.proofs.StageSteps.{aims_other, none_passes, past_passes, some_passes, some_stop}
 use Rattle.csplit_core.proofs.csplitter.Csplitter.take_piece.Goals as goal
+use Rattle.csplit_core.proofs.StretchLemmas.{rest_all}
 
 pub returns-then-is_past-clause-passes : goal.returns-then-is_past-clause-passes
 returns-then-is_past-clause-passes g c = past_passes g.O.Outs.told _ c.args.self.now c.args.piece.now _ c.self.view_is (c.is_past.ensures.past c.if-is_past.true) c.requires.ready c.requires.sound c.requires.open
@@ -20,5 +21,5 @@ returns-in-None-clause-passes g c = none_passes g.O.Outs.told c.args.self.now c.
     c.wait.ensures.cutter c.wait.ensures.live c.wait.ensures.err
 
 pub returns-in_ok-take_lines-in-Some-clause-passes : goal.returns-in_ok-take_lines-in-Some-clause-passes
-returns-in_ok-take_lines-in-Some-clause-passes g c = some_passes g.O.Outs.told c.args.self.now c.take_lines.new.self c.wait-in-Some.new.self c.args.piece.now _ _ c.in-Some.end _ _ c.wait-in-Some.result (aims_other _ c.args.self.now c.self.view_is (c.is_past.ensures.live c.if-is_past.false)) c.in-Some.ensures.some refl (all_after c.in-Some.end c.args.piece.now) c.requires.open
+returns-in_ok-take_lines-in-Some-clause-passes g c = some_passes g.O.Outs.told c.args.self.now c.take_lines.new.self c.wait-in-Some.new.self c.args.piece.now _ _ c.in-Some.end _ _ c.wait-in-Some.result (aims_other _ c.args.self.now c.self.view_is (c.is_past.ensures.live c.if-is_past.false)) c.in-Some.ensures.some refl (rest_all c.in-Some.end c.args.piece.now) c.requires.open
     c.in_ok-take_lines-in-Some.ensures.takes c.in_ok-take_lines-in-Some.ensures.rest c.wait-in-Some.ensures.cutter c.wait-in-Some.ensures.past c.wait-in-Some.ensures.live c.wait-in-Some.ensures.err

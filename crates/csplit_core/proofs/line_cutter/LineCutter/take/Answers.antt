@@ -1,8 +1,9 @@
 use Rattle.ports_core.proofs.HandedOn.{result_is}
 use Rattle.std.proofs.Common.{◌^◌}
 use Rattle.csplit_core.specs.inner.Cutter.{Takes}
-use Rattle.csplit_core.proofs.StretchLemmas.{takes_all, takes_more, takes_stopped, takes_end, takes_fit, takes_fewer, none_left}
+use Rattle.csplit_core.proofs.StretchLemmas.{takes_all, takes_more, takes_stopped, takes_end, takes_fit, takes_fewer}
 use Rattle.csplit_core.proofs.line_cutter.LineCutter.take.Goals as goal
+use Rattle.csplit_core.proofs.CutLineLemmas.{none_there}
 
 pub stretches-init : goal.stretches-init
 stretches-init g c = takes_all _ c.args.self.now c.args.text.now _ c.requires.whole c.requires.sound c.requires.ready
@@ -29,4 +30,4 @@ pub stretches-preserved : goal.stretches-preserved
 stretches-preserved g c = takes_more _ _ _ _ _ _ c.in_ok-n.n _ _ _ c.stretches.invariant c.in_ok-n.ensures
 
 pub returns : goal.returns
-returns g c = takes_end _ _ _ _ _ _ _ c.stretches.invariant (none_left c.stretches.left.now c.is_empty.result c.is_empty.ensures c.stretches-test.false)
+returns g c = takes_end _ _ _ _ _ _ _ c.stretches.invariant (none_there c.stretches.left.now c.is_empty.result c.is_empty.ensures c.stretches-test.false)

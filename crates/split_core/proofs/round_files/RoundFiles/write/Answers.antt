@@ -1,6 +1,6 @@
 use Rattle.std.proofs.Common.{◌≡◌, ℕ, List, get_or, subst, sym}
 use Rattle.ports_core.proofs.HandedOn.{fault_is}
-use Rattle.split_core.proofs.FilesLemmas.{nothing_made, added_none}
+use Rattle.split_core.proofs.FilesLemmas.{caused_later, nothing_made, added_none}
 use Rattle.split_core.proofs.FileSteps.{sent_next, sent_stops}
 use Rattle.split_core.proofs.round_files.RoundFiles.write.Goals as goal
 
@@ -12,3 +12,6 @@ returns-in_err-send-clause-cut g c = fault_is _ _ _ c.from_residual.ensures.1 (s
 
 pub loop-place-preserved : goal.loop-place-preserved
 loop-place-preserved g c = sent_next _ _ _ _ _ _ _ _ _ _ c.loop-place.invariant c.loop-place-test.true (subst (λ (bytes : List ℕ). bytes ≡ get_or c.args.gathered.now c.loop-place.place bytes) (sym c.bytes.ensures) c.index-gathered-place.is) c.in_ok-send.ensures.became
+
+pub returns-in_err-send-clause-caused : goal.returns-in_err-send-clause-caused
+returns-in_err-send-clause-caused g c = fault_is _ _ _ c.from_residual.ensures.1 (caused_later _ _ _ _ c.loop-place.invariant.sound c.in_err-send.ensures.caused)

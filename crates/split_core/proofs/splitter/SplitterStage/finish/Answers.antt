@@ -1,8 +1,11 @@
-use Rattle.split_core.proofs.WaysLemmas.{parts_finish, parts_short}
+use Rattle.std.proofs.Common.{subst, sym}
+use Rattle.split_core.specs.declared.splitter.Splitter.{Splitter}
+use Rattle.split_core.specs.declared.splitter.Splitter.TheVariants.{Parts, Round}
+use Rattle.split_core.specs.inner.Ways.{FinishesBy, parts_end, round_ends}
 use Rattle.split_core.proofs.splitter.SplitterStage.finish.Goals as goal
 
-pub returns-in-Parts-clause-outputs : goal.returns-in-Parts-clause-outputs
-returns-in-Parts-clause-outputs g c = parts_finish g.O.Outs.told c.in-Parts.parts c.args.self.now (g.O.Outs.slots c.args.outs.now) (g.O.Outs.slots c.finish.new.outs) c.in-Parts.is c.finish.result c.finish.ensures.outputs
+pub returns-in-Parts : goal.returns-in-Parts
+returns-in-Parts g c = subst (λ (way : Splitter). FinishesBy g.O.Outs.told (g.O.Outs.slots c.args.outs.now) (g.O.Outs.slots c.finish.new.outs) c.finish.result way (Parts c.finish.new.self)) (sym c.in-Parts.is) (parts_end _ _ c.finish.ensures.same c.finish.ensures.ends c.finish.ensures.owns)
 
-pub returns-in-Parts-clause-cut : goal.returns-in-Parts-clause-cut
-returns-in-Parts-clause-cut g c = parts_short g.O.Outs.told c.in-Parts.parts c.args.self.now (g.O.Outs.slots c.args.outs.now) (g.O.Outs.slots c.finish.new.outs) c.in-Parts.is c.finish.result c.finish.ensures.cut
+pub returns-in-Round : goal.returns-in-Round
+returns-in-Round g c = subst (λ (way : Splitter). FinishesBy g.O.Outs.told (g.O.Outs.slots c.args.outs.now) (g.O.Outs.slots c.finish-in-Round.new.outs) c.finish-in-Round.result way (Round c.finish-in-Round.new.self)) (sym c.in-Round.is) (round_ends _ _ c.finish-in-Round.ensures)

@@ -7,7 +7,7 @@ use Rattle.split_core.specs.PartsState.{PartsState}
 use Rattle.split_core.specs.inner.Moves.{Finishes, KeepsFile}
 use Rattle.split_core.proofs.MoveLemmas.{owned_same}
 use Rattle.split_core.proofs.PassLemmas.{finishes_none, held_breaks, close_ends, close_can, end_owned}
-use Rattle.split_core.proofs.parts.Parts.end.Goals as goal
+use Rattle.split_core.proofs.parts.Parts.finish.Goals as goal
 
 pub returns-in_default-clause-ends : goal.returns-in_default-clause-ends
 returns-in_default-clause-ends g c = finishes_none g.O.Outs.told c.args.self.now _ c.requires (sym (ap (λ (parts : PartsState). parts.current) c.self.view_is) ∙ c.in_default.is)
