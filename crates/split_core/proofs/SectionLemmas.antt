@@ -9,7 +9,7 @@ use Rattle.std.proofs.lemmas.List.{append-nil, take_all, drop-drop, length-map, 
 use Rattle.seg_core.specs.Line.{joined, lines_of, delimiters, first_lines, after_lines, line_count}
 use Rattle.seg_core.proofs.Carried.{lines_of-after_lines}
 use Rattle.seg_core.proofs.EndLines.{line_count_near}
-use Rattle.seg_core.proofs.FirstLines.{joined-append, lines_of-first_lines, lines_of-behind}
+use Rattle.seg_core.proofs.FirstLines.{joined-append, lines_of-first_lines, lines_of-after}
 use Rattle.seg_core.proofs.LineCounts.{line_count-some}
 use Rattle.seg_core.proofs.LinesOf.{joined-lines_of}
 use Rattle.ports_core.specs.declared.slot.State.{State}
@@ -114,7 +114,7 @@ lines_cut delim n x _ rest some (goes _ full _ is past) =
     let enough : n ≤ delimiters delim x = (full_some (Lines n delim) x is).1 in
     let lines : delimiters delim x ≤ line_count delim x = (line_count_near delim x).0 in
     ap (λ those. first_lines delim n x ∷ those) (lines_cut delim n (after_first (Lines n delim) x) full rest some past)
-    ∙ ap (λ those. first_lines delim n x ∷ map joined (runs_of n those)) (lines_of-behind delim n x enough)
+    ∙ ap (λ those. first_lines delim n x ∷ map joined (runs_of n those)) (lines_of-after delim n x enough)
     ∙ sym (ap (map joined) (runs_next n (lines_of delim x) some (omega arith)))
 
 pub lines_are_runs : (delim n : ℕ) (x : List ℕ) → 0 < n → parts (Lines n delim) x ≡ line_parts delim n x

@@ -7,7 +7,7 @@ use Rattle.ports_core.specs.Message.{SaysAll}
 use Rattle.ports_core.specs.declared.slot.Mode.{Mode}
 use Rattle.ports_core.specs.declared.tool.Tool.TheVariants.{Tee}
 use Rattle.ports_core.specs.declared.fault.Fault.{Fault}
-use Rattle.ports_core.proofs.MessageLemmas.{all_said_state, says_behind}
+use Rattle.ports_core.proofs.MessageLemmas.{all_said_state, says_after}
 use Rattle.ports_core.specs.Streams.{standard_error}
 use Rattle.tee_core.specs.Outputs.{ChangesEach, Closes, is_closed, fails_to_close, was_broken, IsFile}
 use Rattle.tee_core.specs.Run.{OutputLeft, output_whole, output_cut, FileLeft, file_whole, file_unopened, file_cut, file_unclosed, FilesLeft, no_file, one_file, fault_in, messages_of, output_names, said_before, said_of_input}

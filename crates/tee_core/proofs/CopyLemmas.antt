@@ -9,7 +9,7 @@ use Rattle.ports_core.specs.Message.{SaysAll}
 use Rattle.ports_core.specs.Text.{message_of}
 use Rattle.ports_core.specs.declared.slot.Mode.{Mode}
 use Rattle.ports_core.specs.declared.tool.Tool.TheVariants.{Tee}
-use Rattle.ports_core.proofs.MessageLemmas.{all_said_state, says_behind}
+use Rattle.ports_core.proofs.MessageLemmas.{all_said_state, says_after}
 use Rattle.ports_core.specs.Streams.{standard_output, standard_error}
 use Rattle.tee_core.specs.Outputs.{ChangesEach, Gets, gets_all, breaks_off, gets_none, IsFile, IsOutput, IsReady, IsUsable}
 use Rattle.tee_core.specs.Run.{OutputLeft, output_whole, output_cut, broke_in, fault_in, output_names, said_in, said_before}
