@@ -22,6 +22,8 @@ mod load_tests;
 #[cfg(test)]
 mod operand_tests;
 #[cfg(test)]
+mod pages;
+#[cfg(test)]
 mod part_plain;
 #[cfg(test)]
 mod part_tests;

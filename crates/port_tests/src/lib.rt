@@ -16,6 +16,8 @@ mod memory_tests;
 #[cfg(test)]
 mod name_tests;
 #[cfg(test)]
+mod pages;
+#[cfg(test)]
 mod reading;
 #[cfg(test)]
 mod seek_tests;

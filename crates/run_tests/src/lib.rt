@@ -18,6 +18,8 @@ mod growth_tests;
 #[cfg(test)]
 mod left;
 #[cfg(test)]
+mod pages;
+#[cfg(test)]
 mod refused_tests;
 #[cfg(test)]
 mod split_run_tests;

@@ -14,6 +14,8 @@ mod line_back_tests;
 #[cfg(test)]
 mod line_tests;
 #[cfg(test)]
+mod pages;
+#[cfg(test)]
 mod pattern_tests;
 #[cfg(test)]
 mod scan_tests;

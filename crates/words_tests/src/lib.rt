@@ -6,6 +6,8 @@ mod csplit_tests;
 #[cfg(test)]
 mod growth_tests;
 #[cfg(test)]
+mod pages;
+#[cfg(test)]
 mod refused;
 #[cfg(test)]
 mod spelling_tests;

@@ -1,0 +1,10 @@
+//! The caller on the page of `words_core`: `tests/documents` compares it with the page.
+mod followed_words;
+
+use followed_words::follows_files;
+
+#[test]
+fn sees_what_follows(rt: HostRuntime) {
+    let words: [&str; 3] = ["tail", "-f", "log"];
+    assert_eq!(rt; follows_files(rt.alloc(), &words), Ok(true));
+}
