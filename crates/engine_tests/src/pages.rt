@@ -26,7 +26,7 @@ use watch_core::{Edit, MemWatch};
 fn writes_first_lines(rt: HostRuntime) -> Result<(), Fail> {
     let mut outs = MemOut::new(rt.alloc())?;
     write_first_lines(rt.alloc(), 2, b"a\nb\nc\n", &mut outs)?;
-    assert_eq!(rt; outs.bytes(0), b"a\nb\n");
+    assert_eq!(rt; outs.bytes(0), b"a\nb\n".as_slice());
     Ok(())
 }
 
@@ -58,7 +58,7 @@ fn writes_sections(rt: HostRuntime) -> Result<(), Fail> {
 fn copies_twice(rt: HostRuntime) -> Result<(), Fail> {
     let mut outs = MemOut::new(rt.alloc())?;
     assert_eq!(rt; copy_twice(rt.alloc(), b"a", b"b", &mut outs)?, 0);
-    assert_eq!(rt; outs.bytes(0), b"ab");
+    assert_eq!(rt; outs.bytes(0), b"ab".as_slice());
     assert!(rt; has_files(&outs, &[b"ab"]));
     Ok(())
 }
@@ -70,6 +70,6 @@ fn follows_a_file(rt: HostRuntime) -> Result<(), Fail> {
     watch.then(&[Edit::Append("log", b"c\n")])?;
     let mut outs = MemOut::new(rt.alloc())?;
     assert_eq!(rt; follow_file(rt.alloc(), 2, &mut watch, &mut outs), 0);
-    assert_eq!(rt; outs.bytes(0), b"b\nc\n");
+    assert_eq!(rt; outs.bytes(0), b"b\nc\n".as_slice());
     Ok(())
 }

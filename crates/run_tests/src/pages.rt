@@ -14,6 +14,6 @@ fn writes_the_last_line(rt: HostRuntime) -> Result<(), Fail> {
     let mut inputs = inputs_of(rt.alloc(), &[("log", b"a\nb\n")], b"")?;
     let mut outs = MemOut::new(rt.alloc())?;
     assert_eq!(rt; last_line(rt.alloc(), &mut inputs, &mut outs), 0);
-    assert_eq!(rt; outs.bytes(0), b"b\n");
+    assert_eq!(rt; outs.bytes(0), b"b\n".as_slice());
     Ok(())
 }

@@ -11,8 +11,8 @@ use two_lines::which_match;
 #[test]
 fn takes_a_line(rt: HostRuntime) {
     let (line, rest, count) = first_line(b"a\nb\nc\nd");
-    assert_eq!(rt; line, b"a\n");
-    assert_eq!(rt; rest, b"b\nc\nd");
+    assert_eq!(rt; line, b"a\n".as_slice());
+    assert_eq!(rt; rest, b"b\nc\nd".as_slice());
     assert_eq!(rt; count, 2);
 }
 
@@ -24,5 +24,8 @@ fn finds_a_match(rt: HostRuntime) {
 #[test]
 fn matches_two_lines(rt: HostRuntime) {
     let bre = Bre::read(rt.alloc(), b"b*c").expect(&rt, "the pattern reads");
-    assert_eq!(rt; which_match(rt.alloc(), &bre, b"abc", b"ab"), Ok((true, false)));
+    assert_eq!(rt;
+        which_match(rt.alloc(), &bre, b"abc", b"ab"),
+        Ok((true, false))
+    );
 }
