@@ -7,7 +7,8 @@ ghost use Rattle.ports_core.specs.Source.{IsFresh};
 
 use ports_core::{DirIn, DirOut, Fault, Tool, say, write_whole};
 use std::alloc::{AllocError, Global};
-use std::fs;
+use std::fs::{self, File};
+use std::os::fd::{AsRawFd, RawFd};
 use std::process::ExitCode;
 use tools_core::{ArgsFault, read_args, run_words};
 use watch_core::DirWatch;
@@ -15,12 +16,13 @@ use watch_core::DirWatch;
 /// The output for messages.
 const STANDARD_ERROR: usize = 1;
 
+/// The highest number that the system has for a standard stream.
+const LAST_STANDARD: RawFd = 2;
+
 /// Runs the tool that the program's words name, over standard input, standard output and standard error.
 fn main(rt: HostRuntime) -> ExitCode {
     let alloc = rt.alloc();
-    // A standard stream that was closed would be the first file that is opened. A folder that stands in its place can
-    // be neither read nor written, so the stream fails as it should.
-    let _places = [fs::open(&rt, "/"), fs::open(&rt, "/"), fs::open(&rt, "/")];
+    let _places = [stand_in(rt), stand_in(rt), stand_in(rt)];
     let mut outs = DirOut::new(rt, alloc, rt.stdout(), rt.stderr());
     let status = match read_args(&rt, alloc) {
         Ok(args) => {
@@ -31,6 +33,20 @@ fn main(rt: HostRuntime) -> ExitCode {
         Err(ArgsFault::Memory) => refuse(alloc, &mut outs),
     };
     ExitCode::from(status)
+}
+
+/// A folder in the place of a standard stream that is closed; `None` where none is. Such a stream would be the first file that is
+/// opened; a folder can be neither read nor written, so the stream fails as it should.
+fn stand_in(rt: HostRuntime) -> Option<File> {
+    match fs::open(&rt, "/") {
+        Ok(folder) => {
+            if folder.as_raw_fd() > LAST_STANDARD {
+                return None;
+            }
+            Some(folder)
+        }
+        Err(_) => None,
+    }
 }
 
 fn run_args(
