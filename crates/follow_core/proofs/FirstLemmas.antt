@@ -265,8 +265,8 @@ first_whole {told_in} {told} {ways} {snapshot} {name} {contents} {printer} {insi
       by : Ends {T = ℕ} told_in told (opened_under inside name) name (ways.start contents) [] mid after new (Ok len) → Looked told_in told ways [] snapshot name inside old after new (Through len)
       by (whole value bytes lines are gives) =
           looked_whole told_in told ways [] snapshot name inside after old new bytes lines len (λ is fates.
-              let due = first_dues ways snapshot name (found is).0 (found is).1 refl fates in
-              (due.0, ((are is).0 ∙ ap ways.start (held_file snapshot name contents (found is).0 (found is).1 (same is)) ∙ sym due.1.0, (are is).1 ∙ sym due.1.1)))
+          let due = first_dues ways snapshot name (found is).0 (found is).1 refl fates in
+          (due.0, ((are is).0 ∙ ap ways.start (held_file snapshot name contents (found is).0 (found is).1 (same is)) ∙ sym due.1.0, (are is).1 ∙ sym due.1.1)))
           (opened_gives told inside after name bytes lines old mid new first gives)
 
 -- or a beginning of it, before reading failed or following cut_over

@@ -8,7 +8,9 @@ ghost use Rattle.watch_core.specs.MemWatchState.{seen};
 
 use crate::args_tests::Args;
 use crate::follow_tests::{Row as Followed, TRUNCATED, TWO_FILES, watch_of};
-use crate::left::{File, Left, NOTHING, Plan, Run as Planned, has_name, planned_inputs, planned_outs};
+use crate::left::{
+    File, Left, NOTHING, Plan, Run as Planned, has_name, planned_inputs, planned_outs,
+};
 use crate::refused_tests::{
     BEFORE_A_LINE, BEFORE_EACH_LINE, Ended, KEPT_SECTIONS, ONE_IS_MISSING, ROUND, Run, SECTIONS,
     TWO_LINES, Then, output_has_begun,
@@ -330,11 +332,7 @@ fn following_leaves_its_rows_or_begin(rt: HostRuntime) {
     }
 }
 
-fn end_of_following(
-    alloc: Global,
-    row: &Followed<'_>,
-    said: &[&[u8]],
-) -> Result<Ended, Fault> {
+fn end_of_following(alloc: Global, row: &Followed<'_>, said: &[&[u8]]) -> Result<Ended, Fault> {
     let watch = watch_of(alloc, row.looks)?;
     let mut outs = MemOut::new(alloc)?;
     let status = follows(alloc, row, watch, &mut outs);
@@ -357,12 +355,7 @@ fn follows(alloc: Global, row: &Followed<'_>, mut watch: MemWatch, outs: &mut Me
 
 /// Whether following left beginnings, with status 1. A line that standard error finds no memory for is passed over: then nothing
 /// else is lost, and the status is the row's.
-fn following_has_begun(
-    outs: &MemOut,
-    status: u8,
-    row: &Followed<'_>,
-    said: &[&[u8]],
-) -> bool {
+fn following_has_begun(outs: &MemOut, status: u8, row: &Followed<'_>, said: &[&[u8]]) -> bool {
     if outs.broken(1) && row.messages.starts_with(outs.bytes(1)) {
         return outs.bytes(0) == row.output && status == row.status;
     }
