@@ -1,7 +1,4 @@
 //! The callers on the pages of the engines' crates: `tests/documents` compares them with the pages.
-ghost use Rattle.std.specs.Prelude.{◌≡◌, IfOk};
-ghost use Rattle.ports_core.specs.Source.{IsFresh};
-
 mod copied_twice;
 mod first_lines;
 mod followed_file;

@@ -1,6 +1,6 @@
-ghost use Rattle.std.specs.Prelude.{◌≡◌, Ok, map, IfOk, IfErr};
+ghost use Rattle.std.specs.Prelude.{map, IfErr};
 ghost use Rattle.words_core.specs.Spelling.{IsRefused};
-ghost use Rattle.words_core.specs.Words.{HasBadOperands, follows, settings_of};
+ghost use Rattle.words_core.specs.Words.{HasBadOperands, settings_of};
 
 use ports_core::Fault;
 use std::alloc::Global;
