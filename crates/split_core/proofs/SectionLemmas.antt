@@ -113,11 +113,7 @@ lines_cut delim n x _ _ some (stops _ short) = last_lines delim n x (short_some 
 lines_cut delim n x _ rest some (goes _ full _ is past) =
     let enough : n ≤ delimiters delim x = (full_some (Lines n delim) x is).1 in
     let lines : delimiters delim x ≤ line_count delim x = (line_count_near delim x).0 in
-<<<<<<< HEAD
     ap (λ those. first_lines delim n x ∷ those) (lines_cut delim n (after_first (Lines n delim) x) full rest some past)
-=======
-    ap (λ those. first_lines delim n x ∷ those) (lines_cut delim n (behind_first (Lines n delim) x) full rest some behind)
->>>>>>> c479e77 (split_core follows names of seg_core)
     ∙ ap (λ those. first_lines delim n x ∷ map joined (runs_of n those)) (lines_of-after delim n x enough)
     ∙ sym (ap (map joined) (runs_next n (lines_of delim x) some (omega arith)))
 
