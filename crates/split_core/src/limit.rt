@@ -3,7 +3,7 @@ ghost use Rattle.split_core.specs.Parts.{most};
 
 /// What ends a part, where one part follows another. Each number is at least 1. Where lines matter, the byte is the one
 /// that they end with.
-#[derive(Clone, Copy)]
+#[derive(Clone, Copy, Debug, PartialEq, Eq)]
 pub enum Limit {
     /// This many lines.
     Lines(u64, u8),
