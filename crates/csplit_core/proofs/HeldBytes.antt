@@ -3,7 +3,7 @@ use Rattle.std.proofs.Common.{◌≡◌, inl, inr, ℕ, ◌+◌, ◌-◌, ◌<�
 use Rattle.std.proofs.Math.Nat.{min-eq_left}
 use Rattle.seg_core.specs.Line.{after_lines, first_lines}
 use Rattle.seg_core.proofs.FirstLines.{first_lines_then_rest}
-use Rattle.csplit_core.specs.inner.Csplit.{waiting, waiting_of}
+use Rattle.csplit_core.specs.Csplit.{waiting, waiting_of}
 use Rattle.csplit_core.specs.CsplitState.{CsplitState, Holds, whole_lines}
 use Rattle.csplit_core.specs.Cutter.{CutterState, suppress_in, state_in, text_from, IsLive, IsPast, Stands}
 use Rattle.csplit_core.specs.Input.{newline, all_lines, open_line}

@@ -1,15 +1,15 @@
 -- What `csplit` makes of an input (POSIX.1-2017, XCU csplit).
-use Rattle.std.specs.Prelude.{ℕ, Bool, true, false, not, ◌&&◌, List, Option, Some, None, if◌then◌else◌}
+use Rattle.std.specs.Prelude.{ℕ, Bool, true, false, not, ◌&&◌, List, [], ◌++◌, Option, Some, None, if◌then◌else◌}
 use Rattle.ports_core.specs.Part.{Part}
 use Rattle.ports_core.specs.Work.{Work, Means}
 use Rattle.ports_core.specs.declared.fault.Fault.{Fault}
 use Rattle.ports_core.specs.declared.fault.Fault.TheVariants.{NoMatch, Range}
 use Rattle.csplit_core.specs.Operand.{Operand, Line, is_endless, is_number}
 use Rattle.csplit_core.specs.Plan.{Ending, used_up, missed, above, below}
-use Rattle.csplit_core.specs.Planned.{plan}
-use Rattle.csplit_core.specs.Section.{settled_sections, whole_sections}
+use Rattle.csplit_core.specs.Planned.{Plan, plan}
+use Rattle.csplit_core.specs.Section.{settled_sections, whole_sections, bytes_of, is_final, waiting_lines}
 use Rattle.csplit_core.specs.Output.{Style, part_of}
-use Rattle.csplit_core.specs.Input.{all_lines, complete_lines}
+use Rattle.csplit_core.specs.Input.{all_lines, complete_lines, open_line}
 
 -- what is written of complete lines, where more may follow, and of all lines
 abbrev pub settled_of : Style → List Operand → List Line → Part
@@ -58,3 +58,10 @@ csplit_work style operands = record {
   clears = not style.keep;
   means = csplit_means style;
 }
+
+-- the bytes that wait: the lines that do, and the line that lacks its newline; none once later input goes nowhere
+abbrev pub waiting_of : List Line → Plan → List ℕ → List ℕ
+waiting_of lines plan rest = if is_final plan.ending then [] else bytes_of (waiting_lines lines plan) ++ rest
+
+abbrev pub waiting : Style → List Operand → List ℕ → List ℕ
+waiting style operands x = waiting_of (complete_lines x) (plan style.suppress operands (complete_lines x)) (open_line x)

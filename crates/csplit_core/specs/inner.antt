@@ -1,4 +1,3 @@
-pub mod Csplit
 pub mod CsplitState
 pub mod Cutter
 pub mod Draft

@@ -7,7 +7,7 @@ ghost use Rattle.ports_core.specs.Part.{OutputsAt, StoppedBetween, nothing};
 ghost use Rattle.ports_core.specs.Slot.{Slot, is_writable};
 ghost use Rattle.ports_core.specs.Swept.{AreMade};
 ghost use Rattle.csplit_core.specs.Csplit.{csplit_work, settled_by};
-ghost use Rattle.csplit_core.specs.inner.Csplit.{waiting};
+ghost use Rattle.csplit_core.specs.Csplit.{waiting};
 ghost use Rattle.csplit_core.specs.inner.CsplitState.{Begins, Closes, Judges, Passes};
 ghost use Rattle.csplit_core.specs.CsplitState.{Holds, IsReady, Owns, work};
 ghost use Rattle.csplit_core.specs.inner.Cutter.{IsLine, Takes};

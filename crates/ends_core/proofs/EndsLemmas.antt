@@ -19,9 +19,10 @@ use Rattle.ends_core.specs.declared.ends.Ends.TheVariants.{First, ButLast, FromN
 use Rattle.ends_core.specs.declared.kept.Kept.{Kept}
 use Rattle.ends_core.specs.Ends.{measure, first_of, after_of, last_of, but_last_of}
 use Rattle.ends_core.specs.Head.{head_work}
-use Rattle.ends_core.specs.inner.Head.{IsDone}
+use Rattle.ends_core.specs.Head.{IsDone}
 use Rattle.ends_core.specs.Stage.{Stretch, the_first, all_but_last, from_the_nth, the_last, keeps, work_in, waiting_in, front_in, stretch_of, delim_of, unit_of, count_of, left_of, waiting_of, waiting, may_lack, work, Holds}
-use Rattle.ends_core.specs.inner.Stage.{is_last, due, due_at_end, left_waiting, is_done, is_full, FullLacksNone, SameAsked}
+use Rattle.ends_core.specs.inner.Stage.{is_last, due, due_at_end, left_waiting, is_full, FullLacksNone, SameAsked}
+use Rattle.ends_core.specs.Stage.{is_done}
 use Rattle.ends_core.specs.Kept.{most_of, may_lack_of, delim_of as kept_delim, unit_of as kept_unit}
 use Rattle.ends_core.specs.inner.Load.{Passes}
 use Rattle.ends_core.specs.inner.Stops.{Stops}

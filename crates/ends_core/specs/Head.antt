@@ -1,5 +1,5 @@
 -- The first part of an input, as an engine writes it: POSIX.1-2017, XCU head; the option -c is GNU's.
-use Rattle.std.specs.Prelude.{ℕ, ◌&&◌, not, nat_le, Bool, false, List, [], if◌then◌else◌}
+use Rattle.std.specs.Prelude.{◌≡◌, ℕ, ◌<◌, ◌&&◌, not, nat_le, Bool, false, List, [], ◌++◌, All, if◌then◌else◌}
 use Rattle.ports_core.specs.Part.{only_out}
 use Rattle.seg_core.specs.declared.unit.Unit.{Unit as Counted}
 use Rattle.ports_core.specs.Work.{Work, on_output, always_well}
@@ -22,3 +22,12 @@ head_work delim unit but_last n = record {
 -- asked for
 abbrev pub head_waiting : ℕ → Counted → Bool → ℕ → List ℕ → List ℕ
 head_waiting delim unit but_last n x = if but_last then last_of delim unit n x else []
+
+-- the numbers of a text are bytes
+abbrev pub AreBytes : List ℕ → Type 0
+AreBytes x = All (λ byte. byte < 256) x
+
+-- whatever bytes come after x, the head of it is that of x
+abbrev pub IsDone : ℕ → Counted → Bool → ℕ → List ℕ → Type 0
+IsDone delim unit but_last n x = (y : List ℕ) → AreBytes y
+    → head_of delim unit but_last n (x ++ y) ≡ head_of delim unit but_last n x

@@ -10,7 +10,7 @@ use Rattle.seg_core.specs.declared.unit.Unit.TheVariants.{Lines, Bytes}
 use Rattle.ends_core.specs.declared.ends.Ends.{Ends}
 use Rattle.ends_core.specs.declared.ends.Ends.TheVariants.{First, ButLast, FromNth, Last}
 use Rattle.ends_core.specs.Ends.{measure}
-use Rattle.ends_core.specs.Head.{head_work, head_waiting}
+use Rattle.ends_core.specs.Head.{head_work, head_waiting, IsDone}
 use Rattle.ends_core.specs.Tail.{tail_work, tail_waiting}
 use Rattle.ends_core.specs.Kept.{held_of, most_of, may_lack_of, delim_of as kept_delim, unit_of as kept_unit}
 
@@ -126,3 +126,13 @@ IsRefused engine piece old new fault =
     IsCaused (IsMet (work engine.stage).means (work engine.stage).means.feeding (may_lack engine.stage ≡ true)
     (EndsWith Holds work engine.stage piece) old new)
     engine.is_over engine.fed (length piece) old new fault
+
+-- whatever comes after x, a head stays; a tail is never done
+abbrev pub done_in : Stretch → ℕ → Counted → ℕ → List ℕ → Type 0
+done_in the_first delim unit n x = IsDone delim unit false n x
+done_in all_but_last delim unit n x = IsDone delim unit true n x
+done_in from_the_nth delim unit n x = ⊥
+done_in the_last delim unit n x = ⊥
+
+abbrev pub is_done : Ends → List ℕ → Type 0
+is_done ends x = done_in (stretch_of ends) (delim_of ends) (unit_of ends) (count_of ends) x

@@ -1,4 +1,3 @@
-pub mod Head
 pub mod Kept
 pub mod Load
 pub mod Stage

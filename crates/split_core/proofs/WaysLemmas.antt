@@ -9,7 +9,8 @@ use Rattle.split_core.specs.declared.splitter.Splitter.{Splitter}
 use Rattle.split_core.specs.declared.splitter.Splitter.TheVariants.{Parts, Round}
 use Rattle.split_core.specs.Split.{waiting}
 use Rattle.split_core.specs.Ways.{Holds, Owns, Ready, work}
-use Rattle.split_core.specs.inner.Ways.{FinishesBy, PassesBy, held, of_parts, of_round, parts_end, round_ends}
+use Rattle.split_core.specs.inner.Ways.{FinishesBy, PassesBy, of_parts, of_round, parts_end, round_ends}
+use Rattle.split_core.specs.Ways.{held}
 use Rattle.split_core.proofs.PartStageLemmas as part
 use Rattle.split_core.proofs.RoundLemmas as dealing
 use Rattle.split_core.proofs.WaitingLemmas.{parts_wait}

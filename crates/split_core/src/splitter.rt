@@ -7,7 +7,8 @@ ghost use Rattle.split_core.specs.Sharing.{CannotOpen};
 ghost use Rattle.split_core.specs.Split.{settled_by, split_work, waiting};
 ghost use Rattle.split_core.specs.Splitter.{HasNames, IsPositive};
 ghost use Rattle.split_core.specs.Ways.{Holds, Owns, Ready, work};
-ghost use Rattle.split_core.specs.inner.Ways.{FinishesBy, PassesBy, held};
+ghost use Rattle.split_core.specs.inner.Ways.{FinishesBy, PassesBy};
+ghost use Rattle.split_core.specs.Ways.{held};
 ghost use Rattle.split_core.specs.laws.Ways.{lawful};
 
 use crate::parts::Parts;

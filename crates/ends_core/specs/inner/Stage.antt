@@ -5,7 +5,6 @@ use Rattle.seg_core.specs.declared.unit.Unit.TheVariants.{Bytes}
 use Rattle.ends_core.specs.declared.ends.Ends.{Ends}
 use Rattle.ends_core.specs.declared.ends.Ends.TheVariants.{First, ButLast, FromNth, Last}
 use Rattle.ends_core.specs.Ends.{first_of, after_of, last_of, but_last_of}
-use Rattle.ends_core.specs.inner.Head.{IsDone}
 use Rattle.ends_core.specs.Kept.{held_of, most_of, delim_of as kept_delim, unit_of as kept_unit}
 use Rattle.ends_core.specs.Stage.{Stretch, the_first, all_but_last, from_the_nth, the_last, stretch_of, unit_of, delim_of, count_of, waiting_of, may_lack}
 
@@ -14,16 +13,6 @@ is_last the_first = false
 is_last all_but_last = false
 is_last from_the_nth = false
 is_last the_last = true
-
--- whatever comes after x, a head stays; a tail is never done
-abbrev pub done_in : Stretch → ℕ → Counted → ℕ → List ℕ → Type 0
-done_in the_first delim unit n x = IsDone delim unit false n x
-done_in all_but_last delim unit n x = IsDone delim unit true n x
-done_in from_the_nth delim unit n x = ⊥
-done_in the_last delim unit n x = ⊥
-
-abbrev pub is_done : Ends → List ℕ → Type 0
-is_done ends x = done_in (stretch_of ends) (delim_of ends) (unit_of ends) (count_of ends) x
 
 -- if bytes are kept and as many wait as are to be kept, no memory can be wanting
 abbrev pub FullLacksNone : Ends → Type 0

@@ -14,11 +14,6 @@ use Rattle.split_core.specs.inner.Dealt.{dealt_first, reached_by}
 use Rattle.split_core.specs.inner.Moves.{KeepsFile, Passes, Finishes}
 use Rattle.split_core.specs.inner.Sharing.{added, Became, StopsShort, HaveClosed, ClosesShort, CannotClose, IsOfFiles, KeepsFiles}
 
--- how many bytes wait; where lines are dealt, none
-abbrev pub held : Splitter → ℕ
-held (Parts state) = length state.waiting
-held (Round state) = 0
-
 -- what each file has once it got what it gets of a piece
 abbrev pub dealt_more : RoundState → List ℕ → List (List ℕ) → List (List ℕ)
 dealt_more round piece these = added these (dealt_first round.delim round.count round.next piece)
