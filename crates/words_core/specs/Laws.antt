@@ -177,7 +177,13 @@ pub record IsName (rows : List OptionRow) (name : List ℕ) (choice : Choice) (k
 -- standard input
 
 abbrev pub ends_as : Measured → Count → Headers → EndsAsked
-ends_as unit count headers = record ten_lines { unit = unit; count = count; headers = headers; names = codes "-" ∷ [] }
+ends_as unit count headers = record {
+  unit = unit;
+  count = count;
+  headers = headers;
+  delim = 10;
+  names = codes "-" ∷ [];
+}
 
 -- the same of `tail`, where nothing is followed
 abbrev pub tail_as : EndsAsked → TailSettings
@@ -185,12 +191,34 @@ tail_as ends = record { ends = ends; followed = None; looks = 2 ^ 63 - 1 }
 
 -- where the file `f` is followed in this way, in as many looks
 abbrev pub following_as : Option Followed → ℕ → TailSettings
-following_as followed looks =
-    record { ends = record ten_lines { names = codes "f" ∷ [] }; followed = followed; looks = looks }
+following_as followed looks = record {
+  ends = record {
+    unit = unit.Lines;
+    count = ten_lines.count;
+    headers = headers.ForSeveral;
+    delim = 10;
+    names = codes "f" ∷ [];
+  };
+  followed = followed;
+  looks = looks;
+}
 
 abbrev pub split_as : Cut → Alphabet → ℕ → Bool → Bool → SplitAsked
-split_as cut alphabet width auto elide =
-    record no_options { cut = cut; alphabet = alphabet; width = width; auto = auto; elide = elide }
+split_as cut alphabet width auto elide = record {
+  cut = cut;
+  alphabet = alphabet;
+  width = width;
+  auto = auto;
+  elide = elide;
+  input = codes "-";
+  prefix = codes "x";
+  ending = [];
+  delim = 10;
+}
 
 abbrev pub csplit_as : Style → ℕ → CsplitAsked
 csplit_as style place = record { style = style; input = codes "-"; operands = codes "1" ∷ []; places = place ∷ [] }
+
+-- files as they are made without options
+abbrev pub plain_style : Style
+plain_style = record { prefix = codes "xx"; digits = 2; keep = false; quiet = false; elide = false; suppress = false }

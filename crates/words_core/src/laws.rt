@@ -5,8 +5,8 @@ ghost use Rattle.ports_core.specs.declared.fault.UsageKind.TheVariants.{TwoWays}
 ghost use Rattle.words_core.specs.declared.spelling.State.TheVariants.{Reading};
 ghost use Rattle.seg_core.specs.Count.{count_of, digits_of, is_number};
 ghost use Rattle.words_core.specs.Given.{Given, GivenOption, one_option};
-ghost use Rattle.words_core.specs.CsplitWords.{plain, style_of};
-ghost use Rattle.words_core.specs.Laws.{AreAmong, Gives, IsLetter, IsName, amount_of, appends, as_operands, csplit_as, drops_sizes, elides_files, ends_as, ends_of, has, is_alphabet, is_count, is_digits, is_headers, is_prefix, is_width, follow_of, following_as, is_following, is_looks, keeps_files, leaves_lines_out, retries, split_as, split_of, tail_as};
+ghost use Rattle.words_core.specs.CsplitWords.{style_of};
+ghost use Rattle.words_core.specs.Laws.{AreAmong, Gives, IsLetter, IsName, amount_of, appends, as_operands, csplit_as, drops_sizes, elides_files, ends_as, ends_of, has, is_alphabet, is_count, is_digits, is_headers, is_prefix, is_width, follow_of, following_as, is_following, is_looks, keeps_files, leaves_lines_out, retries, split_as, split_of, tail_as, plain_style};
 ghost use Rattle.words_core.specs.Spelling.{given_before, spelled};
 ghost use Rattle.words_core.specs.EndsWords.{ten_lines};
 ghost use Rattle.words_core.specs.SplitWords.{is_way, least_width, way_in, way_of};
@@ -178,15 +178,15 @@ pub fn split_options_ask()
 /// What the options of `csplit` ask for, each alone, and what is asked for without any (POSIX.1-2017, XCU csplit; GNU
 /// coreutils manual).
 pub fn csplit_options_ask()
-    ensures nothing { settings_of (codes "csplit" ∷ codes "-" ∷ codes "1" ∷ []) ≡ Ok (Settings.Csplit (csplit_as plain 2)) }
-    ensures prefix { (text : List ℕ) → settings_of (codes "csplit" ∷ codes "-f" ∷ text ∷ codes "-" ∷ codes "1" ∷ []) ≡ Ok (Settings.Csplit (csplit_as (record plain { prefix = text }) 4)) }
+    ensures nothing { settings_of (codes "csplit" ∷ codes "-" ∷ codes "1" ∷ []) ≡ Ok (Settings.Csplit (csplit_as plain_style 2)) }
+    ensures prefix { (text : List ℕ) → settings_of (codes "csplit" ∷ codes "-f" ∷ text ∷ codes "-" ∷ codes "1" ∷ []) ≡ Ok (Settings.Csplit (csplit_as (record plain_style { prefix = text }) 4)) }
     ensures digits { (value : List ℕ) (digits : ℕ) → up_to 255 (digits_of value) ≡ Ok digits
-        → settings_of (codes "csplit" ∷ codes "-n" ∷ value ∷ codes "-" ∷ codes "1" ∷ []) ≡ Ok (Settings.Csplit (csplit_as (record plain { digits = digits }) 4)) }
-    ensures keep { settings_of (codes "csplit" ∷ codes "-k" ∷ codes "-" ∷ codes "1" ∷ []) ≡ Ok (Settings.Csplit (csplit_as (record plain { keep = true }) 3)) }
-    ensures quiet { settings_of (codes "csplit" ∷ codes "-s" ∷ codes "-" ∷ codes "1" ∷ []) ≡ Ok (Settings.Csplit (csplit_as (record plain { quiet = true }) 3)) }
-    ensures also_quiet { settings_of (codes "csplit" ∷ codes "-q" ∷ codes "-" ∷ codes "1" ∷ []) ≡ Ok (Settings.Csplit (csplit_as (record plain { quiet = true }) 3)) }
-    ensures elide { settings_of (codes "csplit" ∷ codes "-z" ∷ codes "-" ∷ codes "1" ∷ []) ≡ Ok (Settings.Csplit (csplit_as (record plain { elide = true }) 3)) }
-    ensures suppress { settings_of (codes "csplit" ∷ codes "--suppress-matched" ∷ codes "-" ∷ codes "1" ∷ []) ≡ Ok (Settings.Csplit (csplit_as (record plain { suppress = true }) 3)) }
+        → settings_of (codes "csplit" ∷ codes "-n" ∷ value ∷ codes "-" ∷ codes "1" ∷ []) ≡ Ok (Settings.Csplit (csplit_as (record plain_style { digits = digits }) 4)) }
+    ensures keep { settings_of (codes "csplit" ∷ codes "-k" ∷ codes "-" ∷ codes "1" ∷ []) ≡ Ok (Settings.Csplit (csplit_as (record plain_style { keep = true }) 3)) }
+    ensures quiet { settings_of (codes "csplit" ∷ codes "-s" ∷ codes "-" ∷ codes "1" ∷ []) ≡ Ok (Settings.Csplit (csplit_as (record plain_style { quiet = true }) 3)) }
+    ensures also_quiet { settings_of (codes "csplit" ∷ codes "-q" ∷ codes "-" ∷ codes "1" ∷ []) ≡ Ok (Settings.Csplit (csplit_as (record plain_style { quiet = true }) 3)) }
+    ensures elide { settings_of (codes "csplit" ∷ codes "-z" ∷ codes "-" ∷ codes "1" ∷ []) ≡ Ok (Settings.Csplit (csplit_as (record plain_style { elide = true }) 3)) }
+    ensures suppress { settings_of (codes "csplit" ∷ codes "--suppress-matched" ∷ codes "-" ∷ codes "1" ∷ []) ≡ Ok (Settings.Csplit (csplit_as (record plain_style { suppress = true }) 3)) }
 {}
 
 /// What `tee` is asked for without options, and with `-a` (POSIX.1-2017, XCU tee).
