@@ -1,10 +1,10 @@
 # Completes the words of cutters in bash: tools, options and files.
 
-# _cutters_offer WORD..: offers those of the words that begin with what was typed. After an equals sign no space is put.
+# _cutters_offer WORD..: offers those of the words that begin with what was typed. After `=` and `/` no space is put.
 _cutters_offer() {
     mapfile -t COMPREPLY < <(compgen -W "$*" -- "$typed")
     case ${COMPREPLY[*]-} in
-    *=) compopt -o nospace 2>/dev/null ;;
+    *[=/]) compopt -o nospace 2>/dev/null ;;
     esac
 }
 
@@ -32,6 +32,23 @@ _cutters_options() {
     esac
 }
 
+# _cutters_ended: whether `--` ended the options before this word, and isn't the value of an option itself.
+_cutters_ended() {
+    local at
+    for ((at = 2; at < COMP_CWORD; at++)); do
+        case " $valued " in
+        *" ${COMP_WORDS[at]} "*) ((at++)) ;;
+        *) [ "${COMP_WORDS[at]}" != -- ] || return 0 ;;
+        esac
+    done
+    return 1
+}
+
+_cutters_files() {
+    mapfile -t COMPREPLY < <(compgen -f -- "$typed")
+    compopt -o filenames 2>/dev/null
+}
+
 _cutters() {
     local typed=${COMP_WORDS[COMP_CWORD]} before=${COMP_WORDS[COMP_CWORD - 1]} valued plain offered option
     COMPREPLY=()
@@ -40,6 +57,10 @@ _cutters() {
         return
     fi
     _cutters_options "${COMP_WORDS[1]}"
+    if _cutters_ended; then
+        _cutters_files
+        return
+    fi
     # An equals sign is a word of its own here, after its option.
     if [ "$typed" = = ]; then
         before+=$typed typed=''
@@ -51,8 +72,13 @@ _cutters() {
         return
     fi
     case " $valued " in
-    # The value is a count or a text, which nobody can guess.
-    *" ${before%=} "*) return ;;
+    *" ${before%=} "*)
+        # Any other value is a count or a text, which nobody can guess.
+        case ${COMP_WORDS[1]}${before%=} in
+        split-n | split--number) _cutters_offer r/ ;;
+        esac
+        return
+        ;;
     esac
     case $typed in
     -*)
@@ -65,10 +91,7 @@ _cutters() {
         done
         _cutters_offer "$offered"
         ;;
-    *)
-        mapfile -t COMPREPLY < <(compgen -f -- "$typed")
-        compopt -o filenames 2>/dev/null
-        ;;
+    *) _cutters_files ;;
     esac
 }
 complete -F _cutters cutters
