@@ -2,7 +2,7 @@
    each moves at most 7 bytes ("short"), or one call is disturbed, the one that FAULT_AT counts: a growth of memory is refused
    ("memory"), a write fails ("write": no space), a read ("read": input error), an open ("open": too many files), a close
    ("close": input error) or a removal ("remove": not permitted); a read or write is interrupted ("once"), or a write moves at
-   most 7 bytes ("cut"). Then the file FAULT_MET is made.
+   most 7 bytes ("cut"), or a file doesn't get another length ("length": input error). Then the file FAULT_MET is made.
    Reads from a place, seeks and questions about a file: the first are interrupted and cut short as reads are; one of them all
    fails ("look"), and before one of these or of the reads the file FAULT_FILE gets the length FAULT_LENGTH ("resize"). Of the
    questions that find no file one is told so, and by then the file FAULT_FILE is there, with the line "made" ("make"). */
@@ -138,6 +138,14 @@ ssize_t write(int fd, const void *buffer, size_t size)
     if (interrupts() || interrupted_once() || fails("write", &calls, ENOSPC))
         return -1;
     return next(fd, buffer, (fault_is("short") || fails("cut", &cuts, 0)) && size > 7 ? 7 : size);
+}
+
+int ftruncate(int fd, off_t length)
+{
+    static int calls;
+    if (interrupts() || fails("length", &calls, EIO))
+        return -1;
+    return syscall(SYS_ftruncate, fd, length);
 }
 
 int close(int fd)

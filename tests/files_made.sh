@@ -52,6 +52,30 @@ same() {
     try "$*, as the system's" 0 '' "$@"
 }
 
+# spares INPUT WORD..: with each call of each kind disturbed in turn (faults.c), the file INPUT in the folder `made`, which is
+# also an output's name, stays as the file `input` is, and the status is 1.
+spares() {
+    local name=$1 kind at
+    shift
+    for kind in memory open look read write length remove once cut; do
+        at=1
+        while [ "$at" -lt 100 ]; do
+            rm -rf made met; mkdir made; cp input "made/$name"
+            LD_PRELOAD=$work/faults.so FAULT=$kind FAULT_AT=$at FAULT_MET=$work/met cut_up "$@"
+            [ -e met ] || break
+            count "$kind $at of $*: status $status, the input" test "$status" = 1
+            count "$kind $at of $*: the input" cmp -s input "made/$name"
+            at=$((at + 1))
+        done
+        count "$kind of $*, no call left to disturb: the input" cmp -s input "made/$name"
+    done
+    for kind in interrupt short; do
+        rm -rf made; mkdir made; cp input "made/$name"
+        LD_PRELOAD=$work/faults.so FAULT=$kind cut_up "$@"
+        count "$kind of $*: the input" cmp -s input "made/$name"
+    done
+}
+
 # begins: whether each file that was made is a beginning of the wanted one with its name, and so is what was printed.
 begins() {
     local name

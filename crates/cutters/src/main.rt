@@ -5,7 +5,7 @@ ghost use Rattle.std.specs.Prelude.{◌≡◌};
 ghost use Rattle.ports_core.specs.Slot.{streams};
 ghost use Rattle.ports_core.specs.Source.{IsFresh};
 
-use ports_core::{DirIn, DirOut, Fault, Tool, say, write_whole};
+use ports_core::{DirIn, DirOut, Fault, InputFiles, Tool, say, write_whole};
 use std::alloc::{AllocError, Global};
 use std::fs::{self, File};
 use std::os::fd::{AsRawFd, RawFd};
@@ -23,10 +23,11 @@ const LAST_STANDARD: RawFd = 2;
 fn main(rt: HostRuntime) -> ExitCode {
     let alloc = rt.alloc();
     let _places = [stand_in(rt), stand_in(rt), stand_in(rt)];
-    let mut outs = DirOut::new(rt, alloc, rt.stdout(), rt.stderr());
+    let files = InputFiles::new(alloc);
+    let mut outs = DirOut::new(rt, alloc, rt.stdout(), rt.stderr(), &files);
     let status = match read_args(&rt, alloc) {
         Ok(args) => {
-            let mut inputs = DirIn::new(rt, alloc, rt.stdin());
+            let mut inputs = DirIn::new(rt, alloc, rt.stdin(), &files);
             run_args(rt, alloc, &args, &mut inputs, &mut outs)
         }
         Err(ArgsFault::NotUtf8(word)) => refuse_word(alloc, word, &mut outs),
@@ -53,8 +54,8 @@ fn run_args(
     rt: HostRuntime,
     alloc: Global,
     args: &Vec<String>,
-    inputs: &mut DirIn<HostRuntime>,
-    outs: &mut DirOut<HostRuntime>,
+    inputs: &mut DirIn<'_, HostRuntime>,
+    outs: &mut DirOut<'_, HostRuntime>,
 ) -> u8
     requires inputs { IsFresh inputs.old }
     requires outputs { outs.old ≡ streams }
@@ -78,7 +79,7 @@ fn words_of<'a>(alloc: Global, args: &'a [String]) -> Result<Vec<&'a str>, Alloc
 }
 
 /// Says that there is no memory for the words, and returns the status.
-fn refuse(alloc: Global, outs: &mut DirOut<HostRuntime>) -> u8
+fn refuse(alloc: Global, outs: &mut DirOut<'_, HostRuntime>) -> u8
     requires { outs.old ≡ streams }
 {
     say(alloc, Tool::Cutters, &Fault::Memory, "", outs);
@@ -86,7 +87,7 @@ fn refuse(alloc: Global, outs: &mut DirOut<HostRuntime>) -> u8
 }
 
 /// Says which word isn't UTF-8, and returns the status.
-fn refuse_word(alloc: Global, word: usize, outs: &mut DirOut<HostRuntime>) -> u8
+fn refuse_word(alloc: Global, word: usize, outs: &mut DirOut<'_, HostRuntime>) -> u8
     requires { outs.old ≡ streams }
 {
     match format!(in alloc; "cutters: word {word} is not UTF-8\n") {

@@ -8,14 +8,14 @@ use crate::compare::same;
 use crate::folder::{holds, is_there, make_file, make_folder};
 use crate::reading::{Call, ask, inputs_of, open_and_ask, open_input};
 use crate::writing::{open_output, outs_of};
-use ports_core::{DirIn, DirOut, Fault, Inputs, Mode, Outs, write_whole};
+use ports_core::{DirIn, DirOut, Fault, InputFiles, Inputs, Mode, Outs, write_whole};
 use std::fs;
-use std::os::unix::fs::PermissionsExt;
+use std::os::unix::fs::{PermissionsExt, symlink};
 use std::process::Abort;
 use std::test::Fail;
 
 /// Compares the names of all outputs with these; the one after the last has none. None is broken.
-fn are_sound(rt: &impl Abort, outs: &DirOut<HostRuntime>, names: &[&str]) {
+fn are_sound(rt: &impl Abort, outs: &DirOut<'_, HostRuntime>, names: &[&str]) {
     let mut slot = 0usize;
     for name in names {
         assert!(rt; outs.name(slot) == *name && !outs.broken(slot), "at {slot}");
@@ -56,7 +56,7 @@ const OPENINGS: &[Opening<'static>] = &[
 fn open_and_write(
     abort: &impl Abort,
     rt: &HostRuntime,
-    outs: &mut DirOut<HostRuntime>,
+    outs: &mut DirOut<'_, HostRuntime>,
     name: &str,
     opening: &Opening<'_>,
 ) -> Result<(), Fail> {
@@ -71,7 +71,8 @@ fn open_and_write(
 fn files_are_written(rt: HostRuntime) -> Result<(), Fail> {
     let name = "ports_core_written/f";
     make_file(&rt, "ports_core_written", name, b"old")?;
-    let mut outs = outs_of(rt);
+    let noted = InputFiles::new(rt.alloc());
+    let mut outs = outs_of(rt, &noted);
     for opening in OPENINGS {
         open_and_write(&rt, &rt, &mut outs, name, opening)?;
     }
@@ -84,11 +85,50 @@ fn files_are_written(rt: HostRuntime) -> Result<(), Fail> {
     Ok(())
 }
 
+/// Fails to open a file of these names in either mode. They are outputs from this number on.
+fn fail_to_write_over(rt: &impl Abort, outs: &mut DirOut<'_, HostRuntime>, names: &[&str]) {
+    let mut number = 2usize;
+    for name in names {
+        for mode in [Mode::Fresh, Mode::Append] {
+            fail_to_open(rt, outs, name, mode, number);
+            number = number.saturating_add(1);
+        }
+    }
+}
+
+#[test]
+fn an_input_is_not_written_over(rt: HostRuntime) -> Result<(), Fail> {
+    let name = "ports_core_spared/f";
+    let links = ["ports_core_spared/g", "ports_core_spared/h"];
+    make_file(&rt, "ports_core_spared", name, b"abc")?;
+    fs::hard_link(&rt, name, links[0])?;
+    symlink(&rt, "f", links[1])?;
+    let noted = InputFiles::new(rt.alloc());
+    let mut outs = outs_of(rt, &noted);
+    let mut inputs = inputs_of(rt, &noted);
+    open_and_ask(&rt, &mut inputs, name, 1, TO_THE_END)?;
+    fail_to_write_over(&rt, &mut outs, &[name, links[0], links[1]]);
+    assert!(rt; holds(&rt, name, b"abc")?);
+    fs::remove_dir_all(&rt, "ports_core_spared")?;
+    Ok(())
+}
+
+#[test]
+fn a_device_is_read_and_written(rt: HostRuntime) -> Result<(), Fail> {
+    let noted = InputFiles::new(rt.alloc());
+    let mut outs = outs_of(rt, &noted);
+    open_input(&rt, &mut inputs_of(rt, &noted), "/dev/null", 1)?;
+    let slot = open_output(&rt, &mut outs, "/dev/null", Mode::Fresh, 2)?;
+    same(&rt, &outs.write(slot, b"abc"), &Ok(3));
+    Ok(())
+}
+
 #[test]
 fn an_append_makes_the_file(rt: HostRuntime) -> Result<(), Fail> {
     let name = "ports_core_append/f";
     make_folder(&rt, "ports_core_append")?;
-    let mut outs = outs_of(rt);
+    let noted = InputFiles::new(rt.alloc());
+    let mut outs = outs_of(rt, &noted);
     let slot = open_output(&rt, &mut outs, name, Mode::Append, 2)?;
     same(&rt, &outs.write(slot, b""), &Ok(0));
     assert!(rt; holds(&rt, name, b"")?);
@@ -100,7 +140,7 @@ fn an_append_makes_the_file(rt: HostRuntime) -> Result<(), Fail> {
 fn open_and_close(
     abort: &impl Abort,
     rt: &HostRuntime,
-    outs: &mut DirOut<HostRuntime>,
+    outs: &mut DirOut<'_, HostRuntime>,
     name: &str,
     number: usize,
 ) -> Result<(), Fault> {
@@ -114,7 +154,7 @@ fn open_and_close(
 fn open_and_remove(
     abort: &impl Abort,
     rt: &HostRuntime,
-    outs: &mut DirOut<HostRuntime>,
+    outs: &mut DirOut<'_, HostRuntime>,
     name: &str,
     number: usize,
 ) -> Result<(), Fault> {
@@ -127,7 +167,8 @@ fn open_and_remove(
 #[test]
 fn files_are_removed(rt: HostRuntime) -> Result<(), Fail> {
     make_folder(&rt, "ports_core_removed")?;
-    let mut outs = outs_of(rt);
+    let noted = InputFiles::new(rt.alloc());
+    let mut outs = outs_of(rt, &noted);
     open_and_close(&rt, &rt, &mut outs, "ports_core_removed/f", 2)?;
     open_and_remove(&rt, &rt, &mut outs, "ports_core_removed/g", 3)?;
     fs::remove_dir_all(&rt, "ports_core_removed")?;
@@ -142,7 +183,7 @@ fn files_are_removed(rt: HostRuntime) -> Result<(), Fail> {
 /// Fails to open an output, which uses up this number.
 fn fail_to_open(
     rt: &impl Abort,
-    outs: &mut DirOut<HostRuntime>,
+    outs: &mut DirOut<'_, HostRuntime>,
     name: &str,
     mode: Mode,
     number: usize,
@@ -155,7 +196,7 @@ fn fail_to_open(
 fn close_off(
     abort: &impl Abort,
     rt: HostRuntime,
-    outs: &mut DirOut<HostRuntime>,
+    outs: &mut DirOut<'_, HostRuntime>,
     name: &str,
 ) -> Result<(), Fail> {
     fs::write(&rt, name, b"abc".as_slice())?;
@@ -163,7 +204,12 @@ fn close_off(
     // Root may open every file, and then there is no fault to see.
     if fs::open(&rt, name).is_err() {
         fail_to_open(abort, outs, name, Mode::Fresh, 4);
-        same(abort, &inputs_of(rt).open(name), &Err(Fault::Open(1)));
+        let noted = InputFiles::new(rt.alloc());
+        same(
+            abort,
+            &inputs_of(rt, &noted).open(name),
+            &Err(Fault::Open(1)),
+        );
     }
     Ok(())
 }
@@ -172,7 +218,8 @@ fn close_off(
 fn outputs_that_do_not_open(rt: HostRuntime) -> Result<(), Fail> {
     let folder = "ports_core_closed_off";
     make_folder(&rt, folder)?;
-    let mut outs = outs_of(rt);
+    let noted = InputFiles::new(rt.alloc());
+    let mut outs = outs_of(rt, &noted);
     fail_to_open(&rt, &mut outs, folder, Mode::Fresh, 2);
     fail_to_open(
         &rt,
@@ -192,7 +239,8 @@ fn an_output_without_room(rt: HostRuntime) -> Result<(), Fail> {
     if !is_there(&rt, name) {
         return Ok(());
     }
-    let mut outs = outs_of(rt);
+    let noted = InputFiles::new(rt.alloc());
+    let mut outs = outs_of(rt, &noted);
     let full = open_output(&rt, &mut outs, name, Mode::Append, 2)?;
     same(&rt, &outs.write(full, b"abc"), &Err(Fault::Write(2)));
     assert!(rt; outs.broken(full) && !outs.broken(0) && outs.name(full) == name);
@@ -213,7 +261,8 @@ const THREE_BYTES: &[Call<'static>] = &[Call::Read(3, 3, b"abc")];
 fn files_are_read(rt: HostRuntime) -> Result<(), Fail> {
     let name = "ports_core_read/f";
     make_file(&rt, "ports_core_read", name, b"abcd")?;
-    let mut inputs = inputs_of(rt);
+    let noted = InputFiles::new(rt.alloc());
+    let mut inputs = inputs_of(rt, &noted);
     same(&rt, &inputs.open("ports_core_read/g"), &Err(Fault::Open(1)));
     open_and_ask(&rt, &mut inputs, name, 2, FOUR_BYTES)?;
     open_and_ask(&rt, &mut inputs, name, 3, THREE_BYTES)?;
@@ -228,7 +277,8 @@ const NO_ROOM: &[Call<'static>] = &[Call::Read(0, 0, b""), Call::Read(4, 3, b"ab
 fn a_read_into_no_room_tells_no_end(rt: HostRuntime) -> Result<(), Fail> {
     let name = "ports_core_no_room/f";
     make_file(&rt, "ports_core_no_room", name, b"abc")?;
-    open_and_ask(&rt, &mut inputs_of(rt), name, 1, NO_ROOM)?;
+    let noted = InputFiles::new(rt.alloc());
+    open_and_ask(&rt, &mut inputs_of(rt, &noted), name, 1, NO_ROOM)?;
     fs::remove_dir_all(&rt, "ports_core_no_room")?;
     Ok(())
 }
@@ -238,7 +288,8 @@ const NO_FILE: &[Call<'static>] = &[Call::Fails(8, Fault::Read(1))];
 
 #[test]
 fn a_folder_is_read(rt: HostRuntime) -> Result<(), Fail> {
-    open_and_ask(&rt, &mut inputs_of(rt), ".", 1, NO_FILE)?;
+    let noted = InputFiles::new(rt.alloc());
+    open_and_ask(&rt, &mut inputs_of(rt, &noted), ".", 1, NO_FILE)?;
     Ok(())
 }
 
@@ -246,11 +297,16 @@ fn a_folder_is_read(rt: HostRuntime) -> Result<(), Fail> {
 /// files are put aside and opened again.
 const MANY: usize = 300;
 
-/// Outputs to the files 0, 1, .. of a folder.
-fn open_many(rt: HostRuntime, folder: &str, mode: Mode) -> Result<DirOut<HostRuntime>, Fail>
+/// Outputs to the files 0, 1, .. of a folder, which spare these inputs' files.
+fn open_many<'a>(
+    rt: HostRuntime,
+    noted: &'a InputFiles,
+    folder: &str,
+    mode: Mode,
+) -> Result<DirOut<'a, HostRuntime>, Fail>
     ensures { IfOk result (λ outs. (length outs ≡ MANY + 2) × AllPass can_write outs) }
 {
-    let mut outs = outs_of(rt);
+    let mut outs = outs_of(rt, noted);
     for number in 0..MANY {
         let name = format!(in rt.alloc(); "{folder}/{number}")?;
         outs.open(name.as_str(), mode)?;
@@ -259,7 +315,7 @@ fn open_many(rt: HostRuntime, folder: &str, mode: Mode) -> Result<DirOut<HostRun
 }
 
 /// Writes to each of the files in turn.
-fn write_many(rt: HostRuntime, outs: &mut DirOut<HostRuntime>, round: usize) -> Result<(), Fail>
+fn write_many(rt: HostRuntime, outs: &mut DirOut<'_, HostRuntime>, round: usize) -> Result<(), Fail>
     requires many { length outs.old ≡ MANY + 2 }
     requires open { AllPass can_write outs.old }
     ensures { IfOk result (λ _. outs.new ≡ outs.old) }
@@ -273,7 +329,8 @@ fn write_many(rt: HostRuntime, outs: &mut DirOut<HostRuntime>, round: usize) -> 
 
 /// Writes to each of the files in turn, three times.
 fn write_rounds(rt: HostRuntime, folder: &str, mode: Mode) -> Result<(), Fail> {
-    let mut outs = open_many(rt, folder, mode)?;
+    let noted = InputFiles::new(rt.alloc());
+    let mut outs = open_many(rt, &noted, folder, mode)?;
     for round in 0..3 {
         write_many(rt, &mut outs, round)?;
     }
@@ -303,13 +360,15 @@ fn more_outputs_than_may_be_open(rt: HostRuntime) -> Result<(), Fail> {
 
 /// Whether the first of many outputs is closed, and its file is there.
 fn is_closed(rt: HostRuntime, folder: &str, first: &str) -> Result<bool, Fail> {
-    let mut outs = open_many(rt, folder, Mode::Fresh)?;
+    let noted = InputFiles::new(rt.alloc());
+    let mut outs = open_many(rt, &noted, folder, Mode::Fresh)?;
     Ok(outs.close(2).is_ok() && is_there(&rt, first) && !outs.broken(2))
 }
 
 /// Whether the first of many outputs is removed, and its file isn't there.
 fn is_removed(rt: HostRuntime, folder: &str, first: &str) -> Result<bool, Fail> {
-    let mut outs = open_many(rt, folder, Mode::Append)?;
+    let noted = InputFiles::new(rt.alloc());
+    let mut outs = open_many(rt, &noted, folder, Mode::Append)?;
     Ok(outs.remove(2).is_ok() && !is_there(&rt, first) && !outs.broken(2))
 }
 
@@ -349,7 +408,8 @@ fn write_to_none(
     first: &str,
     is_wanted: bool,
 ) -> Result<bool, Fail> {
-    let mut outs = open_many(rt, folder, Mode::Fresh)?;
+    let noted = InputFiles::new(rt.alloc());
+    let mut outs = open_many(rt, &noted, folder, Mode::Fresh)?;
     fs::remove_file(&rt, first)?;
     let fails = outs.write(2, b"abc").is_err();
     Ok(fails == is_wanted && outs.broken(2) == is_wanted && !is_there(&rt, first))
@@ -366,16 +426,24 @@ fn what_is_put_aside_is_not_made_anew(rt: HostRuntime) -> Result<(), Fail> {
 }
 
 /// Opens an output, the first one.
-fn open_first(rt: HostRuntime, name: &str) -> Result<DirOut<HostRuntime>, Fault>
+fn open_first<'a>(
+    rt: HostRuntime,
+    noted: &'a InputFiles,
+    name: &str,
+) -> Result<DirOut<'a, HostRuntime>, Fault>
     ensures { IfOk result (λ outs. outs ≡ streams ++ opened name.now Mode.Fresh ∷ []) }
 {
-    let mut outs = outs_of(rt);
+    let mut outs = outs_of(rt, noted);
     outs.open(name, Mode::Fresh)?;
     Ok(outs)
 }
 
 /// Opens a second output and writes to both in turns, and closes the first.
-fn write_in_turns(outs: &mut DirOut<HostRuntime>, first: &str, second: &str) -> Result<(), Fault>
+fn write_in_turns(
+    outs: &mut DirOut<'_, HostRuntime>,
+    first: &str,
+    second: &str,
+) -> Result<(), Fault>
     requires { outs.old ≡ streams ++ opened first.now Mode.Fresh ∷ [] }
     ensures { OnOk result (IsTrue (is_writable outs.new 3)) }
 {
@@ -389,7 +457,8 @@ fn write_in_turns(outs: &mut DirOut<HostRuntime>, first: &str, second: &str) -> 
 
 /// Writes to two files while no more can be open: whether the last write fails, and breaks its output.
 fn write_to_two(rt: HostRuntime, first: &str, second: &str) -> Result<(bool, bool), Fail> {
-    let mut outs = open_first(rt, first)?;
+    let noted = InputFiles::new(rt.alloc());
+    let mut outs = open_first(rt, &noted, first)?;
     let _taken = take_all(rt)?;
     write_in_turns(&mut outs, first, second)?;
     // Nothing is left to put aside.
@@ -424,7 +493,11 @@ const TO_THE_END: &[Call<'static>] = &[
 ];
 
 /// Opens a file many times and reads it to its end. None is left for want of files.
-fn read_many(abort: &impl Abort, inputs: &mut DirIn<HostRuntime>, name: &str) -> Result<(), Fault> {
+fn read_many(
+    abort: &impl Abort,
+    inputs: &mut DirIn<'_, HostRuntime>,
+    name: &str,
+) -> Result<(), Fault> {
     for number in 1..=MANY {
         open_and_ask(abort, inputs, name, number, TO_THE_END)?;
     }
@@ -432,7 +505,7 @@ fn read_many(abort: &impl Abort, inputs: &mut DirIn<HostRuntime>, name: &str) ->
 }
 
 /// Opens a file many times, and reads none to its end.
-fn open_all(inputs: &mut DirIn<HostRuntime>, name: &str) -> Result<(), Fault> {
+fn open_all(inputs: &mut DirIn<'_, HostRuntime>, name: &str) -> Result<(), Fault> {
     for _ in 0..MANY {
         inputs.open(name)?;
     }
@@ -441,7 +514,8 @@ fn open_all(inputs: &mut DirIn<HostRuntime>, name: &str) -> Result<(), Fault> {
 
 /// Opens a file many times and reads it to its end, and then opens it as often again.
 fn open_and_read_many(rt: HostRuntime, abort: &impl Abort, name: &str) -> Result<(), Fault> {
-    let mut inputs = inputs_of(rt);
+    let noted = InputFiles::new(rt.alloc());
+    let mut inputs = inputs_of(rt, &noted);
     read_many(abort, &mut inputs, name)?;
     open_all(&mut inputs, name)
 }
@@ -451,7 +525,7 @@ fn open_and_read_many(rt: HostRuntime, abort: &impl Abort, name: &str) -> Result
 fn read_two(
     rt: HostRuntime,
     abort: &impl Abort,
-    inputs: &mut DirIn<HostRuntime>,
+    inputs: &mut DirIn<'_, HostRuntime>,
     name: &str,
 ) -> Result<bool, Fail>
     requires left { IsTrue (is_readable inputs.old 1) }
@@ -468,7 +542,8 @@ fn read_two(
 fn more_inputs_than_may_be_open(rt: HostRuntime) -> Result<(), Fail> {
     let name = "ports_core_inputs/f";
     make_file(&rt, "ports_core_inputs", name, b"abc")?;
-    let mut inputs = inputs_of(rt);
+    let noted = InputFiles::new(rt.alloc());
+    let mut inputs = inputs_of(rt, &noted);
     open_input(&rt, &mut inputs, name, 1)?;
     open_input(&rt, &mut inputs, name, 2)?;
     assert!(rt;

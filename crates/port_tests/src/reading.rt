@@ -3,7 +3,7 @@ ghost use Rattle.std.specs.Prelude.{◌≡◌, ℕ, false, nat_eq, IfOk, OnOk, I
 ghost use Rattle.ports_core.specs.Source.{is_readable};
 
 use crate::compare::same;
-use ports_core::{DirIn, Fault, Inputs, MemIn};
+use ports_core::{DirIn, Fault, InputFiles, Inputs, MemIn};
 use std::alloc::Global;
 use std::process::Abort;
 
@@ -53,11 +53,11 @@ pub(crate) fn open_input<I: Inputs>(
     }
 }
 
-/// The inputs of a run.
-pub(crate) fn inputs_of(rt: HostRuntime) -> DirIn<HostRuntime>
+/// The inputs of a run, which notes their files there.
+pub(crate) fn inputs_of<'a>(rt: HostRuntime, noted: &'a InputFiles) -> DirIn<'a, HostRuntime>
     ensures { IsTrue (is_readable result 0) }
 {
-    DirIn::new(rt, rt.alloc(), rt.stdin())
+    DirIn::new(rt, rt.alloc(), rt.stdin(), noted)
 }
 
 /// Opens an input, which gets this number, and makes all calls for it.

@@ -4,7 +4,7 @@ ghost use Rattle.ports_core.specs.Source.{is_readable};
 
 use crate::folder::{append, is_there, make_file};
 use crate::reading::{Call, ask, broken_input, inputs_of, open_and_ask, open_input};
-use ports_core::{DirIn, Fault, Inputs, MemIn};
+use ports_core::{DirIn, Fault, InputFiles, Inputs, MemIn};
 use std::fs;
 use std::process::Abort;
 use std::test::Fail;
@@ -64,7 +64,7 @@ const SIXTEEN_LETTERS: &[Call<'static>] = &[
 /// Makes all calls for an input, which then passes over nothing.
 fn ask_to_the_end(
     rt: &impl Abort,
-    inputs: &mut DirIn<HostRuntime>,
+    inputs: &mut DirIn<'_, HostRuntime>,
     slot: usize,
     calls: &[Call<'_>],
     count: u64,
@@ -80,7 +80,8 @@ fn ask_to_the_end(
 fn files_are_looked_at_from_any_place(rt: HostRuntime) -> Result<(), Fail> {
     let name = "ports_core_looks/f";
     make_file(&rt, "ports_core_looks", name, b"abcdefghijklmnop")?;
-    let mut inputs = inputs_of(rt);
+    let noted = InputFiles::new(rt.alloc());
+    let mut inputs = inputs_of(rt, &noted);
     open_input(&rt, &mut inputs, name, 1)?;
     ask_to_the_end(&rt, &mut inputs, 1, SIXTEEN_LETTERS, 0);
     fs::remove_dir_all(&rt, "ports_core_looks")?;
@@ -104,7 +105,8 @@ const STAYED: &[Call<'static>] = &[Call::Read(6, 3, b"abc"), Call::Read(6, 0, b"
 fn a_file_that_shrank_breaks(rt: HostRuntime) -> Result<(), Fail> {
     let name = "ports_core_shrinks/f";
     make_file(&rt, "ports_core_shrinks", name, b"abcdef")?;
-    let mut inputs = inputs_of(rt);
+    let noted = InputFiles::new(rt.alloc());
+    let mut inputs = inputs_of(rt, &noted);
     open_input(&rt, &mut inputs, name, 1)?;
     open_input(&rt, &mut inputs, name, 2)?;
     assert!(rt; ask(&rt, &mut inputs, 1, BEFORE));
@@ -125,7 +127,8 @@ const GROWN: &[Call<'static>] = &[Call::Read(4, 4, b"efgh"), Call::Read(4, 0, b"
 fn a_file_that_grows_is_read_on(rt: HostRuntime) -> Result<(), Fail> {
     let name = "ports_core_grows/f";
     make_file(&rt, "ports_core_grows", name, b"abcdef")?;
-    let mut inputs = inputs_of(rt);
+    let noted = InputFiles::new(rt.alloc());
+    let mut inputs = inputs_of(rt, &noted);
     open_input(&rt, &mut inputs, name, 1)?;
     assert!(rt; ask(&rt, &mut inputs, 1, SMALL));
     append(&rt, name, b"gh")?;
@@ -142,7 +145,8 @@ const ENDLESS: &[Call<'static>] = &[Call::Left(None), Call::Read(1, 1, b"\0")];
 
 #[test]
 fn what_is_no_file_tells_no_length(rt: HostRuntime) -> Result<(), Fail> {
-    let mut inputs = inputs_of(rt);
+    let noted = InputFiles::new(rt.alloc());
+    let mut inputs = inputs_of(rt, &noted);
     open_input(&rt, &mut inputs, ".", 1)?;
     ask_to_the_end(&rt, &mut inputs, 0, UNKNOWN, 1);
     ask(&rt, &mut inputs, 1, UNKNOWN);

@@ -2,14 +2,14 @@
 ghost use Rattle.std.specs.Prelude.{◌≡◌, IfOk};
 ghost use Rattle.ports_core.specs.Slot.{is_closable, streams};
 
-use ports_core::{DirOut, Fault, Mode, Outs};
+use ports_core::{DirOut, Fault, InputFiles, Mode, Outs};
 use std::process::Abort;
 
-/// The outputs of a run.
-pub(crate) fn outs_of(rt: HostRuntime) -> DirOut<HostRuntime>
+/// The outputs of a run, which spares these inputs' files.
+pub(crate) fn outs_of<'a>(rt: HostRuntime, inputs: &'a InputFiles) -> DirOut<'a, HostRuntime>
     ensures { result ≡ streams }
 {
-    DirOut::new(rt, rt.alloc(), rt.stdout(), rt.stderr())
+    DirOut::new(rt, rt.alloc(), rt.stdout(), rt.stderr(), inputs)
 }
 
 /// Opens an output, which gets this number.

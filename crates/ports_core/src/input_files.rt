@@ -1,0 +1,82 @@
+ghost use Rattle.std.specs.Prelude.{◌≡◌, ◌+◌, ◌*◌, ◌^◌};
+
+use std::alloc::Global;
+use std::cell::Cell;
+use std::fs;
+use std::fs::{Metadata, OpenFile};
+use std::io::ErrorKind;
+use std::os::unix::fs::MetadataExt;
+use std::rt::Files;
+
+/// Which files are read: those that were opened as inputs, and standard input. Inputs note theirs, and outputs ask
+/// before they empty a file, so that no output is an input. A file stays noted when its input has ended.
+///
+/// Only regular files count, by their identity, so that other names of a file and links to it are the same one. A device
+/// or a pipe may well be read and written.
+#[derive(Drop)]
+pub struct InputFiles {
+    alloc: Global,
+    /// The identities, in the order in which the files were opened. None for a file of which the system didn't tell it.
+    noted: Cell<Vec<Option<u128>>>,
+}
+
+impl InputFiles {
+    /// No file but standard input. It takes no memory.
+    pub fn new(alloc: Global) -> Self {
+        InputFiles {
+            alloc,
+            noted: Cell::new(Vec::new(alloc)),
+        }
+    }
+
+    /// Notes a file that was opened as an input, and returns whether there was memory for that.
+    pub(crate) fn note(&self, file: &impl OpenFile) -> bool {
+        match file.metadata() {
+            Ok(about) => !about.is_file() || self.add(Some(id_of(&about))),
+            Err(_) => self.add(None),
+        }
+    }
+
+    fn add(&self, id: Option<u128>) -> bool {
+        let mut noted = self.noted.replace(Vec::new(self.alloc));
+        let is_kept = noted.push(id).is_ok();
+        self.noted.set(noted);
+        is_kept
+    }
+
+    /// Whether this regular file is an input, or may be one for all that the system tells.
+    pub(crate) fn have(&self, files: &impl Files, about: &Metadata) -> bool {
+        let id = id_of(about);
+        self.has(id) || is_standard_input(files, id)
+    }
+
+    /// Whether a file of this identity was noted, or one of which it isn't known.
+    fn has(&self, id: u128) -> bool {
+        let noted = self.noted.replace(Vec::new(self.alloc));
+        let found = noted.contains(&Some(id)) || noted.contains(&None);
+        self.noted.set(noted);
+        found
+    }
+}
+
+/// Whether standard input is the file of this identity. Where the system has no name for standard input, or doesn't let
+/// it be asked about, it counts as another file.
+fn is_standard_input(files: &impl Files, id: u128) -> bool {
+    match fs::metadata(files, "/dev/stdin") {
+        Ok(about) => id_of(&about) == id,
+        Err(error) => {
+            error.kind() != ErrorKind::NotFound && error.kind() != ErrorKind::PermissionDenied
+        }
+    }
+}
+
+/// The identity of a file: no two files of one system have the same device and the same number there.
+pub fn id_of(about: &Metadata) -> u128 {
+    identity(about.dev(), about.ino())
+}
+
+fn identity(device: u64, number: u64) -> u128
+    ensures { result ≡ device * 2 ^ 64 + number }
+{
+    device as u128 * 0x1_0000_0000_0000_0000 + number as u128
+}
