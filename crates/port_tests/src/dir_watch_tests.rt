@@ -6,6 +6,8 @@ use crate::compare::same;
 use crate::folder::{append, make_file, make_folder};
 use ports_core::Fault;
 use std::fs;
+use std::io::{self, PipeWriter, Write};
+use std::os::fd::AsRawFd;
 use std::process::Abort;
 use std::test::Fail;
 use std::time::{Duration, Instant};
@@ -423,5 +425,75 @@ fn a_folder_breaks_at_its_first_read(rt: HostRuntime) -> Result<(), Fail> {
     // It is given back, and its identity stays known.
     same(&rt, &watch.open_id(0), &id_of(found));
     fs::remove_dir_all(&rt, "watch_core_folder")?;
+    Ok(())
+}
+
+/// Whether what is open has this length, and a read of three bytes from a place on gives these.
+fn has(watch: &mut DirWatch<HostRuntime>, len: u64, from: u64, bytes: &[u8]) -> Result<bool, Fault>
+    requires { IsTrue (is_readable watch.old.watched 0) }
+    ensures { OnOk result (IsTrue (is_readable watch.new.watched 0)) }
+{
+    let mut buffer = [0u8; 3];
+    let held = watch.open_len(0)?;
+    let n = watch.read_at(0, from, &mut buffer)?;
+    let given = &buffer[..n];
+    Ok(held == len && given == bytes)
+}
+
+/// Opens a pipe that holds four bytes, and looks at it again after more were written, and after its writer is gone: whether it
+/// opens, and has what was written.
+fn is_read_as_it_comes(
+    watch: &mut DirWatch<HostRuntime>,
+    mut writer: PipeWriter,
+) -> Result<bool, Fail>
+    requires { IsTrue (is_watchable watch.old.watched 0) }
+{
+    watch.turn()?;
+    if !opened(watch)? {
+        return Ok(false);
+    }
+    let front = has(watch, 4, 0, b"abc")?;
+    let last = has(watch, 4, 3, b"d")?;
+    writer.write_all(b"ef")?;
+    watch.turn()?;
+    let more = has(watch, 6, 4, b"ef")?;
+    drop(writer);
+    watch.turn()?;
+    let end = has(watch, 6, 6, b"")?;
+    Ok(front && last && more && end)
+}
+
+#[test]
+fn a_pipe_is_read_as_it_comes(rt: HostRuntime) -> Result<(), Fail> {
+    let (reader, mut writer) = io::pipe(&rt)?;
+    let number = reader.as_raw_fd();
+    let name = format!(in rt.alloc(); "/proc/self/fd/{number}")?;
+    writer.write_all(b"abcd")?;
+    let mut watch = watch_of(rt, name.as_str())?;
+    assert!(rt; is_read_as_it_comes(&mut watch, writer)?);
+    Ok(())
+}
+
+/// The length of what a name leads to, once it is opened. None where it can't be.
+fn len_at(rt: HostRuntime, name: &str) -> Result<Option<u64>, Fail> {
+    let mut watch = watch_of(rt, name)?;
+    watch.turn()?;
+    if !opened(&mut watch)? {
+        return Ok(None);
+    }
+    let len = watch.open_len(0)?;
+    Ok(Some(len))
+}
+
+#[test]
+fn files_without_a_length(rt: HostRuntime) -> Result<(), Fail> {
+    same(&rt, &len_at(rt, "/dev/null")?, &Some(0));
+    let version = fs::read(&rt, "/proc/version")?;
+    assert!(rt; !version.is_empty());
+    same(
+        &rt,
+        &len_at(rt, "/proc/version")?,
+        &Some(version.len() as u64),
+    );
     Ok(())
 }

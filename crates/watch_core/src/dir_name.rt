@@ -1,13 +1,13 @@
-ghost use Rattle.std.specs.Prelude.{◌≡◌, ◌≤◌, ◌<◌, ◌+◌, ◌*◌, ◌^◌, length, string_bytes, IfOk, OnOk, OnErr, IfSome, IfNone, OnSome, is_some};
+ghost use Rattle.std.specs.Prelude.{◌≡◌, ◌≤◌, ◌<◌, ◌^◌, length, string_bytes, IfOk, OnOk, OnErr, IfSome, IfNone, OnSome, is_some};
 ghost use Rattle.watch_core.specs.Watched.{Watched, added, breaks, opens};
 
 use crate::Seen;
-use ports_core::MOST_BYTES;
+use crate::dir_file::DirFile;
+use ports_core::{MOST_BYTES, id_of};
 use std::alloc::{AllocError, Global};
-use std::fs::{File, Metadata};
+use std::fs::File;
 use std::io::ErrorKind;
 use std::marker::Model;
-use std::os::unix::fs::{FileExt, MetadataExt};
 use std::rt::Files;
 use std::{fs, io};
 
@@ -18,7 +18,7 @@ pub(crate) struct DirName {
     /// The identity of the open file, as it was told when the file was opened.
     opened: Option<u128>,
     /// The open file. None where none is open, and once the name is broken, so that the system has it back.
-    file: Option<File>,
+    file: Option<DirFile>,
     is_broken: bool,
     /// A look found nothing, and changes weren't looked for since.
     is_gone: bool,
@@ -75,20 +75,24 @@ impl DirName {
     }
 
     /// Opens the file that the name leads to, in place of the one that was open, and returns whether there is one. Where there
-    /// is one that can't be opened, the name is broken. Where this turn's look found none, there is none: a file that was made
+    /// is one that can't be opened, or no memory for a stream's buffer, the name is broken. Where this turn's look found none, there is none: a file that was made
     /// since is for the next look to find, which tells that it came.
-    pub(crate) fn open(&mut self, files: &impl Files<File = File>) -> io::Result<bool>
+    pub(crate) fn open(
+        &mut self,
+        alloc: Global,
+        files: &impl Files<File = File>,
+    ) -> io::Result<bool>
         ensures opened { OnOk result (self.new ≡ opens self.new.opened self.old) }
         ensures found { IfOk result (λ is_there. is_some self.new.opened ≡ is_there) }
         ensures broke { OnErr result (self.new ≡ breaks self.old) }
     {
         // It goes back to the system first, so that no two files of a name are open.
         self.file = None;
-        match self.find_file(files) {
+        match self.find_file(alloc, files) {
             Ok(Some(opened)) => {
                 self.opened = Some(opened.id);
+                self.held = opened.file.len();
                 self.file = Some(opened.file);
-                self.held = Some(opened.len);
                 Ok(true)
             }
             Ok(None) => {
@@ -104,11 +108,15 @@ impl DirName {
     }
 
     /// Opens the file that the name leads to. None where it leads nowhere, or where this turn's look found none.
-    fn find_file(&self, files: &impl Files<File = File>) -> io::Result<Option<Opened>> {
+    fn find_file(
+        &self,
+        alloc: Global,
+        files: &impl Files<File = File>,
+    ) -> io::Result<Option<Opened>> {
         if self.is_gone {
             return Ok(None);
         }
-        open_file(files, self.name.as_str())
+        open_file(alloc, files, self.name.as_str())
     }
 
     /// How many bytes the open file holds. Where that can't be told, the name is broken.
@@ -131,7 +139,7 @@ impl DirName {
         ensures broke { IfNone result (self.new ≡ breaks self.old) }
     {
         if let Some(file) = &self.file {
-            if let Some(n) = read_some(file, from, buffer) {
+            if let Some(n) = file.read_at(from, buffer) {
                 return Some(n);
             }
         }
@@ -146,15 +154,30 @@ impl DirName {
         self.is_broken = true;
     }
 
+    /// Takes what comes next of the open file, where that is a stream, and returns whether that is any. What a look found before
+    /// doesn't count from here on.
+    pub(crate) fn take(&mut self) -> bool
+        ensures { self.new ≡ self.old }
+    {
+        self.is_gone = false;
+        let Some(file) = &mut self.file else {
+            return false;
+        };
+        if !file.take() {
+            return false;
+        }
+        self.held = held_by(&self.file);
+        true
+    }
+
     /// Whether the name leads elsewhere than at the call before, or its file or the open one has another length. A broken name
-    /// never has changed. What a look found before doesn't count from here on.
+    /// never has changed.
     pub(crate) fn has_changed(&mut self, files: &impl Files) -> bool
         ensures { self.new ≡ self.old }
     {
         if self.is_broken {
             return false;
         }
-        self.is_gone = false;
         let led_to = find(files, self.name.as_str()).unwrap_or(None);
         let held = held_by(&self.file);
         let changed = led_to != self.led_to || held != self.held;
@@ -168,19 +191,7 @@ impl DirName {
 #[derive(Drop)]
 struct Opened {
     id: u128,
-    len: u64,
-    file: File,
-}
-
-/// The identity of a file: no two files of one system have the same device and the same number there.
-fn identity(device: u64, number: u64) -> u128
-    ensures { result ≡ device * 2 ^ 64 + number }
-{
-    device as u128 * 0x1_0000_0000_0000_0000 + number as u128
-}
-
-fn id_of(metadata: &Metadata) -> u128 {
-    identity(metadata.dev(), metadata.ino())
+    file: DirFile,
 }
 
 /// The file that a name leads to; none where it leads nowhere. A file that is longer than a watch tells is an error.
@@ -203,14 +214,17 @@ fn find(files: &impl Files, name: &str) -> io::Result<Option<Seen>>
 
 /// Opens a file for reading. None where the name leads nowhere. Its identity is that of the file that was opened, where the name
 /// may lead elsewhere by then.
-fn open_file(files: &impl Files<File = File>, name: &str) -> io::Result<Option<Opened>> {
+fn open_file(
+    alloc: Global,
+    files: &impl Files<File = File>,
+    name: &str,
+) -> io::Result<Option<Opened>> {
     match fs::open(files, name) {
         Ok(file) => {
             let metadata = file.metadata()?;
             Ok(Some(Opened {
                 id: id_of(&metadata),
-                len: metadata.len(),
-                file,
+                file: DirFile::new(alloc, file, &metadata)?,
             }))
         }
         Err(error) if error.kind() == ErrorKind::NotFound => Ok(None),
@@ -219,30 +233,11 @@ fn open_file(files: &impl Files<File = File>, name: &str) -> io::Result<Option<O
 }
 
 /// How many bytes the open file holds. None where none is open, where that can't be told, or where it is more than a watch tells.
-fn held_by(file: &Option<File>) -> Option<u64>
+fn held_by(file: &Option<DirFile>) -> Option<u64>
     ensures { IfSome result (λ len. len < 2 ^ 63) }
 {
-    if let Some(file) = file {
-        if let Ok(metadata) = file.metadata() {
-            let len = metadata.len();
-            if len <= MOST_BYTES {
-                return Some(len);
-            }
-        }
+    match file {
+        Some(file) => file.len(),
+        None => None,
     }
-    None
-}
-
-/// Reads once, and again where the read was interrupted, and returns how many bytes that gave. None where it fails.
-fn read_some(file: &File, from: u64, buffer: &mut [u8]) -> Option<usize>
-    ensures { IfSome result (λ n. n ≤ length buffer.old) }
-{
-    for _ in 0..u64::MAX {
-        match file.read_at(buffer, from) {
-            Ok(n) => return Some(n),
-            Err(error) if error.kind() == ErrorKind::Interrupted => {}
-            Err(_) => return None,
-        }
-    }
-    None
 }

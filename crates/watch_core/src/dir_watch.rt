@@ -22,14 +22,22 @@ const STEPS: u32 = 20;
 /// Real files, named from the working folder. Their bytes aren't told. The identity of a file is made of its device and of its
 /// number there.
 ///
-/// Each look but the first begins with waiting, which ends 50 ms after a change at the latest, and after a second without one.
+/// Each look but the first begins with waiting, which ends 50 ms after a change at the latest, at once where a stream has
+/// something, and after a second without either.
 /// A change is another length of a file that is open or that a name leads to, or a name that comes to lead elsewhere. So what comes
-/// to a file is to be seen within 50 ms, and there are at most 20 looks in a second. While nothing changes, waiting asks the system
-/// twice for each name at every step, and does nothing else. It takes no memory, and no thread waits on another.
+/// to a regular file is to be seen within 50 ms, and without streams there are at most 20 looks in a second. While nothing changes,
+/// waiting asks the system twice for each name at every step, and does nothing else. It takes no memory, and no thread waits on
+/// another.
 ///
-/// A folder or a device opens as a file does where the system lets it, and breaks at its first read where it can't be read at a
-/// place. The opening of a named pipe waits until something writes to it. At most one file of a name is open; it is given back
-/// once another is opened or the name is broken, and all are when this is dropped.
+/// Any file but a regular one is a stream, which is read as it comes, into a buffer of 64 KiB of its own: when it is opened, and as
+/// each look begins. Its length is that of all that was taken of it. A read of it waits while nothing comes and somebody has it open
+/// to write, and the opening of a named pipe waits for who writes: that holds up the looks at all names. A pipe that nobody has open
+/// to write gives nothing, until somebody has again. A folder opens where the system lets it, and breaks at its first read.
+///
+/// A regular file of which the system says that it has no bytes has as many as reads give.
+///
+/// At most one file of a name is open; it is given back once another is opened or the name is broken, and all are when this is
+/// dropped.
 #[derive(Drop)]
 pub struct DirWatch<R: Files<File = File> + Clock + Drop> {
     runtime: R,
@@ -73,11 +81,28 @@ fn any_changed(files: &impl Files, names: &mut Vec<DirName>) -> bool
     changed
 }
 
-/// Waits until a name has changed, a second at most.
+/// Takes what comes next of each open stream, and returns whether that is any.
+fn take_all(names: &mut Vec<DirName>) -> bool
+    ensures { names.new.items ≡ names.old.items }
+{
+    let mut came = false;
+    for place in 0..names.len() {
+        // Each stream is read, so that none has to wait for the others to be silent.
+        if names[place].take() {
+            came = true;
+        }
+    }
+    came
+}
+
+/// Waits until something came of a stream or a name has changed, a second at most where no stream is waited for.
 fn wait<R: Files + Clock>(runtime: &R, names: &mut Vec<DirName>)
     ensures { names.new.items ≡ names.old.items }
 {
     for _ in 0..STEPS {
+        if take_all(names) {
+            return;
+        }
         thread::sleep(runtime, Duration::from_millis(STEP));
         if any_changed(runtime, names) {
             return;
@@ -132,7 +157,7 @@ impl<R: Files<File = File> + Clock + Drop> Watch for DirWatch<R> {
     }
 
     fn reopen(&mut self, place: usize) -> Result<bool, Fault> {
-        let Ok(is_there) = self.names[place].open(&self.runtime) else {
+        let Ok(is_there) = self.names[place].open(self.alloc, &self.runtime) else {
             return Err(Fault::Open(place));
         };
         Ok(is_there)

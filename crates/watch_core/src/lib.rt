@@ -1,6 +1,7 @@
 //! What is watched when files are followed: names, the files that they lead to, and what comes to these.
 #![tactic(auto)]
 
+mod dir_file;
 mod dir_name;
 mod dir_watch;
 mod edit;
