@@ -249,6 +249,62 @@ const BROKEN: &[Case<'static>] = &[
     },
 ];
 
+/// Once no output is left the run is over, and a fault of the input that would come later isn't met.
+#[test]
+fn ends_where_no_output_is_left(rt: HostRuntime) -> Result<(), Fail> {
+    check_both(&rt, rt.alloc(), VAIN)
+}
+
+const VAIN: &[Case<'static>] = &[
+    Case {
+        names: &[],
+        breaks_at: Some(4),
+        limits: &[(0, 2)],
+        left: Left {
+            output: b"ab",
+            files: &[],
+            messages: b"tee: cannot write 'standard output'\n",
+            status: 1,
+        },
+        ..SOUND
+    },
+    Case {
+        breaks_at: Some(5),
+        limits: &[(0, 1), (2, 2), (3, 2)],
+        left: Left {
+            output: b"a",
+            files: &[b"ab", b"ab"],
+            messages: b"tee: cannot write 'standard output'\ntee: cannot write 's'\ntee: cannot write 't'\n",
+            status: 1,
+        },
+        ..SOUND
+    },
+    Case {
+        names: &[],
+        breaks_at: Some(2),
+        limits: &[(0, 2)],
+        left: Left {
+            output: b"ab",
+            files: &[],
+            messages: b"tee: cannot read 'standard input'\n",
+            status: 1,
+        },
+        ..SOUND
+    },
+];
+
+/// What the run leaves of its input: what stands after the piece in which the last output broke.
+#[test]
+fn leaves_what_it_has_no_output_for(rt: HostRuntime) -> Result<(), Fail> {
+    let alloc = rt.alloc();
+    let mut inputs = inputs_of(alloc, INPUT, 2)?;
+    let mut outs = outs_of(alloc, &[(0, 1)])?;
+    let status = run_tee(alloc, &[], Mode::Fresh, &mut inputs, &mut outs);
+    assert_eq!(&rt; status, 1);
+    assert_eq!(&rt; inputs.left(0), Some(4));
+    Ok(())
+}
+
 #[test]
 fn messages_follow_the_calls(rt: HostRuntime) -> Result<(), Fail> {
     check_each(&rt, rt.alloc(), IN_ORDER)

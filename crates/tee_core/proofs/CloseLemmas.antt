@@ -12,9 +12,9 @@ use Rattle.ports_core.specs.Streams.{standard_error}
 use Rattle.tee_core.specs.Outputs.{ChangesEach, Closes, is_closed, fails_to_close, was_broken, IsFile}
 use Rattle.tee_core.specs.Run.{OutputLeft, output_whole, output_cut, FileLeft, file_whole, file_unopened, file_cut, file_unclosed, FilesLeft, no_file, one_file, fault_in, messages_of, output_names, said_before, said_of_input}
 use Rattle.std.specs.Prelude.{is_none}
-use Rattle.tee_core.specs.inner.Steps.{HasCopied, Copies, FileHas, has_all, has_none, has_begun, FilesHave, no_more, one_more, HasStreams, IsTeeOf, SaysTo, broken_of, said_since}
+use Rattle.tee_core.specs.inner.Steps.{HasCopied, Copies, FileHas, has_all, has_none, has_begun, FilesHave, no_more, one_more, HasStreams, IsTeeOf, SaysTo, all_of, broken_of, said_since}
 use Rattle.tee_core.specs.TeeState.{TeeState}
-use Rattle.tee_core.proofs.CopyLemmas.{AllMark, Marks, all_marked, all_older, call_before, error_no_output, length-files, marked_before, marked_none, marked_now, none_marked, place_file, file_place, said_marked}
+use Rattle.tee_core.proofs.CopyLemmas.{AllMark, Marks, all_marked, all_older, call_before, error_no_output, length-files, marked_before, marked_none, marked_now, none_marked, none_sooner, place_file, file_place, said_marked}
 
 -- an output that isn't closed
 output_kept : (told : Bool) (pieces : List (List ℕ)) (first : Option ℕ) (output : Slot) → OutputLeft told pieces first output → Marks (suc (length pieces)) first first output.is_broken output.is_broken
@@ -87,6 +87,8 @@ module _ (told : Bool) (mode : Mode) (names : List (List ℕ)) where
     said = subst (λ those. SaysAll told Tee (those ++ texts) standard_error says.0) (append-nil _)
         (says_after told Tee (said_before (suc (length pieces)) (output_names names) (copies.first ∷ copies.broke) ++ []) texts standard_error copies.error says.0 copies.said (subst (λ slot. SaysAll told Tee texts slot says.0) (ap (λ those. slot_at those 1) copies.are) says.1));
     known_are = copies.known_are ∙ ap broken_of copies.are ∙ sym (ap broken_of new_is);
+    some_left = copies.some_left;
+    is_vain = copies.is_vain;
   } where
     new_is : new ≡ copies.output ∷ says.0 ∷ copies.files
     new_is = says.2 ∙ ap (changed_at 1 (λ _. says.0)) copies.are
@@ -132,7 +134,7 @@ module _ (told : Bool) (mode : Mode) (names : List (List ℕ)) where
         }
 
   pub closing_said : (pieces : List (List ℕ)) (fault : Option Fault) (old mid new : List Slot) (known now : List Bool) (copies : Copies told mode names pieces (said_of_input fault) old known) → Ending pieces (said_of_input fault) old mid known copies → SaysTo told (said_since (fault_in (suc (length pieces))) (output_names names) known (broken_of mid)) mid new → now ≡ broken_of mid
-      → HasCopied told mode names pieces fault new now
+      → HasCopied told mode names pieces fault (all_of known) new now
   closing_said pieces fault old mid new known now copies next says flags = record {
     output = copies.output;
     error = says.0;
@@ -146,6 +148,8 @@ module _ (told : Bool) (mode : Mode) (names : List (List ℕ)) where
         (says_after told Tee (said_before (suc (length pieces)) (output_names names) (copies.first ∷ copies.broke) ++ said_of_input fault) _ standard_error copies.error says.0 copies.said (subst (λ slot. SaysAll told Tee (said_since (fault_in (suc (length pieces))) (output_names names) known (broken_of mid)) slot says.0) (ap (λ those. slot_at those 1) next.are) says.1));
     known_are = flags ∙ ap broken_of next.are ∙ ap (λ (flag : Bool). flag ∷ map (λ (file : Slot). file.is_broken) next.files) (output_flag told pieces copies.first copies.output copies.output_has)
         ∙ ap (λ flags. not (is_none copies.first) ∷ flags) (file_flags told mode pieces names next.broke next.files next.files_left);
+    some_left = none_sooner (suc (length pieces)) (length pieces) _ _ _ _ (omega arith) next.marked ∙ copies.some_left;
+    vain_is = none_sooner (suc (length pieces)) (suc (length pieces)) _ _ _ _ (omega arith) next.marked ∙ copies.is_vain;
   } where
     messages : (said_before (suc (length pieces)) (output_names names) (copies.first ∷ copies.broke) ++ said_of_input fault) ++ said_since (fault_in (suc (length pieces))) (output_names names) known (broken_of mid) ≡ messages_of names (copies.first ∷ next.broke) (length pieces) fault
     messages = ap (λ texts. (texts ++ said_of_input fault) ++ said_since (fault_in (suc (length pieces))) (output_names names) known (broken_of mid)) (sym (all_older (suc (length pieces)) (suc (length pieces)) (output_names names) _ _ _ _ (omega arith) next.marked))

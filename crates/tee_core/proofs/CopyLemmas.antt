@@ -3,7 +3,7 @@ use Rattle.std.proofs.Common.{append_assoc, ◌≡◌, ℕ, ◌+◌, ◌<◌, �
 use Rattle.std.specs.List.{concat}
 use Rattle.std.proofs.lemmas.List.Folds.{concat-append}
 use Rattle.std.proofs.lemmas.List.{append-nil}
-use Rattle.std.proofs.lemmas.Bool.{false≢true, eq-eqb, eqb-true}
+use Rattle.std.proofs.lemmas.Bool.{false≢true, eq-eqb, eqb-true, le-ltb, lt-ltb}
 use Rattle.ports_core.specs.Slot.{Slot, slot_at, changed_at, is_open, opened, adds, breaks, told_of}
 use Rattle.ports_core.specs.Message.{SaysAll}
 use Rattle.ports_core.specs.Text.{message_of}
@@ -12,8 +12,8 @@ use Rattle.ports_core.specs.declared.tool.Tool.TheVariants.{Tee}
 use Rattle.ports_core.proofs.MessageLemmas.{all_said_state, says_after}
 use Rattle.ports_core.specs.Streams.{standard_output, standard_error}
 use Rattle.tee_core.specs.Outputs.{ChangesEach, Gets, gets_all, breaks_off, gets_none, IsFile, IsOutput, IsReady, IsUsable}
-use Rattle.tee_core.specs.Run.{OutputLeft, output_whole, output_cut, broke_in, fault_in, output_names, said_in, said_before}
-use Rattle.tee_core.specs.inner.Steps.{Copies, FileHas, has_all, has_none, has_begun, FilesHave, no_more, one_more, HasStreams, IsTeeOf, SaysTo, broken_of, said_since}
+use Rattle.tee_core.specs.Run.{OutputLeft, output_whole, output_cut, broke_before, broke_in, fault_in, none_left, output_names, said_in, said_before}
+use Rattle.tee_core.specs.inner.Steps.{Copies, FileHas, has_all, has_none, has_begun, FilesHave, no_more, one_more, HasStreams, IsTeeOf, SaysTo, all_of, broken_of, said_since}
 use Rattle.tee_core.specs.TeeState.{TeeState}
 use Rattle.ports_core.proofs.Runs.{adds_both}
 use Rattle.tee_core.proofs.TellLemmas.{count_broken}
@@ -33,15 +33,30 @@ other_call call other differs = by (eqb other call) refl where
 pub record Marks (call : ℕ) (before after : Option ℕ) (was now : Bool) : Type 0 where
   pub said : broke_in call after ≡ (not was && now)
   pub older : (other : ℕ) → other < call → broke_in other after ≡ broke_in other before
+  pub sooner : (other : ℕ) → other ≤ call → broke_before other after ≡ broke_before other before
+  pub then_is : broke_before call after ≡ was
+  pub now_is : broke_before (suc call) after ≡ now
 
 pub marked_none : (call : ℕ) → Marks call None None false false
-marked_none call = record { said = refl; older = λ other less. refl }
+marked_none call = record { said = refl; older = λ other less. refl; sooner = λ other within. refl; then_is = refl; now_is = refl }
 
 pub marked_now : (call : ℕ) → Marks call None (Some call) false true
-marked_now call = record { said = same_call call; older = λ other less. other_call other call (λ is. omega (arith, is, less)) }
+marked_now call = record {
+  said = same_call call;
+  older = λ other less. other_call other call (λ is. omega (arith, is, less));
+  sooner = λ other within. le-ltb call other within;
+  then_is = le-ltb call call (omega arith);
+  now_is = lt-ltb call (suc call) (omega arith);
+}
 
 pub marked_before : (call earlier : ℕ) → earlier < call → Marks call (Some earlier) (Some earlier) true true
-marked_before call earlier less = record { said = other_call call earlier (λ is. omega (arith, is, less)); older = λ other before. refl }
+marked_before call earlier less = record {
+  said = other_call call earlier (λ is. omega (arith, is, less));
+  older = λ other before. refl;
+  sooner = λ other within. refl;
+  then_is = lt-ltb earlier call less;
+  now_is = lt-ltb earlier (suc call) (omega (arith, less));
+}
 
 pub data AllMark (call : ℕ) : List (Option ℕ) → List (Option ℕ) → List Bool → List Bool → Type 0 where
   none_marked : AllMark call [] [] [] []
@@ -66,6 +81,23 @@ all_older call zero names befores afters known broken past marked = refl
 all_older call (suc end) names befores afters known broken past marked =
     ap (λ texts. texts ++ said_in end names afters) (all_older call end names befores afters known broken (omega arith) marked)
     ∙ ap (λ texts. said_before end names befores ++ texts) (said_older call end names befores afters known broken (omega arith) marked)
+
+-- whether no output is left
+
+pub none_sooner : (call other : ℕ) (befores afters : List (Option ℕ)) (known broken : List Bool) → other ≤ call → AllMark call befores afters known broken → none_left other afters ≡ none_left other befores
+none_sooner call other _ _ _ _ within none_marked = refl
+none_sooner call other _ _ _ _ within (all_marked before after was now befores afters known broken one rest) =
+    ap (λ (flag : Bool). flag && none_left other afters) (one.sooner other within) ∙ ap (λ (flag : Bool). broke_before other before && flag) (none_sooner call other befores afters known broken within rest)
+
+none_then : (call : ℕ) (befores afters : List (Option ℕ)) (known broken : List Bool) → AllMark call befores afters known broken → none_left call afters ≡ all_of known
+none_then call _ _ _ _ none_marked = refl
+none_then call _ _ _ _ (all_marked before after was now befores afters known broken one rest) =
+    ap (λ (flag : Bool). flag && none_left call afters) one.then_is ∙ ap (λ (flag : Bool). was && flag) (none_then call befores afters known broken rest)
+
+pub none_now : (call : ℕ) (befores afters : List (Option ℕ)) (known broken : List Bool) → AllMark call befores afters known broken → none_left (suc call) afters ≡ all_of broken
+none_now call _ _ _ _ none_marked = refl
+none_now call _ _ _ _ (all_marked before after was now befores afters known broken one rest) =
+    ap (λ (flag : Bool). flag && none_left (suc call) afters) one.now_is ∙ ap (λ (flag : Bool). now && flag) (none_now call befores afters known broken rest)
 
 -- one output
 
@@ -212,9 +244,9 @@ module _ (told : Bool) (mode : Mode) (names : List (List ℕ)) where
         }
 
   -- the message for it was said
-  pub piece_said : (pieces : List (List ℕ)) (piece : List ℕ) (old mid new : List Slot) (known now : List Bool) (copies : Copies told mode names pieces [] old known) → Next pieces piece [] old mid known copies → SaysTo told (said_since (fault_in (suc (length pieces))) (output_names names) known (broken_of mid)) mid new → now ≡ broken_of mid
+  pub piece_said : (pieces : List (List ℕ)) (piece : List ℕ) (old mid new : List Slot) (known now : List Bool) → all_of known ≡ false → (copies : Copies told mode names pieces [] old known) → Next pieces piece [] old mid known copies → SaysTo told (said_since (fault_in (suc (length pieces))) (output_names names) known (broken_of mid)) mid new → now ≡ broken_of mid
       → Copies told mode names (pieces ++ piece ∷ []) [] new now
-  piece_said pieces piece old mid new known now copies next says flags = record {
+  piece_said pieces piece old mid new known now some copies next says flags = record {
     output = next.output;
     error = says.0;
     files = next.files;
@@ -226,7 +258,12 @@ module _ (told : Bool) (mode : Mode) (names : List (List ℕ)) where
     said = subst (λ texts. SaysAll told Tee texts standard_error says.0) messages
         (says_after told Tee (said_before (suc (length pieces)) (output_names names) (copies.first ∷ copies.broke) ++ []) _ standard_error copies.error says.0 copies.said (subst (λ slot. SaysAll told Tee (said_since (fault_in (suc (length pieces))) (output_names names) known (broken_of mid)) slot says.0) (ap (λ those. slot_at those 1) next.are) says.1));
     known_are = flags ∙ ap broken_of next.are ∙ sym (ap broken_of new_is);
+    some_left = ap (λ call. none_left call (next.first ∷ next.broke)) (sym one_more_call) ∙ none_then (suc (length pieces)) _ _ _ _ next.marked ∙ ap all_of (sym copies.known_are) ∙ some;
+    is_vain = ap (λ call. none_left (suc call) (next.first ∷ next.broke)) (sym one_more_call) ∙ none_now (suc (length pieces)) _ _ _ _ next.marked ∙ ap all_of (sym flags);
   } where
+    one_more_call : suc (length pieces) ≡ length (pieces ++ piece ∷ [])
+    one_more_call = omega (arith, length-append pieces (piece ∷ []))
+
     new_is : new ≡ next.output ∷ says.0 ∷ next.files
     new_is = says.2 ∙ ap (changed_at 1 (λ _. says.0)) next.are
 
@@ -235,7 +272,7 @@ module _ (told : Bool) (mode : Mode) (names : List (List ℕ)) where
         ∙ ap (λ texts. said_before (suc (length pieces)) (output_names names) (copies.first ∷ copies.broke) ++ texts)
         (ap (λ flags. said_since (fault_in (suc (length pieces))) (output_names names) flags (broken_of mid)) copies.known_are ∙ sym (said_marked (suc (length pieces)) (output_names names) _ _ _ _ next.marked))
         ∙ ap (λ texts. texts ++ said_in (suc (length pieces)) (output_names names) (next.first ∷ next.broke)) (sym (all_older (suc (length pieces)) (suc (length pieces)) (output_names names) _ _ _ _ (omega arith) next.marked))
-        ∙ sym (append-nil _) ∙ ap (λ call. said_before (suc call) (output_names names) (next.first ∷ next.broke) ++ []) (let e : suc (length pieces) ≡ length (pieces ++ piece ∷ []) = omega (arith, length-append pieces (piece ∷ [])) in e)
+        ∙ sym (append-nil _) ∙ ap (λ call. said_before (suc call) (output_names names) (next.first ∷ next.broke) ++ []) one_more_call
 
   pub next_streams : (pieces : List (List ℕ)) (piece : List ℕ) (messages : List (List ℕ)) (old mid : List Slot) (known : List Bool) (tee : TeeState) → IsTeeOf names tee → Copies told mode names pieces messages old known → ChangesEach (Gets told piece) (IsOutput tee) old mid → HasStreams mid (length names)
   next_streams pieces piece messages old mid known tee is copies gets =

@@ -13,7 +13,7 @@ use Rattle.ports_core.specs.declared.fault.Fault.TheVariants.{Memory}
 use Rattle.ports_core.specs.Inputs.{BreaksOnly, OfContent, empty}
 use Rattle.ports_core.specs.Streams.{standard_output, standard_error}
 use Rattle.ports_core.proofs.InputsLemmas.{of_content}
-use Rattle.tee_core.specs.Run.{EndsAs, copied, no_room, file_whole, file_unopened, file_cut, file_unclosed, FilesLeft, no_file, one_file, IsRead, to_end, to_break, to_limit, LeavesOf, OutputLeft, output_whole, output_cut, all_copied, are_sound, messages_of, output_names, said_before, said_in, status_of}
+use Rattle.tee_core.specs.Run.{EndsAs, copied, no_room, file_whole, file_unopened, file_cut, file_unclosed, FilesLeft, no_file, one_file, ComesIn, IsRead, to_end, to_break, to_limit, to_last_output, LeavesOf, OutputLeft, output_whole, output_cut, all_copied, are_sound, broke_before, messages_of, none_left, output_names, said_before, said_in, status_of}
 use Rattle.std.specs.Prelude.{is_none}
 use Rattle.tee_core.specs.inner.Steps.{CopiesInput, any_of}
 
@@ -39,7 +39,7 @@ status_is broke fault failed known failing is =
 
 pub ends_copied : (told_in told : Bool) (mode : Mode) (names : List (List ℕ)) (content : Content) (source : Source) (new : List Slot) (failed : Bool) (status : ℕ) → status ≡ (if failed then 1 else 0) → CopiesInput told_in told mode names content source new failed → EndsAs told_in told mode names content source new status
 ends_copied told_in told mode names content source new failed status is copies =
-    copied copies.pieces copies.fault copies.copied.first copies.copied.broke copies.copied.output copies.copied.error copies.copied.files copies.read copies.copied.output_left copies.copied.files_left copies.copied.said copies.copied.are
+    copied copies.pieces copies.fault copies.copied.first copies.copied.broke copies.copied.output copies.copied.error copies.copied.files (subst (λ (flag : Bool). ComesIn told_in content source flag copies.pieces copies.fault) (sym copies.copied.vain_is) copies.read) copies.copied.some_left copies.copied.output_left copies.copied.files_left copies.copied.said copies.copied.are
     (is ∙ status_is (copies.copied.first ∷ copies.copied.broke) copies.fault failed copies.known copies.failed_is copies.copied.known_are)
 
 pub of_content_too : (told : Bool) (there : Content) (P Q : Content → Type 0) → ((content : Content) → P content → Q content) → OfContent told there P → OfContent told there Q
@@ -95,21 +95,22 @@ status_zero true false is = absurd (omega (arith, is))
 status_zero false true is = absurd (omega (arith, is))
 status_zero false false is = absurd (omega (arith, is))
 
-read_whole : (content : Content) (Leaves : List ℕ → Type 0) (x : List ℕ) (fault : Option Fault) → is_none fault ≡ true → IsRead content Leaves x fault → content.bytes ≡ x
-read_whole content Leaves _ _ sound (to_end x is ended left) = is
-read_whole content Leaves _ _ sound (to_break x is breaks left) = absurd (false≢true sound)
-read_whole content Leaves _ _ sound (to_limit x piece rest is many left) = absurd (false≢true sound)
+read_whole : (content : Content) (Leaves : List ℕ → Type 0) (is_vain : Bool) (x : List ℕ) (fault : Option Fault) → is_vain ≡ false → is_none fault ≡ true → IsRead content Leaves is_vain x fault → content.bytes ≡ x
+read_whole content Leaves _ _ _ left sound (to_end x is ended leaves) = is
+read_whole content Leaves _ _ _ left sound (to_break x is breaks leaves) = absurd (false≢true sound)
+read_whole content Leaves _ _ _ left sound (to_limit x piece rest is many within leaves) = absurd (false≢true sound)
+read_whole content Leaves _ _ _ left sound (to_last_output x rest is leaves) = absurd (false≢true (sym left))
 
 pub whole_if : (told_in told : Bool) (mode : Mode) (names : List (List ℕ)) (content : Content) (source : Source) (new : List Slot) (status : ℕ) → status ≡ 0 → EndsAs told_in told mode names content source new status → new ≡ all_copied told mode names content.bytes
 whole_if told_in told mode names content source new status zero_is (no_room error said left at one) = absurd (omega (arith, zero_is, one))
-whole_if told_in told mode names content source new status zero_is (copied pieces fault first broke output error files read output_left files_left said at is) =
+whole_if told_in told mode names content source new status zero_is (copied pieces fault first broke output error files read some output_left files_left said at is) =
     let good = status_zero (is_none fault) (are_sound (first ∷ broke)) (sym is ∙ zero_is) in
     let sounds = sound_first first (are_sound broke) good.0 in
     let silent : messages_of names (first ∷ broke) (length pieces) fault ≡ [] = quiet fault (length pieces) (first ∷ broke) good.1 good.0 in
     at ∙ ap (λ slot. slot ∷ error ∷ files) (whole_output told pieces first output sounds.0 output_left)
     ∙ ap (λ slot. adds (told_of told (concat pieces)) standard_output ∷ slot ∷ files) (subst (λ texts. SaysAll told Tee texts standard_error error) silent said)
     ∙ ap (λ those. adds (told_of told (concat pieces)) standard_output ∷ standard_error ∷ those) (whole_files told mode pieces names broke files sounds.1 files_left)
-    ∙ ap (all_copied told mode names) (sym (read_whole content _ (concat pieces) fault good.1 read)) where
+    ∙ ap (all_copied told mode names) (sym (read_whole content _ _ (concat pieces) fault (ap (λ when. broke_before (suc (length pieces)) when && none_left (suc (length pieces)) broke) sounds.0) good.1 read.read)) where
       quiet : (fault : Option Fault) (pieces : ℕ) (broke : List (Option ℕ)) → is_none fault ≡ true → are_sound broke ≡ true → messages_of names broke pieces fault ≡ []
       quiet None pieces broke ended sound =
           ap (λ texts. (texts ++ []) ++ said_in (suc pieces) (output_names names) broke) (nothing_before (suc pieces) (output_names names) broke sound) ∙ nothing_in (suc pieces) (output_names names) broke sound

@@ -9,10 +9,10 @@ use Rattle.ports_core.proofs.Runs.{adds-nil}
 use Rattle.ports_core.specs.Streams.{standard_output, standard_error}
 use Rattle.tee_core.specs.Opening.{OpensAs, is_opened, is_unopened, OpensEach, no_more, one_more, Opens}
 use Rattle.tee_core.specs.Run.{OutputLeft, output_whole, fault_in, output_names}
-use Rattle.tee_core.specs.inner.Steps.{Copies, FileHas, has_all, has_none, FilesHave, HasStreams, IsTeeOf, SaysTo, broken_of, said_since}
+use Rattle.tee_core.specs.inner.Steps.{Copies, FileHas, has_all, has_none, FilesHave, HasStreams, IsTeeOf, SaysTo, all_of, broken_of, said_since}
 use Rattle.tee_core.specs.inner.Steps as steps
 use Rattle.tee_core.specs.TeeState.{TeeState}
-use Rattle.tee_core.proofs.CopyLemmas.{AllMark, Marks, all_marked, marked_none, marked_now, none_marked, said_marked}
+use Rattle.tee_core.proofs.CopyLemmas.{AllMark, Marks, all_marked, marked_none, marked_now, none_marked, none_now, said_marked}
 use Rattle.tee_core.proofs.OpeningLemmas.{length-since}
 
 abbrev FileStarts : Bool → Mode → List ℕ → Slot → Type 0
@@ -65,7 +65,13 @@ starts told mode names old new known now opens unknown says flags =
           ∙ sym (said_marked 0 (output_names names) _ _ _ _ marked) ∙ sym (append-nil _))
           (subst (λ slot. SaysAll told Tee (said_since (fault_in 0) (output_names names) known (broken_of old)) slot says.0) (ap (λ those. slot_at those 1) opens.slots) says.1);
       known_are = flags ∙ ap broken_of opens.slots ∙ sym (ap broken_of new_is);
+      some_left = refl;
+      is_vain = none_now 0 _ _ _ _ marked ∙ ap all_of (sym (flags ∙ ap broken_of opens.slots));
     }
+
+-- standard output is sound as a run begins
+pub some_at_first : (mode : Mode) (names : List (List ℕ)) (slots : List Slot) (known : List Bool) → Opens mode names streams slots → known ≡ broken_of slots → all_of known ≡ false
+some_at_first mode names slots known opens is = ap all_of (is ∙ ap broken_of opens.slots)
 
 pub length-names : (names : List (Bor (List ℕ))) (known : List Bool) → known ≡ replicate (length names + 1) false → known ≡ replicate (length (map (λ (name : Bor (List ℕ)). name.now) names) + 1) false
 length-names names known is = is ∙ ap (λ n. replicate (n + 1) false) (sym (length-map names (λ (name : Bor (List ℕ)). name.now)))

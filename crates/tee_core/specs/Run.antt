@@ -1,7 +1,8 @@
 -- What a run of `tee` leaves, of its input and of what broke when.
-use Rattle.std.specs.Prelude.{is_none, ◌≡◌, ℕ, ◌≤◌, ◌<◌, ◌^◌, zero, suc, ◌==◌, ◌&&◌, Bool, true, false, List, [], ◌∷◌, ◌++◌, length, map, take, Option, Some, None, ◌⊎◌, codes, if◌then◌else◌}
+use Rattle.std.specs.Prelude.{is_none, ◌≡◌, ℕ, ◌≤◌, ◌<◌, ◌^◌, zero, suc, ◌==◌, ◌&&◌, nat_lt, All, Bool, true, false, List, [], ◌∷◌, ◌++◌, length, map, take, Option, Some, None, ◌⊎◌, codes, if◌then◌else◌}
 use Rattle.std.specs.List.{concat}
 use Rattle.ports_core.specs.Slot.{Slot, opened, unopened, adds, breaks, closes, told_of}
+use Rattle.ports_core.specs.Inputs.{largest_piece}
 use Rattle.ports_core.specs.Source.{Content, Source}
 use Rattle.ports_core.specs.Text.{message_of}
 use Rattle.ports_core.specs.Message.{SaysAll}
@@ -58,18 +59,38 @@ are_sound (first ∷ broke) = is_none first && are_sound broke
 abbrev pub status_of : List (Option ℕ) → Option Fault → ℕ
 status_of broke fault = if are_sound broke && is_none fault then 0 else 1
 
+-- no output is left: each of them broke before this call, so that nothing more can be written
+
+abbrev pub broke_before : ℕ → Option ℕ → Bool
+broke_before call None = false
+broke_before call (Some other) = nat_lt other call
+
+abbrev pub none_left : ℕ → List (Option ℕ) → Bool
+none_left call [] = true
+none_left call (first ∷ broke) = broke_before call first && none_left call broke
+
 -- How an input is read: to its end; or until it breaks off; or up to a piece with which it has more bytes than any tool
--- takes. HasCopied is all that came before, and `Leaves` says what is left unread.
-pub data IsRead (content : Content) (Leaves : List ℕ → Type 0) : List ℕ → Option Fault → Type 0 where
-  to_end : (x : List ℕ) → content.bytes ≡ x → content.breaks_off ≡ false → Leaves [] → IsRead content Leaves x None
+-- takes; or, where no output is left, up to the piece in which the last of them broke, so that nothing after it is met. x
+-- is all that was copied, and `Leaves` says what is left unread.
+pub data IsRead (content : Content) (Leaves : List ℕ → Type 0) : (is_vain : Bool) → List ℕ → Option Fault → Type 0 where
+  to_end : (x : List ℕ) → content.bytes ≡ x → content.breaks_off ≡ false → Leaves []
+      → IsRead content Leaves false x None
   to_break : (x : List ℕ) → content.bytes ≡ x → content.breaks_off ≡ true → Leaves []
-      → IsRead content Leaves x (Some (Read 0))
-  to_limit : (x piece rest : List ℕ) → content.bytes ≡ (x ++ piece) ++ rest → 2 ^ 63 ≤ length (x ++ piece) → Leaves rest
-      → IsRead content Leaves x (Some TooLong)
+      → IsRead content Leaves false x (Some (Read 0))
+  to_limit : (x piece rest : List ℕ) → content.bytes ≡ (x ++ piece) ++ rest → 2 ^ 63 ≤ length (x ++ piece)
+      → length piece ≤ largest_piece → Leaves rest → IsRead content Leaves false x (Some TooLong)
+  to_last_output : (x rest : List ℕ) → content.bytes ≡ x ++ rest → Leaves rest → IsRead content Leaves true x None
 
 -- this is left of a source that tells its bytes
 abbrev pub LeavesOf : Bool → Source → List ℕ → Type 0
 LeavesOf told source rest = told ≡ true → source.left.bytes ≡ rest
+
+-- An input came in these pieces, of which each is what one read gave, and they are no more bytes than any tool takes.
+pub record ComesIn (told : Bool) (content : Content) (source : Source) (is_vain : Bool) (pieces : List (List ℕ))
+    (fault : Option Fault) : Type 0 where
+  pub read : IsRead content (LeavesOf told source) is_vain (concat pieces) fault
+  pub sizes : All (λ piece. (0 < length piece) × (length piece ≤ largest_piece)) pieces
+  pub few : length (concat pieces) < 2 ^ 63
 
 -- Standard output: it has all that was copied; or it broke in a piece, and has a beginning.
 pub data OutputLeft (told : Bool) (pieces : List (List ℕ)) : Option ℕ → Slot → Type 0 where
@@ -101,14 +122,15 @@ pub data FilesLeft (told : Bool) (mode : Mode) (pieces : List (List ℕ)) : List
       → FileLeft told mode pieces name first file → FilesLeft told mode pieces names broke files
       → FilesLeft told mode pieces (name ∷ names) (first ∷ broke) (file ∷ files)
 
--- A run ended so: standard output and each file were left as they must be by what broke when, the messages for that
--- were said, and the status tells whether anything went wrong; or there was no memory for the run at all, and nothing
--- was opened or read.
+-- A run ended so: some output was left as each piece was read, and where none is left the reading ended with that;
+-- standard output and each file were left as they must be by what broke when, the messages for that were said, and the
+-- status tells whether anything went wrong; or there was no memory for the run at all, and nothing was opened or read.
 pub data EndsAs (told_in told : Bool) (mode : Mode) (names : List (List ℕ)) (content : Content) (source : Source)
     (new : List Slot) (status : ℕ) : Type 0 where
   copied : (pieces : List (List ℕ)) (fault : Option Fault) (first : Option ℕ) (broke : List (Option ℕ))
       (output error : Slot) (files : List Slot)
-      → IsRead content (LeavesOf told_in source) (concat pieces) fault → OutputLeft told pieces first output
+      → ComesIn told_in content source (none_left (suc (length pieces)) (first ∷ broke)) pieces fault
+      → none_left (length pieces) (first ∷ broke) ≡ false → OutputLeft told pieces first output
       → FilesLeft told mode pieces names broke files
       → SaysAll told Tee (messages_of names (first ∷ broke) (length pieces) fault) standard_error error
       → new ≡ output ∷ error ∷ files → status ≡ status_of (first ∷ broke) fault

@@ -9,7 +9,7 @@ ghost use Rattle.ports_core.specs.Source.{source_at, is_readable, IsFresh};
 ghost use Rattle.ports_core.specs.Inputs.{BreaksOnly, KeepsOthers, OfContent, AsksAtMost, largest_piece};
 ghost use Rattle.tee_core.specs.Opening.{Opens};
 ghost use Rattle.tee_core.specs.Run.{EndsAs, all_copied, output_names, said_of_input};
-ghost use Rattle.tee_core.specs.inner.Steps.{HasCopied, Copies, CopiesInput, CopiesRead, HasStreams, IsTeeOf, SaysTo, any_of, broken_of, output_slot, said_since};
+ghost use Rattle.tee_core.specs.inner.Steps.{HasCopied, Copies, CopiesInput, CopiesRead, HasStreams, IsTeeOf, SaysTo, all_of, any_of, broken_of, output_slot, said_since};
 
 use crate::tee::Tee;
 use ports_core::{Fault, Inputs, Mode, Outs, Tool, fed_with, say, tell};
@@ -22,9 +22,10 @@ const PIECE: usize = 65_536;
 /// appended to (POSIX.1-2017, XCU tee). A file named `-` is a file. Its status is 1 where a fault was met, and else 0.
 ///
 /// An output that can't be opened, written or closed is told on standard error, after the call in which it broke, and the
-/// others go on; the input is read to its end also where no output is left. Where the input breaks off, or has more than
-/// 2^63-1 bytes, that is told too, and the files are closed. It takes memory for one buffer of 65,536 bytes and a byte for
-/// each output, before anything is opened, and for its messages.
+/// others go on. The input is read to its end, or where no output is left, up to the piece with which the last of them broke:
+/// what comes after that, a fault of the input too, isn't met. Where the input breaks off, or has more than 2^63-1 bytes,
+/// that is told. In each case the files that are sound are closed. It takes memory for one buffer of 65,536 bytes and a byte
+/// for each output, before anything is opened, and for its messages.
 pub fn run_tee<I: Inputs, O: Outs>(
     alloc: Global,
     names: &[&str],
@@ -113,8 +114,9 @@ fn has_failed(fault: &Option<Fault>, known: &[bool]) -> bool
     fault.is_some() || any_is(known)
 }
 
-/// Reads standard input to its end, and copies it piece by piece, with the messages for outputs that break. Returns the fault
-/// that ended it sooner, if one did: `Read` where the input broke off, `TooLong` where it has more than 2^63-1 bytes.
+/// Reads standard input to its end, or until no output is left, and copies it piece by piece, with the messages for outputs
+/// that break. Returns the fault that ended it sooner, if one did: `Read` where the input broke off, `TooLong` where it has
+/// more than 2^63-1 bytes.
 fn copy_pieces<I: Inputs, O: Outs>(
     alloc: Global,
     names: &[&str],
@@ -125,6 +127,8 @@ fn copy_pieces<I: Inputs, O: Outs>(
     outs: &mut O,
 ) -> Option<Fault>
     requires room { 0 < length buffer.old }
+    requires most { length buffer.old ≤ largest_piece }
+    requires left { all_of known.old ≡ false }
     requires input { IsTrue (is_readable (I.sources inputs.old) 0) }
     requires tee { IsTeeOf (map (λ name. name.now) names.now) tee.old }
     requires copies { (mode : Mode) × Copies O.told mode (map (λ name. name.now) names.now) [] [] (O.slots outs.old) known.old }
@@ -148,6 +152,9 @@ fn copy_pieces<I: Inputs, O: Outs>(
             return Some(Fault::TooLong);
         };
         copy_piece(alloc, names, tee, &buffer[..n], known, outs);
+        if are_all(known) {
+            return None;
+        }
         fed = sum;
     }
 }
@@ -162,6 +169,7 @@ fn copy_piece<O: Outs>(
     outs: &mut O,
 )
     requires tee { IsTeeOf (map (λ name. name.now) names.now) tee.old }
+    requires left { all_of known.old ≡ false }
     requires copies { (mode : Mode) × (pieces : List (List ℕ)) × Copies O.told mode (map (λ name. name.now) names.now) pieces [] (O.slots outs.old) known.old }
     ensures same { tee.new ≡ tee.old }
     ensures copies { (mode : Mode) (pieces : List (List ℕ)) → Copies O.told mode (map (λ name. name.now) names.now) pieces [] (O.slots outs.old) known.old → Copies O.told mode (map (λ name. name.now) names.now) (pieces ++ piece.now ∷ []) [] (O.slots outs.new) known.new }
@@ -180,7 +188,7 @@ fn close_all<O: Outs>(
 )
     requires tee { IsTeeOf (map (λ name. name.now) names.now) tee.old }
     requires copies { (mode : Mode) × (pieces : List (List ℕ)) × (messages : List (List ℕ)) × Copies O.told mode (map (λ name. name.now) names.now) pieces messages (O.slots outs.old) known.old }
-    ensures { (mode : Mode) (pieces : List (List ℕ)) (fault : Option Fault) → Copies O.told mode (map (λ name. name.now) names.now) pieces (said_of_input fault) (O.slots outs.old) known.old → HasCopied O.told mode (map (λ name. name.now) names.now) pieces fault (O.slots outs.new) known.new }
+    ensures { (mode : Mode) (pieces : List (List ℕ)) (fault : Option Fault) → Copies O.told mode (map (λ name. name.now) names.now) pieces (said_of_input fault) (O.slots outs.old) known.old → HasCopied O.told mode (map (λ name. name.now) names.now) pieces fault (all_of known.old) (O.slots outs.new) known.new }
 {
     tee.close(outs);
     tell_broken(alloc, &Fault::Write(0), names, known, outs);
@@ -207,6 +215,19 @@ fn any_is(mut flags: &[bool]) -> bool
         flags = rest;
     }
     false
+}
+
+/// Whether all of them are true.
+fn are_all(mut flags: &[bool]) -> bool
+    ensures { result ≡ all_of flags.entry.now }
+{
+    while let [flag, rest @ ..] = flags {
+        if !*flag {
+            return false;
+        }
+        flags = rest;
+    }
+    true
 }
 
 /// Says of each output that is broken and isn't known to be that it broke so, in the outputs' order.

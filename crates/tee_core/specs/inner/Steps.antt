@@ -9,12 +9,16 @@ use Rattle.ports_core.specs.declared.slot.Mode.{Mode}
 use Rattle.ports_core.specs.declared.tool.Tool.TheVariants.{Tee}
 use Rattle.ports_core.specs.declared.fault.Fault.{Fault}
 use Rattle.ports_core.specs.Streams.{standard_error}
-use Rattle.tee_core.specs.Run.{FilesLeft, IsRead, LeavesOf, OutputLeft, messages_of, output_names, said_before}
+use Rattle.tee_core.specs.Run.{ComesIn, FilesLeft, OutputLeft, messages_of, none_left, output_names, said_before}
 use Rattle.tee_core.specs.TeeState.{TeeState}
 
 abbrev pub any_of : List Bool → Bool
 any_of [] = false
 any_of (flag ∷ flags) = flag || any_of flags
+
+abbrev pub all_of : List Bool → Bool
+all_of [] = true
+all_of (flag ∷ flags) = flag && all_of flags
 
 -- where the outputs stand, standard output first, and then the files
 abbrev pub output_slot : ℕ → ℕ
@@ -86,17 +90,20 @@ pub record Copies (told : Bool) (mode : Mode) (names : List (List ℕ)) (pieces 
   pub said : SaysAll told Tee (said_before (suc (length pieces)) (output_names names) (first ∷ broke) ++ messages)
       standard_error error
   pub known_are : known ≡ broken_of slots
+  -- some output was left before the last call, and whether one is left after it
+  pub some_left : none_left (length pieces) (first ∷ broke) ≡ false
+  pub is_vain : none_left (suc (length pieces)) (first ∷ broke) ≡ all_of known
 
 -- an input was read so, and all that came of it was copied
 pub record CopiesRead (told_in told : Bool) (mode : Mode) (names : List (List ℕ)) (content : Content) (source : Source)
     (slots : List Slot) (known : List Bool) (fault : Option Fault) : Type 0 where
   pub pieces : List (List ℕ)
-  pub read : IsRead content (LeavesOf told_in source) (concat pieces) fault
+  pub read : ComesIn told_in content source (all_of known) pieces fault
   pub copies : Copies told mode names pieces [] slots known
 
--- how a run leaves its outputs, once the files are closed
+-- how a run leaves its outputs, once the files are closed; `is_vain` says whether none was left before that
 pub record HasCopied (told : Bool) (mode : Mode) (names : List (List ℕ)) (pieces : List (List ℕ)) (fault : Option Fault)
-    (slots : List Slot) (known : List Bool) : Type 0 where
+    (is_vain : Bool) (slots : List Slot) (known : List Bool) : Type 0 where
   pub output : Slot
   pub error : Slot
   pub files : List Slot
@@ -107,6 +114,8 @@ pub record HasCopied (told : Bool) (mode : Mode) (names : List (List ℕ)) (piec
   pub files_left : FilesLeft told mode pieces names broke files
   pub said : SaysAll told Tee (messages_of names (first ∷ broke) (length pieces) fault) standard_error error
   pub known_are : known ≡ map (λ when. not (is_none when)) (first ∷ broke)
+  pub some_left : none_left (length pieces) (first ∷ broke) ≡ false
+  pub vain_is : none_left (suc (length pieces)) (first ∷ broke) ≡ is_vain
 
 -- the whole input was copied, and this tells whether a fault was met
 pub record CopiesInput (told_in told : Bool) (mode : Mode) (names : List (List ℕ)) (content : Content) (source : Source)
@@ -114,6 +123,7 @@ pub record CopiesInput (told_in told : Bool) (mode : Mode) (names : List (List �
   pub pieces : List (List ℕ)
   pub fault : Option Fault
   pub known : List Bool
-  pub read : IsRead content (LeavesOf told_in source) (concat pieces) fault
-  pub copied : HasCopied told mode names pieces fault slots known
+  pub is_vain : Bool
+  pub read : ComesIn told_in content source is_vain pieces fault
+  pub copied : HasCopied told mode names pieces fault is_vain slots known
   pub failed_is : failed ≡ (not (is_none fault) || any_of known)

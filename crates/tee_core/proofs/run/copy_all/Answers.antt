@@ -1,9 +1,9 @@
 use Rattle.std.proofs.Common.{subst}
 use Rattle.std.proofs.lemmas.List.{length-map}
 use Rattle.tee_core.specs.Run.{said_of_input}
-use Rattle.tee_core.specs.inner.Steps.{HasStreams}
+use Rattle.tee_core.specs.inner.Steps.{HasStreams, all_of}
 use Rattle.tee_core.proofs.CloseLemmas.{copies_said, copies_streams}
-use Rattle.tee_core.proofs.StartLemmas.{length-names, opened_streams, starts}
+use Rattle.tee_core.proofs.StartLemmas.{length-names, opened_streams, some_at_first, starts}
 use Rattle.tee_core.proofs.run.copy_all.Goals as goal
 
 pub tell_broken-requires-clause-streams : goal.tell_broken-requires-clause-streams
@@ -11,6 +11,9 @@ tell_broken-requires-clause-streams g c = subst (HasStreams (g.O.Outs.slots c.ar
 
 pub copy_pieces-fault-requires-clause-copies : goal.copy_pieces-fault-requires-clause-copies
 copy_pieces-fault-requires-clause-copies g c = (c.requires.opened.0, starts _ _ _ _ _ _ _ c.requires.opened.1 (length-names c.args.names.now _ c.requires.unknown) c.tell_broken.ensures.said c.tell_broken.ensures.known)
+
+pub copy_pieces-fault-requires-clause-left : goal.copy_pieces-fault-requires-clause-left
+copy_pieces-fault-requires-clause-left g c = some_at_first _ _ _ _ c.requires.opened.1 c.tell_broken.ensures.known
 
 pub tell_input-requires : goal.tell_input-requires
 tell_input-requires g c =
@@ -34,6 +37,7 @@ returns-clause-copied g c mode opens =
           fault = c.copy_pieces-fault.result;
           pieces = copied.2.0.pieces;
           known = c.close_all.new.known;
+          is_vain = all_of c.copy_pieces-fault.new.known;
           read = copied.2.0.read;
           copied = c.close_all.ensures mode copied.2.0.pieces c.copy_pieces-fault.result (copies_said _ mode _ copied.2.0.pieces _ _ _ _ copied.2.0.copies c.tell_input.ensures);
           failed_is = c.has_failed.ensures;

@@ -19,4 +19,4 @@ tell_broken-requires-clause-known g c =
 
 pub returns-clause-copies : goal.returns-clause-copies
 returns-clause-copies g c mode pieces copies =
-    piece_said _ mode _ pieces _ _ _ _ _ _ copies (fed_next _ mode _ pieces _ [] _ _ _ _ c.requires.tee copies (c.feed.ensures.gets c.requires.tee.live)) c.tell_broken.ensures.said c.tell_broken.ensures.known
+    piece_said _ mode _ pieces _ _ _ _ _ _ c.requires.left copies (fed_next _ mode _ pieces _ [] _ _ _ _ c.requires.tee copies (c.feed.ensures.gets c.requires.tee.live)) c.tell_broken.ensures.said c.tell_broken.ensures.known
