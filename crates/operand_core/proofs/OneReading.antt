@@ -2,14 +2,14 @@
 use Rattle.std.proofs.Common.{◌≡◌, ℕ, Bool, List, [], ◌∷◌, ◌++◌, Option, Some, None, refl, sym, ◌∙◌, ap, subst}
 use Rattle.std.specs.Prelude.{true, false}
 use Rattle.std.proofs.lemmas.Bool.{false≢true}
-use Rattle.bre_core.specs.Pattern.{Pattern, Reads}
-use Rattle.bre_core.specs.Refusal.{IsOfText}
+use Rattle.bre_core.specs.Pattern.{Pattern}
 use Rattle.bre_core.specs.declared.fault.BreFault.{BreFault}
 use Rattle.bre_core.specs.declared.fault.BreFault.TheVariants.{Empty, BackReference, Escape, OpenGroup, CloseGroup, Interval, Bracket, Range, Class, TooLarge, Memory}
 use Rattle.bre_core.proofs.Existence.{one_tree_alone}
 use Rattle.operand_core.specs.Operand.{Offset, Target, Number, Search, Operand}
-use Rattle.operand_core.specs.Reading.{Aim, line, match, Spelled, words_of, IsTarget, IsRead, AreRead, Asks, HasRefused, IsFault, is_wrong, is_refused, no_memory, IsOfWords}
+use Rattle.operand_core.specs.Reading.{Aim, line, match, Spelled, words_of, IsPattern, IsTarget, IsRead, AreRead, Asks, HasRefused, IsFault, is_wrong, is_refused, no_memory, IsOfWords}
 use Rattle.operand_core.specs.declared.operand_fault.OperandFault.{OperandFault}
+use Rattle.operand_core.proofs.DepthLemmas.{read_or_too_large}
 
 target_once : (aim : Aim) (one other : Target) → IsTarget aim one → IsTarget aim other → one ≡ other
 target_once (line n) (Number a) (Number b) is are = ap Number (is ∙ sym are)
@@ -52,26 +52,26 @@ read_at [] spelled rest (operand ∷ operands) are = (operand, are.0)
 read_at (first ∷ front) spelled rest [] are = absurd are
 read_at (first ∷ front) spelled rest (operand ∷ operands) are = read_at front spelled rest operands are.1
 
-not_both : (text : List ℕ) (pattern : Pattern) (kept : Bool) (offset : Offset) (fault : BreFault) → Reads text pattern → HasRefused (match kept text offset) fault → IsOfText fault → ⊥
-not_both text pattern kept offset (Empty at) reads none is = none pattern reads
-not_both text pattern kept offset (BackReference at) reads none is = none pattern reads
-not_both text pattern kept offset (Escape at) reads none is = none pattern reads
-not_both text pattern kept offset (OpenGroup at) reads none is = none pattern reads
-not_both text pattern kept offset (CloseGroup at) reads none is = none pattern reads
-not_both text pattern kept offset (Interval at) reads none is = none pattern reads
-not_both text pattern kept offset (Bracket at) reads none is = none pattern reads
-not_both text pattern kept offset (Range at) reads none is = none pattern reads
-not_both text pattern kept offset (Class at) reads none is = none pattern reads
-not_both text pattern kept offset TooLarge reads large is = is
-not_both text pattern kept offset Memory reads none is = is
+not_both : (text : List ℕ) (pattern : Pattern) (kept : Bool) (offset : Offset) (fault : BreFault) → IsPattern text pattern → HasRefused (match kept text offset) fault → ⊥
+not_both text pattern kept offset (Empty at) is none = none pattern is.reads
+not_both text pattern kept offset (BackReference at) is none = none pattern is.reads
+not_both text pattern kept offset (Escape at) is none = none pattern is.reads
+not_both text pattern kept offset (OpenGroup at) is none = none pattern is.reads
+not_both text pattern kept offset (CloseGroup at) is none = none pattern is.reads
+not_both text pattern kept offset (Interval at) is none = none pattern is.reads
+not_both text pattern kept offset (Bracket at) is none = none pattern is.reads
+not_both text pattern kept offset (Range at) is none = none pattern is.reads
+not_both text pattern kept offset (Class at) is none = none pattern is.reads
+not_both text pattern kept offset TooLarge is large = read_or_too_large text pattern is large
+not_both text pattern kept offset Memory is none = none
 
-aim_not_both : (aim : Aim) (target : Target) (fault : BreFault) → IsTarget aim target → HasRefused aim fault → IsOfText fault → ⊥
-aim_not_both (line n) target fault hits refused is = refused
-aim_not_both (match has text by) (Number a) fault hits refused is = hits
-aim_not_both (match has text by) (Search pattern kept offset) fault hits refused is = not_both text pattern has by fault hits.0.reads refused is
+aim_not_both : (aim : Aim) (target : Target) (fault : BreFault) → IsTarget aim target → HasRefused aim fault → ⊥
+aim_not_both (line n) target fault hits refused = refused
+aim_not_both (match has text by) (Number a) fault hits refused = hits
+aim_not_both (match has text by) (Search pattern kept offset) fault hits refused = not_both text pattern has by fault hits.0 refused
 
 pub reads_or_fails : (words : List (List ℕ)) (operands : List Operand) (fault : OperandFault) → Asks words operands → IsFault words fault → IsOfWords fault.kind → ⊥
 reads_or_fails words operands fault asks (is_wrong other read at are) is = false≢true (sym (ap has_fault asks.well) ∙ ap has_fault at)
 reads_or_fails words operands fault asks (is_refused other front refused rest read at are has) is =
-    let found = read_at front refused rest operands (subst (λ those. AreRead those operands) at asks.read) in aim_not_both refused.aim found.0.target other found.1.target has is
+    let found = read_at front refused rest operands (subst (λ those. AreRead those operands) at asks.read) in aim_not_both refused.aim found.0.target other found.1.target has
 reads_or_fails words operands fault asks (no_memory index) is = is

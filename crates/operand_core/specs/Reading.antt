@@ -1,7 +1,7 @@
 -- What a list of words asks of `csplit`: its operands, or the first fault.
 use Rattle.std.specs.Prelude.{◌≡◌, ℕ, ◌+◌, ◌==◌, ◌≤◌, nat_lt, Bool, List, [], ◌∷◌, ◌++◌, Option, Some, None, if◌then◌else◌}
 use Rattle.bre_core.specs.Pattern.{Pattern, Reads, depth_of, positions_of}
-use Rattle.bre_core.specs.Refusal.{IsOfText, IsTooLarge}
+use Rattle.bre_core.specs.Refusal.{IsTooLarge}
 use Rattle.bre_core.specs.declared.fault.BreFault.{BreFault}
 use Rattle.bre_core.specs.declared.fault.BreFault.TheVariants.{TooLarge, Memory}
 use Rattle.operand_core.specs.Operand.{Offset, Target, Number, Search, Times, Count, Operand}
@@ -128,8 +128,7 @@ pub data IsFault (words : List (List ℕ)) : OperandFault → Type 0 where
       → IsFault words (record { kind = kind.Bre fault; index = refused.index })
   no_memory : (index : ℕ) → IsFault words (record { kind = kind.Memory; index = index })
 
--- the fault says that a word is no operand; it is neither want of memory nor a pattern's size
+-- the fault says what is wrong with a word; it is no want of memory
 abbrev pub IsOfWords : OperandFaultKind → Type 0
 IsOfWords kind.Memory = ⊥
-IsOfWords (kind.Bre fault) = IsOfText fault
 IsOfWords _ = Unit {0}

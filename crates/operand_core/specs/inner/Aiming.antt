@@ -1,7 +1,6 @@
 -- What private calls say: what reading one target returns.
 use Rattle.std.specs.Prelude.{◌≡◌, Result, Ok, Err}
 use Rattle.bre_core.specs.declared.fault.BreFault.{BreFault}
-use Rattle.bre_core.specs.declared.fault.BreFault.TheVariants.{Memory}
 use Rattle.operand_core.specs.Operand.{Target}
 use Rattle.operand_core.specs.Reading.{Aim, Aimed, aims, fails, IsTarget, HasRefused}
 use Rattle.operand_core.specs.declared.operand_fault.OperandFaultKind.{OperandFaultKind}
