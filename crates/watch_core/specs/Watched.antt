@@ -1,5 +1,7 @@
--- The names that are watched: which file of each is open, and whether it broke.
-use Rattle.std.specs.Prelude.{is_some, ◌≡◌, ℕ, Bool, true, false, not, ◌&&◌, List, [], Option, Some, None, length, drop, option_map, slice_index_or}
+-- The names that are watched: which file of each is open, and by which fault it broke.
+use Rattle.std.specs.Prelude.{is_none, is_some, ◌≡◌, ℕ, Bool, true, false, ◌&&◌, List, [], Option, Some, None, length, drop, option_map, slice_index_or}
+use Rattle.ports_core.specs.declared.fault.Fault.{Fault}
+use Rattle.ports_core.specs.declared.fault.Fault.TheVariants.{Failed}
 use Rattle.ports_core.specs.Slot.{changed_at}
 use Rattle.ports_core.specs.Source.{Gave}
 use Rattle.watch_core.specs.Snapshot.{Snapshot}
@@ -9,29 +11,31 @@ pub record Watched : Type 0 where
   pub name : List ℕ
   -- the file that is open, by its identity
   pub opened : Option ℕ
-  pub is_broken : Bool
+  -- the fault of the call by which it broke, if it did: of one that looks or opens, or of one that reads
+  pub failed : Option Fault
 
 -- what stands at a place where no name was added
 abbrev pub no_name : Watched
-no_name = record { name = []; opened = None; is_broken = true }
+no_name = record { name = []; opened = None; failed = Some Failed }
 
 abbrev pub watched_at : List Watched → ℕ → Watched
 watched_at names place = slice_index_or names place no_name
 
 -- a name that was just added: no file of it is open
 abbrev pub added : List ℕ → Watched
-added name = record { name = name; opened = None; is_broken = false }
+added name = record { name = name; opened = None; failed = None }
 
 -- this file is open, or none
 abbrev pub opens : Option ℕ → Watched → Watched
 opens file watched = record watched { opened = file }
 
-abbrev pub breaks : Watched → Watched
-breaks watched = record watched { is_broken = true }
+-- it broke by this fault
+abbrev pub breaks : Fault → Watched → Watched
+breaks fault watched = record watched { failed = Some fault }
 
 -- there is such a name, and it is not broken
 abbrev pub is_watchable : List Watched → ℕ → Bool
-is_watchable names place = not (watched_at names place).is_broken
+is_watchable names place = is_none (watched_at names place).failed
 
 -- and a file of it is open
 abbrev pub is_readable : List Watched → ℕ → Bool

@@ -3,7 +3,7 @@ ghost use Rattle.watch_core.specs.Watched.{Watched, added, breaks, opens};
 
 use crate::Seen;
 use crate::dir_file::DirFile;
-use ports_core::{MOST_BYTES, id_of};
+use ports_core::{Fault, MOST_BYTES, id_of};
 use std::alloc::{AllocError, Global};
 use std::fs::File;
 use std::io::ErrorKind;
@@ -19,7 +19,8 @@ pub(crate) struct DirName {
     opened: Option<u128>,
     /// The open file. None where none is open, and once the name is broken, so that the system has it back.
     file: Option<DirFile>,
-    is_broken: bool,
+    /// The fault by which it broke.
+    failed: Option<Fault>,
     /// A look found nothing, and changes weren't looked for since.
     is_gone: bool,
     /// What the name led to when a change was last looked for.
@@ -31,7 +32,7 @@ pub(crate) struct DirName {
 impl Model for DirName {
     ghost Value = { Watched };
 
-    ghost view = { λ n. record { name = string_bytes n.name; opened = n.opened; is_broken = n.is_broken } };
+    ghost view = { λ n. record { name = string_bytes n.name; opened = n.opened; failed = n.failed } };
 }
 
 impl DirName {
@@ -42,7 +43,7 @@ impl DirName {
             name: String::from_str(alloc, name)?,
             opened: None,
             file: None,
-            is_broken: false,
+            failed: None,
             is_gone: false,
             led_to: None,
             held: None,
@@ -56,11 +57,12 @@ impl DirName {
         self.opened
     }
 
-    /// The file that the name leads to; none where it leads nowhere. Where that can't be told, the name is broken.
-    pub(crate) fn look(&mut self, files: &impl Files) -> io::Result<Option<Seen>>
+    /// The file that the name leads to, which is watched at this place; none where it leads nowhere. Where that can't be told, the
+    /// name is broken.
+    pub(crate) fn look(&mut self, place: usize, files: &impl Files) -> io::Result<Option<Seen>>
         ensures bound { IfOk result (λ found. IfSome found (λ file. file.len < 2 ^ 63)) }
         ensures same { OnOk result (self.new ≡ self.old) }
-        ensures broke { OnErr result (self.new ≡ breaks self.old) }
+        ensures broke { OnErr result (self.new ≡ breaks (Fault.Open place) self.old) }
     {
         match find(files, self.name.as_str()) {
             Ok(found) => {
@@ -68,23 +70,24 @@ impl DirName {
                 Ok(found)
             }
             Err(error) => {
-                self.break_off();
+                self.break_off(Fault::Open(place));
                 Err(error)
             }
         }
     }
 
     /// Opens the file that the name leads to, in place of the one that was open, and returns whether there is one. Where there
-    /// is one that can't be opened, or no memory for a stream's buffer, the name is broken. Where this turn's look found none, there is none: a file that was made
-    /// since is for the next look to find, which tells that it came.
+    /// is one that can't be opened, or no memory for a stream's buffer, the name is broken. Where this turn's look found none,
+    /// there is none: a file that was made since is for the next look to find, which tells that it came.
     pub(crate) fn open(
         &mut self,
+        place: usize,
         alloc: Global,
         files: &impl Files<File = File>,
     ) -> io::Result<bool>
         ensures opened { OnOk result (self.new ≡ opens self.new.opened self.old) }
         ensures found { IfOk result (λ is_there. is_some self.new.opened ≡ is_there) }
-        ensures broke { OnErr result (self.new ≡ breaks self.old) }
+        ensures broke { OnErr result (self.new ≡ breaks (Fault.Open place) self.old) }
     {
         // It goes back to the system first, so that no two files of a name are open.
         self.file = None;
@@ -101,7 +104,7 @@ impl DirName {
                 Ok(false)
             }
             Err(error) => {
-                self.break_off();
+                self.break_off(Fault::Open(place));
                 Err(error)
             }
         }
@@ -120,38 +123,38 @@ impl DirName {
     }
 
     /// How many bytes the open file holds. Where that can't be told, the name is broken.
-    pub(crate) fn len(&mut self) -> Option<u64>
+    pub(crate) fn len(&mut self, place: usize) -> Option<u64>
         ensures bound { IfSome result (λ len. len < 2 ^ 63) }
         ensures same { OnSome result (self.new ≡ self.old) }
-        ensures broke { IfNone result (self.new ≡ breaks self.old) }
+        ensures broke { IfNone result (self.new ≡ breaks (Fault.Read place) self.old) }
     {
         let len = held_by(&self.file);
         if len.is_none() {
-            self.break_off();
+            self.break_off(Fault::Read(place));
         }
         len
     }
 
     /// Reads the open file once from a place on, and returns how many bytes that gave. Where it fails, the name is broken.
-    pub(crate) fn read_at(&mut self, from: u64, buffer: &mut [u8]) -> Option<usize>
+    pub(crate) fn read_at(&mut self, place: usize, from: u64, buffer: &mut [u8]) -> Option<usize>
         ensures bound { IfSome result (λ n. n ≤ length buffer.old) }
         ensures same { OnSome result (self.new ≡ self.old) }
-        ensures broke { IfNone result (self.new ≡ breaks self.old) }
+        ensures broke { IfNone result (self.new ≡ breaks (Fault.Read place) self.old) }
     {
         if let Some(file) = &self.file {
             if let Some(n) = file.read_at(from, buffer) {
                 return Some(n);
             }
         }
-        self.break_off();
+        self.break_off(Fault::Read(place));
         None
     }
 
-    fn break_off(&mut self)
-        ensures { self.new ≡ breaks self.old }
+    fn break_off(&mut self, fault: Fault)
+        ensures { self.new ≡ breaks fault self.old }
     {
         self.file = None;
-        self.is_broken = true;
+        self.failed = Some(fault);
     }
 
     /// Takes what comes next of the open file, where that is a stream, and returns whether that is any. What a look found before
@@ -175,7 +178,7 @@ impl DirName {
     pub(crate) fn has_changed(&mut self, files: &impl Files) -> bool
         ensures { self.new ≡ self.old }
     {
-        if self.is_broken {
+        if self.failed.is_some() {
             return false;
         }
         let led_to = find(files, self.name.as_str()).unwrap_or(None);

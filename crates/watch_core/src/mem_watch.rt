@@ -15,13 +15,14 @@ use std::marker::Model;
 struct MemName {
     name: String,
     opened: Option<usize>,
-    is_broken: bool,
+    /// The fault by which it broke.
+    failed: Option<Fault>,
 }
 
 impl Model for MemName {
     ghost Value = { Watched };
 
-    ghost view = { λ n. record { name = string_bytes n.name; opened = n.opened; is_broken = n.is_broken } };
+    ghost view = { λ n. record { name = string_bytes n.name; opened = n.opened; failed = n.failed } };
 }
 
 impl MemName {
@@ -31,7 +32,7 @@ impl MemName {
         Ok(MemName {
             name: String::from_str(alloc, name)?,
             opened: None,
-            is_broken: false,
+            failed: None,
         })
     }
 
@@ -54,10 +55,10 @@ impl MemName {
         file.is_some()
     }
 
-    fn break_off(&mut self)
-        ensures { self.new ≡ breaks self.old }
+    fn break_off(&mut self, fault: Fault)
+        ensures { self.new ≡ breaks fault self.old }
     {
-        self.is_broken = true;
+        self.failed = Some(fault);
     }
 }
 
@@ -267,7 +268,7 @@ impl Watch for MemWatch {
         let world = world_in(&self.worlds, self.turns);
         let found = find(world, self.names[place].name.as_str());
         if fails(&mut self.failing_in) || !fits(found) {
-            self.names[place].break_off();
+            self.names[place].break_off(Fault::Open(place));
             return Err(Fault::Open(place));
         }
         Ok(found)
@@ -275,7 +276,7 @@ impl Watch for MemWatch {
 
     fn reopen(&mut self, place: usize) -> Result<bool, Fault> {
         if fails(&mut self.failing_in) {
-            self.names[place].break_off();
+            self.names[place].break_off(Fault::Open(place));
             return Err(Fault::Open(place));
         }
         let world = world_in(&self.worlds, self.turns);
@@ -293,7 +294,7 @@ impl Watch for MemWatch {
     fn open_len(&mut self, place: usize) -> Result<u64, Fault> {
         let len = self.open_bytes(place).len() as u64;
         if fails(&mut self.failing_in) || len > MOST_BYTES {
-            self.names[place].break_off();
+            self.names[place].break_off(Fault::Read(place));
             return Err(Fault::Read(place));
         }
         Ok(len)
@@ -301,7 +302,7 @@ impl Watch for MemWatch {
 
     fn read_at(&mut self, place: usize, from: u64, buffer: &mut [u8]) -> Result<usize, Fault> {
         if fails(&mut self.failing_in) {
-            self.names[place].break_off();
+            self.names[place].break_off(Fault::Read(place));
             return Err(Fault::Read(place));
         }
         Ok(read_from(self.open_bytes(place), from, buffer))

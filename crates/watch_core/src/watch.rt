@@ -16,7 +16,7 @@ pub struct Seen {
 
 /// Names that are watched in looks, each by its number, from 0 in the order in which they were added. What the names lead to and
 /// what the files hold changes only as a look begins, with `turn`. Of each name one file may be open, which stays what it is when
-/// the name comes to lead elsewhere. A name breaks at its first failure and stays broken.
+/// the name comes to lead elsewhere. A name breaks at its first failure, by the fault that is returned, and stays broken.
 pub trait Watch {
     /// What each look so far could see, in order.
     ghost seen: { Self → List Snapshot };
@@ -62,7 +62,7 @@ pub trait Watch {
         ensures ok { IfOk result (λ found. told ≡ true → Finds (latest (seen self.old)) (watched_at (watched self.old) place).name found) }
         ensures bound { IfOk result (λ found. IfSome found (λ file. file.len < 2 ^ 63)) }
         ensures same { OnOk result (watched self.new ≡ watched self.old) }
-        ensures err { IfErr result (λ fault. (fault ≡ Fault.Open place) × (watched self.new ≡ changed_at place breaks (watched self.old))) }
+        ensures err { IfErr result (λ fault. (fault ≡ Fault.Open place) × (watched self.new ≡ changed_at place (breaks fault) (watched self.old))) }
         ensures seen { seen self.new ≡ seen self.old }
         ensures shows { shows self.new ≡ shows self.old };
 
@@ -75,7 +75,7 @@ pub trait Watch {
     fn reopen(&mut self, place: usize) -> Result<bool, Fault>
         requires { IsTrue (is_watchable (watched self.old) place) }
         ensures ok { IfOk result (Reopens told (latest (seen self.old)) (watched self.old) (watched self.new) place) }
-        ensures err { IfErr result (λ fault. (fault ≡ Fault.Open place) × (watched self.new ≡ changed_at place breaks (watched self.old))) }
+        ensures err { IfErr result (λ fault. (fault ≡ Fault.Open place) × (watched self.new ≡ changed_at place (breaks fault) (watched self.old))) }
         ensures seen { seen self.new ≡ seen self.old }
         ensures shows { shows self.new ≡ shows self.old };
 
@@ -93,7 +93,7 @@ pub trait Watch {
         ensures ok { IfOk result (λ len. told ≡ true → len ≡ length (open_contents (latest (seen self.old)) (watched_at (watched self.old) place))) }
         ensures bound { IfOk result (λ len. len < 2 ^ 63) }
         ensures same { OnOk result (watched self.new ≡ watched self.old) }
-        ensures err { IfErr result (λ fault. (fault ≡ Fault.Read place) × (watched self.new ≡ changed_at place breaks (watched self.old))) }
+        ensures err { IfErr result (λ fault. (fault ≡ Fault.Read place) × (watched self.new ≡ changed_at place (breaks fault) (watched self.old))) }
         ensures seen { seen self.new ≡ seen self.old }
         ensures shows { shows self.new ≡ shows self.old };
 
@@ -109,7 +109,7 @@ pub trait Watch {
         ensures bytes { IfOk result (λ n. told ≡ true → GaveFrom (open_contents (latest (seen self.old)) (watched_at (watched self.old) place)) from buffer.old buffer.new n) }
         ensures length { length buffer.new ≡ length buffer.old }
         ensures same { OnOk result (watched self.new ≡ watched self.old) }
-        ensures err { IfErr result (λ fault. (fault ≡ Fault.Read place) × (watched self.new ≡ changed_at place breaks (watched self.old))) }
+        ensures err { IfErr result (λ fault. (fault ≡ Fault.Read place) × (watched self.new ≡ changed_at place (breaks fault) (watched self.old))) }
         ensures seen { seen self.new ≡ seen self.old }
         ensures shows { shows self.new ≡ shows self.old };
 }

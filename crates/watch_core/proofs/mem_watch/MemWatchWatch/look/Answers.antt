@@ -1,5 +1,6 @@
 use Rattle.std.proofs.Common.{refl, ap, subst, ◌∙◌}
 use Rattle.watch_core.specs.MemWatchState.{MemWatchState, world_at}
+use Rattle.ports_core.specs.declared.fault.Fault.TheVariants.{Open}
 use Rattle.watch_core.specs.Watched.{Watched, Finds, breaks}
 use Rattle.watch_core.specs.Edits.{seen_in}
 use Rattle.watch_core.proofs.NameLemmas.{name_changes, names_within}
@@ -9,7 +10,7 @@ use Rattle.watch_core.proofs.mem_watch.MemWatchWatch.look.Goals as goal
 pub returns-then-fails-clause-err : goal.returns-then-fails-clause-err
 returns-then-fails-clause-err c =
     let names = ap (λ (those : MemWatchState). those.watched) c.self.view_is in
-    (refl, name_changes _ _ c.args.place breaks _ _ names (names_within _ _ c.args.place names c.requires) c.index_mut.ensures.value c.break_off.ensures)
+    (refl, name_changes _ _ c.args.place (breaks (Open c.args.place)) _ _ names (names_within _ _ c.args.place names c.requires) c.index_mut.ensures.value c.break_off.ensures)
 
 pub returns-clause-ok : goal.returns-clause-ok
 returns-clause-ok c told =
