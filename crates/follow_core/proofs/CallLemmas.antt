@@ -17,7 +17,7 @@ use Rattle.follow_core.specs.inner.Calls.{CanGoOn, Keeps, bytes_past, lines_past
 use Rattle.follow_core.proofs.GiveLemmas.{tells_state, no_memory, gives_nothing, gives_line, halts_short, front_nil, stops_early, goes_after}
 use Rattle.ports_core.specs.declared.fault.Fault.{Fault}
 use Rattle.watch_core.specs.Watched.{Watched, breaks, Finds, Reopens, file_seen, is_readable, is_watchable, open_contents, opens, watched_at}
-use Rattle.std.specs.Prelude.{is_some}
+use Rattle.std.specs.Prelude.{is_none, is_some}
 use Rattle.watch_core.specs.Snapshot.{Snapshot, latest}
 use Rattle.watch_core.specs.declared.watch.Seen.{Seen}
 use Rattle.follow_core.specs.declared.notice.Notice.{Notice}
@@ -223,9 +223,9 @@ pub some_of : (file : Option ℕ) → is_some file ≡ true → (id : ℕ) × (f
 some_of None some = absurd (false≢true some)
 some_of (Some id) some = (id, refl)
 
-pub none_of : (file : Option ℕ) → is_some file ≡ false → file ≡ None
+pub none_of : {X : Type 0} (x : Option X) → is_some x ≡ false → x ≡ None
 none_of None is = refl
-none_of (Some file) is = absurd (false≢true (sym is))
+none_of (Some x) is = absurd (false≢true (sym is))
 
 -- the name leads nowhere
 pub held_nowhere : (told : Bool) (snapshot : Snapshot) (old new : List Watched) (place : ℕ) (name : List ℕ) (is_there : Bool) → Reopens told snapshot old new place is_there → is_there ≡ false → (watched_at old place).name ≡ name → told ≡ true → [] ≡ held_at snapshot (snapshot.leads name)
@@ -254,21 +254,21 @@ past_zero contents = by (nat_lt (length contents) 0) where
 pub readable_there : (told : Bool) (snapshot : Snapshot) (old new : List Watched) (place : ℕ) (is_there : Bool) → Reopens told snapshot old new place is_there → is_there ≡ true → IsTrue (is_watchable old place) → IsTrue (is_readable new place)
 readable_there told snapshot old new place is_there reopens there can =
     ap (λ those. is_readable those place) reopens.names
-    ∙ ap (λ (those : Watched). is_some those.opened && not those.is_broken) (opened_there old place reopens.file can)
+    ∙ ap (λ (those : Watched). is_some those.opened && is_none those.failed) (opened_there old place reopens.file can)
     ∙ ap (λ test. test && is_watchable old place) (reopens.found ∙ there) ∙ can
 
 pub watchable_there : (told : Bool) (snapshot : Snapshot) (old new : List Watched) (place : ℕ) (is_there : Bool) → Reopens told snapshot old new place is_there → IsTrue (is_watchable old place) → IsTrue (is_watchable new place)
 watchable_there told snapshot old new place is_there reopens can =
-    ap (λ those. is_watchable those place) reopens.names ∙ ap (λ (those : Watched). not those.is_broken) (opened_there old place reopens.file can) ∙ can
+    ap (λ those. is_watchable those place) reopens.names ∙ ap (λ (those : Watched). is_none those.failed) (opened_there old place reopens.file can) ∙ can
 
-pub follows_there : (told : Bool) (snapshot : Snapshot) (old mid new : List Watched) (place : ℕ) (name : List ℕ) (is_there : Bool) (result : Result ℕ Stop) → Reopens told snapshot old mid place is_there → (watched_at old place).name ≡ name → Keeps {T = ℕ} place mid new result → Follows {T = ℕ} told (snapshot.leads name) place old new result
+pub follows_there : (told : Bool) (snapshot : Snapshot) (old mid new : List Watched) (place : ℕ) (name : List ℕ) (is_there : Bool) (result : Result ℕ Stop) → Reopens told snapshot old mid place is_there → (watched_at old place).name ≡ name → Keeps {T = ℕ} place mid new result → Follows {T = ℕ} told true (snapshot.leads name) place old new result
 follows_there told snapshot old mid new place name is_there (Ok value) reopens is keeps = (reopens.file, keeps ∙ reopens.names, λ t. reopens.leads t ∙ ap snapshot.leads is)
-follows_there told snapshot old mid new place name is_there (Err (Broke why)) reopens is keeps = (reopens.file, keeps.1 ∙ ap (changed_at place breaks) reopens.names, inr keeps.0)
-follows_there told snapshot old mid new place name is_there (Err (Over why)) reopens is keeps = tt
+follows_there told snapshot old mid new place name is_there (Err (Broke why)) reopens is keeps = (reopens.file, keeps.1 ∙ ap (changed_at place (breaks why)) reopens.names, inr keeps.0)
+follows_there told snapshot old mid new place name is_there (Err (Over why)) reopens is keeps = (reopens.file, keeps ∙ reopens.names)
 
 -- a call that looks or opens failed, and the open file is as it was
-pub follows_broken : (told : Bool) (led : Option ℕ) (place : ℕ) (old now new : List Watched) (why : Fault) → now ≡ old → why ≡ fault.Open place → new ≡ changed_at place breaks now → Follows {T = ℕ} told led place old new (Err (Broke why))
-follows_broken told led place old now new why same is broken = ((watched_at old place).opened, broken ∙ ap (changed_at place breaks) (same ∙ sym (opens_same old place)), inl is)
+pub follows_broken : (told : Bool) (led : Option ℕ) (place : ℕ) (old now new : List Watched) (why : Fault) → now ≡ old → why ≡ fault.Open place → new ≡ changed_at place (breaks why) now → Follows {T = ℕ} told true led place old new (Err (Broke why))
+follows_broken told led place old now new why same is broken = ((watched_at old place).opened, broken ∙ ap (changed_at place (breaks why)) (same ∙ sym (opens_same old place)), inl (is, refl))
 
 -- what was found to have changed is what changed
 pub change_seen : (told : Bool) (snapshot : Snapshot) (old now : List Watched) (place : ℕ) (name : List ℕ) (found : Option Seen) (id : Option ℕ) (result : Option Notice) → result ≡ change_between id (option_map (λ (file : Seen). file.id) found) → id ≡ (watched_at now place).opened → now ≡ old
@@ -355,9 +355,9 @@ open_dues name last (Some file) snapshot position stands = (refl, refl)
 open_dues name gap None snapshot position stands = (refl, refl)
 open_dues name (version v) None snapshot position stands = absurd (none-some v.file (stands.file))
 
-keeps_follows : (T U : Type 0) (told : Bool) (led : Option ℕ) (place : ℕ) (old new : List Watched) (stop : Stop) → Keeps {T = T} place old new (Err stop) → Follows {T = U} told led place old new (Err stop)
-keeps_follows T U told led place old new (Broke why) keeps = ((watched_at old place).opened, keeps.1 ∙ ap (changed_at place breaks) (sym (opens_same old place)), inr keeps.0)
-keeps_follows T U told led place old new (Over why) keeps = tt
+keeps_follows : (T U : Type 0) (told by_name : Bool) (led : Option ℕ) (place : ℕ) (old new : List Watched) (stop : Stop) → Keeps {T = T} place old new (Err stop) → Follows {T = U} told by_name led place old new (Err stop)
+keeps_follows T U told by_name led place old new (Broke why) keeps = ((watched_at old place).opened, keeps.1 ∙ ap (changed_at place (breaks why)) (sym (opens_same old place)), inr keeps.0)
+keeps_follows T U told by_name led place old new (Over why) keeps = ((watched_at old place).opened, keeps ∙ sym (opens_same old place))
 
 ends_some : (told_in told : Bool) (printer after : PrinterState) (name contents : List ℕ) (last : Entry) (opened : Option ℕ) (snapshot : Snapshot) (position id : ℕ) (old new : List Slot) (result : Result ℕ Stop) → opened ≡ Some id → contents ≡ held_at snapshot opened → (told_in ≡ true → StandsAt last opened position)
     → Ends {T = ℕ} told_in told printer name (bytes_past position contents) (lines_past name position (length contents)) old after new result
@@ -372,7 +372,7 @@ pub record LooksAgain (told_in told by_name : Bool) (snapshot : Snapshot) (place
   pub ends : (last : Entry) → (told_in ≡ true → StandsAt last (watched_at watched place).opened position)
       → Ends {T = ℕ} told_in told printer name (bytes_again by_name name last snapshot (watched_at watched place).opened) (lines_again by_name name last snapshot (watched_at watched place).opened) slots after slots_new result
   pub len : IfOk result (λ n. told_in ≡ true → (last : Entry) → StandsAt last (watched_at watched place).opened position → n ≡ length (held_at snapshot (open_after_look by_name name (watched_at watched place).opened snapshot)))
-  pub follows : Follows {T = ℕ} told_in (open_after_look by_name name (watched_at watched place).opened snapshot) place watched watched_new result
+  pub follows : Follows {T = ℕ} told_in by_name (open_after_look by_name name (watched_at watched place).opened snapshot) place watched watched_new result
 
 -- what stops catching up stops the look
 stopped_again : (by_name told_in told : Bool) (printer after : PrinterState) (name : List ℕ) (last : Entry) (opened : Option ℕ) (snapshot : Snapshot) (position : ℕ) (old new : List Slot) (stop : Stop) → (told_in ≡ true → StandsAt last opened position)
@@ -389,7 +389,7 @@ pub stopped_looks : (by_name : Bool) {told_in told : Bool} {snapshot : Snapshot}
 stopped_looks by_name {told_in} {told} {snapshot} {place} {name} {position} {watched} {watched_new} {printer} {after} {slots} {slots_new} {stop} catches = record {
   ends = λ last stands. stopped_again by_name told_in told printer after name last (watched_at watched place).opened snapshot position slots slots_new stop stands (catches.ends last stands);
   len = tt;
-  follows = keeps_follows ℕ ℕ told_in (open_after_look by_name name (watched_at watched place).opened snapshot) place watched watched_new stop catches.keeps;
+  follows = keeps_follows ℕ ℕ told_in by_name (open_after_look by_name name (watched_at watched place).opened snapshot) place watched watched_new stop catches.keeps;
 }
 
 pub caught_looks : (by_name : Bool) {told_in told : Bool} {snapshot : Snapshot} {place : ℕ} {name : List ℕ} {position : ℕ} {watched watched_new : List Watched} {printer after : PrinterState} {slots slots_new : List Slot} {len : ℕ} → by_name ≡ false
@@ -436,20 +436,20 @@ catches_none {told_in} {told} {snapshot} {place} {name} {position} {watched} {wa
   keeps = same;
 }
 
-pub catches_broken : {told_in told : Bool} {snapshot : Snapshot} {place : ℕ} {name : List ℕ} {position : ℕ} {watched watched_new : List Watched} {printer : PrinterState} {slots : List Slot} {why : Fault} → why ≡ fault.Read place → watched_new ≡ changed_at place breaks watched → Catches told_in told snapshot place name position watched printer slots watched_new printer slots (Err (Broke why))
+pub catches_broken : {told_in told : Bool} {snapshot : Snapshot} {place : ℕ} {name : List ℕ} {position : ℕ} {watched watched_new : List Watched} {printer : PrinterState} {slots : List Slot} {why : Fault} → why ≡ fault.Read place → watched_new ≡ changed_at place (breaks why) watched → Catches told_in told snapshot place name position watched printer slots watched_new printer slots (Err (Broke why))
 catches_broken {told_in} {told} {snapshot} {place} {name} {position} {watched} {watched_new} {printer} {slots} {why} is broken = record {
   ends = λ last stands. broke_first told_in told printer name _ _ slots why;
   len = tt;
   keeps = (is, broken);
 }
 
-pub catches_untold : {told_in told : Bool} {snapshot : Snapshot} {place : ℕ} {name : List ℕ} {position : ℕ} {watched watched_new : List Watched} {printer : PrinterState} {slots : List Slot} {slots_new : List Slot} {id len : ℕ} {why : Fault} → (watched_at watched place).opened ≡ Some id → (told_in ≡ true → len ≡ length (open_contents snapshot (watched_at watched place)))
+pub catches_untold : {told_in told : Bool} {snapshot : Snapshot} {place : ℕ} {name : List ℕ} {position : ℕ} {watched watched_new : List Watched} {printer : PrinterState} {slots : List Slot} {slots_new : List Slot} {id len : ℕ} {why : Fault} → watched_new ≡ watched → (watched_at watched place).opened ≡ Some id → (told_in ≡ true → len ≡ length (open_contents snapshot (watched_at watched place)))
     → Ends {T = ℕ} told_in told printer name [] (lines_past name position len) slots printer slots_new (Err (Over why)) → Catches told_in told snapshot place name position watched printer slots watched_new printer slots_new (Err (Over why))
-catches_untold {told_in} {told} {snapshot} {place} {name} {position} {watched} {watched_new} {printer} {slots} {slots_new} {id} {len} {why} some long lines = record {
+catches_untold {told_in} {told} {snapshot} {place} {name} {position} {watched} {watched_new} {printer} {slots} {slots_new} {id} {len} {why} same some long lines = record {
   ends = λ last stands. ends_some told_in told printer printer name (open_contents snapshot (watched_at watched place)) last (watched_at watched place).opened snapshot position id slots slots_new (Err (Over why)) some (contents_open snapshot (watched_at watched place)) stands
       (caught_none told_in told printer name (open_contents snapshot (watched_at watched place)) position len slots slots_new why long lines);
   len = tt;
-  keeps = tt;
+  keeps = same;
 }
 
 pub catches_copied : {told_in told : Bool} {snapshot : Snapshot} {place : ℕ} {name : List ℕ} {position : ℕ} {watched watched_new : List Watched} {printer : PrinterState} {slots : List Slot} {inside after : PrinterState} {mid slots_new : List Slot} {watched_mid : List Watched} {id len from : ℕ} {copied : List ℕ} {result : Result ℕ Stop} → inside ≡ printer → (watched_at watched place).opened ≡ Some id → watched_mid ≡ watched
@@ -502,7 +502,7 @@ len_whole told name snapshot now old new place position is_there (Ok n) Before s
 abbrev Changes : Bool → Snapshot → List Watched → ℕ → List ℕ → Option Notice → Type 0
 Changes told snapshot watched place name change = told ≡ true → change_between (watched_at watched place).opened (snapshot.leads name) ≡ change
 
-pub leads_broken : {told_in told : Bool} {snapshot : Snapshot} {place : ℕ} {name : List ℕ} {position : ℕ} {watched watched_new : List Watched} {printer : PrinterState} {slots : List Slot} {why : Fault} → why ≡ fault.Open place → watched_new ≡ changed_at place breaks watched → Leads told_in told snapshot place name position watched printer slots watched_new printer slots (Err (Broke why))
+pub leads_broken : {told_in told : Bool} {snapshot : Snapshot} {place : ℕ} {name : List ℕ} {position : ℕ} {watched watched_new : List Watched} {printer : PrinterState} {slots : List Slot} {why : Fault} → why ≡ fault.Open place → watched_new ≡ changed_at place (breaks why) watched → Leads told_in told snapshot place name position watched printer slots watched_new printer slots (Err (Broke why))
 leads_broken {told_in} {told} {snapshot} {place} {name} {position} {watched} {watched_new} {printer} {slots} {why} is broken = record {
   ends = broke_first told_in told printer name _ _ slots why;
   len = tt;
@@ -516,17 +516,17 @@ leads_same {told_in} {told} {snapshot} {place} {name} {position} {watched} {watc
   follows = ((watched_at watched place).opened, same ∙ sym (opens_same watched place), λ t. sym (nothing_led name snapshot (watched_at watched place).opened (snapshot.leads name) (none t)).2);
 }
 
-pub leads_untold : {told_in told : Bool} {snapshot : Snapshot} {place : ℕ} {name : List ℕ} {position : ℕ} {watched watched_new : List Watched} {printer : PrinterState} {slots : List Slot} {mid : List Slot} {change : Notice} {why : Fault} → Changes told_in snapshot watched place name (Some change) → Ends {T = Unit {0}} told_in told printer name [] (notice_of change name ∷ []) slots printer mid (Err (Over why))
+pub leads_untold : {told_in told : Bool} {snapshot : Snapshot} {place : ℕ} {name : List ℕ} {position : ℕ} {watched watched_new : List Watched} {printer : PrinterState} {slots : List Slot} {mid : List Slot} {change : Notice} {why : Fault} → Changes told_in snapshot watched place name (Some change) → Ends {T = Unit {0}} told_in told printer name [] (notice_of change name ∷ []) slots printer mid (Err (Over why)) → watched_new ≡ watched
     → Leads told_in told snapshot place name position watched printer slots watched_new printer mid (Err (Over why))
-leads_untold {told_in} {told} {snapshot} {place} {name} {position} {watched} {watched_new} {printer} {slots} {mid} {change} {why} changed line = record {
+leads_untold {told_in} {told} {snapshot} {place} {name} {position} {watched} {watched_new} {printer} {slots} {mid} {change} {why} changed line same = record {
   ends = due_as told_in told printer printer name (bytes_led snapshot (watched_at watched place).opened (snapshot.leads name)) _ (notice_of change name ∷ []) _ slots mid (Err (Over why)) (λ t. (refl, sym (change_led name snapshot (watched_at watched place).opened (snapshot.leads name) change (changed t)).1))
       (stops_early told_in told printer printer name [] (bytes_led snapshot (watched_at watched place).opened (snapshot.leads name)) (notice_of change name ∷ []) [] slots mid (Over why) line);
   len = tt;
-  follows = tt;
+  follows = ((watched_at watched place).opened, same ∙ sym (opens_same watched place));
 }
 
 pub leads_unopened : {told_in told : Bool} {snapshot : Snapshot} {place : ℕ} {name : List ℕ} {position : ℕ} {watched watched_new : List Watched} {printer : PrinterState} {slots : List Slot} {watched_mid : List Watched} {mid : List Slot} {change : Notice} {value : Unit {0}} {why : Fault} → Changes told_in snapshot watched place name (Some change) → Ends {T = Unit {0}} told_in told printer name [] (notice_of change name ∷ []) slots printer mid (Ok value)
-    → watched_mid ≡ watched → why ≡ fault.Open place → watched_new ≡ changed_at place breaks watched_mid → Leads told_in told snapshot place name position watched printer slots watched_new printer mid (Err (Broke why))
+    → watched_mid ≡ watched → why ≡ fault.Open place → watched_new ≡ changed_at place (breaks why) watched_mid → Leads told_in told snapshot place name position watched printer slots watched_new printer mid (Err (Broke why))
 leads_unopened {told_in} {told} {snapshot} {place} {name} {position} {watched} {watched_new} {printer} {slots} {watched_mid} {mid} {change} {value} {why} changed line same is broken = record {
   ends = ends_said told_in told printer printer name (held_at snapshot (snapshot.leads name)) [] snapshot (watched_at watched place).opened (snapshot.leads name) change slots mid mid value (Err (Broke why)) changed (λ t. (refl, refl)) line
       (broke_first told_in told printer name (held_at snapshot (snapshot.leads name)) [] mid why);

@@ -116,15 +116,15 @@ one_more told_in told ways headers names shows first made snapshot old new watch
 observed_all : (told_in told : Bool) (ways : Ways) (headers : Bool) (names : List (List ℕ)) (shows : ℕ → Snapshot) (first : List Slot) (made : ℕ) (follow : FollowState) (watched : List Watched) (slots : List Slot) (seen : List Snapshot) → seen ≡ seen_first shows made → (after : After told_in told ways headers names shows first made follow watched slots) → seen ≡ snapshots after.looks
 observed_all told_in told ways headers names shows first made follow watched slots seen is after = is ∙ ap (seen_first shows) (sym after.count) ∙ sym after.is_made.saw
 
-pub one_stopped : (told_in told : Bool) (ways : Ways) (headers : Bool) (names : List (List ℕ)) (shows : ℕ → Snapshot) (first : List Slot) (made count : ℕ) (snapshot : Snapshot) (old : FollowState) (watched : List Watched) (seen seen_new : List Snapshot) (slots slots_new : List Slot) (why : Fault) → seen ≡ seen_first shows made → SawOrNot seen snapshot seen_new → made < count → snapshot ≡ shows made → KeptIn told_in ways.by_name shows (suc made) names
-    → Progress told_in told ways headers names shows first made old watched slots → StopsOn told_in told snapshot old watched slots slots_new why → StoppedIn told_in told ways headers names count shows first seen_new slots_new why
-one_stopped told_in told ways headers names shows first made count snapshot old watched seen seen_new slots slots_new why so_far saw below is kept progress stops = record {
+pub one_stopped : (told_in told : Bool) (ways : Ways) (headers : Bool) (names : List (List ℕ)) (shows : ℕ → Snapshot) (first : List Slot) (made count : ℕ) (snapshot : Snapshot) (old : FollowState) (watched watched_new : List Watched) (seen seen_new : List Snapshot) (slots slots_new : List Slot) (why : Fault) → seen ≡ seen_first shows made → SawOrNot seen snapshot seen_new → made < count → snapshot ≡ shows made → KeptIn told_in ways.by_name shows (suc made) names
+    → Progress told_in told ways headers names shows first made old watched slots → StopsOn told_in told snapshot old watched slots watched_new slots_new why → StoppedIn told_in told ways headers names count shows first seen_new watched_new slots_new why
+one_stopped told_in told ways headers names shows first made count snapshot old watched watched_new seen seen_new slots slots_new why so_far saw below is kept progress stops = record {
   looks = before.looks;
   saw = subst (λ s. SawOrNot (snapshots before.looks) s seen_new) (is ∙ ap shows (sym before.count)) (subst (λ those. SawOrNot those snapshot seen_new) (observed_all told_in told ways headers names shows first made old watched slots seen so_far before) saw);
   made = before.is_made;
   within = subst (λ n. n < count) (sym before.count) below;
   alive = progress.alive;
-  halted = subst (λ s. Halted told_in told ways headers names before.looks s first slots_new why) (is ∙ ap shows (sym before.count))
+  halted = subst (λ s. Halted told_in told ways headers names before.looks s first watched_new slots_new why) (is ∙ ap shows (sym before.count))
       (stops ways headers names before.looks first before.holds (keeps_next told_in ways names shows before.looks snapshot made (suc made) before.is_made.saw before.count is (omega arith) kept));
 } where
   before : After told_in told ways headers names shows first made old watched slots

@@ -10,7 +10,7 @@ use Rattle.watch_core.specs.Snapshot.{Snapshot}
 use Rattle.follow_core.specs.Version.{version_in, entries_led}
 use Rattle.follow_core.specs.Run.{name_text}
 use Rattle.follow_core.specs.Notice.{is_missing, notice_of, notices_of}
-use Rattle.follow_core.specs.Look.{Ways, Look, sound, unopened, entries_in, Fate, is_first, is_sound}
+use Rattle.follow_core.specs.Look.{Ways, Look, sound, unopened, entries_in, failed_by, Fate, is_first}
 use Rattle.follow_core.specs.Share.{gain, missing_share, share_by, said_at_look, IsFront, Share, BeginsShare}
 use Rattle.follow_core.specs.inner.Visits.{Stopped, has_failed}
 use Rattle.follow_core.proofs.GiveLemmas.{front_nil, failure_said, itself, short_more, short_as, wrote_as, wrote_both, wrote_line, wrote_none, wrote_short, wrote_text}
@@ -43,19 +43,13 @@ Dues told_in ways before snapshot name Due = told_in ≡ true → (fates : List 
     → ((is_first before && is_missing (entries_in ways name (before ++ record { snapshot = snapshot; fates = fates } ∷ []))) ≡ false)
     × Due (gain ways name before (record { snapshot = snapshot; fates = fates })) (said_at_look ways name before (record { snapshot = snapshot; fates = fates }))
 
--- no call on it failed
-abbrev pub came_through : Came → Bool
-came_through (Through len) = true
-came_through Missing = true
-came_through Dropped = false
-
--- The outputs have what the look gives for the name, by how the name came through it. Where the files don't tell their bytes, they have
--- something.
-pub record Looked (told_in told : Bool) (ways : Ways) (before : List Look) (snapshot : Snapshot) (name : List ℕ) (printer : PrinterState) (old : List Slot) (after : PrinterState) (new : List Slot) (came : Came) : Type 0 where
+-- The outputs have what the look gives for the name, by how the name came through it, and by which fault it broke. Where the files
+-- don't tell their bytes, they have something.
+pub record Looked (told_in told : Bool) (ways : Ways) (before : List Look) (snapshot : Snapshot) (place : ℕ) (name : List ℕ) (printer : PrinterState) (old : List Slot) (after : PrinterState) (new : List Slot) (came : Came) (broke_by : Option Fault) : Type 0 where
   pub fate : Fate
   pub share : Share
   pub is_share : told_in ≡ true → (fates : List Fate) → share ≡ share_by ways name before (record { snapshot = snapshot; fates = fates }) fate
-  pub through : is_sound fate ≡ came_through came
+  pub fault : failed_by place fate None ≡ broke_by
   pub failed : share.has_failed ≡ has_failed came
   pub shared : Shared told printer share old after new
 
@@ -114,30 +108,30 @@ empty_shared told printer after name old new same_printer same = record {
   text false last = refl
 
 -- all that a look gives was given
-pub looked_whole : (told_in told : Bool) (ways : Ways) (before : List Look) (snapshot : Snapshot) (name : List ℕ) (printer after : PrinterState) (old new : List Slot) (bytes : List ℕ) (lines : List (List ℕ)) (len : ℕ) → Dues told_in ways before snapshot name (λ due said. (bytes ≡ due) × (lines ≡ said))
-    → Shared told printer (given_share (is_first before) name bytes lines) old after new → Looked told_in told ways before snapshot name printer old after new (Through len)
-looked_whole told_in told ways before snapshot name printer after old new bytes lines len dues shared = record {
+pub looked_whole : (told_in told : Bool) (ways : Ways) (before : List Look) (snapshot : Snapshot) (place : ℕ) (name : List ℕ) (printer after : PrinterState) (old new : List Slot) (bytes : List ℕ) (lines : List (List ℕ)) (len : ℕ) → Dues told_in ways before snapshot name (λ due said. (bytes ≡ due) × (lines ≡ said))
+    → Shared told printer (given_share (is_first before) name bytes lines) old after new → Looked told_in told ways before snapshot place name printer old after new (Through len) None
+looked_whole told_in told ways before snapshot place name printer after old new bytes lines len dues shared = record {
   fate = sound;
   share = given_share (is_first before) name bytes lines;
   is_share = λ is fates. let due = dues is fates in
       ap (λ those. given_share (is_first before) name those lines) due.1.0 ∙ ap (given_share (is_first before) name _) due.1.1
       ∙ sym (ap (λ test. if test then missing_share name else given_share (is_first before) name (gain ways name before (record { snapshot = snapshot; fates = fates })) (said_at_look ways name before (record { snapshot = snapshot; fates = fates }))) due.0);
-  through = refl;
+  fault = refl;
   failed = refl;
   shared = shared;
 }
 
 -- a call failed: a beginning was given, and the message follows
-pub looked_failed : (told_in told : Bool) (ways : Ways) (before : List Look) (snapshot : Snapshot) (name : List ℕ) (printer after : PrinterState) (old mid new : List Slot) (bytes : List ℕ) (lines : List (List ℕ)) (line : List ℕ) (opened : Bool) (fate : Fate) → is_sound fate ≡ false
+pub looked_failed : (told_in told : Bool) (ways : Ways) (before : List Look) (snapshot : Snapshot) (place : ℕ) (name : List ℕ) (printer after : PrinterState) (old mid new : List Slot) (bytes : List ℕ) (lines : List (List ℕ)) (line : List ℕ) (opened : Bool) (fate : Fate) (broke_by : Option Fault) → failed_by place fate None ≡ broke_by
     → ((fates : List Fate) → failed_share opened name (take (length bytes) (gain ways name before (record { snapshot = snapshot; fates = fates }))) (take (length lines) (said_at_look ways name before (record { snapshot = snapshot; fates = fates })) ++ line ∷ []) ≡ share_by ways name before (record { snapshot = snapshot; fates = fates }) fate)
     → (told_in ≡ true → (fates : List Fate) → IsFront bytes (gain ways name before (record { snapshot = snapshot; fates = fates })) × IsFront lines (said_at_look ways name before (record { snapshot = snapshot; fates = fates })))
-    → Shared told printer (given_share opened name bytes lines) old after mid → IsFailure line → SaysOn told Tail line mid new → Looked told_in told ways before snapshot name printer old after new Dropped
-looked_failed told_in told ways before snapshot name printer after old mid new bytes lines line opened fate unsound share_is fronts shared failure says = record {
+    → Shared told printer (given_share opened name bytes lines) old after mid → IsFailure line → SaysOn told Tail line mid new → Looked told_in told ways before snapshot place name printer old after new Dropped broke_by
+looked_failed told_in told ways before snapshot place name printer after old mid new bytes lines line opened fate broke_by fault share_is fronts shared failure says = record {
   fate = fate;
   share = failed_share opened name bytes (lines ++ line ∷ []);
   is_share = λ is fates. let front = fronts is fates in
       ap (λ those. failed_share opened name those (lines ++ line ∷ [])) (sym (front_taken bytes _ front.0)) ∙ ap (λ those. failed_share opened name (take (length bytes) (gain ways name before (record { snapshot = snapshot; fates = fates }))) (those ++ line ∷ [])) (sym (front_taken lines _ front.1)) ∙ share_is fates;
-  through = unsound;
+  fault = fault;
   failed = refl;
   shared = said_after told printer after (given_share opened name bytes lines) line old mid new shared failure says;
 }
@@ -154,20 +148,20 @@ looked_over told_in told ways before snapshot name printer old new why bytes lin
 }
 
 pub meets_nothing : (told_in told : Bool) (ways : Ways) (snapshot : Snapshot) (place : ℕ) (name : List ℕ) (printer : PrinterState) (old new : List Slot) → (told_in ≡ true → snapshot.leads name ≡ None)
-    → SaysOn told Tail (message_of Tail (Open place) name) old new → Looked told_in told ways [] snapshot name printer old printer new Missing
+    → SaysOn told Tail (message_of Tail (Open place) name) old new → Looked told_in told ways [] snapshot place name printer old printer new Missing None
 meets_nothing told_in told ways snapshot place name printer old new leads says = record {
   fate = sound;
   share = missing_share name;
   is_share = λ is fates. sym (share_missing ways name (record { snapshot = snapshot; fates = fates }) (leads is));
-  through = refl;
+  fault = refl;
   failed = refl;
   shared = said_after told printer printer (empty_share name) (message_of Tail (Open 0) name) old old new (empty_shared told printer printer name old old refl refl) (name, inl refl) says;
 }
 
 pub meets_unopened : (told_in told : Bool) (ways : Ways) (snapshot : Snapshot) (place : ℕ) (name : List ℕ) (printer : PrinterState) (old new : List Slot)
-    → SaysOn told Tail (message_of Tail (Open place) name) old new → Looked told_in told ways [] snapshot name printer old printer new Dropped
+    → SaysOn told Tail (message_of Tail (Open place) name) old new → Looked told_in told ways [] snapshot place name printer old printer new Dropped (Some (Open place))
 meets_unopened told_in told ways snapshot place name printer old new says =
-    looked_failed told_in told ways [] snapshot name printer printer old old new [] [] (message_of Tail (Open 0) name) false (unopened 0 0) refl (λ fates. refl) (λ is fates. (front_nil _, front_nil _))
+    looked_failed told_in told ways [] snapshot place name printer printer old old new [] [] (message_of Tail (Open 0) name) false (unopened 0 0) (Some (Open place)) refl (λ fates. refl) (λ is fates. (front_nil _, front_nil _))
     (empty_shared told printer printer name old old refl refl) (name, inl refl) says
 
 -- what is due of a file that the first look finds
@@ -255,16 +249,16 @@ held_file : (snapshot : Snapshot) (name contents : List ℕ) (id : ℕ) → snap
 held_file snapshot name contents id leads same = same ∙ ap (held_at snapshot) leads
 
 -- the file was opened, and its start part given
-pub first_whole : {told_in told : Bool} {ways : Ways} {snapshot : Snapshot} {name contents : List ℕ} {printer inside under after : PrinterState} {old mid new : List Slot} {len : ℕ} → inside ≡ printer
+pub first_whole : {told_in told : Bool} {ways : Ways} {snapshot : Snapshot} {place : ℕ} {name contents : List ℕ} {printer inside under after : PrinterState} {old mid new : List Slot} {len : ℕ} → inside ≡ printer
     → (told_in ≡ true → (id : ℕ) × (snapshot.leads name ≡ Some id)) → (told_in ≡ true → contents ≡ held_at snapshot (snapshot.leads name)) → mid ≡ with_written 0 (told_of told (opening_under inside name)) old → under ≡ opened_under inside name
     → Ends {T = ℕ} told_in told under name (ways.start contents) [] mid after new (Ok len)
-    → Looked told_in told ways [] snapshot name printer old after new (Through len)
-first_whole {told_in} {told} {ways} {snapshot} {name} {contents} {printer} {inside} {under} {after} {old} {mid} {new} {len} viewed found same first is_under ends =
-    subst (λ (p : PrinterState). Looked told_in told ways [] snapshot name p old after new (Through len)) viewed
+    → Looked told_in told ways [] snapshot place name printer old after new (Through len) None
+first_whole {told_in} {told} {ways} {snapshot} {place} {name} {contents} {printer} {inside} {under} {after} {old} {mid} {new} {len} viewed found same first is_under ends =
+    subst (λ (p : PrinterState). Looked told_in told ways [] snapshot place name p old after new (Through len) None) viewed
     (by (subst (λ (p : PrinterState). Ends {T = ℕ} told_in told p name (ways.start contents) [] mid after new (Ok len)) is_under ends)) where
-      by : Ends {T = ℕ} told_in told (opened_under inside name) name (ways.start contents) [] mid after new (Ok len) → Looked told_in told ways [] snapshot name inside old after new (Through len)
+      by : Ends {T = ℕ} told_in told (opened_under inside name) name (ways.start contents) [] mid after new (Ok len) → Looked told_in told ways [] snapshot place name inside old after new (Through len) None
       by (whole value bytes lines are gives) =
-          looked_whole told_in told ways [] snapshot name inside after old new bytes lines len (λ is fates.
+          looked_whole told_in told ways [] snapshot place name inside after old new bytes lines len (λ is fates.
           let due = first_dues ways snapshot name (found is).0 (found is).1 refl fates in
           (due.0, ((are is).0 ∙ ap ways.start (held_file snapshot name contents (found is).0 (found is).1 (same is)) ∙ sym due.1.0, (are is).1 ∙ sym due.1.1)))
           (opened_gives told inside after name bytes lines old mid new first gives)

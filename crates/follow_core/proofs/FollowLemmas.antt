@@ -10,7 +10,6 @@ use Rattle.follow_core.specs.declared.name.Standing.{Standing}
 use Rattle.follow_core.specs.declared.name.Standing.TheVariants.{New, Followed, Left}
 use Rattle.follow_core.specs.declared.follow.Stage.{Stage}
 use Rattle.follow_core.specs.declared.follow.Stage.TheVariants.{Fresh, Looking, Over}
-use Rattle.follow_core.specs.Ending.{AreBroken}
 use Rattle.follow_core.specs.Followed.{any_failed, last_header_from, messages_of, text_from}
 use Rattle.follow_core.specs.FollowState.{AllReady, FollowState, Holds, LooksOn, StandsIn, StopsOn, goes_on_at, is_alive, is_alive_from, new_state, nothing, up_to}
 use Rattle.follow_core.specs.inner.Looks.{Begins, MakesLook}
@@ -18,7 +17,7 @@ use Rattle.follow_core.specs.Look.{Look, Ways, is_dropped, snapshots, ways_of}
 use Rattle.follow_core.specs.Printing.{PrinterState, Short, fresh_printer, no_room}
 use Rattle.follow_core.specs.Share.{Share, shares_at_look, shares_of}
 use Rattle.follow_core.specs.Sharing.{AllShared, AllShort, Wrote, WroteShort}
-use Rattle.follow_core.specs.Standing.{AllKeep, AllStand, CanVisit, IsFollowed, NameState, Stands, state_at, texts}
+use Rattle.follow_core.specs.Standing.{AllKeep, AllStand, AreBroken, CanVisit, IsFollowed, NameState, Stands, state_at, texts}
 use Rattle.follow_core.specs.inner.Visits.{any_goes_on, goes_on_as, StoppedAt, VisitedAll}
 use Rattle.follow_core.specs.Version.{open_after}
 use Rattle.ports_core.specs.declared.fault.Fault.{Fault}
@@ -28,7 +27,7 @@ use Rattle.watch_core.specs.Watched.{Watched, added, watched_at}
 use Rattle.std.specs.Prelude.{is_some}
 use Rattle.follow_core.proofs.LaterLemmas.{last_file}
 use Rattle.follow_core.proofs.ShareLemmas.{failed-append, last-append, messages-append, shares_more, text-append}
-use Rattle.follow_core.proofs.VisitAllLemmas.{nothing_shared}
+use Rattle.follow_core.proofs.VisitAllLemmas.{broken_there, nothing_shared}
 use Rattle.follow_core.proofs.GiveLemmas.{wrote_as, wrote_both}
 
 -- further shares
@@ -74,9 +73,9 @@ Visits told_in told snapshot old watched slots new watched_new slots_new failed 
     → VisitedAll told_in told (ways_of old.by_name old.start) looks snapshot old.names old.printer slots new.printer slots_new watched_new new.names failed
 
 -- it was stopped
-abbrev pub Halts : (told_in told : Bool) → Snapshot → FollowState → List Watched → List Slot → List Slot → Fault → Type 0
-Halts told_in told snapshot old watched slots slots_new why = (looks : List Look) → AllStand told_in (ways_of old.by_name old.start) looks old.names watched → AllKeep told_in (ways_of old.by_name old.start) looks snapshot (texts old.names)
-    → StoppedAt told_in told (ways_of old.by_name old.start) looks snapshot (texts old.names) old.printer slots slots_new why
+abbrev pub Halts : (told_in told : Bool) → Snapshot → FollowState → List Watched → List Slot → List Watched → List Slot → Fault → Type 0
+Halts told_in told snapshot old watched slots watched_new slots_new why = (looks : List Look) → AllStand told_in (ways_of old.by_name old.start) looks old.names watched → AllKeep told_in (ways_of old.by_name old.start) looks snapshot (texts old.names)
+    → StoppedAt told_in told (ways_of old.by_name old.start) looks snapshot (texts old.names) old.printer slots watched_new slots_new why
 
 pub visits_at : (told_in told : Bool) (snapshot seen : Snapshot) (old new : FollowState) (names names_new : List NameState) (watched mid watched_new : List Watched) (slots slots_new : List Slot) (failed : Bool) → names ≡ old.names → names_new ≡ new.names → mid ≡ watched → seen ≡ snapshot
     → ((looks : List Look) → AllStand told_in (ways_of old.by_name old.start) looks names mid → AllKeep told_in (ways_of old.by_name old.start) looks seen (texts names)
@@ -88,15 +87,15 @@ visits_at told_in told snapshot seen old new names names_new watched mid watched
       V these after those s = (looks : List Look) → AllStand told_in (ways_of old.by_name old.start) looks these those → AllKeep told_in (ways_of old.by_name old.start) looks s (texts these)
           → VisitedAll told_in told (ways_of old.by_name old.start) looks s these old.printer slots new.printer slots_new watched_new after failed
 
-pub halts_at : (told_in told : Bool) (snapshot seen : Snapshot) (old : FollowState) (names : List NameState) (watched mid : List Watched) (slots slots_new : List Slot) (why : Fault) → names ≡ old.names → mid ≡ watched → seen ≡ snapshot
+pub halts_at : (told_in told : Bool) (snapshot seen : Snapshot) (old : FollowState) (names : List NameState) (watched mid watched_new : List Watched) (slots slots_new : List Slot) (why : Fault) → names ≡ old.names → mid ≡ watched → seen ≡ snapshot
     → ((looks : List Look) → AllStand told_in (ways_of old.by_name old.start) looks names mid → AllKeep told_in (ways_of old.by_name old.start) looks seen (texts names)
-    → StoppedAt told_in told (ways_of old.by_name old.start) looks seen (texts names) old.printer slots slots_new why)
-    → Halts told_in told snapshot old watched slots slots_new why
-halts_at told_in told snapshot seen old names watched mid slots slots_new why same is at halts =
+    → StoppedAt told_in told (ways_of old.by_name old.start) looks seen (texts names) old.printer slots watched_new slots_new why)
+    → Halts told_in told snapshot old watched slots watched_new slots_new why
+halts_at told_in told snapshot seen old names watched mid watched_new slots slots_new why same is at halts =
     subst (λ those. H those watched snapshot) same (subst (λ those. H names those snapshot) is (subst (λ s. H names mid s) at halts)) where
       H : List NameState → List Watched → Snapshot → Type 0
       H these those s = (looks : List Look) → AllStand told_in (ways_of old.by_name old.start) looks these those → AllKeep told_in (ways_of old.by_name old.start) looks s (texts these)
-          → StoppedAt told_in told (ways_of old.by_name old.start) looks s (texts these) old.printer slots slots_new why
+          → StoppedAt told_in told (ways_of old.by_name old.start) looks s (texts these) old.printer slots watched_new slots_new why
 
 same_length : (names now : List NameState) → texts now ≡ texts names → length names ≡ length now
 same_length names now same = sym (length-map names (λ (n : NameState). n.text)) ∙ ap length (sym same) ∙ length-map now (λ (n : NameState). n.text)
@@ -125,32 +124,43 @@ look_made told_in told snapshot old new watched watched_new slots slots_new fail
   after : List Look
   after = looks ++ look ∷ []
 
-pub look_stopped : {told_in told : Bool} {snapshot : Snapshot} {old : FollowState} {watched : List Watched} {slots slots_new : List Slot} {why : Fault} → old.stage ≡ Looking → Halts told_in told snapshot old watched slots slots_new why → StopsOn told_in told snapshot old watched slots slots_new why
-look_stopped {told_in} {told} {snapshot} {old} {watched} {slots} {slots_new} {why} looking halts ways headers names looks first holds keep = record {
+-- as many names
+length_names : (follow : FollowState) (names : List (List ℕ)) → texts follow.names ≡ names → length follow.names ≡ length names
+length_names follow names same = sym (length-map follow.names (λ (n : NameState). n.text)) ∙ ap length same
+
+pub look_stopped : {told_in told : Bool} {snapshot : Snapshot} {old : FollowState} {watched watched_new : List Watched} {slots slots_new : List Slot} {why : Fault} → old.stage ≡ Looking → length watched_new ≡ length watched
+    → Halts told_in told snapshot old watched slots watched_new slots_new why → StopsOn told_in told snapshot old watched slots watched_new slots_new why
+look_stopped {told_in} {told} {snapshot} {old} {watched} {watched_new} {slots} {slots_new} {why} looking count halts ways headers names looks first holds keep = record {
   shares = holds.shares;
   are = holds.are;
   printer = old.printer;
   reached = slots;
   shared = holds.shared;
   more = stopped.shares ++ stopped.share ∷ [];
-  begun = up_to stopped.fates stopped.place stopped.shares stopped.share stopped.within stopped.are stopped.begins;
+  begun = up_to stopped.fates stopped.place stopped.shares stopped.share stopped.count stopped.within
+      (λ above. (count ∙ (subst (StandsIn told_in ways looks old.names watched) looking holds.stand).1 ∙ length_names old names holds.same, stopped.broken)) stopped.are stopped.begins;
   short = stopped.short;
 } where
-  stopped : StoppedAt told_in told ways looks snapshot names old.printer slots slots_new why
-  stopped = subst (λ those. StoppedAt told_in told ways looks snapshot those old.printer slots slots_new why) holds.same
-      (subst (λ way. StoppedAt told_in told way looks snapshot (texts old.names) old.printer slots slots_new why) (sym holds.asked)
+  stopped : StoppedAt told_in told ways looks snapshot names old.printer slots watched_new slots_new why
+  stopped = subst (λ those. StoppedAt told_in told ways looks snapshot those old.printer slots watched_new slots_new why) holds.same
+      (subst (λ way. StoppedAt told_in told way looks snapshot (texts old.names) old.printer slots watched_new slots_new why) (sym holds.asked)
       (halts looks (stand_in told_in told ways headers names looks first old watched slots looking holds) (keep_in told_in told ways headers names looks snapshot first old watched slots holds keep)))
 
+-- whatever looks were made, the names broke just where they tell so
+abbrev pub Unbroken : (told_in told : Bool) → FollowState → List Watched → List Slot → List Watched → Type 0
+Unbroken told_in told old watched slots watched_new = (ways : Ways) (headers : Bool) (names : List (List ℕ)) (looks : List Look) (first : List Slot)
+    → Holds told_in told ways headers names looks first old watched slots → AreBroken ways looks names watched_new
+
 -- there was no memory to begin one
-look_refused : (told_in told : Bool) (snapshot : Snapshot) (old : FollowState) (watched : List Watched) (slots slots_new : List Slot) (why : Fault) → why ≡ fault.Memory → slots_new ≡ slots → StopsOn told_in told snapshot old watched slots slots_new why
-look_refused told_in told snapshot old watched slots slots_new why is same ways headers names looks first holds keep = record {
+look_refused : (told_in told : Bool) (snapshot : Snapshot) (old : FollowState) (watched watched_new : List Watched) (slots slots_new : List Slot) (why : Fault) → Unbroken told_in told old watched slots watched_new → why ≡ fault.Memory → slots_new ≡ slots → StopsOn told_in told snapshot old watched slots watched_new slots_new why
+look_refused told_in told snapshot old watched watched_new slots slots_new why unbroken is same ways headers names looks first holds keep = record {
   shares = holds.shares;
   are = holds.are;
   printer = old.printer;
   reached = slots;
   shared = holds.shared;
   more = [];
-  begun = nothing;
+  begun = nothing (unbroken ways headers names looks first holds);
   short = subst (AllShort told old.printer [] slots slots_new) (sym is) (subst (λ those. AllShort told old.printer [] slots those fault.Memory) (sym same) (none_stop told old.printer slots));
 }
 
@@ -223,16 +233,16 @@ pub begun_looked : {told_in told : Bool} {snapshot snapshot_mid : Snapshot} {old
 begun_looked {told_in} {told} {snapshot} {snapshot_mid} {old} {mid} {new} {watched} {watched_mid} {watched_new} {slots} {slots_new} begins same looks_on = subst (λ s. LooksOn told_in told s old watched slots new watched_new slots_new) same
     (λ ways headers names looks first holds keep. looks_on ways headers names looks first (begins.holds told ways headers names looks first slots holds) keep)
 
-pub begun_stopped : {told_in told : Bool} {snapshot snapshot_mid : Snapshot} {old mid : FollowState} {watched watched_mid : List Watched} {slots slots_new : List Slot} {why : Fault} → Begins told_in old watched mid watched_mid → snapshot_mid ≡ snapshot
-    → StopsOn told_in told snapshot_mid mid watched_mid slots slots_new why → StopsOn told_in told snapshot old watched slots slots_new why
-begun_stopped {told_in} {told} {snapshot} {snapshot_mid} {old} {mid} {watched} {watched_mid} {slots} {slots_new} {why} begins same stops = subst (λ s. StopsOn told_in told s old watched slots slots_new why) same
+pub begun_stopped : {told_in told : Bool} {snapshot snapshot_mid : Snapshot} {old mid : FollowState} {watched watched_mid watched_new : List Watched} {slots slots_new : List Slot} {why : Fault} → Begins told_in old watched mid watched_mid → snapshot_mid ≡ snapshot
+    → StopsOn told_in told snapshot_mid mid watched_mid slots watched_new slots_new why → StopsOn told_in told snapshot old watched slots watched_new slots_new why
+begun_stopped {told_in} {told} {snapshot} {snapshot_mid} {old} {mid} {watched} {watched_mid} {watched_new} {slots} {slots_new} {why} begins same stops = subst (λ s. StopsOn told_in told s old watched slots watched_new slots_new why) same
     (λ ways headers names looks first holds keep. stops ways headers names looks first (begins.holds told ways headers names looks first slots holds) keep)
 
-pub makes_none : {told_in told : Bool} {snapshot : Snapshot} {seen seen_new : List Snapshot} {old new : FollowState} {watched watched_new : List Watched} {slots : List Slot} {why : Fault} → why ≡ fault.Memory → seen_new ≡ seen
+pub makes_none : {told_in told : Bool} {snapshot : Snapshot} {seen seen_new : List Snapshot} {old new : FollowState} {watched watched_new : List Watched} {slots : List Slot} {why : Fault} → Unbroken told_in told old watched slots watched_new → why ≡ fault.Memory → seen_new ≡ seen
     → MakesLook told_in told snapshot seen old watched slots seen_new new watched_new slots (Err why)
-makes_none {told_in} {told} {snapshot} {seen} {seen_new} {old} {new} {watched} {watched_new} {slots} {why} is same = record {
+makes_none {told_in} {told} {snapshot} {seen} {seen_new} {old} {new} {watched} {watched_new} {slots} {why} unbroken is same = record {
   looked = tt;
-  stopped = look_refused told_in told snapshot old watched slots slots why is refl;
+  stopped = look_refused told_in told snapshot old watched watched_new slots slots why unbroken is refl;
   seen_is = tt;
   saw = inl same;
   stage = tt;
@@ -295,24 +305,29 @@ alive_is told ways headers names looks first slots follow watched holds =
       stage Looking stand = λ place within. goes_on_there ways looks place (state_at follow.names place).text (watched_at watched place) (state_at follow.names place).standing (stand.0 place within)
       stage Over stand = absurd stand
 
--- a name for which a call failed is broken
+-- by what the names broke
 
-broken_there : (told : Bool) (ways : Ways) (looks : List Look) (place : ℕ) (name : List ℕ) (watched : Watched) (standing : Standing) → Stands told ways looks place name watched standing → is_dropped place looks ≡ true → watched.is_broken ≡ true
-broken_there told ways looks place name watched New stands dropped = absurd (false≢true (sym (ap (is_dropped place) stands.0) ∙ dropped))
-broken_there told ways looks place name watched (Followed position) stands dropped = absurd (false≢true (sym stands.kept ∙ dropped))
-broken_there told ways looks place name watched Left stands dropped = elim stands.why [
-  | inl broken ↦ broken.1
-  | inr missed ↦ absurd (false≢true (sym missed.kept ∙ dropped))
-]
+none_made : (ways : Ways) (looks : List Look) (names : List (List ℕ)) (watched : List Watched) → looks ≡ [] → AreBroken ways looks names watched
+none_made ways looks names watched none above = absurd (not_above (subst (λ (those : List Look). 0 < length those) none above)) where
+  not_above : 0 < 0 → ⊥
+  not_above above = omega arith
 
-pub broken_are : (told_in told : Bool) (ways : Ways) (headers : Bool) (names : List (List ℕ)) (looks : List Look) (first slots : List Slot) (follow : FollowState) (watched : List Watched) → Holds told_in told ways headers names looks first follow watched slots → AreBroken looks names watched
+pub broken_are : (told_in told : Bool) (ways : Ways) (headers : Bool) (names : List (List ℕ)) (looks : List Look) (first slots : List Slot) (follow : FollowState) (watched : List Watched) → Holds told_in told ways headers names looks first follow watched slots → AreBroken ways looks names watched
 broken_are told_in told ways headers names looks first slots follow watched holds = stage follow.stage holds.stand where
   count : length follow.names ≡ length names
-  count = sym (length-map follow.names (λ (n : NameState). n.text)) ∙ ap length holds.same
+  count = length_names follow names holds.same
 
-  stage : (stage : Stage) → StandsIn told_in ways looks follow.names watched stage → AreBroken looks names watched
-  stage Fresh stand = (λ above. absurd (not_above (subst (λ (those : List Look). 0 < length those) stand.0 above)), λ place within dropped. absurd (false≢true (sym (ap (is_dropped place) stand.0) ∙ dropped))) where
-    not_above : 0 < 0 → ⊥
-    not_above above = omega arith
-  stage Looking stand = (λ above. stand.1 ∙ count, λ place within dropped. broken_there told_in ways looks place (state_at follow.names place).text (watched_at watched place) (state_at follow.names place).standing (stand.0 place (subst (λ n. place < n) (sym count) within)) dropped)
+  stage : (stage : Stage) → StandsIn told_in ways looks follow.names watched stage → AreBroken ways looks names watched
+  stage Fresh stand = none_made ways looks names watched stand.0
+  stage Looking stand = λ above. (stand.1 ∙ count, λ place within. broken_there told_in ways looks place (state_at follow.names place).text (watched_at watched place) (state_at follow.names place).standing (stand.0 place (subst (λ n. place < n) (sym count) within)))
   stage Over stand = absurd stand
+
+-- before the first look
+pub fresh_unbroken : {told_in told : Bool} {old : FollowState} {watched : List Watched} {slots : List Slot} (watched_new : List Watched) → old.stage ≡ Fresh → Unbroken told_in told old watched slots watched_new
+fresh_unbroken {told_in} {told} {old} {watched} {slots} watched_new fresh ways headers names looks first holds =
+    none_made ways looks names watched_new (subst (StandsIn told_in ways looks old.names watched) fresh holds.stand).0
+
+-- the names are watched, and no call was made on one
+pub begun_unbroken : {told_in told : Bool} {old mid : FollowState} {watched watched_mid watched_new : List Watched} {slots : List Slot} → Begins told_in old watched mid watched_mid → watched_new ≡ watched_mid → Unbroken told_in told old watched slots watched_new
+begun_unbroken {told_in} {told} {old} {mid} {watched} {watched_mid} {watched_new} {slots} begins same ways headers names looks first holds =
+    subst (AreBroken ways looks names) (sym same) (broken_are told_in told ways headers names looks first slots mid watched_mid (begins.holds told ways headers names looks first slots holds))

@@ -307,11 +307,11 @@ front_taken_by n xs = (drop n xs, sym (take-append-drop n xs))
 
 pub copy_broke : (told_in told : Bool) (printer : PrinterState) (name contents : List ℕ) (from at len place : ℕ) (old : List Slot) (mid : PrinterState) (now : List Slot) (seen_old seen_now : List Snapshot) (watched_old watched_now watched_new : List Watched) (room : ℕ) (why : Fault)
     → Copying told_in told printer name contents from at len old mid now seen_old seen_now watched_old watched_now room
-    → why ≡ fault.Read place → watched_new ≡ changed_at place breaks watched_now
+    → why ≡ fault.Read place → watched_new ≡ changed_at place (breaks why) watched_now
     → Ends {T = ℕ} told_in told printer name (drop from contents) [] old mid now (Err (Broke why)) × Keeps {T = ℕ} place watched_old watched_new (Err (Broke why))
 copy_broke told_in told printer name contents from at len place old mid now seen_old seen_now watched_old watched_now watched_new room why c is failed = (
   broke why c.bytes [] (λ told. (subst (λ bytes. IsFront bytes (drop from contents)) (sym (c.are told)) (front_taken_by (at - from) (drop from contents)), front_nil [])) (gives_put told printer mid name c.bytes old now c.put),
-  (is, failed ∙ ap (changed_at place breaks) c.watched_same),
+  (is, failed ∙ ap (changed_at place (breaks why)) c.watched_same),
 )
 
 pub copy_over : (told_in told : Bool) (printer : PrinterState) (name contents now_contents : List ℕ) (from at len n : ℕ) (old : List Slot) (mid after : PrinterState) (now new : List Slot) (seen_old seen_now : List Snapshot) (watched_old watched_now : List Watched) (room : ℕ) (read_old read_new tail : List ℕ) (why : Fault)

@@ -1,13 +1,15 @@
 -- A later look at a name, with what is told of it.
-use Rattle.follow_core.specs.Standing.{StandsAt}
-use Rattle.std.proofs.Common.{◌≡◌, ℕ, ◌==◌, Bool, true, false, not, ◌||◌, List, [], ◌∷◌, ◌++◌, length, Option, Some, None, refl, sym, ◌∙◌, ap, if◌then◌else◌, map, drop, subst, take, Ok, Err, inl, inr, ◌⊎◌}
+use Rattle.follow_core.specs.Standing.{BrokeIn, StandsAt}
+use Rattle.std.proofs.lemmas.Option.{none-some}
+use Rattle.follow_core.proofs.CallLemmas.{none_of}
+use Rattle.std.proofs.Common.{◌≡◌, ℕ, ◌==◌, Bool, true, false, List, [], ◌∷◌, ◌++◌, length, Option, Some, None, refl, sym, ◌∙◌, ap, if◌then◌else◌, map, drop, subst, take, Ok, Err, inl, inr, ◌⊎◌}
 use Rattle.std.proofs.lemmas.Bool.{eqb-true}
 use Rattle.std.proofs.lemmas.List.{map-append}
 use Rattle.watch_core.specs.Snapshot.{Snapshot}
 use Rattle.follow_core.specs.Version.{Entry, gap, version_in, entries_at_look, entries_led, entries_later, entries_of, entries_open, open_after, open_after_later, open_after_look}
 use Rattle.follow_core.specs.Gain.{file_of, last_from, last_of, seen_length, gains_later, gains_after}
 use Rattle.follow_core.specs.inner.Calls.{held_at, bytes_again, lines_again}
-use Rattle.follow_core.specs.Look.{Fate, Look, Ways, entries_in, fate_at, is_dropped, is_sound, snapshots, sound, unopened as not_opened, unread as not_read}
+use Rattle.follow_core.specs.Look.{Fate, Look, Ways, entries_in, failed_by, failed_in, fate_at, is_dropped, snapshots, sound, unopened as not_opened, unread as not_read}
 use Rattle.std.proofs.Math.Seq.{drop-append_seam as drop_front}
 use Rattle.follow_core.specs.Run.{AreKept, name_text}
 use Rattle.follow_core.specs.Notice.{notice_of, notices_of, notices_later}
@@ -159,15 +161,61 @@ last_later ways name before looks look opened is =
     ∙ ap (λ those. last_from last (entries_at_look ways.by_name name those look.snapshot)) (last_file ways name before looks ∙ sym is) in
     (ap file_of more ∙ sym (open_step ways.by_name name opened look.snapshot last is), ap seen_length more ∙ seen_step ways.by_name name opened look.snapshot last)
 
-pub dropped_more : (place : ℕ) (looks : List Look) (look : Look) → is_dropped place (looks ++ look ∷ []) ≡ (is_dropped place looks || not (is_sound (fate_at place look)))
-dropped_more place [] look = by (not (is_sound (fate_at place look))) where
-  by : (a : Bool) → (a || false) ≡ a
-  by true = refl
-  by false = refl
-dropped_more place (first ∷ looks) look = ap (λ rest. not (is_sound (fate_at place first)) || rest) (dropped_more place looks look) ∙ by (not (is_sound (fate_at place first))) (is_dropped place looks) (not (is_sound (fate_at place look))) where
-  by : (a b c : Bool) → (a || (b || c)) ≡ ((a || b) || c)
-  by true b c = refl
-  by false b c = refl
+-- the fault by which a name broke, which didn't break at the looks before
+pub failed_more : (place : ℕ) (looks : List Look) (look : Look) (fate : Fate) → failed_in place looks ≡ None → fate_at place look ≡ fate → failed_in place (looks ++ look ∷ []) ≡ failed_by place fate None
+failed_more place [] look fate kept at = ap (λ those. failed_by place those None) at
+failed_more place (first ∷ looks) look fate kept at = by (fate_at place first) kept (λ none. failed_more place looks look fate none at) where
+  by : (before : Fate) → failed_by place before (failed_in place looks) ≡ None → (failed_in place looks ≡ None → failed_in place (looks ++ look ∷ []) ≡ failed_by place fate None)
+      → failed_by place before (failed_in place (looks ++ look ∷ [])) ≡ failed_by place fate None
+  by sound none rest = rest none
+  by (not_opened notices bytes) none rest = absurd (none-some (Open place) (sym none))
+  by (not_read notices bytes) none rest = absurd (none-some (Read place) (sym none))
+
+-- a look that it comes through changes nothing
+pub failed_sound : (place : ℕ) (looks : List Look) (look : Look) → fate_at place look ≡ sound → failed_in place (looks ++ look ∷ []) ≡ failed_in place looks
+failed_sound place [] look fine = ap (λ those. failed_by place those None) fine
+failed_sound place (first ∷ looks) look fine = ap (failed_by place (fate_at place first)) (failed_sound place looks look fine)
+
+failed_first : (place : ℕ) (looks : List Look) → failed_in place looks ≡ None → failed_in place (take 1 looks) ≡ None
+failed_first place [] kept = refl
+failed_first place (look ∷ looks) kept = by (fate_at place look) kept where
+  by : (fate : Fate) → failed_by place fate (failed_in place looks) ≡ None → failed_by place fate None ≡ None
+  by sound none = refl
+  by (not_opened notices bytes) none = absurd (none-some (Open place) (sym none))
+  by (not_read notices bytes) none = absurd (none-some (Read place) (sym none))
+
+none_failed : (place : ℕ) (looks : List Look) → is_dropped place looks ≡ false → failed_in place looks ≡ None
+none_failed place looks kept = none_of (failed_in place looks) kept
+
+-- a name that is not dropped is not broken
+pub unbroken_in : (ways : Ways) (looks : List Look) (place : ℕ) (failed : Option Fault) → failed ≡ None → is_dropped place looks ≡ false → BrokeIn ways looks place failed
+unbroken_in ways looks place failed unbroken kept =
+    let none = none_failed place looks kept in
+    record { fault = unbroken ∙ sym none; opened = λ way. inl (failed_first place looks none ∙ sym none) }
+
+-- one look more, through which it comes
+pub broken_sound : (ways : Ways) (looks : List Look) (look : Look) (place : ℕ) (failed : Option Fault) → fate_at place look ≡ sound → BrokeIn ways looks place failed → BrokeIn ways (looks ++ look ∷ []) place failed
+broken_sound ways [] look place failed fine so_far = record { fault = so_far.fault ∙ sym (failed_sound place [] look fine); opened = λ way. inl refl }
+broken_sound ways (first ∷ looks) look place failed fine so_far = record {
+  fault = so_far.fault ∙ sym same;
+  opened = λ way. subst (λ those. (failed_in place (first ∷ []) ≡ those) ⊎ (those ≡ Some (Read place))) (sym same) (so_far.opened way);
+} where
+  same : failed_in place ((first ∷ looks) ++ look ∷ []) ≡ failed_in place (first ∷ looks)
+  same = failed_sound place (first ∷ looks) look fine
+
+-- it broke at the first look
+pub broken_first : (ways : Ways) (look : Look) (place : ℕ) (failed : Option Fault) (fate : Fate) → failed ≡ failed_by place fate None → fate_at place look ≡ fate → BrokeIn ways (look ∷ []) place failed
+broken_first ways look place failed fate is at = record { fault = is ∙ sym (ap (λ those. failed_by place those None) at); opened = λ way. inl refl }
+
+-- or at a later one, which by itself opens nothing where names aren't followed
+pub broken_later : (ways : Ways) (looks : List Look) (look : Look) (place : ℕ) (failed : Option Fault) (why : Fault) (fate : Fate) → failed ≡ Some why → failed_by place fate None ≡ Some why → is_dropped place looks ≡ false → fate_at place look ≡ fate
+    → (ways.by_name ≡ false → why ≡ Read place) → BrokeIn ways (looks ++ look ∷ []) place failed
+broken_later ways looks look place failed why fate is fault kept at read = record {
+  fault = is ∙ sym now;
+  opened = λ way. inr (now ∙ ap Some (read way));
+} where
+  now : failed_in place (looks ++ look ∷ []) ≡ Some why
+  now = failed_more place looks look fate (none_failed place looks kept) at ∙ fault
 
 -- fates don't matter for what was seen
 pub same_entries : (ways : Ways) (name : List ℕ) (looks : List Look) (snapshot : Snapshot) (fates others : List Fate) → entries_in ways name (looks ++ record { snapshot = snapshot; fates = fates } ∷ []) ≡ entries_in ways name (looks ++ record { snapshot = snapshot; fates = others } ∷ [])
@@ -205,11 +253,11 @@ due_again ways name before looks snapshot fates opened position by_name way read
           ∙ sym (more_said ways name before looks (record { snapshot = snapshot; fates = fates })),
     )
 
-pub again_whole : (told_in told : Bool) (ways : Ways) (before : Look) (looks : List Look) (snapshot : Snapshot) (name : List ℕ) (opened : Option ℕ) (position : ℕ) (by_name : Bool) (printer after : PrinterState) (old new : List Slot) (len : ℕ) → ways.by_name ≡ by_name → (told_in ≡ true → IsReady ways (before ∷ looks) snapshot name opened position)
+pub again_whole : (told_in told : Bool) (ways : Ways) (before : Look) (looks : List Look) (snapshot : Snapshot) (place : ℕ) (name : List ℕ) (opened : Option ℕ) (position : ℕ) (by_name : Bool) (printer after : PrinterState) (old new : List Slot) (len : ℕ) → ways.by_name ≡ by_name → (told_in ≡ true → IsReady ways (before ∷ looks) snapshot name opened position)
     → Ends {T = ℕ} told_in told printer name (bytes_again by_name name (last_in ways name before looks) snapshot opened) (lines_again by_name name (last_in ways name before looks) snapshot opened) old after new (Ok len)
-    → Looked told_in told ways (before ∷ looks) snapshot name printer old after new (Through len)
-again_whole told_in told ways before looks snapshot name opened position by_name printer after old new _ way ready (whole len bytes lines are gives) =
-    looked_whole told_in told ways (before ∷ looks) snapshot name printer after old new bytes lines len
+    → Looked told_in told ways (before ∷ looks) snapshot place name printer old after new (Through len) None
+again_whole told_in told ways before looks snapshot place name opened position by_name printer after old new _ way ready (whole len bytes lines are gives) =
+    looked_whole told_in told ways (before ∷ looks) snapshot place name printer after old new bytes lines len
     (λ is fates. let due = due_again ways name before looks snapshot fates opened position by_name way (ready is) in (refl, ((are is).0 ∙ due.0, (are is).1 ∙ due.1)))
     (gives_shared told printer after name bytes lines old new gives)
 
@@ -221,20 +269,20 @@ again_fronts told_in ways before looks snapshot name opened position by_name byt
 
 -- a call on it failed: a beginning was given, and the message follows
 pub again_broke : (told_in told : Bool) (ways : Ways) (before : Look) (looks : List Look) (snapshot : Snapshot) (place : ℕ) (name : List ℕ) (opened : Option ℕ) (position : ℕ) (by_name : Bool) (printer after : PrinterState) (old mid new : List Slot) (why : Fault) → ways.by_name ≡ by_name → (told_in ≡ true → IsReady ways (before ∷ looks) snapshot name opened position)
-    → (why ≡ Open place) ⊎ (why ≡ Read place)
+    → ((why ≡ Open place) × (by_name ≡ true)) ⊎ (why ≡ Read place)
     → Ends {T = ℕ} told_in told printer name (bytes_again by_name name (last_in ways name before looks) snapshot opened) (lines_again by_name name (last_in ways name before looks) snapshot opened) old after mid (Err (Broke why))
-    → SaysOn told Tail (message_of Tail why name) mid new → Looked told_in told ways (before ∷ looks) snapshot name printer old after new Dropped
+    → SaysOn told Tail (message_of Tail why name) mid new → Looked told_in told ways (before ∷ looks) snapshot place name printer old after new Dropped (Some why)
 again_broke told_in told ways before looks snapshot place name opened position by_name printer after old mid new _ way ready failed (broke why bytes lines are gives) says = by failed where
   fronts : Dues told_in ways (before ∷ looks) snapshot name (λ due said. IsFront bytes due × IsFront lines said)
   fronts = again_fronts told_in ways before looks snapshot name opened position by_name bytes lines way ready are
 
-  dropped : (fault : Fault) (fate : Fate) → is_sound fate ≡ false → ((fates : List Fate) → failed_share false name (take (length bytes) (gain ways name (before ∷ looks) (record { snapshot = snapshot; fates = fates }))) (take (length lines) (said_at_look ways name (before ∷ looks) (record { snapshot = snapshot; fates = fates })) ++ message_of Tail fault name ∷ []) ≡ share_by ways name (before ∷ looks) (record { snapshot = snapshot; fates = fates }) fate)
-      → IsFailure (message_of Tail fault name) → SaysOn told Tail (message_of Tail fault name) mid new → Looked told_in told ways (before ∷ looks) snapshot name printer old after new Dropped
-  dropped fault fate unsound share_is failure says = looked_failed told_in told ways (before ∷ looks) snapshot name printer after old mid new bytes lines (message_of Tail fault name) false fate unsound share_is (λ is fates. (fronts is fates).1) (gives_shared told printer after name bytes lines old mid gives) failure says
+  dropped : (fault : Fault) (fate : Fate) → failed_by place fate None ≡ Some why → ((fates : List Fate) → failed_share false name (take (length bytes) (gain ways name (before ∷ looks) (record { snapshot = snapshot; fates = fates }))) (take (length lines) (said_at_look ways name (before ∷ looks) (record { snapshot = snapshot; fates = fates })) ++ message_of Tail fault name ∷ []) ≡ share_by ways name (before ∷ looks) (record { snapshot = snapshot; fates = fates }) fate)
+      → IsFailure (message_of Tail fault name) → SaysOn told Tail (message_of Tail fault name) mid new → Looked told_in told ways (before ∷ looks) snapshot place name printer old after new Dropped (Some why)
+  dropped fault fate broke_by share_is failure says = looked_failed told_in told ways (before ∷ looks) snapshot place name printer after old mid new bytes lines (message_of Tail fault name) false fate (Some why) broke_by share_is (λ is fates. (fronts is fates).1) (gives_shared told printer after name bytes lines old mid gives) failure says
 
-  by : (why ≡ Open place) ⊎ (why ≡ Read place) → Looked told_in told ways (before ∷ looks) snapshot name printer old after new Dropped
-  by (inl unopen) = dropped (Open 0) (not_opened (length lines) (length bytes)) refl (λ fates. refl) (name, inl refl) (subst (λ those. SaysOn told Tail (message_of Tail those name) mid new) unopen says)
-  by (inr read) = dropped (Read 0) (not_read (length lines) (length bytes)) refl (λ fates. refl) (name, inr refl) (subst (λ those. SaysOn told Tail (message_of Tail those name) mid new) read says)
+  by : ((why ≡ Open place) × (by_name ≡ true)) ⊎ (why ≡ Read place) → Looked told_in told ways (before ∷ looks) snapshot place name printer old after new Dropped (Some why)
+  by (inl unopen) = dropped (Open 0) (not_opened (length lines) (length bytes)) (ap Some (sym unopen.0)) (λ fates. refl) (name, inl refl) (subst (λ those. SaysOn told Tail (message_of Tail those name) mid new) unopen.0 says)
+  by (inr read) = dropped (Read 0) (not_read (length lines) (length bytes)) (ap Some (sym read)) (λ fates. refl) (name, inr refl) (subst (λ those. SaysOn told Tail (message_of Tail those name) mid new) read says)
 
 pub again_over : (told_in told : Bool) (ways : Ways) (before : Look) (looks : List Look) (snapshot : Snapshot) (name : List ℕ) (opened : Option ℕ) (position : ℕ) (by_name : Bool) (printer after : PrinterState) (old new : List Slot) (why : Fault) → ways.by_name ≡ by_name → (told_in ≡ true → IsReady ways (before ∷ looks) snapshot name opened position)
     → Ends {T = ℕ} told_in told printer name (bytes_again by_name name (last_in ways name before looks) snapshot opened) (lines_again by_name name (last_in ways name before looks) snapshot opened) old after new (Err (Over why))

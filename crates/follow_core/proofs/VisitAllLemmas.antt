@@ -1,20 +1,25 @@
 -- A look at one name after another.
-use Rattle.std.proofs.Common.{◌≡◌, ℕ, zero, suc, ◌<◌, ◌≤◌, ◌+◌, Bool, true, false, ◌||◌, List, [], ◌∷◌, ◌++◌, length, take, set, get_or, slice_index_or, refl, sym, ◌∙◌, ap, subst, arith, append_assoc, inl, inr, ◌⊎◌, if◌then◌else◌}
+use Rattle.std.proofs.Common.{◌≡◌, ℕ, zero, suc, ◌<◌, ◌≤◌, ◌+◌, Bool, true, false, ◌||◌, List, [], ◌∷◌, ◌++◌, length, take, set, get_or, slice_index_or, refl, sym, ◌∙◌, ap, subst, arith, append_assoc, inl, inr, ◌⊎◌, Option, if◌then◌else◌}
 use Rattle.std.proofs.lemmas.List.{append-nil, get_or-map, get_or-set_other, get_or-set_same, length-append, length-map, length-set, length-take-le, take_all, get_or_past}
 use Rattle.std.proofs.Math.Seq.{get_or-append_seam, map-set_same, take-suc}
 use Rattle.ports_core.specs.Slot.{Slot}
+use Rattle.ports_core.proofs.SlotLemmas.{length-changed_at}
 use Rattle.follow_core.specs.Followed.{any_failed, header_after, last_header_from, messages_of, share_text, text_from}
 use Rattle.follow_core.specs.Look.{Fate, Look, Ways, fate_at, is_dropped, sound}
 use Rattle.follow_core.specs.Share.{BeginsShare, Share, share_by, share_of, no_share, shares_at_look_from}
-use Rattle.follow_core.specs.inner.Visits.{Stopped, KeepsOthers, StoppedAt, Visited, VisitedAll}
+use Rattle.follow_core.specs.inner.Visits.{Opened, Stopped, KeepsOthers, StoppedAt, Visited, VisitedAll}
 use Rattle.follow_core.specs.Printing.{PrinterState}
 use Rattle.follow_core.specs.Sharing.{AllShared, AllShort}
 use Rattle.follow_core.specs.inner.Giving.{Shared, SharedShort}
-use Rattle.follow_core.specs.Standing.{AllKeep, AllStand, CanVisit, KeepsBytes, NameState, Stands, no_state, state_at, texts}
+use Rattle.follow_core.specs.Standing.{AllKeep, AllStand, BrokeIn, CanVisit, KeepsBytes, NameState, Stands, no_state, state_at, texts}
 use Rattle.follow_core.proofs.GiveLemmas.{short_as, wrote_as, wrote_both, wrote_none, wrote_short}
 use Rattle.ports_core.specs.declared.fault.Fault.{Fault}
 use Rattle.watch_core.specs.Snapshot.{Snapshot}
-use Rattle.watch_core.specs.Watched.{Watched, watched_at}
+use Rattle.watch_core.specs.Watched.{Watched, opens, watched_at}
+use Rattle.ports_core.specs.Slot.{changed_at}
+use Rattle.follow_core.specs.declared.name.Standing.{Standing}
+use Rattle.follow_core.specs.declared.name.Standing.TheVariants.{New, Followed, Left}
+use Rattle.follow_core.proofs.LaterLemmas.{broken_sound, unbroken_in}
 use Rattle.follow_core.proofs.ShareLemmas.{failed-append, last-append, messages-append, text-append}
 
 -- The same of the first names, whatever becomes of the others at that look; those stand as before it.
@@ -195,20 +200,50 @@ visited_all told_in told ways looks snapshot names now place printer after old n
   stand = λ other within. subst (λ those. Stands told_in ways (looks ++ record { snapshot = snapshot; fates = those } ∷ []) other (state_at now other).text (watched_at watched other) (state_at now other).standing) (append-nil sofar.fates) (sofar.done [] other (omega arith));
 }
 
+-- by what a name broke, as it stands
+pub broken_there : (told : Bool) (ways : Ways) (looks : List Look) (place : ℕ) (name : List ℕ) (watched : Watched) (standing : Standing) → Stands told ways looks place name watched standing → BrokeIn ways looks place watched.failed
+broken_there told ways looks place name watched New stands = unbroken_in ways looks place watched.failed (ap (λ (w : Watched). w.failed) stands.1) (ap (is_dropped place) stands.0)
+broken_there told ways looks place name watched (Followed position) stands = unbroken_in ways looks place watched.failed stands.unbroken stands.kept
+broken_there told ways looks place name watched Left stands = elim stands.why [
+  | inl dropped ↦ dropped.1
+  | inr missed ↦ unbroken_in ways looks place watched.failed missed.unbroken missed.kept
+]
+
+-- opening a file breaks no name
+opens_failed : (names : List Watched) (place other : ℕ) (file : Option ℕ) → (watched_at (changed_at place (opens file) names) other).failed ≡ (watched_at names other).failed
+opens_failed [] place other file = refl
+opens_failed (name ∷ names) zero zero file = refl
+opens_failed (name ∷ names) zero (suc other) file = refl
+opens_failed (name ∷ names) (suc place) zero file = refl
+opens_failed (name ∷ names) (suc place) (suc other) file = opens_failed names place other file
+
+pub opened_count : (place : ℕ) (old new : List Watched) → Opened place old new → length new ≡ length old
+opened_count place old new (file, is) = ap length is ∙ length-changed_at place (opens file) old
+
+before_or_not : (a b : ℕ) → (a < b) ⊎ (b ≤ a)
+before_or_not a zero = inr (omega arith)
+before_or_not zero (suc b) = inl (omega arith)
+before_or_not (suc a) (suc b) = elim (before_or_not a b) [
+  | inl less ↦ inl (omega arith)
+  | inr more ↦ inr (omega arith)
+]
+
 -- a look that was stopped at a name
-pub visited_short : (told_in told : Bool) (ways : Ways) (looks : List Look) (snapshot snapshot_now : Snapshot) (names now : List NameState) (default : NameState) (place : ℕ) (printer mid : PrinterState) (old slots new : List Slot) (watched : List Watched) (before : Bool) (why : Fault)
-    → place < length now → snapshot_now ≡ snapshot → AllKeep told_in ways looks snapshot (texts names)
+pub visited_short : (told_in told : Bool) (ways : Ways) (looks : List Look) (snapshot snapshot_now : Snapshot) (names now : List NameState) (default : NameState) (place : ℕ) (printer mid : PrinterState) (old slots new : List Slot) (watched watched_new : List Watched) (before : Bool) (why : Fault)
+    → place < length now → snapshot_now ≡ snapshot → Opened place watched watched_new → AllKeep told_in ways looks snapshot (texts names)
     → VisitedUpTo told_in told ways looks snapshot place names printer old mid slots watched now before
     → (Stands told_in ways looks place (get_or now place default).text (watched_at watched place) (get_or now place default).standing → KeepsBytes told_in ways looks snapshot_now (get_or now place default).text → (is_dropped place looks ≡ false) × Stopped told_in told ways looks snapshot_now (get_or now place default).text mid slots new why)
-    → StoppedAt told_in told ways looks snapshot (texts names) printer old new why
-visited_short told_in told ways looks snapshot snapshot_now names now default place printer mid old slots new watched before why within seen keep sofar stop = record {
+    → StoppedAt told_in told ways looks snapshot (texts names) printer old watched_new new why
+visited_short told_in told ways looks snapshot snapshot_now names now default place printer mid old slots new watched watched_new before why within seen opened keep sofar stop = record {
   fates = sofar.fates;
   place = place;
+  count = sofar.count;
   shares = sofar.shares;
   share = stopped.1.share;
   within = subst (λ n. place < n) (sym (length_texts names now sofar.same)) within;
   are = λ t. sofar.are t [] ∙ ap (λ those. shares_at_look_from ways looks (record { snapshot = snapshot; fates = those }) 0 (take place (texts names))) (append-nil sofar.fates);
   begins = λ t. subst (BeginsShare stopped.1.share) (share_is t) (stopped.1.begins t sofar.fates);
+  broken = λ other inside. subst (BrokeIn ways (looks ++ look ∷ []) other) (sym (same other)) (there other (subst (λ n. other < n) (length_texts names now sofar.same) inside) (before_or_not other place));
   short = shared_short told printer mid sofar.shares stopped.1.share old slots new why sofar.shared stopped.1.short;
 } where
   item : NameState
@@ -233,6 +268,17 @@ visited_short told_in told ways looks snapshot snapshot_now names now default pl
       ap (share_by ways item.text looks look) (sym (get_or_past sofar.fates place sound (omega arith)))
       ∙ ap (λ test. if test then no_share item.text else share_by ways item.text looks look (fate_at place look)) (sym stopped.0)
       ∙ ap (share_of ways looks look place) (ap (λ (n : NameState). n.text) found ∙ sym (text_there names now place sofar.same within))
+
+  same : (other : ℕ) → (watched_at watched_new other).failed ≡ (watched_at watched other).failed
+  same other = ap (λ (those : List Watched). (watched_at those other).failed) opened.1 ∙ opens_failed watched place other opened.0
+
+  there : (other : ℕ) → other < length now → (other < place) ⊎ (place ≤ other) → BrokeIn ways (looks ++ look ∷ []) other (watched_at watched other).failed
+  there other inside (inl less) = broken_there told_in ways (looks ++ look ∷ []) other (state_at now other).text (watched_at watched other) (state_at now other).standing
+      (subst (λ those. Stands told_in ways (looks ++ record { snapshot = snapshot; fates = those } ∷ []) other (state_at now other).text (watched_at watched other) (state_at now other).standing) (append-nil sofar.fates) (sofar.done [] other less))
+  there other inside (inr more) =
+      let count : length sofar.fates ≡ place = sofar.count in
+      broken_sound ways looks look other (watched_at watched other).failed (get_or_past sofar.fates other sound (omega (arith, count, more)))
+      (broken_there told_in ways looks other (state_at now other).text (watched_at watched other) (state_at now other).standing (sofar.rest other more inside))
 
 pub next_ready : (names : List NameState) (one : NameState) (place : ℕ) (watched watched_new : List Watched) → place < length names → ((other : ℕ) → other < length names → CanVisit (state_at names other) (watched_at watched other)) → KeepsOthers place watched watched_new → CanVisit one (watched_at watched_new place)
     → (other : ℕ) → other < length (set names place one) → CanVisit (state_at (set names place one) other) (watched_at watched_new other)

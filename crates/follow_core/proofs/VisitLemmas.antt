@@ -1,13 +1,14 @@
 -- A visit of one name.
-use Rattle.std.proofs.Common.{Result, Ok, Err, ◌≡◌, ℕ, zero, suc, Bool, true, false, not, ◌||◌, IsTrue, List, [], ◌∷◌, ◌++◌, length, map, Option, None, refl, sym, ◌∙◌, ap, subst, inl, inr, if◌then◌else◌}
+use Rattle.std.proofs.Common.{Result, Ok, Err, ◌≡◌, ◌⊎◌, ℕ, zero, suc, Bool, true, false, IsTrue, List, [], ◌∷◌, ◌++◌, length, map, Option, Some, None, refl, sym, ◌∙◌, ap, subst, inl, inr, if◌then◌else◌}
 use Rattle.std.proofs.lemmas.Bool.{false≢true}
+use Rattle.std.proofs.lemmas.Option.{same_Some}
 use Rattle.ports_core.specs.Slot.{Slot, changed_at}
 use Rattle.ports_core.specs.declared.fault.Fault.{Fault}
 use Rattle.ports_core.proofs.InputsLemmas.{changed_elsewhere}
 use Rattle.ports_core.proofs.SlotLemmas.{changed_at-again, length-changed_at}
 use Rattle.watch_core.specs.Snapshot.{Snapshot}
 use Rattle.watch_core.specs.Watched.{Reopens, Watched, added, open_contents, breaks, is_watchable, no_name, opens, watched_at}
-use Rattle.std.specs.Prelude.{is_some}
+use Rattle.std.specs.Prelude.{is_none, is_some}
 use Rattle.follow_core.specs.declared.visitor.Came.{Came}
 use Rattle.follow_core.specs.declared.visitor.Came.TheVariants.{Through, Missing, Dropped}
 use Rattle.follow_core.specs.declared.name.Standing.{Standing}
@@ -18,19 +19,19 @@ use Rattle.follow_core.specs.inner.Calls.{Keeps, held_at}
 use Rattle.follow_core.specs.Gain.{file_of, gains_later, last_of, seen_length}
 use Rattle.follow_core.specs.Notice.{notice_of, notices_later}
 use Rattle.follow_core.specs.Run.{AreKept}
-use Rattle.follow_core.specs.Look.{Fate, Look, Ways, entries_in, fate_at, is_dropped, is_first, is_sound, snapshots, sound, unread}
-use Rattle.follow_core.specs.inner.Visits.{TellsStop, Leaves, Stopped, has_failed, standing_after, KeepsOthers, Looks, Visited, Visits}
+use Rattle.follow_core.specs.Look.{Fate, Look, Ways, entries_in, failed_by, failed_in, fate_at, is_dropped, is_first, snapshots, sound, unread}
+use Rattle.follow_core.specs.inner.Visits.{Opened, TellsStop, Leaves, Stopped, has_failed, standing_after, KeepsOthers, Looks, Visited, Visits}
 use Rattle.follow_core.specs.Printing.{PrinterState}
 use Rattle.follow_core.specs.Share.{Share, no_share, share_by, share_of}
-use Rattle.follow_core.specs.Standing.{CanVisit, IsFollowed, IsLeft, IsMissed, KeepsBytes, NameState, Stands}
+use Rattle.follow_core.specs.Standing.{BrokeIn, CanVisit, IsFollowed, IsLeft, IsMissed, KeepsBytes, NameState, Stands}
 use Rattle.follow_core.specs.Version.{Entry, version, gap, entries_at_look, open_after, open_after_look}
 use Rattle.follow_core.proofs.CallLemmas.{contents_led, none_of, opened_there, opens_same, LooksAgain}
-use Rattle.follow_core.proofs.LaterLemmas.{later_share, again_broke, again_over, again_whole, last_in, dropped_more, first_last, last_file, last_later, same_entries, IsReady}
+use Rattle.follow_core.proofs.LaterLemmas.{broken_first, broken_later, broken_sound, failed_more, failed_sound, later_share, again_broke, again_over, again_whole, last_in, first_last, last_file, last_later, same_entries, IsReady}
 use Rattle.ports_core.specs.Message.{SaysOn}
 use Rattle.ports_core.specs.Text.{message_of}
 use Rattle.ports_core.specs.declared.tool.Tool.TheVariants.{Tail}
 use Rattle.ports_core.specs.declared.fault.Fault.TheVariants.{Open, Read}
-use Rattle.follow_core.proofs.FirstLemmas.{FirstCut, cut_over, cut_read, empty_shared, meets_nothing, meets_unopened, given_share, looked_failed, Looked, came_through}
+use Rattle.follow_core.proofs.FirstLemmas.{FirstCut, cut_over, cut_read, empty_shared, meets_nothing, meets_unopened, given_share, looked_failed, Looked}
 
 -- a name that came through its first look leads to a file
 abbrev pub IsThere : Bool → Option ℕ → Came → Type 0
@@ -38,11 +39,11 @@ IsThere told led (Through len) = told ≡ true → is_some led ≡ true
 IsThere told led Missing = Unit {0}
 IsThere told led Dropped = Unit {0}
 
--- a later look doesn't find a name missing: it tells that it became so
-abbrev pub IsLater : Came → Type 0
-IsLater (Through len) = Unit {0}
-IsLater Missing = ⊥
-IsLater Dropped = Unit {0}
+-- a later look doesn't find a name missing: it tells that it became so; and it opens no file where names aren't followed
+abbrev pub IsLater : ℕ → Bool → Option Fault → Came → Type 0
+IsLater place by_name failed (Through len) = Unit {0}
+IsLater place by_name failed Missing = ⊥
+IsLater place by_name failed Dropped = by_name ≡ false → (why : Fault) → failed ≡ Some why → why ≡ Read place
 
 keeps_others : (place : ℕ) (change : Watched → Watched) (old new : List Watched) → new ≡ changed_at place change old → KeepsOthers place old new
 keeps_others place change old new is = record {
@@ -51,127 +52,129 @@ keeps_others place change old new is = record {
 }
 
 -- what a look at a name leaves of the others
-pub leaves_others : (told : Bool) (snapshot : Snapshot) (led : Option ℕ) (place : ℕ) (old new : List Watched) (came : Came) → Leaves told snapshot led place old new came → KeepsOthers place old new
-leaves_others told snapshot led place old new (Through len) (file, is, are) = keeps_others place (opens file) old new is
-leaves_others told snapshot led place old new Missing (file, is, are) = keeps_others place (opens file) old new is
-leaves_others told snapshot led place old new Dropped (file, is) = keeps_others place (λ name. breaks (opens file name)) old new (is ∙ changed_at-again place (opens file) breaks old)
+pub leaves_others : (told : Bool) (snapshot : Snapshot) (led : Option ℕ) (place : ℕ) (old new : List Watched) (failed : Option Fault) (came : Came) → Leaves told snapshot led place old new failed came → KeepsOthers place old new
+leaves_others told snapshot led place old new failed (Through len) (file, is, none, are) = keeps_others place (opens file) old new is
+leaves_others told snapshot led place old new failed Missing (file, is, none, are) = keeps_others place (opens file) old new is
+leaves_others told snapshot led place old new failed Dropped (file, why, is, broke) = keeps_others place (λ name. breaks why (opens file name)) old new (is ∙ changed_at-again place (opens file) (breaks why) old)
 
-pub watchable : (names : List Watched) (place : ℕ) → (watched_at names place).is_broken ≡ false → IsTrue (is_watchable names place)
-watchable names place unbroken = ap not unbroken
+pub watchable : (names : List Watched) (place : ℕ) → (watched_at names place).failed ≡ None → IsTrue (is_watchable names place)
+watchable names place unbroken = ap is_none unbroken
 
 -- this file of it is open now
-opened_now : (place : ℕ) (file : Option ℕ) (old new : List Watched) → new ≡ changed_at place (opens file) old → (watched_at old place).is_broken ≡ false → watched_at new place ≡ record (watched_at old place) { opened = file }
+opened_now : (place : ℕ) (file : Option ℕ) (old new : List Watched) → new ≡ changed_at place (opens file) old → (watched_at old place).failed ≡ None → watched_at new place ≡ record (watched_at old place) { opened = file }
 opened_now place file old new is unbroken = ap (λ those. watched_at those place) is ∙ opened_there old place file (watchable old place unbroken)
 
-pub can_again : (told by_name : Bool) (snapshot : Snapshot) (led : Option ℕ) (place : ℕ) (name : List ℕ) (old new : List Watched) (came : Came) → (watched_at old place).name ≡ name → (watched_at old place).is_broken ≡ false → Leaves told snapshot led place old new came
+pub can_again : (told by_name : Bool) (snapshot : Snapshot) (led : Option ℕ) (place : ℕ) (name : List ℕ) (old new : List Watched) (failed : Option Fault) (came : Came) → (watched_at old place).name ≡ name → (watched_at old place).failed ≡ None → Leaves told snapshot led place old new failed came
     → CanVisit (record { text = name; standing = standing_after by_name came }) (watched_at new place)
-can_again told by_name snapshot led place name old new (Through len) named unbroken (file, is, are) =
+can_again told by_name snapshot led place name old new failed (Through len) named unbroken (file, is, none, are) =
     let now = opened_now place file old new is unbroken in
-    (ap (λ (w : Watched). w.name) now ∙ named, ap (λ (w : Watched). w.is_broken) now ∙ unbroken)
-can_again told true snapshot led place name old new Missing named unbroken (file, is, are) =
+    (ap (λ (w : Watched). w.name) now ∙ named, ap (λ (w : Watched). w.failed) now ∙ unbroken)
+can_again told true snapshot led place name old new failed Missing named unbroken (file, is, none, are) =
     let now = opened_now place file old new is unbroken in
-    (ap (λ (w : Watched). w.name) now ∙ named, ap (λ (w : Watched). w.is_broken) now ∙ unbroken)
-can_again told false snapshot led place name old new Missing named unbroken leaves = tt
-can_again told by_name snapshot led place name old new Dropped named unbroken leaves = tt
+    (ap (λ (w : Watched). w.name) now ∙ named, ap (λ (w : Watched). w.failed) now ∙ unbroken)
+can_again told false snapshot led place name old new failed Missing named unbroken leaves = tt
+can_again told by_name snapshot led place name old new failed Dropped named unbroken leaves = tt
 
-fate_sound : (place : ℕ) (look : Look) (fate : Fate) (through : Bool) → fate_at place look ≡ fate → is_sound fate ≡ through → not (is_sound (fate_at place look)) ≡ not through
-fate_sound place look fate through at is = ap (λ those. not (is_sound those)) at ∙ ap not is
+broken_at : (names : List Watched) (place : ℕ) (why : Fault) → IsTrue (is_watchable names place) → (watched_at (changed_at place (breaks why) names) place).failed ≡ Some why
+broken_at [] place why can = absurd (false≢true can)
+broken_at (name ∷ names) zero why can = refl
+broken_at (name ∷ names) (suc place) why can = broken_at names place why can
 
-broken_at : (place : ℕ) (old : List Watched) → (watched_at (changed_at place breaks old) place).is_broken ≡ true
-broken_at zero [] = refl
-broken_at (suc place) [] = refl
-broken_at zero (name ∷ names) = refl
-broken_at (suc place) (name ∷ names) = broken_at place names
-
-broken_now : (place : ℕ) (old new : List Watched) → (file : Option ℕ) × (new ≡ changed_at place breaks (changed_at place (opens file) old)) → (watched_at new place).is_broken ≡ true
-broken_now place old new (file, is) = ap (λ (names : List Watched). (watched_at names place).is_broken) is ∙ broken_at place (changed_at place (opens file) old)
+broken_now : (place : ℕ) (file : Option ℕ) (why : Fault) (old new : List Watched) → new ≡ changed_at place (breaks why) (changed_at place (opens file) old) → (watched_at old place).failed ≡ None → (watched_at new place).failed ≡ Some why
+broken_now place file why old new is unbroken =
+    ap (λ (names : List Watched). (watched_at names place).failed) is
+    ∙ broken_at (changed_at place (opens file) old) place why (watchable (changed_at place (opens file) old) place (ap (λ (w : Watched). w.failed) (opened_now place file old (changed_at place (opens file) old) refl unbroken) ∙ unbroken))
 
 -- a look more
 begun_more : (looks : List Look) (look : Look) → is_first (looks ++ look ∷ []) ≡ false
 begun_more [] look = refl
 begun_more (before ∷ looks) look = refl
 
-kept_more : (place : ℕ) (looks : List Look) (look : Look) (fate : Fate) (through : Bool) → is_dropped place looks ≡ false → fate_at place look ≡ fate → is_sound fate ≡ through → is_dropped place (looks ++ look ∷ []) ≡ not through
-kept_more place looks look fate through kept at is = dropped_more place looks look ∙ ap (λ those. those || not (is_sound (fate_at place look))) kept ∙ fate_sound place look fate through at is
+kept_more : (place : ℕ) (looks : List Look) (look : Look) (fate : Fate) (broke_by : Option Fault) → is_dropped place looks ≡ false → fate_at place look ≡ fate → failed_by place fate None ≡ broke_by → is_dropped place (looks ++ look ∷ []) ≡ is_some broke_by
+kept_more place looks look fate broke_by kept at is = ap is_some (failed_more place looks look fate (none_of (failed_in place looks) kept) at ∙ is)
 
 -- a name that came through it stands at its last entry
-through_stands : (told : Bool) (ways : Ways) (looks : List Look) (look : Look) (place : ℕ) (name : List ℕ) (file led : Option ℕ) (len : ℕ) (old new : List Watched) (fate : Fate) → (watched_at old place).name ≡ name → (watched_at old place).is_broken ≡ false → is_dropped place looks ≡ false → new ≡ changed_at place (opens file) old
-    → is_sound fate ≡ true → fate_at place look ≡ fate → (told ≡ true → (file ≡ led) × (len ≡ length (held_at look.snapshot led)))
+through_stands : (told : Bool) (ways : Ways) (looks : List Look) (look : Look) (place : ℕ) (name : List ℕ) (file led : Option ℕ) (len : ℕ) (old new : List Watched) (fate : Fate) → (watched_at old place).name ≡ name → (watched_at old place).failed ≡ None → is_dropped place looks ≡ false → new ≡ changed_at place (opens file) old
+    → failed_by place fate None ≡ None → fate_at place look ≡ fate → (told ≡ true → (file ≡ led) × (len ≡ length (held_at look.snapshot led)))
     → (told ≡ true → (file_of (last_of (entries_in ways name (looks ++ look ∷ []))) ≡ led) × (seen_length (last_of (entries_in ways name (looks ++ look ∷ []))) ≡ length (held_at look.snapshot led)))
     → (told ≡ true → ways.by_name ≡ false → is_some led ≡ true) → IsFollowed told ways (looks ++ look ∷ []) place name (watched_at new place) len
 through_stands told ways looks look place name file led len old new fate named unbroken kept is through at are last there =
     let now = opened_now place file old new is unbroken in
     record {
       named = ap (λ (w : Watched). w.name) now ∙ named;
-      unbroken = ap (λ (w : Watched). w.is_broken) now ∙ unbroken;
-      kept = kept_more place looks look fate true kept at through;
+      unbroken = ap (λ (w : Watched). w.failed) now ∙ unbroken;
+      kept = kept_more place looks look fate None kept at through;
       begun = begun_more looks look;
       stands = λ t. record { file = ap (λ (w : Watched). w.opened) now ∙ (are t).0 ∙ sym (last t).0; seen = (are t).1 ∙ sym (last t).1 };
       there = λ t way. ap (λ (w : Watched). is_some w.opened) now ∙ ap is_some (are t).0 ∙ there t way;
     }
 
-dropped_stands : (told : Bool) (ways : Ways) (looks : List Look) (look : Look) (place : ℕ) (name : List ℕ) (old new : List Watched) (fate : Fate) → is_dropped place looks ≡ false → (file : Option ℕ) × (new ≡ changed_at place breaks (changed_at place (opens file) old)) → is_sound fate ≡ false → fate_at place look ≡ fate
-    → IsLeft told ways (looks ++ look ∷ []) place name (watched_at new place)
-dropped_stands told ways looks look place name old new fate kept leaves through at = record { begun = begun_more looks look; why = inl (kept_more place looks look fate false kept at through, broken_now place old new leaves) }
+dropped_stands : (told : Bool) (ways : Ways) (looks : List Look) (look : Look) (place : ℕ) (name : List ℕ) (watched : Watched) (fate : Fate) (why : Fault) → is_dropped place looks ≡ false → failed_by place fate None ≡ Some why → fate_at place look ≡ fate
+    → BrokeIn ways (looks ++ look ∷ []) place watched.failed → IsLeft told ways (looks ++ look ∷ []) place name watched
+dropped_stands told ways looks look place name watched fate why kept fault at broke = record { begun = begun_more looks look; why = inl (kept_more place looks look fate (Some why) kept at fault, broke) }
 
-first_stands : (told : Bool) (ways : Ways) (snapshot : Snapshot) (place : ℕ) (name : List ℕ) (old new : List Watched) (came : Came) (fates : List Fate) (fate : Fate) → (watched_at old place).name ≡ name → (watched_at old place).is_broken ≡ false
-    → Leaves told snapshot (snapshot.leads name) place old new came → IsThere told (snapshot.leads name) came → is_sound fate ≡ came_through came → fate_at place (record { snapshot = snapshot; fates = fates }) ≡ fate
+first_stands : (told : Bool) (ways : Ways) (snapshot : Snapshot) (place : ℕ) (name : List ℕ) (old new : List Watched) (failed : Option Fault) (came : Came) (fates : List Fate) (fate : Fate) → (watched_at old place).name ≡ name → (watched_at old place).failed ≡ None
+    → Leaves told snapshot (snapshot.leads name) place old new failed came → IsThere told (snapshot.leads name) came → failed_by place fate None ≡ failed → fate_at place (record { snapshot = snapshot; fates = fates }) ≡ fate
     → Stands told ways (record { snapshot = snapshot; fates = fates } ∷ []) place name (watched_at new place) (standing_after ways.by_name came)
-first_stands told ways snapshot place name old new (Through len) fates fate named unbroken (file, is, are) there through at =
-    through_stands told ways [] (record { snapshot = snapshot; fates = fates }) place name file (snapshot.leads name) len old new fate named unbroken refl is through at are (λ t. first_last ways name (record { snapshot = snapshot; fates = fates })) (λ t way. there t)
-first_stands told ways snapshot place name old new Missing fates fate named unbroken (file, is, are) there through at = by ways.by_name refl where
+first_stands told ways snapshot place name old new failed (Through len) fates fate named unbroken (file, is, none, are) there fault at =
+    through_stands told ways [] (record { snapshot = snapshot; fates = fates }) place name file (snapshot.leads name) len old new fate named unbroken refl is (fault ∙ none) at are (λ t. first_last ways name (record { snapshot = snapshot; fates = fates })) (λ t way. there t)
+first_stands told ways snapshot place name old new failed Missing fates fate named unbroken (file, is, none, are) there fault at = by ways.by_name refl where
   by : (by_name : Bool) → ways.by_name ≡ by_name → Stands told ways (record { snapshot = snapshot; fates = fates } ∷ []) place name (watched_at new place) (if by_name then Followed 0 else Left)
-  by true way = through_stands told ways [] (record { snapshot = snapshot; fates = fates }) place name file (snapshot.leads name) 0 old new fate named unbroken refl is through at
+  by true way = through_stands told ways [] (record { snapshot = snapshot; fates = fates }) place name file (snapshot.leads name) 0 old new fate named unbroken refl is (fault ∙ none) at
       (λ t. ((are t).0, sym (ap (λ led. length (held_at snapshot led)) (are t).1))) (λ t. first_last ways name (record { snapshot = snapshot; fates = fates })) (λ t other. absurd (false≢true (sym other ∙ way)))
-  by false way = record { begun = refl; why = inr (record { way = way; kept = kept_more place [] (record { snapshot = snapshot; fates = fates }) fate true refl at through; unopened = λ t. (are t).1 }) }
-first_stands told ways snapshot place name old new Dropped fates fate named unbroken leaves there through at = dropped_stands told ways [] (record { snapshot = snapshot; fates = fates }) place name old new fate refl leaves through at
+  by false way = record { begun = refl; why = inr (record { way = way; unbroken = ap (λ (w : Watched). w.failed) (opened_now place file old new is unbroken) ∙ unbroken; kept = kept_more place [] (record { snapshot = snapshot; fates = fates }) fate None refl at (fault ∙ none); unopened = λ t. (are t).1 }) }
+first_stands told ways snapshot place name old new failed Dropped fates fate named unbroken (file, why, is, broke) there fault at =
+    dropped_stands told ways [] (record { snapshot = snapshot; fates = fates }) place name (watched_at new place) fate why refl (fault ∙ broke) at
+    (broken_first ways (record { snapshot = snapshot; fates = fates }) place (watched_at new place).failed fate (broken_now place file why old new is unbroken ∙ sym (fault ∙ broke)) at)
 
-first_visited : (told_in told : Bool) (ways : Ways) (snapshot : Snapshot) (place : ℕ) (name : List ℕ) (printer after : PrinterState) (slots slots_new : List Slot) (old new : List Watched) (came : Came) (looks : List Look) → (looks ≡ []) × (watched_at old place ≡ added name)
-    → Looked told_in told ways [] snapshot name printer slots after slots_new came → Leaves told_in snapshot (snapshot.leads name) place old new came → IsThere told_in (snapshot.leads name) came
+first_visited : (told_in told : Bool) (ways : Ways) (snapshot : Snapshot) (place : ℕ) (name : List ℕ) (printer after : PrinterState) (slots slots_new : List Slot) (old new : List Watched) (failed : Option Fault) (came : Came) (looks : List Look) → (looks ≡ []) × (watched_at old place ≡ added name)
+    → Looked told_in told ways [] snapshot place name printer slots after slots_new came failed → Leaves told_in snapshot (snapshot.leads name) place old new failed came → IsThere told_in (snapshot.leads name) came
     → Visited told_in told ways looks snapshot place name printer slots after slots_new (watched_at new place) (standing_after ways.by_name came) (has_failed came)
-first_visited told_in told ways snapshot place name printer after slots slots_new old new came looks (fresh, new_name) looked leaves there =
+first_visited told_in told ways snapshot place name printer after slots slots_new old new failed came looks (fresh, new_name) looked leaves there =
     subst (λ those. Visited told_in told ways those snapshot place name printer slots after slots_new (watched_at new place) (standing_after ways.by_name came) (has_failed came)) (sym fresh) (record {
       fate = looked.fate;
       share = looked.share;
       is_share = λ is fates at. looked.is_share is fates ∙ ap (share_by ways name [] (record { snapshot = snapshot; fates = fates })) (sym at);
       is_failed = looked.failed;
       shared = looked.shared;
-      stands = λ fates at. first_stands told_in ways snapshot place name old new came fates looked.fate (ap (λ (w : Watched). w.name) new_name) (ap (λ (w : Watched). w.is_broken) new_name) leaves there looked.through at;
+      stands = λ fates at. first_stands told_in ways snapshot place name old new failed came fates looked.fate (ap (λ (w : Watched). w.name) new_name) (ap (λ (w : Watched). w.failed) new_name) leaves there looked.fault at;
     })
 
 -- which file is open, whatever the files tell
-untold : (told : Bool) (snapshot : Snapshot) (led other : Option ℕ) (place : ℕ) (old new : List Watched) (came : Came) → Leaves told snapshot led place old new came → Leaves false snapshot other place old new came
-untold told snapshot led other place old new (Through len) (file, is, are) = (file, is, λ t. absurd (false≢true t))
-untold told snapshot led other place old new Missing (file, is, are) = (file, is, λ t. absurd (false≢true t))
-untold told snapshot led other place old new Dropped leaves = leaves
+untold : (told : Bool) (snapshot : Snapshot) (led other : Option ℕ) (place : ℕ) (old new : List Watched) (failed : Option Fault) (came : Came) → Leaves told snapshot led place old new failed came → Leaves false snapshot other place old new failed came
+untold told snapshot led other place old new failed (Through len) (file, is, none, are) = (file, is, none, λ t. absurd (false≢true t))
+untold told snapshot led other place old new failed Missing (file, is, none, are) = (file, is, none, λ t. absurd (false≢true t))
+untold told snapshot led other place old new failed Dropped leaves = leaves
 
-pub first_looks : {told_in told : Bool} {ways : Ways} {snapshot : Snapshot} {place : ℕ} {name : List ℕ} {printer after : PrinterState} {slots slots_new : List Slot} {old new : List Watched} {came : Came}
-    → Looked told_in told ways [] snapshot name printer slots after slots_new came → Leaves told_in snapshot (snapshot.leads name) place old new came → IsThere told_in (snapshot.leads name) came
+pub first_looks : {told_in told : Bool} {ways : Ways} {snapshot : Snapshot} {place : ℕ} {name : List ℕ} {printer after : PrinterState} {slots slots_new : List Slot} {old new : List Watched} {failed : Option Fault} {came : Came}
+    → Looked told_in told ways [] snapshot place name printer slots after slots_new came failed → Leaves told_in snapshot (snapshot.leads name) place old new failed came → IsThere told_in (snapshot.leads name) came
     → Looks told_in told ways snapshot place name New old printer slots new after slots_new (Ok came)
-first_looks {told_in} {told} {ways} {snapshot} {place} {name} {printer} {after} {slots} {slots_new} {old} {new} {came} looked leaves there = record {
-  visited = λ looks stands keeps. first_visited told_in told ways snapshot place name printer after slots slots_new old new came looks stands looked leaves there;
+first_looks {told_in} {told} {ways} {snapshot} {place} {name} {printer} {after} {slots} {slots_new} {old} {new} {failed} {came} looked leaves there = record {
+  visited = λ looks stands keeps. first_visited told_in told ways snapshot place name printer after slots slots_new old new failed came looks stands looked leaves there;
   stopped = tt;
-  leaves = untold told_in snapshot (snapshot.leads name) (snapshot.leads name) place old new came leaves;
+  leaves = (failed, untold told_in snapshot (snapshot.leads name) (snapshot.leads name) place old new failed came leaves);
+  halts = tt;
 }
 
 -- what the first look leaves open, where the name leads to a file and where it leads nowhere
 pub opened_leaves : {told : Bool} {snapshot now : Snapshot} {old mid new : List Watched} {place : ℕ} {name : List ℕ} {is_there : Bool} {len : ℕ} → now ≡ snapshot → IsTrue (is_watchable old place) → Reopens told snapshot old mid place is_there → is_there ≡ true → (watched_at old place).name ≡ name → new ≡ mid
-    → (told ≡ true → len ≡ length (open_contents now (watched_at mid place))) → Leaves told snapshot (snapshot.leads name) place old new (Through len) × IsThere told (snapshot.leads name) (Through len)
+    → (told ≡ true → len ≡ length (open_contents now (watched_at mid place))) → Leaves told snapshot (snapshot.leads name) place old new None (Through len) × IsThere told (snapshot.leads name) (Through len)
 opened_leaves {told} {snapshot} {now} {old} {mid} {new} {place} {name} {is_there} {len} seen can reopens there named same long = (
-  (reopens.file, same ∙ reopens.names, λ t. (reopens.leads t ∙ ap snapshot.leads named, long t ∙ ap length (contents_led told snapshot now old mid place name is_there seen can reopens named t))),
+  (reopens.file, same ∙ reopens.names, refl, λ t. (reopens.leads t ∙ ap snapshot.leads named, long t ∙ ap length (contents_led told snapshot now old mid place name is_there seen can reopens named t))),
   λ t. ap is_some (sym (reopens.leads t ∙ ap snapshot.leads named)) ∙ reopens.found ∙ there,
 )
 
-missing_leaves : {told : Bool} {snapshot : Snapshot} {old new : List Watched} {place : ℕ} {name : List ℕ} {is_there : Bool} → Reopens told snapshot old new place is_there → is_there ≡ false → (watched_at old place).name ≡ name → Leaves told snapshot (snapshot.leads name) place old new Missing
+missing_leaves : {told : Bool} {snapshot : Snapshot} {old new : List Watched} {place : ℕ} {name : List ℕ} {is_there : Bool} → Reopens told snapshot old new place is_there → is_there ≡ false → (watched_at old place).name ≡ name → Leaves told snapshot (snapshot.leads name) place old new None Missing
 missing_leaves {told} {snapshot} {old} {new} {place} {name} {is_there} reopens gone named =
-    (reopens.file, reopens.names, λ t. (reopens.leads t ∙ ap snapshot.leads named, sym (reopens.leads t ∙ ap snapshot.leads named) ∙ none_of reopens.file (reopens.found ∙ gone)))
+    (reopens.file, reopens.names, refl, λ t. (reopens.leads t ∙ ap snapshot.leads named, sym (reopens.leads t ∙ ap snapshot.leads named) ∙ none_of reopens.file (reopens.found ∙ gone)))
 
 pub first_over : {told_in told : Bool} {ways : Ways} {snapshot : Snapshot} {place : ℕ} {name : List ℕ} {printer after : PrinterState} {slots slots_new : List Slot} {old new : List Watched} {why : Fault}
-    → Stopped told_in told ways [] snapshot name printer slots slots_new why → Looks told_in told ways snapshot place name New old printer slots new after slots_new (Err why)
-first_over {told_in} {told} {ways} {snapshot} {place} {name} {printer} {after} {slots} {slots_new} {old} {new} {why} stopped = record {
+    → Opened place old new → Stopped told_in told ways [] snapshot name printer slots slots_new why → Looks told_in told ways snapshot place name New old printer slots new after slots_new (Err why)
+first_over {told_in} {told} {ways} {snapshot} {place} {name} {printer} {after} {slots} {slots_new} {old} {new} {why} opened stopped = record {
   visited = tt;
   stopped = λ looks stands keeps. (ap (is_dropped place) stands.0, subst (λ those. Stopped told_in told ways those snapshot name printer slots slots_new why) (sym stands.0) stopped);
   leaves = tt;
+  halts = opened;
 }
 
 -- ways out of the first look
@@ -180,31 +183,33 @@ pub first_missing : {told_in told : Bool} {ways : Ways} {snapshot : Snapshot} {p
     → SaysOn told Tail (message_of Tail (Open place) name) slots slots_new → Looks told_in told ways snapshot place name New old printer slots new printer slots_new (Ok Missing)
 first_missing {told_in} {told} {ways} {snapshot} {place} {name} {printer} {slots} {slots_new} reopens gone named says =
     let leaves = missing_leaves reopens gone named in
-    first_looks (meets_nothing told_in told ways snapshot place name printer slots slots_new (λ t. (leaves.2 t).1) says) leaves tt
+    first_looks (meets_nothing told_in told ways snapshot place name printer slots slots_new (λ t. (leaves.3 t).1) says) leaves tt
 
-pub first_unopened : {told_in told : Bool} {ways : Ways} {snapshot : Snapshot} {place : ℕ} {name : List ℕ} {printer : PrinterState} {slots slots_new : List Slot} {old new : List Watched} {why : Fault} {result : Result Came Fault} → why ≡ Open place → new ≡ changed_at place breaks old
+pub first_unopened : {told_in told : Bool} {ways : Ways} {snapshot : Snapshot} {place : ℕ} {name : List ℕ} {printer : PrinterState} {slots slots_new : List Slot} {old new : List Watched} {why : Fault} {result : Result Came Fault} → why ≡ Open place → new ≡ changed_at place (breaks why) old
     → TellsStop told name slots slots_new (Broke why) result → Looks told_in told ways snapshot place name New old printer slots new printer slots_new result
 first_unopened {told_in} {told} {ways} {snapshot} {place} {name} {printer} {slots} {slots_new} {old} {new} {why} {result} is broken (tells, says) =
     subst (λ those. Looks told_in told ways snapshot place name New old printer slots new printer slots_new those) (sym tells)
-    (first_looks (meets_unopened told_in told ways snapshot place name printer slots slots_new (subst (λ those. SaysOn told Tail (message_of Tail those name) slots slots_new) is says)) ((watched_at old place).opened, broken ∙ ap (changed_at place breaks) (sym (opens_same old place))) tt)
+    (first_looks (meets_unopened told_in told ways snapshot place name printer slots slots_new (subst (λ those. SaysOn told Tail (message_of Tail those name) slots slots_new) is says)) ((watched_at old place).opened, why, broken ∙ ap (changed_at place (breaks why)) (sym (opens_same old place)), ap Some (sym is)) tt)
 
 pub first_fails : {told_in told : Bool} {ways : Ways} {snapshot : Snapshot} {place : ℕ} {name : List ℕ} {printer after : PrinterState} {slots mid slots_new : List Slot} {old watched_mid new : List Watched} {is_there : Bool} (stop : Stop) {result : Result Came Fault} → Reopens told_in snapshot old watched_mid place is_there
     → Keeps {T = ℕ} place watched_mid new (Err stop) → FirstCut told_in told ways snapshot name printer slots after mid stop → TellsStop told name mid slots_new stop result → Looks told_in told ways snapshot place name New old printer slots new after slots_new result
 first_fails {told_in} {told} {ways} {snapshot} {place} {name} {printer} {after} {slots} {mid} {slots_new} {old} {watched_mid} {new} _ {result} reopens keeps (cut_read why bytes lines are shared) (tells, says) =
     subst (λ those. Looks told_in told ways snapshot place name New old printer slots new after slots_new those) (sym tells)
-    (first_looks (looked_failed told_in told ways [] snapshot name printer after slots mid slots_new bytes lines (message_of Tail (Read 0) name) true (unread (length lines) (length bytes)) refl (λ fates. refl) (λ is fates. (are is fates).1) shared (name, inr refl) (subst (λ those. SaysOn told Tail (message_of Tail those name) mid slots_new) keeps.0 says)) (reopens.file, keeps.1 ∙ ap (changed_at place breaks) reopens.names) tt)
+    (first_looks (looked_failed told_in told ways [] snapshot place name printer after slots mid slots_new bytes lines (message_of Tail (Read 0) name) true (unread (length lines) (length bytes)) (Some (Read place)) refl (λ fates. refl) (λ is fates. (are is fates).1) shared (name, inr refl) (subst (λ those. SaysOn told Tail (message_of Tail those name) mid slots_new) keeps.0 says)) (reopens.file, why, keeps.1 ∙ ap (changed_at place (breaks why)) reopens.names, ap Some (sym keeps.0)) tt)
 first_fails {told_in} {told} {ways} {snapshot} {place} {name} {printer} {after} {slots} {mid} {slots_new} {old} {watched_mid} {new} _ {result} reopens keeps (cut_over why stopped) (tells, same) =
     subst (λ those. Looks told_in told ways snapshot place name New old printer slots new after slots_new those) (sym tells)
-    (first_over (subst (λ those. Stopped told_in told ways [] snapshot name printer slots those why) (sym same) stopped))
+    (first_over (reopens.file, keeps ∙ reopens.names) (subst (λ those. Stopped told_in told ways [] snapshot name printer slots those why) (sym same) stopped))
 
-later_stands : (told : Bool) (ways : Ways) (before : Look) (looks : List Look) (snapshot : Snapshot) (place : ℕ) (name : List ℕ) (position : ℕ) (old new : List Watched) (came : Came) (fates : List Fate) (fate : Fate) → IsFollowed told ways (before ∷ looks) place name (watched_at old place) position
-    → Leaves told snapshot (open_after_look ways.by_name name (watched_at old place).opened snapshot) place old new came → IsLater came → is_sound fate ≡ came_through came → fate_at place (record { snapshot = snapshot; fates = fates }) ≡ fate
+later_stands : (told : Bool) (ways : Ways) (before : Look) (looks : List Look) (snapshot : Snapshot) (place : ℕ) (name : List ℕ) (position : ℕ) (old new : List Watched) (failed : Option Fault) (came : Came) (fates : List Fate) (fate : Fate) → IsFollowed told ways (before ∷ looks) place name (watched_at old place) position
+    → Leaves told snapshot (open_after_look ways.by_name name (watched_at old place).opened snapshot) place old new failed came → IsLater place ways.by_name failed came → failed_by place fate None ≡ failed → fate_at place (record { snapshot = snapshot; fates = fates }) ≡ fate
     → Stands told ways ((before ∷ looks) ++ record { snapshot = snapshot; fates = fates } ∷ []) place name (watched_at new place) (standing_after ways.by_name came)
-later_stands told ways before looks snapshot place name position old new (Through len) fates fate followed (file, is, are) there through at =
-    through_stands told ways (before ∷ looks) (record { snapshot = snapshot; fates = fates }) place name file (open_after_look ways.by_name name (watched_at old place).opened snapshot) len old new fate followed.named followed.unbroken followed.kept is through at are
+later_stands told ways before looks snapshot place name position old new failed (Through len) fates fate followed (file, is, none, are) there fault at =
+    through_stands told ways (before ∷ looks) (record { snapshot = snapshot; fates = fates }) place name file (open_after_look ways.by_name name (watched_at old place).opened snapshot) len old new fate followed.named followed.unbroken followed.kept is (fault ∙ none) at are
     (λ t. last_later ways name before looks (record { snapshot = snapshot; fates = fates }) (watched_at old place).opened (followed.stands t).file) (λ t way. ap (λ by_name. is_some (open_after_look by_name name (watched_at old place).opened snapshot)) way ∙ followed.there t way)
-later_stands told ways before looks snapshot place name position old new Missing fates fate followed leaves there through at = absurd there
-later_stands told ways before looks snapshot place name position old new Dropped fates fate followed leaves there through at = dropped_stands told ways (before ∷ looks) (record { snapshot = snapshot; fates = fates }) place name old new fate followed.kept leaves through at
+later_stands told ways before looks snapshot place name position old new failed Missing fates fate followed leaves there fault at = absurd there
+later_stands told ways before looks snapshot place name position old new failed Dropped fates fate followed (file, why, is, broke) there fault at =
+    dropped_stands told ways (before ∷ looks) (record { snapshot = snapshot; fates = fates }) place name (watched_at new place) fate why followed.kept (fault ∙ broke) at
+    (broken_later ways (before ∷ looks) (record { snapshot = snapshot; fates = fates }) place (watched_at new place).failed why fate (broken_now place file why old new is followed.unbroken) (fault ∙ broke) followed.kept at (λ way. there way why broke))
 
 later_share_of : (ways : Ways) (before : Look) (looks : List Look) (look : Look) (place : ℕ) (name : List ℕ) (fate : Fate) → is_dropped place (before ∷ looks) ≡ false → fate_at place look ≡ fate → share_by ways name (before ∷ looks) look fate ≡ share_of ways (before ∷ looks) look place name
 later_share_of ways before looks look place name fate kept at =
@@ -212,22 +217,22 @@ later_share_of ways before looks look place name fate kept at =
     ∙ ap (λ test. if test then no_share name else share_by ways name (before ∷ looks) look (fate_at place look)) (sym kept)
 
 -- the looks that were made are not none
-later_visited : (told_in told : Bool) (ways : Ways) (snapshot : Snapshot) (place : ℕ) (name : List ℕ) (position : ℕ) (printer after : PrinterState) (slots slots_new : List Slot) (old new : List Watched) (came : Came) (looks : List Look) → IsFollowed told_in ways looks place name (watched_at old place) position → KeepsBytes told_in ways looks snapshot name
+later_visited : (told_in told : Bool) (ways : Ways) (snapshot : Snapshot) (place : ℕ) (name : List ℕ) (position : ℕ) (printer after : PrinterState) (slots slots_new : List Slot) (old new : List Watched) (failed : Option Fault) (came : Came) (looks : List Look) → IsFollowed told_in ways looks place name (watched_at old place) position → KeepsBytes told_in ways looks snapshot name
     → ((before : Look) (looks : List Look) → (told_in ≡ true → IsReady ways (before ∷ looks) snapshot name (watched_at old place).opened position)
-    → Looked told_in told ways (before ∷ looks) snapshot name printer slots after slots_new came × Leaves told_in snapshot (open_after_look ways.by_name name (watched_at old place).opened snapshot) place old new came)
-    → IsLater came
+    → Looked told_in told ways (before ∷ looks) snapshot place name printer slots after slots_new came failed × Leaves told_in snapshot (open_after_look ways.by_name name (watched_at old place).opened snapshot) place old new failed came)
+    → IsLater place ways.by_name failed came
     → Visited told_in told ways looks snapshot place name printer slots after slots_new (watched_at new place) (standing_after ways.by_name came) (has_failed came)
-later_visited told_in told ways snapshot place name position printer after slots slots_new old new came [] followed keeps made later = absurd (false≢true (sym followed.begun))
-later_visited told_in told ways snapshot place name position printer after slots slots_new old new came (before ∷ looks) followed keeps made later =
+later_visited told_in told ways snapshot place name position printer after slots slots_new old new failed came [] followed keeps made later = absurd (false≢true (sym followed.begun))
+later_visited told_in told ways snapshot place name position printer after slots slots_new old new failed came (before ∷ looks) followed keeps made later =
     let both = made before looks (λ t. record { stands = followed.stands t; kept = keeps t }) in
-    let one : Looked told_in told ways (before ∷ looks) snapshot name printer slots after slots_new came = both.0 in
+    let one : Looked told_in told ways (before ∷ looks) snapshot place name printer slots after slots_new came failed = both.0 in
     record {
       fate = one.fate;
       share = one.share;
       is_share = λ is fates at. one.is_share is fates ∙ later_share_of ways before looks (record { snapshot = snapshot; fates = fates }) place name one.fate followed.kept at;
       is_failed = one.failed;
       shared = one.shared;
-      stands = λ fates at. later_stands told_in ways before looks snapshot place name position old new came fates one.fate followed both.1 later one.through at;
+      stands = λ fates at. later_stands told_in ways before looks snapshot place name position old new failed came fates one.fate followed both.1 later one.fault at;
     }
 
 later_stopped : (told_in told : Bool) (ways : Ways) (snapshot : Snapshot) (place : ℕ) (name : List ℕ) (position : ℕ) (watched : Watched) (printer : PrinterState) (slots slots_new : List Slot) (why : Fault) (looks : List Look) → IsFollowed told_in ways looks place name watched position → KeepsBytes told_in ways looks snapshot name
@@ -241,13 +246,19 @@ pub again_through : {told_in told : Bool} {ways : Ways} {snapshot : Snapshot} {p
     → LooksAgain told_in told ways.by_name snapshot place name position old printer slots new after slots_new (Ok len)
     → Looks told_in told ways snapshot place name (Followed position) old printer slots new after slots_new (Ok (Through len))
 again_through {told_in} {told} {ways} {snapshot} {place} {name} {position} {old} {new} {printer} {after} {slots} {slots_new} {len} again = record {
-  visited = λ looks stands keeps. later_visited told_in told ways snapshot place name position printer after slots slots_new old new (Through len) looks stands keeps (λ before looks ready. (
-    again_whole told_in told ways before looks snapshot name (watched_at old place).opened position ways.by_name printer after slots slots_new len refl ready (again.ends (last_in ways name before looks) (λ t. (ready t).stands)),
-    (again.follows.0, again.follows.1, λ t. (again.follows.2 t, again.len t (last_in ways name before looks) (ready t).stands)),
+  visited = λ looks stands keeps. later_visited told_in told ways snapshot place name position printer after slots slots_new old new None (Through len) looks stands keeps (λ before looks ready. (
+    again_whole told_in told ways before looks snapshot place name (watched_at old place).opened position ways.by_name printer after slots slots_new len refl ready (again.ends (last_in ways name before looks) (λ t. (ready t).stands)),
+    (again.follows.0, again.follows.1, refl, λ t. (again.follows.2 t, again.len t (last_in ways name before looks) (ready t).stands)),
   )) tt;
   stopped = tt;
-  leaves = (again.follows.0, again.follows.1, λ t. absurd (false≢true t));
+  leaves = (None, (again.follows.0, again.follows.1, refl, λ t. absurd (false≢true t)));
+  halts = tt;
 }
+
+-- a call that opens is made only where names are followed
+only_read : (by_name : Bool) (place : ℕ) (why other : Fault) → ((why ≡ Open place) × (by_name ≡ true)) ⊎ (why ≡ Read place) → by_name ≡ false → ◌≡◌ {A = Option Fault} (Some why) (Some other) → other ≡ Read place
+only_read by_name place why other (inl opening) way same = absurd (false≢true (sym way ∙ opening.1))
+only_read by_name place why other (inr read) way same = sym (same_Some why other same) ∙ read
 
 -- what stopped it is told, or ends following
 pub again_fails : {told_in told : Bool} {ways : Ways} {snapshot : Snapshot} {place : ℕ} {name : List ℕ} {position : ℕ} {old new : List Watched} {printer after : PrinterState} {slots mid slots_new : List Slot} (stop : Stop) (result : Result Came Fault)
@@ -255,12 +266,13 @@ pub again_fails : {told_in told : Bool} {ways : Ways} {snapshot : Snapshot} {pla
     → Looks told_in told ways snapshot place name (Followed position) old printer slots new after slots_new result
 again_fails {told_in} {told} {ways} {snapshot} {place} {name} {position} {old} {new} {printer} {after} {slots} {mid} {slots_new} (Broke why) result again (is, says) =
     subst (λ those. Looks told_in told ways snapshot place name (Followed position) old printer slots new after slots_new those) (sym is) (record {
-      visited = λ looks stands keeps. later_visited told_in told ways snapshot place name position printer after slots slots_new old new Dropped looks stands keeps (λ before looks ready. (
+      visited = λ looks stands keeps. later_visited told_in told ways snapshot place name position printer after slots slots_new old new (Some why) Dropped looks stands keeps (λ before looks ready. (
         again_broke told_in told ways before looks snapshot place name (watched_at old place).opened position ways.by_name printer after slots mid slots_new why refl ready again.follows.2 (again.ends (last_in ways name before looks) (λ t. (ready t).stands)) says,
-        (again.follows.0, again.follows.1),
-      )) tt;
+        (again.follows.0, why, again.follows.1, refl),
+      )) (λ way other same. only_read ways.by_name place why other again.follows.2 way same);
       stopped = tt;
-      leaves = (again.follows.0, again.follows.1);
+      leaves = (Some why, (again.follows.0, why, again.follows.1, refl));
+      halts = tt;
     })
 again_fails {told_in} {told} {ways} {snapshot} {place} {name} {position} {old} {new} {printer} {after} {slots} {mid} {slots_new} (Over why) result again (is, same) =
     subst (λ those. Looks told_in told ways snapshot place name (Followed position) old printer slots new after slots_new those) (sym is) (record {
@@ -269,18 +281,19 @@ again_fails {told_in} {told} {ways} {snapshot} {place} {name} {position} {old} {
           subst (λ those. Stopped told_in told ways (before ∷ looks) snapshot name printer slots those why) (sym same)
           (again_over told_in told ways before looks snapshot name (watched_at old place).opened position ways.by_name printer after slots mid why refl ready (again.ends (last_in ways name before looks) (λ t. (ready t).stands))));
       leaves = tt;
+      halts = again.follows;
     })
 
 -- what stands before a visit, by how the name stands
-pub can_first : (name : NameState) (watched : Watched) → name.standing ≡ New → CanVisit name watched → (watched.name ≡ name.text) × (watched.is_broken ≡ false)
+pub can_first : (name : NameState) (watched : Watched) → name.standing ≡ New → CanVisit name watched → (watched.name ≡ name.text) × (watched.failed ≡ None)
 can_first name watched fresh can = subst (λ those. CanVisit (record { text = name.text; standing = those }) watched) fresh can
 
-pub can_later : (name : NameState) (watched : Watched) (position : ℕ) → name.standing ≡ Followed position → CanVisit name watched → (watched.name ≡ name.text) × (watched.is_broken ≡ false)
+pub can_later : (name : NameState) (watched : Watched) (position : ℕ) → name.standing ≡ Followed position → CanVisit name watched → (watched.name ≡ name.text) × (watched.failed ≡ None)
 can_later name watched position followed can = subst (λ those. CanVisit (record { text = name.text; standing = those }) watched) followed can
 
 -- the name itself, after the look
 pub visit_made : {told_in told : Bool} {ways : Ways} {snapshot : Snapshot} {place : ℕ} {text : List ℕ} {standing : Standing} {old new : NameState} {watched watched_new : List Watched} {printer after : PrinterState} {slots slots_new : List Slot} {came : Came} {failed : Bool}
-    → text ≡ old.text → old.standing ≡ standing → (watched_at watched place).name ≡ old.text → (watched_at watched place).is_broken ≡ false → new ≡ record old { standing = standing_after ways.by_name came } → failed ≡ has_failed came
+    → text ≡ old.text → old.standing ≡ standing → (watched_at watched place).name ≡ old.text → (watched_at watched place).failed ≡ None → new ≡ record old { standing = standing_after ways.by_name came } → failed ≡ has_failed came
     → Looks told_in told ways snapshot place text standing watched printer slots watched_new after slots_new (Ok came)
     → Visits told_in told ways snapshot place old watched printer slots new watched_new after slots_new (Ok failed)
 visit_made {told_in} {told} {ways} {snapshot} {place} {text} {standing} {old} {new} {watched} {watched_new} {printer} {after} {slots} {slots_new} {came} {failed} same stood named unbroken is failed_is looks =
@@ -289,8 +302,9 @@ visit_made {told_in} {told} {ways} {snapshot} {place} {text} {standing} {old} {n
       visited = seen.visited;
       stopped = tt;
       same = refl;
-      ready = can_again false ways.by_name snapshot (snapshot.leads old.text) place old.text watched watched_new came named unbroken seen.leaves;
-      others = leaves_others false snapshot (snapshot.leads old.text) place watched watched_new came seen.leaves;
+      ready = can_again false ways.by_name snapshot (snapshot.leads old.text) place old.text watched watched_new seen.leaves.0 came named unbroken seen.leaves.1;
+      others = leaves_others false snapshot (snapshot.leads old.text) place watched watched_new seen.leaves.0 came seen.leaves.1;
+      halts = tt;
     })) where
       seen : Looks told_in told ways snapshot place old.text old.standing watched printer slots watched_new after slots_new (Ok came)
       seen = subst (λ those. Looks told_in told ways snapshot place old.text those watched printer slots watched_new after slots_new (Ok came)) (sym stood)
@@ -307,6 +321,7 @@ visit_over {told_in} {told} {ways} {snapshot} {place} {text} {standing} {old} {n
   same = ap (λ (those : NameState). those.text) is;
   ready = tt;
   others = tt;
+  halts = looks.halts;
 }
 
 -- a name that is looked at no more
@@ -318,11 +333,11 @@ no_last (version v) is = absurd (false≢true (ap is_some is))
 abbrev share_from : List ℕ → Entry → List Entry → Share
 share_from name entry entries = given_share false name (gains_later entry entries) (map (λ notice. notice_of notice name) (notices_later entry entries))
 
-missed_share : (told : Bool) (ways : Ways) (before : Look) (looks : List Look) (look : Look) (place : ℕ) (name : List ℕ) → told ≡ true → IsMissed told ways (before ∷ looks) place name → fate_at place look ≡ sound → AreKept (entries_in ways name ((before ∷ looks) ++ look ∷ []))
+missed_share : (told : Bool) (ways : Ways) (before : Look) (looks : List Look) (look : Look) (place : ℕ) (name : List ℕ) (watched : Watched) → told ≡ true → IsMissed told ways (before ∷ looks) place name watched → fate_at place look ≡ sound → AreKept (entries_in ways name ((before ∷ looks) ++ look ∷ []))
     → (dropped : Bool) → is_dropped place (before ∷ looks) ≡ dropped → no_share name ≡ share_of ways (before ∷ looks) look place name
-missed_share told ways before looks look place name t missed fine kept true dropped =
+missed_share told ways before looks look place name watched t missed fine kept true dropped =
     sym (ap (λ test. if test then no_share name else share_by ways name (before ∷ looks) look (fate_at place look)) dropped)
-missed_share told ways before looks look place name t missed fine kept false dropped =
+missed_share told ways before looks look place name watched t missed fine kept false dropped =
     let last = last_of (entries_in ways name (before ∷ looks)) in
     let opened = open_after ways.by_name name (snapshots (before ∷ looks)) in
     let none : last ≡ gap = no_last last (sym (missed.unopened t) ∙ last_file ways name before looks) in
@@ -334,7 +349,7 @@ left_share : (told : Bool) (ways : Ways) (looks : List Look) (look : Look) (plac
 left_share told ways [] look place name watched t left fine kept = absurd (false≢true (sym left.begun))
 left_share told ways (before ∷ looks) look place name watched t left fine kept = elim left.why [
   | inl dropped ↦ sym (ap (λ test. if test then no_share name else share_by ways name (before ∷ looks) look (fate_at place look)) dropped.0)
-  | inr missed ↦ missed_share told ways before looks look place name t missed fine kept (is_dropped place (before ∷ looks)) refl
+  | inr missed ↦ missed_share told ways before looks look place name watched t missed fine kept (is_dropped place (before ∷ looks)) refl
 ]
 
 still_left : (told : Bool) (ways : Ways) (looks : List Look) (look : Look) (place : ℕ) (name : List ℕ) (watched : Watched) → fate_at place look ≡ sound → IsLeft told ways looks place name watched → IsLeft told ways (looks ++ look ∷ []) place name watched
@@ -342,10 +357,11 @@ still_left told ways [] look place name watched fine left = absurd (false≢true
 still_left told ways (before ∷ looks) look place name watched fine left = record {
   begun = refl;
   why = elim left.why [
-    | inl dropped ↦ inl (dropped_more place (before ∷ looks) look ∙ ap (λ those. those || not (is_sound (fate_at place look))) dropped.0, dropped.1)
+    | inl dropped ↦ inl (ap is_some (failed_sound place (before ∷ looks) look fine) ∙ dropped.0, broken_sound ways (before ∷ looks) look place watched.failed fine dropped.1)
     | inr missed ↦ inr (record {
       way = missed.way;
-      kept = dropped_more place (before ∷ looks) look ∙ ap (λ those. those || not (is_sound (fate_at place look))) missed.kept ∙ ap (λ those. not (is_sound those)) fine;
+      unbroken = missed.unbroken;
+      kept = ap is_some (failed_sound place (before ∷ looks) look fine) ∙ missed.kept;
       unopened = λ t. last_file ways name before (looks ++ look ∷ [])
           ∙ (last_later ways name before looks look None (sym (missed.unopened t) ∙ last_file ways name before looks)).0
           ∙ ap (λ by_name. open_after_look by_name name None look.snapshot) missed.way;
@@ -377,4 +393,5 @@ visit_left {told_in} {told} {ways} {snapshot} {place} {name} {watched} {printer}
   same = refl;
   ready = can;
   others = record { count = refl; others = λ other differs. refl };
+  halts = tt;
 }

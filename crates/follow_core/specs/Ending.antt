@@ -7,13 +7,14 @@ use Rattle.ports_core.specs.declared.fault.Fault.{Fault}
 use Rattle.ports_core.specs.declared.fault.Fault.TheVariants.{Memory}
 use Rattle.ports_core.specs.declared.tool.Tool.TheVariants.{Tail}
 use Rattle.watch_core.specs.Snapshot.{Snapshot}
-use Rattle.watch_core.specs.Watched.{Watched, watched_at}
+use Rattle.watch_core.specs.Watched.{Watched}
 use Rattle.follow_core.specs.Followed.{Followed, made_of}
 use Rattle.follow_core.specs.FollowState.{Halted, SawOrNot, is_alive}
-use Rattle.follow_core.specs.Look.{Look, Ways, is_dropped, snapshots}
+use Rattle.follow_core.specs.Look.{Look, Ways, snapshots}
 use Rattle.follow_core.specs.Run.{AreKept}
 use Rattle.follow_core.specs.Share.{Share, shares_of}
 use Rattle.follow_core.specs.Sharing.{Wrote}
+use Rattle.follow_core.specs.Standing.{AreBroken}
 use Rattle.follow_core.specs.Version.{entries_of}
 
 -- what the first n looks see
@@ -36,20 +37,16 @@ pub record Made (told_in : Bool) (ways : Ways) (names : List (List ℕ)) (shows 
   pub saw : snapshots looks ≡ seen_first shows (length looks)
   pub alive : told_in ≡ true → (n : ℕ) → 0 < n → n < length looks → is_alive ways names (take n looks) ≡ true
 
--- all names are watched once a look was made, and one for which a call failed in these is broken
-abbrev pub AreBroken : List Look → List (List ℕ) → List Watched → Type 0
-AreBroken looks names watched = (0 < length looks → length watched ≡ length names)
-    × ((place : ℕ) → place < length names → is_dropped place looks ≡ true → (watched_at watched place).is_broken ≡ true)
-
 -- The look after these was stopped by a fault, and no other was made.
 pub record StoppedIn (told_in told : Bool) (ways : Ways) (headers : Bool) (names : List (List ℕ)) (count : ℕ)
-    (shows : ℕ → Snapshot) (first : List Slot) (seen : List Snapshot) (slots : List Slot) (why : Fault) : Type 0 where
+    (shows : ℕ → Snapshot) (first : List Slot) (seen : List Snapshot) (watched : List Watched) (slots : List Slot)
+    (why : Fault) : Type 0 where
   pub looks : List Look
   pub saw : SawOrNot (snapshots looks) (shows (length looks)) seen
   pub made : Made told_in ways names shows looks
   pub within : length looks < count
   pub alive : told_in ≡ true → 0 < length looks → is_alive ways names looks ≡ true
-  pub halted : Halted told_in told ways headers names looks (shows (length looks)) first slots why
+  pub halted : Halted told_in told ways headers names looks (shows (length looks)) first watched slots why
 
 -- the outputs got all of this, and the status tells whether anything failed
 pub record Leaves (told : Bool) (followed : Followed) (first new : List Slot) (status : ℕ) : Type 0 where
@@ -62,13 +59,13 @@ pub record Leaves (told : Bool) (followed : Followed) (first new : List Slot) (s
 pub data FollowEndsAs (told_in told : Bool) (ways : Ways) (headers : Bool) (names : List (List ℕ)) (count : ℕ)
     (shows : ℕ → Snapshot) (first : List Slot) (seen : List Snapshot) (watched : List Watched) (new : List Slot)
     (status : ℕ) : Type 0 where
-  looked : (looks : List Look) (shares : List Share) → seen ≡ snapshots looks → AreBroken looks names watched
+  looked : (looks : List Look) (shares : List Share) → seen ≡ snapshots looks → AreBroken ways looks names watched
       → Made told_in ways names shows looks → length looks ≤ count
       → (length looks < count → (0 < length looks) × (told_in ≡ true → is_alive ways names looks ≡ false))
       → (told_in ≡ true → shares ≡ shares_of ways names looks) → Leaves told (made_of headers shares) first new status
       → FollowEndsAs told_in told ways headers names count shows first seen watched new status
-  stopped : (mid : List Slot) (why : Fault) → StoppedIn told_in told ways headers names count shows first seen mid why
-      → SaysOn told Tail (message_of Tail why (output_named mid why)) mid new → status ≡ 1
+  stopped : (mid : List Slot) (why : Fault)
+      → StoppedIn told_in told ways headers names count shows first seen watched mid why → SaysOn told Tail (message_of Tail why (output_named mid why)) mid new → status ≡ 1
       → FollowEndsAs told_in told ways headers names count shows first seen watched new status
   no_room : seen ≡ [] → watched ≡ [] → SaysOn told Tail (message_of Tail Memory []) first new → status ≡ 1
       → FollowEndsAs told_in told ways headers names count shows first seen watched new status

@@ -13,7 +13,7 @@ use Rattle.follow_core.specs.Followed.{any_failed}
 use Rattle.follow_core.specs.Look.{Fate, Look, Ways, is_dropped, snapshots, ways_of}
 use Rattle.follow_core.specs.Share.{BeginsShare, Share, share_of, shares_at_look_from, shares_of}
 use Rattle.follow_core.specs.Printing.{PrinterState, fresh_printer}
-use Rattle.follow_core.specs.Standing.{AllKeep, AllStand, CanVisit, NameState, state_at, texts}
+use Rattle.follow_core.specs.Standing.{AllKeep, AllStand, AreBroken, CanVisit, NameState, state_at, texts}
 use Rattle.follow_core.specs.Version.{open_after}
 
 pub record FollowState : Type 0 where
@@ -71,28 +71,31 @@ pub record Holds (told_in told : Bool) (ways : Ways) (headers : Bool) (names : L
   pub shared : AllShared told (fresh_printer headers) shares first follow.printer slots
   pub failed : any_failed shares ≡ follow.has_failed
 
--- what a look that was stopped gave: nothing; or all of the names before one, and of that a beginning
-pub data Begun (told_in : Bool) (ways : Ways) (names : List (List ℕ)) (looks : List Look) (snapshot : Snapshot) : List
-    Share → Type 0 where
-  nothing : Begun told_in ways names looks snapshot []
-  up_to : (fates : List Fate) (place : ℕ) (shares : List Share) (share : Share) → place < length names
+-- What a look that was stopped gave: nothing; or all of the names before one, with their fates, and of that one, for
+-- which no call failed, a beginning. A name broke only where one of these looks tells so.
+pub data Begun (told_in : Bool) (ways : Ways) (names : List (List ℕ)) (looks : List Look) (snapshot : Snapshot)
+    (watched : List Watched) : List Share → Type 0 where
+  nothing : AreBroken ways looks names watched → Begun told_in ways names looks snapshot watched []
+  up_to : (fates : List Fate) (place : ℕ) (shares : List Share) (share : Share) → length fates ≡ place
+      → place < length names → AreBroken ways (looks ++ record { snapshot = snapshot; fates = fates } ∷ []) names watched
       → (told_in ≡ true → shares ≡ shares_at_look_from ways looks (record { snapshot = snapshot; fates = fates }) 0
       (take place names))
       → (told_in ≡ true → BeginsShare share
       (share_of ways looks (record { snapshot = snapshot; fates = fates }) place (slice_index_or names place [])))
-      → Begun told_in ways names looks snapshot (shares ++ share ∷ [])
+      → Begun told_in ways names looks snapshot watched (shares ++ share ∷ [])
 
 -- Following ended in the look after these: the outputs had all that these give, and got a beginning of what that one
 -- gives.
 pub record Halted (told_in told : Bool) (ways : Ways) (headers : Bool) (names : List (List ℕ)) (looks : List Look)
-    (snapshot : Snapshot) (first slots : List Slot) (why : Fault) : Type 0 where
+    (snapshot : Snapshot) (first : List Slot) (watched : List Watched) (slots : List Slot)
+    (why : Fault) : Type 0 where
   pub shares : List Share
   pub are : told_in ≡ true → shares ≡ shares_of ways names looks
   pub printer : PrinterState
   pub reached : List Slot
   pub shared : AllShared told (fresh_printer headers) shares first printer reached
   pub more : List Share
-  pub begun : Begun told_in ways names looks snapshot more
+  pub begun : Begun told_in ways names looks snapshot watched more
   pub short : AllShort told printer more reached slots why
 
 -- a look that was stopped saw the files, or didn't come to that
@@ -109,12 +112,12 @@ LooksOn told_in told snapshot old watched slots new watched_new slots_new =
     (looks ++ record { snapshot = snapshot; fates = fates } ∷ []) first new watched_new slots_new
 
 -- whatever looks were made before, the next one was stopped
-abbrev pub StopsOn : (told_in told : Bool) → Snapshot → FollowState → List Watched → List Slot → List Slot → Fault
-    → Type 0
-StopsOn told_in told snapshot old watched slots slots_new why =
+abbrev pub StopsOn : (told_in told : Bool) → Snapshot → FollowState → List Watched → List Slot → List Watched
+    → List Slot → Fault → Type 0
+StopsOn told_in told snapshot old watched slots watched_new slots_new why =
     (ways : Ways) (headers : Bool) (names : List (List ℕ)) (looks : List Look) (first : List Slot)
     → Holds told_in told ways headers names looks first old watched slots → AllKeep told_in ways looks snapshot names
-    → Halted told_in told ways headers names looks snapshot first slots_new why
+    → Halted told_in told ways headers names looks snapshot first watched_new slots_new why
 
 -- the name at this place goes on: it wasn't dropped, and it is followed by name or a file of it is open
 abbrev pub goes_on_at : Ways → List Look → ℕ → List ℕ → Bool

@@ -1,6 +1,8 @@
 -- The looks that were made, and how each name came through them.
-use Rattle.std.specs.Prelude.{ℕ, Bool, true, false, not, ◌||◌, List, [], ◌∷◌, map, slice_index_or}
+use Rattle.std.specs.Prelude.{is_some, ℕ, Bool, true, false, List, [], ◌∷◌, Option, Some, None, map, slice_index_or}
 use Rattle.ends_core.specs.Ends.{tail_of}
+use Rattle.ports_core.specs.declared.fault.Fault.{Fault}
+use Rattle.ports_core.specs.declared.fault.Fault.TheVariants.{Open, Read}
 use Rattle.watch_core.specs.Snapshot.{Snapshot}
 use Rattle.follow_core.specs.declared.start.Start.{Start}
 use Rattle.follow_core.specs.Version.{Entry, entries_of}
@@ -19,18 +21,23 @@ pub record Look : Type 0 where
   -- of each name, in order; a name that is left out came through
   pub fates : List Fate
 
-abbrev pub is_sound : Fate → Bool
-is_sound sound = true
-is_sound (unopened notices bytes) = false
-is_sound (unread notices bytes) = false
-
 abbrev pub fate_at : ℕ → Look → Fate
 fate_at place look = slice_index_or look.fates place sound
 
+-- the fault by which the name at this place broke, where it had this fate, and else at a later look
+abbrev pub failed_by : ℕ → Fate → Option Fault → Option Fault
+failed_by place sound later = later
+failed_by place (unopened notices bytes) later = Some (Open place)
+failed_by place (unread notices bytes) later = Some (Read place)
+
+-- the fault by which it broke in these looks: that of the first call on it that failed
+abbrev pub failed_in : ℕ → List Look → Option Fault
+failed_in place [] = None
+failed_in place (look ∷ looks) = failed_by place (fate_at place look) (failed_in place looks)
+
 -- the name at this place broke at one of these looks: it is dropped from then on
 abbrev pub is_dropped : ℕ → List Look → Bool
-is_dropped place [] = false
-is_dropped place (look ∷ looks) = not (is_sound (fate_at place look)) || is_dropped place looks
+is_dropped place looks = is_some (failed_in place looks)
 
 abbrev pub snapshots : List Look → List Snapshot
 snapshots looks = map (λ look. look.snapshot) looks

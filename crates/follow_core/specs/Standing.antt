@@ -1,11 +1,13 @@
 -- How a name stands between two looks.
-use Rattle.std.specs.Prelude.{◌≡◌, ◌<◌, ℕ, Bool, true, false, List, [], ◌∷◌, ◌++◌, Option, None, ◌⊎◌, length, map, slice_index_or, is_some}
+use Rattle.std.specs.Prelude.{◌≡◌, ◌<◌, ℕ, Bool, true, false, List, [], ◌∷◌, ◌++◌, Option, Some, None, ◌⊎◌, length, map, slice_index_or, take, is_some}
+use Rattle.ports_core.specs.declared.fault.Fault.{Fault}
+use Rattle.ports_core.specs.declared.fault.Fault.TheVariants.{Read}
 use Rattle.watch_core.specs.Snapshot.{Snapshot}
 use Rattle.watch_core.specs.Watched.{Watched, added, watched_at}
 use Rattle.follow_core.specs.declared.name.Standing.{Standing}
 use Rattle.follow_core.specs.declared.name.Standing.TheVariants.{New, Followed, Left}
 use Rattle.follow_core.specs.Gain.{file_of, last_of, seen_length}
-use Rattle.follow_core.specs.Look.{Look, Ways, entries_in, is_dropped, is_first, snapshots}
+use Rattle.follow_core.specs.Look.{Look, Ways, entries_in, failed_in, is_dropped, is_first, snapshots}
 use Rattle.follow_core.specs.Run.{AreKept}
 use Rattle.follow_core.specs.Version.{Entry, open_after}
 
@@ -26,8 +28,8 @@ texts names = map (λ name. name.text) names
 -- the name can be looked at, or it isn't any more
 abbrev pub CanVisit : NameState → Watched → Type 0
 CanVisit name watched = elim name.standing [
-  | New ↦ (watched.name ≡ name.text) × (watched.is_broken ≡ false)
-  | Followed position ↦ (watched.name ≡ name.text) × (watched.is_broken ≡ false)
+  | New ↦ (watched.name ≡ name.text) × (watched.failed ≡ None)
+  | Followed position ↦ (watched.name ≡ name.text) × (watched.failed ≡ None)
   | Left ↦ Unit {0}
 ]
 
@@ -36,19 +38,33 @@ pub record StandsAt (last : Entry) (opened : Option ℕ) (position : ℕ) : Type
   pub file : opened ≡ file_of last
   pub seen : position ≡ seen_length last
 
+-- The name at this place broke just as these looks tell, if it did: at the first call on it that failed, by its fault.
+-- Where names aren't followed, that was at the first look, or a read: at no other is a file opened.
+pub record BrokeIn (ways : Ways) (looks : List Look) (place : ℕ) (failed : Option Fault) : Type 0 where
+  pub fault : failed ≡ failed_in place looks
+  pub opened : ways.by_name ≡ false
+      → (failed_in place (take 1 looks) ≡ failed_in place looks) ⊎ (failed_in place looks ≡ Some (Read place))
+
+-- once a look was made, all names are watched, and each broke as the looks tell
+abbrev pub AreBroken : Ways → List Look → List (List ℕ) → List Watched → Type 0
+AreBroken ways looks names watched = 0 < length looks → (length watched ≡ length names)
+    × ((place : ℕ) → place < length names → BrokeIn ways looks place (watched_at watched place).failed)
+
 -- It is looked at again: its open file is that of the last entry, and this much of it was seen.
 pub record IsFollowed (told : Bool) (ways : Ways) (looks : List Look) (place : ℕ) (name : List ℕ) (watched : Watched)
     (position : ℕ) : Type 0 where
   pub named : watched.name ≡ name
-  pub unbroken : watched.is_broken ≡ false
+  pub unbroken : watched.failed ≡ None
   pub kept : is_dropped place looks ≡ false
   pub begun : is_first looks ≡ false
   pub stands : told ≡ true → StandsAt (last_of (entries_in ways name looks)) watched.opened position
   pub there : told ≡ true → ways.by_name ≡ false → is_some watched.opened ≡ true
 
 -- it was missing at the first look, and names aren't followed
-pub record IsMissed (told : Bool) (ways : Ways) (looks : List Look) (place : ℕ) (name : List ℕ) : Type 0 where
+pub record IsMissed (told : Bool) (ways : Ways) (looks : List Look) (place : ℕ) (name : List ℕ)
+    (watched : Watched) : Type 0 where
   pub way : ways.by_name ≡ false
+  pub unbroken : watched.failed ≡ None
   pub kept : is_dropped place looks ≡ false
   pub unopened : told ≡ true → open_after ways.by_name name (snapshots looks) ≡ None
 
@@ -56,7 +72,8 @@ pub record IsMissed (told : Bool) (ways : Ways) (looks : List Look) (place : ℕ
 pub record IsLeft (told : Bool) (ways : Ways) (looks : List Look) (place : ℕ) (name : List ℕ)
     (watched : Watched) : Type 0 where
   pub begun : is_first looks ≡ false
-  pub why : ((is_dropped place looks ≡ true) × (watched.is_broken ≡ true)) ⊎ IsMissed told ways looks place name
+  pub why : ((is_dropped place looks ≡ true) × BrokeIn ways looks place watched.failed)
+      ⊎ IsMissed told ways looks place name watched
 
 abbrev pub Stands : Bool → Ways → List Look → ℕ → List ℕ → Watched → Standing → Type 0
 Stands told ways looks place name watched New = (looks ≡ []) × (watched ≡ added name)

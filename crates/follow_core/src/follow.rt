@@ -88,7 +88,7 @@ impl Follow {
     pub fn look<W: Watch, O: Outs>(&mut self, watch: &mut W, outs: &mut O) -> Result<(), Fault>
         requires { CanLook self.old (W.watched watch.old) (O.slots outs.old) }
         ensures looked { OnOk result (LooksOn W.told O.told (W.shows watch.old (length (W.seen watch.old))) self.old (W.watched watch.old) (O.slots outs.old) self.new (W.watched watch.new) (O.slots outs.new)) }
-        ensures stopped { IfErr result (StopsOn W.told O.told (W.shows watch.old (length (W.seen watch.old))) self.old (W.watched watch.old) (O.slots outs.old) (O.slots outs.new)) }
+        ensures stopped { IfErr result (StopsOn W.told O.told (W.shows watch.old (length (W.seen watch.old))) self.old (W.watched watch.old) (O.slots outs.old) (W.watched watch.new) (O.slots outs.new)) }
         ensures seen { OnOk result (W.seen watch.new ≡ W.seen watch.old ++ W.shows watch.old (length (W.seen watch.old)) ∷ []) }
         ensures saw { IfErr result (λ _. SawOrNot (W.seen watch.old) (W.shows watch.old (length (W.seen watch.old))) (W.seen watch.new)) }
         ensures stage { OnOk result (self.new.stage ≡ Stage.Looking) }
@@ -169,7 +169,7 @@ impl Follow {
     fn begin<W: Watch>(&mut self, watch: &mut W) -> Result<(), Fault>
         requires { CanBegin self.old (W.watched watch.old) }
         ensures begins { OnOk result (Begins W.told self.old (W.watched watch.old) self.new (W.watched watch.new)) }
-        ensures err { IfErr result (λ fault. fault ≡ Fault.Memory) }
+        ensures err { IfErr result (λ fault. (fault ≡ Fault.Memory) × (self.old.stage ≡ Stage.Fresh)) }
         ensures seen { W.seen watch.new ≡ W.seen watch.old }
         ensures shows { W.shows watch.new ≡ W.shows watch.old }
     {

@@ -193,10 +193,10 @@ pub(crate) fn visit_all<W: Watch, O: Outs>(
     ensures visited { IfOk result (λ failed. (looks : List Look) → AllStand W.told (ways_of by_name start) looks names.old (W.watched watch.old) → AllKeep W.told (ways_of by_name start) looks (latest (W.seen watch.old)) (texts names.old)
         → VisitedAll W.told O.told (ways_of by_name start) looks (latest (W.seen watch.old)) names.old visitor.old (O.slots outs.old) visitor.new (O.slots outs.new) (W.watched watch.new) names.new failed) }
     ensures stopped { IfErr result (λ why. (looks : List Look) → AllStand W.told (ways_of by_name start) looks names.old (W.watched watch.old) → AllKeep W.told (ways_of by_name start) looks (latest (W.seen watch.old)) (texts names.old)
-        → StoppedAt W.told O.told (ways_of by_name start) looks (latest (W.seen watch.old)) (texts names.old) visitor.old (O.slots outs.old) (O.slots outs.new) why) }
+        → StoppedAt W.told O.told (ways_of by_name start) looks (latest (W.seen watch.old)) (texts names.old) visitor.old (O.slots outs.old) (W.watched watch.new) (O.slots outs.new) why) }
     ensures texts { texts names.new ≡ texts names.old }
     ensures ready { OnOk result ((place : ℕ) → place < length names.new → CanVisit (state_at names.new place) (watched_at (W.watched watch.new) place)) }
-    ensures count { OnOk result (length (W.watched watch.new) ≡ length (W.watched watch.old)) }
+    ensures count { length (W.watched watch.new) ≡ length (W.watched watch.old) }
     ensures can { OnOk result (CanPrint (O.slots outs.new)) }
     ensures error { IfErr result (λ _. HasError (O.slots outs.new)) }
     ensures seen { W.seen watch.new ≡ W.seen watch.old }

@@ -73,7 +73,7 @@ fn make_looks<W: Watch, O: Outs>(
         → LookedAll W.told O.told ways headers names looks (W.shows watch.old) first follow.new (W.seen watch.new) (W.watched watch.new) (O.slots outs.new)) }
     ensures stopped { IfErr result (λ why. (ways : Ways) (headers : Bool) (names : List (List ℕ)) (first : List Slot)
         → Holds W.told O.told ways headers names [] first follow.old (W.watched watch.old) (O.slots outs.old) → KeptSoLong W.told ways.by_name (W.shows watch.old) looks (W.seen watch.new) names
-        → StoppedIn W.told O.told ways headers names looks (W.shows watch.old) first (W.seen watch.new) (O.slots outs.new) why) }
+        → StoppedIn W.told O.told ways headers names looks (W.shows watch.old) first (W.seen watch.new) (W.watched watch.new) (O.slots outs.new) why) }
     ensures error { HasError (O.slots outs.new) }
 {
     let mut made = 0;

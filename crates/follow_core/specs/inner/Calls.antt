@@ -33,17 +33,19 @@ CanGoOn (Err (Over why)) slots = HasError slots
 -- the call changed no name, but that this one broke where the call failed
 abbrev pub Keeps : {T : Type 0} → ℕ → List Watched → List Watched → Result T Stop → Type 0
 Keeps place old new (Ok value) = new ≡ old
-Keeps place old new (Err (Broke why)) = (why ≡ fault.Read place) × (new ≡ changed_at place breaks old)
-Keeps place old new (Err (Over why)) = Unit {0}
+Keeps place old new (Err (Broke why)) = (why ≡ fault.Read place) × (new ≡ changed_at place (breaks why) old)
+Keeps place old new (Err (Over why)) = new ≡ old
 
--- The call made what the name leads to the open file; it broke the name where it failed. No other name was changed.
-abbrev pub Follows : {T : Type 0} → Bool → Option ℕ → ℕ → List Watched → List Watched → Result T Stop → Type 0
-Follows told led place old new (Ok value) = (file : Option ℕ) × (new ≡ changed_at place (opens file) old)
+-- The call made what the name leads to the open file; it broke the name where it failed, and by a failed open only where
+-- names are followed. No other name was changed.
+abbrev pub Follows : {T : Type 0} → (told by_name : Bool) → Option ℕ → ℕ → List Watched → List Watched → Result T Stop
+    → Type 0
+Follows told by_name led place old new (Ok value) = (file : Option ℕ) × (new ≡ changed_at place (opens file) old)
     × (told ≡ true → file ≡ led)
-Follows told led place old new (Err (Broke why)) = (file : Option ℕ)
-    × (new ≡ changed_at place breaks (changed_at place (opens file) old))
-    × ((why ≡ fault.Open place) ⊎ (why ≡ fault.Read place))
-Follows told led place old new (Err (Over why)) = Unit {0}
+Follows told by_name led place old new (Err (Broke why)) = (file : Option ℕ)
+    × (new ≡ changed_at place (breaks why) (changed_at place (opens file) old))
+    × (((why ≡ fault.Open place) × (by_name ≡ true)) ⊎ (why ≡ fault.Read place))
+Follows told by_name led place old new (Err (Over why)) = (file : Option ℕ) × (new ≡ changed_at place (opens file) old)
 
 -- what is due of the open file
 
@@ -123,4 +125,4 @@ pub record Leads (told_in told : Bool) (snapshot : Snapshot) (place : ℕ) (name
       (lines_led name snapshot (watched_at watched place).opened (snapshot.leads name)) slots after slots_new result
   pub len : IfOk result (λ len. told_in ≡ true → position ≡ length (held_at snapshot (watched_at watched place).opened)
       → len ≡ length (held_at snapshot (snapshot.leads name)))
-  pub follows : Follows told_in (snapshot.leads name) place watched watched_new result
+  pub follows : Follows told_in true (snapshot.leads name) place watched watched_new result

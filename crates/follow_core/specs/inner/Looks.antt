@@ -34,7 +34,7 @@ pub record MakesLook (told_in told : Bool) (snapshot : Snapshot) (seen : List Sn
     (seen_new : List Snapshot) (new : FollowState) (watched_new : List Watched) (slots_new : List Slot)
     (result : Result (Unit {0}) Fault) : Type 0 where
   pub looked : OnOk result (LooksOn told_in told snapshot old watched slots new watched_new slots_new)
-  pub stopped : IfErr result (StopsOn told_in told snapshot old watched slots slots_new)
+  pub stopped : IfErr result (StopsOn told_in told snapshot old watched slots watched_new slots_new)
   pub seen_is : OnOk result (seen_new ≡ seen ++ snapshot ∷ [])
   pub saw : IfErr result (λ why. SawOrNot seen snapshot seen_new)
   pub stage : OnOk result (new.stage ≡ Looking)

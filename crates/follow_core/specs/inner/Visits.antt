@@ -1,10 +1,10 @@
 -- What a look at one name leaves, and at one name after another.
-use Rattle.std.specs.Prelude.{Bool, true, false, ◌||◌, List, [], ◌∷◌, if◌then◌else◌, ◌≡◌, ℕ, ◌++◌, Option, None, length, Result, Ok, Err, ◌<◌, take, slice_index_or, IfErr, IfOk, OnOk}
+use Rattle.std.specs.Prelude.{Bool, true, false, ◌||◌, List, [], ◌∷◌, if◌then◌else◌, ◌≡◌, ℕ, ◌++◌, Option, Some, None, length, Result, Ok, Err, ◌<◌, take, slice_index_or, IfErr, IfOk, OnOk}
 use Rattle.follow_core.specs.declared.visitor.Came.{Came}
 use Rattle.follow_core.specs.declared.visitor.Came.TheVariants.{Through, Missing, Dropped}
 use Rattle.follow_core.specs.declared.name.Standing.{Standing}
 use Rattle.follow_core.specs.declared.name.Standing.TheVariants.{New, Followed, Left}
-use Rattle.follow_core.specs.Standing.{NameState, AllStand, CanVisit, KeepsBytes, Stands, texts}
+use Rattle.follow_core.specs.Standing.{NameState, AllStand, BrokeIn, CanVisit, KeepsBytes, Stands, texts}
 use Rattle.ports_core.specs.Slot.{Slot, changed_at}
 use Rattle.ports_core.specs.Message.{SaysOn}
 use Rattle.ports_core.specs.Text.{message_of}
@@ -54,20 +54,24 @@ pub record Stopped (told_in told : Bool) (ways : Ways) (before : List Look) (sna
   pub short : SharedShort told printer share old new why
 
 -- Which file of the name is open after the look, where the name leads to this one, and how much of it was seen. No
--- other name was changed.
-abbrev pub Leaves : Bool → Snapshot → Option ℕ → ℕ → List Watched → List Watched → Came → Type 0
-Leaves told snapshot led place old new (Through len) = (file : Option ℕ) × (new ≡ changed_at place (opens file) old)
-    × (told ≡ true → (file ≡ led) × (len ≡ length (held_at snapshot led)))
-Leaves told snapshot led place old new Missing = (file : Option ℕ) × (new ≡ changed_at place (opens file) old)
-    × (told ≡ true → (file ≡ led) × (led ≡ None))
-Leaves told snapshot led place old new Dropped = (file : Option ℕ)
-    × (new ≡ changed_at place breaks (changed_at place (opens file) old))
+-- other name was changed. This is the fault by which the name broke, if it did.
+abbrev pub Leaves : Bool → Snapshot → Option ℕ → ℕ → List Watched → List Watched → Option Fault → Came → Type 0
+Leaves told snapshot led place old new failed (Through len) = (file : Option ℕ) × (new ≡ changed_at place (opens file) old)
+    × (failed ≡ None) × (told ≡ true → (file ≡ led) × (len ≡ length (held_at snapshot led)))
+Leaves told snapshot led place old new failed Missing = (file : Option ℕ) × (new ≡ changed_at place (opens file) old)
+    × (failed ≡ None) × (told ≡ true → (file ≡ led) × (led ≡ None))
+Leaves told snapshot led place old new failed Dropped = (file : Option ℕ) × (why : Fault)
+    × (new ≡ changed_at place (breaks why) (changed_at place (opens file) old)) × (failed ≡ Some why)
 
 -- A call on the name failed, which was told, so that it is dropped; or following ends, and nothing more was told.
 abbrev pub TellsStop : Bool → List ℕ → List Slot → List Slot → Stop → Result Came Fault → Type 0
 TellsStop told name old new (Broke why) result = (result ≡ Ok Dropped)
     × SaysOn told Tail (message_of Tail why name) old new
 TellsStop told name old new (Over why) result = (result ≡ Err why) × (new ≡ old)
+
+-- another file of the name at this place may be open, and no name broke
+abbrev pub Opened : ℕ → List Watched → List Watched → Type 0
+Opened place old new = (file : Option ℕ) × (new ≡ changed_at place (opens file) old)
 
 -- no name but the one at this place was changed
 pub record KeepsOthers (place : ℕ) (old new : List Watched) : Type 0 where
@@ -118,7 +122,9 @@ pub record Looks (told_in told : Bool) (ways : Ways) (snapshot : Snapshot) (plac
       slots_new (has_failed came))
   pub stopped : IfErr result (StopsVisit told_in told ways snapshot place (record { text = name; standing = standing })
       (watched_at watched place) printer slots slots_new)
-  pub leaves : IfOk result (Leaves false snapshot (snapshot.leads name) place watched watched_new)
+  pub leaves : IfOk result (λ came. (failed : Option Fault)
+      × Leaves false snapshot (snapshot.leads name) place watched watched_new failed came)
+  pub halts : IfErr result (λ why. Opened place watched watched_new)
 
 -- the same of the name itself, which can be looked at again, or is looked at no more
 pub record Visits (told_in told : Bool) (ways : Ways) (snapshot : Snapshot) (place : ℕ) (old : NameState)
@@ -132,6 +138,7 @@ pub record Visits (told_in told : Bool) (ways : Ways) (snapshot : Snapshot) (pla
   pub same : new.text ≡ old.text
   pub ready : OnOk result (CanVisit new (watched_at watched_new place))
   pub others : OnOk result (KeepsOthers place watched watched_new)
+  pub halts : IfErr result (λ why. Opened place watched watched_new)
 
 -- the outputs have what the look gives for all names, and these stand as after it
 pub record VisitedAll (told_in told : Bool) (ways : Ways) (looks : List Look) (snapshot : Snapshot)
@@ -149,14 +156,18 @@ pub record VisitedAll (told_in told : Bool) (ways : Ways) (looks : List Look) (s
 -- The look was stopped at some name: of the names before it the outputs have all that the look gives, of it a
 -- beginning, and of the names after it nothing.
 pub record StoppedAt (told_in told : Bool) (ways : Ways) (looks : List Look) (snapshot : Snapshot)
-    (names : List (List ℕ)) (printer : PrinterState) (old new : List Slot) (why : Fault) : Type 0 where
+    (names : List (List ℕ)) (printer : PrinterState) (old : List Slot) (watched : List Watched) (new : List Slot)
+    (why : Fault) : Type 0 where
   pub fates : List Fate
   pub place : ℕ
   pub shares : List Share
   pub share : Share
+  pub count : length fates ≡ place
   pub within : place < length names
   pub are : told_in ≡ true → shares ≡ shares_at_look_from ways looks (record { snapshot = snapshot; fates = fates }) 0
       (take place names)
   pub begins : told_in ≡ true → BeginsShare share
       (share_of ways looks (record { snapshot = snapshot; fates = fates }) place (slice_index_or names place []))
+  pub broken : (other : ℕ) → other < length names
+      → BrokeIn ways (looks ++ record { snapshot = snapshot; fates = fates } ∷ []) other (watched_at watched other).failed
   pub short : AllShort told printer (shares ++ share ∷ []) old new why

@@ -2,7 +2,7 @@ use Rattle.std.proofs.Common.{◌≤◌, ◌+◌, refl, sym, ◌∙◌, ap, subs
 use Rattle.std.proofs.lemmas.List.{length-set}
 use Rattle.watch_core.specs.Snapshot.{latest}
 use Rattle.follow_core.specs.Look.{ways_of}
-use Rattle.follow_core.proofs.VisitAllLemmas.{next_ready, texts_set, visited_all, visited_more, visited_none, visited_short}
+use Rattle.follow_core.proofs.VisitAllLemmas.{next_ready, opened_count, texts_set, visited_all, visited_more, visited_none, visited_short}
 use Rattle.follow_core.proofs.name.visit_all.Goals as goal
 
 pub loop-place-init : goal.loop-place-init
@@ -20,11 +20,14 @@ loop-place-init g c = record {
 pub returns-in-Err-clause-stopped : goal.returns-in-Err-clause-stopped
 returns-in-Err-clause-stopped g c looks stand keep =
     let l = c.loop-place in
-    visited_short g.W.Watch.told g.O.Outs.told (ways_of c.args.by_name c.args.start) looks (latest (g.W.Watch.seen c.args.watch.now)) (latest (g.W.Watch.seen l.watch)) c.args.names.now l.names c.index-names-place.result l.place c.args.visitor.now l.visitor (g.O.Outs.slots c.args.outs.now) (g.O.Outs.slots l.outs) (g.O.Outs.slots c.visit.new.outs) (g.W.Watch.watched l.watch) l.has_failed c.in-Err.fault
-    c.loop-place-test.true (ap latest l.invariant.seen) keep (l.invariant.visited looks stand keep) (c.in-Err.ensures.visits.stopped looks)
+    visited_short g.W.Watch.told g.O.Outs.told (ways_of c.args.by_name c.args.start) looks (latest (g.W.Watch.seen c.args.watch.now)) (latest (g.W.Watch.seen l.watch)) c.args.names.now l.names c.index-names-place.result l.place c.args.visitor.now l.visitor (g.O.Outs.slots c.args.outs.now) (g.O.Outs.slots l.outs) (g.O.Outs.slots c.visit.new.outs) (g.W.Watch.watched l.watch) (g.W.Watch.watched c.visit.new.watch) l.has_failed c.in-Err.fault
+    c.loop-place-test.true (ap latest l.invariant.seen) c.in-Err.ensures.visits.halts keep (l.invariant.visited looks stand keep) (c.in-Err.ensures.visits.stopped looks)
 
 pub returns-in-Err-clause-texts : goal.returns-in-Err-clause-texts
 returns-in-Err-clause-texts g c = texts_set c.loop-place.names c.loop-place.place c.index-names-place.result c.visit.new.self c.loop-place-test.true c.visit.ensures.visits.same ∙ c.loop-place.invariant.same
+
+pub returns-in-Err-clause-count : goal.returns-in-Err-clause-count
+returns-in-Err-clause-count g c = opened_count c.loop-place.place (g.W.Watch.watched c.loop-place.watch) (g.W.Watch.watched c.visit.new.watch) c.in-Err.ensures.visits.halts ∙ c.loop-place.invariant.count
 
 pub loop-place-preserved : goal.loop-place-preserved
 loop-place-preserved g c =

@@ -17,7 +17,7 @@ returns-in-Err-clause-stopped g c ways headers names first holds kept =
     let l = c.loop-made in
     let shows = g.W.Watch.shows c.args.watch.now in
     let so_long = kept_stopped g.W.Watch.told ways.by_name shows names l.made c.args.looks (g.W.Watch.seen l.watch) (g.W.Watch.seen c.look.new.watch) (g.W.Watch.shows l.watch (length (g.W.Watch.seen l.watch))) c.loop-made-test.true l.invariant.seen c.in-Err.ensures.saw kept in
-    one_stopped g.W.Watch.told g.O.Outs.told ways headers names shows first l.made c.args.looks (g.W.Watch.shows l.watch (length (g.W.Watch.seen l.watch))) l.follow (g.W.Watch.watched l.watch) (g.W.Watch.seen l.watch) (g.W.Watch.seen c.look.new.watch) (g.O.Outs.slots l.outs) (g.O.Outs.slots c.look.new.outs) c.in-Err.fault
+    one_stopped g.W.Watch.told g.O.Outs.told ways headers names shows first l.made c.args.looks (g.W.Watch.shows l.watch (length (g.W.Watch.seen l.watch))) l.follow (g.W.Watch.watched l.watch) (g.W.Watch.watched c.look.new.watch) (g.W.Watch.seen l.watch) (g.W.Watch.seen c.look.new.watch) (g.O.Outs.slots l.outs) (g.O.Outs.slots c.look.new.outs) c.in-Err.fault
     l.invariant.seen c.in-Err.ensures.saw c.loop-made-test.true (next_is shows (g.W.Watch.shows l.watch) (g.W.Watch.seen l.watch) l.made l.invariant.shows l.invariant.seen) so_long (l.invariant.progress ways headers names first holds (kept_fewer g.W.Watch.told ways.by_name shows names l.made (suc l.made) (omega arith) so_long)) c.in-Err.ensures.stopped
 
 pub returns-then-not-alive-clause-looked : goal.returns-then-not-alive-clause-looked

@@ -34,7 +34,10 @@ pub returns-in-Err-clause-ends : goal.returns-in-Err-clause-ends
 returns-in-Err-clause-ends g c = (copy_broke _ _ _ _ _ _ _ _ _ _ _ _ _ (g.W.Watch.seen c.loop-at.watch) _ (g.W.Watch.watched c.loop-at.watch) _ _ _ c.loop-at.invariant.copying c.in-Err.ensures.err.0 c.in-Err.ensures.err.1).0
 
 pub returns-in-Err-clause-keeps : goal.returns-in-Err-clause-keeps
-returns-in-Err-clause-keeps g c = (c.in-Err.ensures.err.0, c.in-Err.ensures.err.1 ∙ ap (changed_at c.args.place breaks) c.loop-at.invariant.copying.watched_same)
+returns-in-Err-clause-keeps g c = (c.in-Err.ensures.err.0, c.in-Err.ensures.err.1 ∙ ap (changed_at c.args.place (breaks c.in-Err.fault)) c.loop-at.invariant.copying.watched_same)
+
+pub returns-in-Err-put-clause-keeps : goal.returns-in-Err-put-clause-keeps
+returns-in-Err-put-clause-keeps g c = c.in-Ok.ensures.same ∙ c.loop-at.invariant.copying.watched_same
 
 pub returns-in-Err-put-clause-ends : goal.returns-in-Err-put-clause-ends
 returns-in-Err-put-clause-ends g c = copy_over g.W.Watch.told g.O.Outs.told _ _ _ (open_contents (latest (g.W.Watch.seen c.loop-at.watch)) (watched_at (g.W.Watch.watched c.loop-at.watch) c.args.place)) _ _ _ _ _ c.loop-at.printer _ (g.O.Outs.slots c.loop-at.outs) _ _ (g.W.Watch.seen c.loop-at.watch) _ (g.W.Watch.watched c.loop-at.watch) (length c.loop-at.buffer) (take c.min-room.result c.loop-at.buffer) c.read_at.new.buffer (drop c.min-room.result c.loop-at.buffer) _

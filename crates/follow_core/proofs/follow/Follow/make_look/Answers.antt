@@ -5,14 +5,14 @@ use Rattle.watch_core.specs.Snapshot.{latest}
 use Rattle.watch_core.proofs.MemWatchLemmas.{latest-last}
 use Rattle.follow_core.specs.FollowState.{AllReady, FollowState, LooksOn, StopsOn}
 use Rattle.follow_core.specs.Standing.{NameState}
-use Rattle.follow_core.proofs.FollowLemmas.{begun_looked, begun_stopped, halts_at, look_made, look_stopped, makes_none, shown, visits_at}
+use Rattle.follow_core.proofs.FollowLemmas.{begun_looked, begun_stopped, begun_unbroken, fresh_unbroken, halts_at, look_made, look_stopped, makes_none, shown, visits_at}
 use Rattle.follow_core.proofs.follow.Follow.make_look.Goals as goal
 
 pub returns-in-Err-clause-makes : goal.returns-in-Err-clause-makes
-returns-in-Err-clause-makes g c = makes_none c.in-Err.ensures.err c.begin.ensures.seen
+returns-in-Err-clause-makes g c = makes_none (fresh_unbroken _ c.in-Err.ensures.err.1) c.in-Err.ensures.err.0 c.begin.ensures.seen
 
 pub returns-in-Err-turn-clause-makes : goal.returns-in-Err-turn-clause-makes
-returns-in-Err-turn-clause-makes g c = makes_none c.in-Err-turn.ensures.err.0 (c.in-Err-turn.ensures.err.1 ∙ c.begin.ensures.seen)
+returns-in-Err-turn-clause-makes g c = makes_none (begun_unbroken c.in_default.ensures.begins c.turn.ensures.watched) c.in-Err-turn.ensures.err.0 (c.in-Err-turn.ensures.err.1 ∙ c.begin.ensures.seen)
 
 pub returns-in-Ok-clause-makes : goal.returns-in-Ok-clause-makes
 returns-in-Ok-clause-makes g c =
@@ -33,7 +33,7 @@ returns-in-Ok-clause-makes g c =
     record {
       looked = begun_looked c.in_default.ensures.begins seen_is.0
           (subst (λ (state : FollowState). LooksOn told_in told snapshot state watched slots new watched_new slots_new) c.self.view_is
-          (look_made told_in told snapshot old new watched watched_new slots slots_new c.in-Ok.failed looking refl refl looking refl (c.in-Ok.ensures.count ∙ ap length c.turn.ensures.watched)
+          (look_made told_in told snapshot old new watched watched_new slots slots_new c.in-Ok.failed looking refl refl looking refl (c.visit_all.ensures.count ∙ ap length c.turn.ensures.watched)
           (visits_at told_in told snapshot (latest (g.W.Watch.seen c.turn.new.self)) old new c.deref_mut.result.now c.visit_all.new.names watched (g.W.Watch.watched c.turn.new.self) watched_new slots slots_new c.in-Ok.failed
           c.deref_mut.ensures.value (sym names_are) c.turn.ensures.watched (ap latest c.in_default-turn.ensures.ok ∙ latest-last seen snapshot) c.in-Ok.ensures.visited)));
       stopped = tt;
@@ -52,6 +52,7 @@ returns-in-Err-visit_all-clause-makes g c =
     let seen = g.W.Watch.seen c.begin.new.watch in
     let snapshot = g.W.Watch.shows c.begin.new.watch (length seen) in
     let watched = g.W.Watch.watched c.begin.new.watch in
+    let watched_new = g.W.Watch.watched c.visit_all.new.watch in
     let slots = g.O.Outs.slots c.args.outs.now in
     let slots_new = g.O.Outs.slots c.visit_all.new.outs in
     let old : FollowState = record { by_name = f.by_name; start = f.start; names = f.names.items; printer = f.visitor; stage = f.stage; has_failed = f.has_failed } in
@@ -60,9 +61,9 @@ returns-in-Err-visit_all-clause-makes g c =
     record {
       looked = tt;
       stopped = begun_stopped c.in_default.ensures.begins seen_is.0
-          (subst (λ (state : FollowState). StopsOn told_in told snapshot state watched slots slots_new why) c.self.view_is
-          (look_stopped (ap (λ (state : FollowState). state.stage) c.self.view_is ∙ c.in_default.ensures.begins.stage)
-          (halts_at told_in told snapshot (latest (g.W.Watch.seen c.turn.new.self)) old c.deref_mut.result.now watched (g.W.Watch.watched c.turn.new.self) slots slots_new why
+          (subst (λ (state : FollowState). StopsOn told_in told snapshot state watched slots watched_new slots_new why) c.self.view_is
+          (look_stopped (ap (λ (state : FollowState). state.stage) c.self.view_is ∙ c.in_default.ensures.begins.stage) (c.visit_all.ensures.count ∙ ap length c.turn.ensures.watched)
+          (halts_at told_in told snapshot (latest (g.W.Watch.seen c.turn.new.self)) old c.deref_mut.result.now watched (g.W.Watch.watched c.turn.new.self) watched_new slots slots_new why
           c.deref_mut.ensures.value c.turn.ensures.watched (ap latest c.in_default-turn.ensures.ok ∙ latest-last seen snapshot) c.in-Err-visit_all.ensures.stopped)));
       seen_is = tt;
       saw = inr (c.visit_all.ensures.seen ∙ seen_is.1);

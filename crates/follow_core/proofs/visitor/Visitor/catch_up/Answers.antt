@@ -14,7 +14,7 @@ pub returns-in-Err-clause-catches : goal.returns-in-Err-clause-catches
 returns-in-Err-clause-catches g c = catches_broken c.in-Err.ensures.err.0 c.in-Err.ensures.err.1
 
 pub returns-in-Err-begin_at-clause-catches : goal.returns-in-Err-begin_at-clause-catches
-returns-in-Err-begin_at-clause-catches g c = catches_untold (sym c.open_id.ensures ∙ c.in-Some.is) c.in-Ok.ensures.ok (c.in-Err-begin_at.ensures.ends g.W.Watch.told c.args.self.now)
+returns-in-Err-begin_at-clause-catches g c = catches_untold c.in-Ok.ensures.same (sym c.open_id.ensures ∙ c.in-Some.is) c.in-Ok.ensures.ok (c.in-Err-begin_at.ensures.ends g.W.Watch.told c.args.self.now)
 
 pub copy-requires-clause-readable : goal.copy-requires-clause-readable
 copy-requires-clause-readable g c = subst (λ those. IsTrue (is_readable those c.args.place)) (sym c.in-Ok.ensures.same) (readable_open (g.W.Watch.watched c.args.watch.now) c.args.place _ (sym c.open_id.ensures ∙ c.in-Some.is) c.requires.watchable)

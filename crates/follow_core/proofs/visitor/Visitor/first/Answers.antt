@@ -12,7 +12,7 @@ pub returns-in-Err-clause-looks : goal.returns-in-Err-clause-looks
 returns-in-Err-clause-looks g c by_name = first_unopened c.in-Err.ensures.err.0 c.in-Err.ensures.err.1 c.stop.ensures.tells
 
 pub returns-in-Err-open-clause-looks : goal.returns-in-Err-open-clause-looks
-returns-in-Err-open-clause-looks g c by_name = first_over (first_short c.self.view_is (led_file c.in-Ok-true.ensures.ok c.in-Ok-true.field-0-test c.requires.name) c.in-Err-open.ensures.short)
+returns-in-Err-open-clause-looks g c by_name = first_over (c.in-Ok-true.ensures.ok.file, c.in-Ok-true.ensures.ok.names) (first_short c.self.view_is (led_file c.in-Ok-true.ensures.ok c.in-Ok-true.field-0-test c.requires.name) c.in-Err-open.ensures.short)
 
 pub write_start-requires-clause-readable : goal.write_start-requires-clause-readable
 write_start-requires-clause-readable g c = readable_there _ _ _ _ _ _ c.in-Ok-true.ensures.ok c.in-Ok-true.field-0-test c.requires.watchable

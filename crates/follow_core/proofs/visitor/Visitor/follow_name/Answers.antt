@@ -14,7 +14,7 @@ returns-in_default-clause-leads g c = leads_same
 pub returns-in-Err-tell-clause-leads : goal.returns-in-Err-tell-clause-leads
 returns-in-Err-tell-clause-leads g c = leads_untold
     (λ t. change_seen g.W.Watch.told (latest (g.W.Watch.seen c.args.watch.now)) (g.W.Watch.watched c.args.watch.now) (g.W.Watch.watched c.look.new.self) c.args.place c.args.name.now c.in-Ok.found c.open_id.result c.change_of.result c.change_of.ensures c.open_id.ensures c.in-Ok.ensures.same c.requires.name c.in-Ok.ensures.ok t ∙ c.in-Some.is)
-    (c.in-Err-tell.ensures.ends g.W.Watch.told c.args.self.now)
+    (c.in-Err-tell.ensures.ends g.W.Watch.told c.args.self.now) c.in-Ok.ensures.same
 
 pub returns-in-Err-reopen-clause-leads : goal.returns-in-Err-reopen-clause-leads
 returns-in-Err-reopen-clause-leads g c = leads_unopened
