@@ -5,11 +5,14 @@ use Rattle.ends_core.proofs.LoadLemmas.{passes_none, passes_seen, last_none}
 use Rattle.ends_core.proofs.kept.Kept.load.Goals.{else-hold_last-via-then-hold_last+else-skip, else-hold_last-via-else-hold_last}
 use Rattle.ends_core.proofs.kept.Kept.load.Goals as goal
 
+pub returns-in_default-clause-passes : goal.returns-in_default-clause-passes
+returns-in_default-clause-passes g c = passes_none _ c.args.slot _ _ _ refl (c.requires.none ∙ sym (last_none (delim_of c.args.self.now) (unit_of c.args.self.now) (most_of c.args.self.now)))
+
 pub returns-then-left-buffer-clause-passes : goal.returns-then-left-buffer-clause-passes
 returns-then-left-buffer-clause-passes g c = passes_none _ c.args.slot _ _ _ refl (c.requires.none ∙ sym (last_none (delim_of c.args.self.now) (unit_of c.args.self.now) (most_of c.args.self.now)))
 
 pub returns-then-skip-clause-passes : goal.returns-then-skip-clause-passes
-returns-then-skip-clause-passes g c = passes_seen _ c.args.slot c.unwrap_or-left.result _ _ _ c.requires.input (c.hold_last.ensures.held c.if-hold_last.true) (c.skip.ensures.rest c.if-skip.true)
+returns-then-skip-clause-passes g c = passes_seen _ c.args.slot c.in-Some.left _ _ _ c.requires.input (c.hold_last.ensures.held c.if-hold_last.true) (c.skip.ensures.rest c.if-skip.true)
 
 pub returns-clause-passes : goal.returns-clause-passes
 returns-clause-passes g c =
