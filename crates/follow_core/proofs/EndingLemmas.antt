@@ -1,5 +1,5 @@
 -- One look after another.
-use Rattle.std.proofs.Common.{◌≡◌, ℕ, zero, suc, ◌<◌, ◌≤◌, ◌+◌, Bool, true, false, List, [], ◌∷◌, ◌++◌, length, map, min, take, slice_index_or, refl, sym, ◌∙◌, ap, subst, arith, inl, inr, ◌⊎◌, if◌then◌else◌}
+use Rattle.std.proofs.Common.{◌≡◌, ℕ, zero, suc, ◌<◌, ◌≤◌, ◌+◌, Bool, true, false, List, [], ◌∷◌, ◌++◌, length, map, take, refl, sym, ◌∙◌, ap, subst, arith, inl, inr, ◌⊎◌, if◌then◌else◌}
 use Rattle.std.proofs.lemmas.List.{length-append, map-append, take-append-le}
 use Rattle.std.proofs.Math.Seq.{take-append_seam}
 use mir.Val.{bool_byte}
@@ -9,13 +9,11 @@ use Rattle.ports_core.specs.declared.fault.Fault.{Fault}
 use Rattle.watch_core.specs.Snapshot.{Snapshot}
 use Rattle.watch_core.specs.Watched.{Watched}
 use Rattle.follow_core.specs.declared.start.Start.{Start}
-use Rattle.follow_core.specs.Ending.{FollowEndsAs, KeptIn, KeptSoLong, Made, StoppedIn, looked, seen_first}
+use Rattle.follow_core.specs.Ending.{FollowEndsAs, Made, StoppedIn, looked, seen_first}
 use Rattle.follow_core.specs.inner.Looks.{LookedAll}
 use Rattle.follow_core.specs.FollowState.{FollowState, Halted, Holds, LooksOn, SawOrNot, StopsOn, is_alive, new_state, opened_follow}
 use Rattle.follow_core.specs.Look.{Fate, Look, Ways, snapshots, ways_of}
-use Rattle.follow_core.specs.Run.{AreKept}
-use Rattle.follow_core.specs.Standing.{AllKeep, texts}
-use Rattle.follow_core.specs.Version.{entries_of}
+use Rattle.follow_core.specs.Standing.{texts}
 use Rattle.follow_core.proofs.FollowLemmas.{broken_are}
 use Rattle.follow_core.proofs.VisitAllLemmas.{nothing_shared}
 
@@ -48,29 +46,6 @@ seen_more : (shows : ℕ → Snapshot) (looks : List Look) (look : Look) (made :
 seen_more shows looks look made saw count is =
     snaps_more looks look ∙ ap (λ front. front ++ look.snapshot ∷ []) (saw ∙ ap (seen_first shows) count) ∙ ap (λ last. seen_first shows made ++ last ∷ []) is
 
--- fewer looks
-pub kept_fewer : (told by_name : Bool) (shows : ℕ → Snapshot) (names : List (List ℕ)) (few many : ℕ) → few ≤ many → KeptIn told by_name shows many names → KeptIn told by_name shows few names
-kept_fewer told by_name shows names few many l kept t n place within = kept t n place (omega (arith, l, within))
-
--- all that were made, where the last of them saw what it should
-pub kept_made : (told by_name : Bool) (shows : ℕ → Snapshot) (names : List (List ℕ)) (made count : ℕ) (seen : List Snapshot) → made ≤ count → seen ≡ seen_first shows made → KeptSoLong told by_name shows count seen names → KeptIn told by_name shows made names
-kept_made told by_name shows names made count seen within is = let long = ap length is ∙ length_seen shows made in kept_fewer told by_name shows names made (min count (suc (length seen))) (omega (arith, long, within))
-
--- the one that was stopped too
-pub kept_stopped : (told by_name : Bool) (shows : ℕ → Snapshot) (names : List (List ℕ)) (made count : ℕ) (seen seen_new : List Snapshot) (snapshot : Snapshot) → made < count → seen ≡ seen_first shows made → SawOrNot seen snapshot seen_new → KeptSoLong told by_name shows count seen_new names → KeptIn told by_name shows (suc made) names
-kept_stopped told by_name shows names made count seen seen_new snapshot within is saw = kept_fewer told by_name shows names (suc made) (min count (suc (length seen_new))) (by saw) where
-  long : length seen ≡ made
-  long = ap length is ∙ length_seen shows made
-
-  by : SawOrNot seen snapshot seen_new → suc made ≤ min count (suc (length seen_new))
-  by (inl same) = let e = ap length same in omega (arith, e, long, within)
-  by (inr more) = let e = ap length more ∙ length-append seen (snapshot ∷ []) in omega (arith, e, long, within)
-
-keeps_next : (told_in : Bool) (ways : Ways) (names : List (List ℕ)) (shows : ℕ → Snapshot) (looks : List Look) (snapshot : Snapshot) (made count : ℕ) → snapshots looks ≡ seen_first shows (length looks) → length looks ≡ made → snapshot ≡ shows made → made < count → KeptIn told_in ways.by_name shows count names
-    → AllKeep told_in ways looks snapshot names
-keeps_next told_in ways names shows looks snapshot made count saw long is below kept place there t =
-    subst (λ snaps. AreKept (entries_of ways.by_name (slice_index_or names place []) snaps)) (sym (seen_more shows looks (record { snapshot = snapshot; fates = [] }) made saw long is)) (kept t (suc made) place (omega arith) there)
-
 less_or_same : (n m : ℕ) → n < suc m → (n < m) ⊎ (n ≡ m)
 less_or_same zero zero below = inr refl
 less_or_same zero (suc m) below = inl (omega arith)
@@ -97,10 +72,10 @@ made_more told_in ways names shows looks look made count is before alive = recor
 pub next_is : (shows now : ℕ → Snapshot) (seen : List Snapshot) (made : ℕ) → now ≡ shows → seen ≡ seen_first shows made → now (length seen) ≡ shows made
 next_is shows now seen made same is = ap (λ (f : ℕ → Snapshot). f (length seen)) same ∙ ap (λ (those : List Snapshot). shows (length those)) is ∙ ap shows (length_seen shows made)
 
-pub one_more : (told_in told : Bool) (ways : Ways) (headers : Bool) (names : List (List ℕ)) (shows : ℕ → Snapshot) (first : List Slot) (made : ℕ) (snapshot : Snapshot) (old new : FollowState) (watched watched_new : List Watched) (slots slots_new : List Slot) → snapshot ≡ shows made → KeptIn told_in ways.by_name shows (suc made) names
+pub one_more : (told_in told : Bool) (ways : Ways) (headers : Bool) (names : List (List ℕ)) (shows : ℕ → Snapshot) (first : List Slot) (made : ℕ) (snapshot : Snapshot) (old new : FollowState) (watched watched_new : List Watched) (slots slots_new : List Slot) → snapshot ≡ shows made
     → Progress told_in told ways headers names shows first made old watched slots → LooksOn told_in told snapshot old watched slots new watched_new slots_new → After told_in told ways headers names shows first (suc made) new watched_new slots_new
-one_more told_in told ways headers names shows first made snapshot old new watched watched_new slots slots_new is kept progress looks_on =
-    made_one (looks_on ways headers names before.looks first before.holds (keeps_next told_in ways names shows before.looks snapshot made (suc made) before.is_made.saw before.count is (omega arith) kept)) where
+one_more told_in told ways headers names shows first made snapshot old new watched watched_new slots slots_new is progress looks_on =
+    made_one (looks_on ways headers names before.looks first before.holds) where
       before : After told_in told ways headers names shows first made old watched slots
       before = progress.after
 
@@ -116,16 +91,16 @@ one_more told_in told ways headers names shows first made snapshot old new watch
 observed_all : (told_in told : Bool) (ways : Ways) (headers : Bool) (names : List (List ℕ)) (shows : ℕ → Snapshot) (first : List Slot) (made : ℕ) (follow : FollowState) (watched : List Watched) (slots : List Slot) (seen : List Snapshot) → seen ≡ seen_first shows made → (after : After told_in told ways headers names shows first made follow watched slots) → seen ≡ snapshots after.looks
 observed_all told_in told ways headers names shows first made follow watched slots seen is after = is ∙ ap (seen_first shows) (sym after.count) ∙ sym after.is_made.saw
 
-pub one_stopped : (told_in told : Bool) (ways : Ways) (headers : Bool) (names : List (List ℕ)) (shows : ℕ → Snapshot) (first : List Slot) (made count : ℕ) (snapshot : Snapshot) (old : FollowState) (watched watched_new : List Watched) (seen seen_new : List Snapshot) (slots slots_new : List Slot) (why : Fault) → seen ≡ seen_first shows made → SawOrNot seen snapshot seen_new → made < count → snapshot ≡ shows made → KeptIn told_in ways.by_name shows (suc made) names
+pub one_stopped : (told_in told : Bool) (ways : Ways) (headers : Bool) (names : List (List ℕ)) (shows : ℕ → Snapshot) (first : List Slot) (made count : ℕ) (snapshot : Snapshot) (old : FollowState) (watched watched_new : List Watched) (seen seen_new : List Snapshot) (slots slots_new : List Slot) (why : Fault) → seen ≡ seen_first shows made → SawOrNot seen snapshot seen_new → made < count → snapshot ≡ shows made
     → Progress told_in told ways headers names shows first made old watched slots → StopsOn told_in told snapshot old watched slots watched_new slots_new why → StoppedIn told_in told ways headers names count shows first seen_new watched_new slots_new why
-one_stopped told_in told ways headers names shows first made count snapshot old watched watched_new seen seen_new slots slots_new why so_far saw below is kept progress stops = record {
+one_stopped told_in told ways headers names shows first made count snapshot old watched watched_new seen seen_new slots slots_new why so_far saw below is progress stops = record {
   looks = before.looks;
   saw = subst (λ s. SawOrNot (snapshots before.looks) s seen_new) (is ∙ ap shows (sym before.count)) (subst (λ those. SawOrNot those snapshot seen_new) (observed_all told_in told ways headers names shows first made old watched slots seen so_far before) saw);
   made = before.is_made;
   within = subst (λ n. n < count) (sym before.count) below;
   alive = progress.alive;
   halted = subst (λ s. Halted told_in told ways headers names before.looks s first watched_new slots_new why) (is ∙ ap shows (sym before.count))
-      (stops ways headers names before.looks first before.holds (keeps_next told_in ways names shows before.looks snapshot made (suc made) before.is_made.saw before.count is (omega arith) kept));
+      (stops ways headers names before.looks first before.holds);
 } where
   before : After told_in told ways headers names shows first made old watched slots
   before = progress.after

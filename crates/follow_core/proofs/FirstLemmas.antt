@@ -1,14 +1,14 @@
 -- The first look at a name, with what is told of it.
 use Rattle.follow_core.specs.declared.visitor.Came.{Came}
-use Rattle.std.proofs.Common.{if◌then◌else◌, ◌≡◌, ℕ, true, false, List, [], ◌∷◌, ◌++◌, length, take, drop, map, Option, Some, None, refl, sym, ◌∙◌, ap, arith, Bool, Ok, Err, inl, subst, Result, not, ◌&&◌}
-use Rattle.std.proofs.lemmas.List.{append-nil, drop_all}
+use Rattle.std.proofs.Common.{if◌then◌else◌, ◌≡◌, ℕ, true, false, List, [], ◌∷◌, ◌++◌, length, take, map, Option, Some, None, refl, sym, ◌∙◌, ap, Bool, Ok, Err, inl, subst, Result, not, ◌&&◌}
+use Rattle.std.proofs.lemmas.List.{append-nil}
 use Rattle.std.proofs.Math.Seq.{take-append_seam}
 use Rattle.ports_core.specs.Text.{message_of}
 use Rattle.ports_core.specs.declared.tool.Tool.TheVariants.{Tail}
 use Rattle.ports_core.specs.declared.fault.Fault.TheVariants.{Open}
 use Rattle.watch_core.specs.Snapshot.{Snapshot}
-use Rattle.follow_core.specs.Version.{version_in, entries_led}
-use Rattle.follow_core.specs.Run.{name_text}
+use Rattle.follow_core.specs.Version.{entries_led}
+use Rattle.follow_core.specs.Gain.{gains_after}
 use Rattle.follow_core.specs.Notice.{is_missing, notice_of, notices_of}
 use Rattle.follow_core.specs.Look.{Ways, Look, sound, unopened, entries_in, failed_by, Fate, is_first}
 use Rattle.follow_core.specs.Share.{gain, missing_share, share_by, said_at_look, IsFront, Share, BeginsShare}
@@ -59,14 +59,9 @@ pub record Looked (told_in told : Bool) (ways : Ways) (before : List Look) (snap
 entries_first : (ways : Ways) (name : List ℕ) (look : Look) (led : Option ℕ) → look.snapshot.leads name ≡ led → entries_in ways name (look ∷ []) ≡ entries_led look.snapshot None led
 entries_first ways name look led is = append-nil _ ∙ ap (entries_led look.snapshot None) is
 
-text_first : (start : List ℕ → List ℕ) (snapshot : Snapshot) (file : ℕ) → name_text start (version_in snapshot file ∷ []) ≡ start (snapshot.holds file)
-text_first start snapshot file =
-    let none : drop (length (snapshot.holds file)) (snapshot.holds file) ≡ [] = drop_all (length (snapshot.holds file)) (snapshot.holds file) (omega arith) in
-    ap (λ rest. start (snapshot.holds file) ++ rest ++ []) none ∙ append-nil _ ∙ append-nil _
-
 -- what it gains of a file that was there
 pub gain_first : (ways : Ways) (name : List ℕ) (look : Look) (file : ℕ) → look.snapshot.leads name ≡ Some file → gain ways name [] look ≡ ways.start (look.snapshot.holds file)
-gain_first ways name look file leads = ap (name_text ways.start) (entries_first ways name look (Some file) leads) ∙ text_first ways.start look.snapshot file
+gain_first ways name look file leads = ap (gains_after ways.start []) (entries_first ways name look (Some file) leads) ∙ append-nil _
 
 pub quiet_first : (ways : Ways) (name : List ℕ) (look : Look) (led : Option ℕ) → look.snapshot.leads name ≡ led → said_at_look ways name [] look ≡ []
 quiet_first ways name look None is = ap (λ entries. map (λ notice. notice_of notice name) (notices_of entries)) (entries_first ways name look None is)

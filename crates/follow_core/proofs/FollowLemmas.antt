@@ -17,7 +17,7 @@ use Rattle.follow_core.specs.Look.{Look, Ways, is_dropped, snapshots, ways_of}
 use Rattle.follow_core.specs.Printing.{PrinterState, Short, fresh_printer, no_room}
 use Rattle.follow_core.specs.Share.{Share, shares_at_look, shares_of}
 use Rattle.follow_core.specs.Sharing.{AllShared, AllShort, Wrote, WroteShort}
-use Rattle.follow_core.specs.Standing.{AllKeep, AllStand, AreBroken, CanVisit, IsFollowed, NameState, Stands, state_at, texts}
+use Rattle.follow_core.specs.Standing.{AllStand, AreBroken, CanVisit, IsFollowed, NameState, Stands, state_at, texts}
 use Rattle.follow_core.specs.inner.Visits.{any_goes_on, goes_on_as, StoppedAt, VisitedAll}
 use Rattle.follow_core.specs.Version.{open_after}
 use Rattle.ports_core.specs.declared.fault.Fault.{Fault}
@@ -62,39 +62,34 @@ stand_in : (told_in told : Bool) (ways : Ways) (headers : Bool) (names : List (L
 stand_in told_in told ways headers names looks first follow watched slots looking holds =
     subst (λ way. AllStand told_in way looks follow.names watched) holds.asked (subst (StandsIn told_in ways looks follow.names watched) looking holds.stand).0
 
-keep_in : (told_in told : Bool) (ways : Ways) (headers : Bool) (names : List (List ℕ)) (looks : List Look) (snapshot : Snapshot) (first : List Slot) (follow : FollowState) (watched : List Watched) (slots : List Slot) → Holds told_in told ways headers names looks first follow watched slots
-    → AllKeep told_in ways looks snapshot names → AllKeep told_in (ways_of follow.by_name follow.start) looks snapshot (texts follow.names)
-keep_in told_in told ways headers names looks snapshot first follow watched slots holds keep =
-    subst (λ way. AllKeep told_in way looks snapshot (texts follow.names)) holds.asked (subst (AllKeep told_in ways looks snapshot) (sym holds.same) keep)
-
 -- a look at all names was made
 abbrev pub Visits : (told_in told : Bool) → Snapshot → FollowState → List Watched → List Slot → FollowState → List Watched → List Slot → Bool → Type 0
-Visits told_in told snapshot old watched slots new watched_new slots_new failed = (looks : List Look) → AllStand told_in (ways_of old.by_name old.start) looks old.names watched → AllKeep told_in (ways_of old.by_name old.start) looks snapshot (texts old.names)
+Visits told_in told snapshot old watched slots new watched_new slots_new failed = (looks : List Look) → AllStand told_in (ways_of old.by_name old.start) looks old.names watched
     → VisitedAll told_in told (ways_of old.by_name old.start) looks snapshot old.names old.printer slots new.printer slots_new watched_new new.names failed
 
 -- it was stopped
 abbrev pub Halts : (told_in told : Bool) → Snapshot → FollowState → List Watched → List Slot → List Watched → List Slot → Fault → Type 0
-Halts told_in told snapshot old watched slots watched_new slots_new why = (looks : List Look) → AllStand told_in (ways_of old.by_name old.start) looks old.names watched → AllKeep told_in (ways_of old.by_name old.start) looks snapshot (texts old.names)
+Halts told_in told snapshot old watched slots watched_new slots_new why = (looks : List Look) → AllStand told_in (ways_of old.by_name old.start) looks old.names watched
     → StoppedAt told_in told (ways_of old.by_name old.start) looks snapshot (texts old.names) old.printer slots watched_new slots_new why
 
 pub visits_at : (told_in told : Bool) (snapshot seen : Snapshot) (old new : FollowState) (names names_new : List NameState) (watched mid watched_new : List Watched) (slots slots_new : List Slot) (failed : Bool) → names ≡ old.names → names_new ≡ new.names → mid ≡ watched → seen ≡ snapshot
-    → ((looks : List Look) → AllStand told_in (ways_of old.by_name old.start) looks names mid → AllKeep told_in (ways_of old.by_name old.start) looks seen (texts names)
+    → ((looks : List Look) → AllStand told_in (ways_of old.by_name old.start) looks names mid
     → VisitedAll told_in told (ways_of old.by_name old.start) looks seen names old.printer slots new.printer slots_new watched_new names_new failed)
     → Visits told_in told snapshot old watched slots new watched_new slots_new failed
 visits_at told_in told snapshot seen old new names names_new watched mid watched_new slots slots_new failed same also is at visits =
     subst (λ those. V those new.names watched snapshot) same (subst (λ those. V names those watched snapshot) also (subst (λ those. V names names_new those snapshot) is (subst (λ s. V names names_new mid s) at visits))) where
       V : List NameState → List NameState → List Watched → Snapshot → Type 0
-      V these after those s = (looks : List Look) → AllStand told_in (ways_of old.by_name old.start) looks these those → AllKeep told_in (ways_of old.by_name old.start) looks s (texts these)
+      V these after those s = (looks : List Look) → AllStand told_in (ways_of old.by_name old.start) looks these those
           → VisitedAll told_in told (ways_of old.by_name old.start) looks s these old.printer slots new.printer slots_new watched_new after failed
 
 pub halts_at : (told_in told : Bool) (snapshot seen : Snapshot) (old : FollowState) (names : List NameState) (watched mid watched_new : List Watched) (slots slots_new : List Slot) (why : Fault) → names ≡ old.names → mid ≡ watched → seen ≡ snapshot
-    → ((looks : List Look) → AllStand told_in (ways_of old.by_name old.start) looks names mid → AllKeep told_in (ways_of old.by_name old.start) looks seen (texts names)
+    → ((looks : List Look) → AllStand told_in (ways_of old.by_name old.start) looks names mid
     → StoppedAt told_in told (ways_of old.by_name old.start) looks seen (texts names) old.printer slots watched_new slots_new why)
     → Halts told_in told snapshot old watched slots watched_new slots_new why
 halts_at told_in told snapshot seen old names watched mid watched_new slots slots_new why same is at halts =
     subst (λ those. H those watched snapshot) same (subst (λ those. H names those snapshot) is (subst (λ s. H names mid s) at halts)) where
       H : List NameState → List Watched → Snapshot → Type 0
-      H these those s = (looks : List Look) → AllStand told_in (ways_of old.by_name old.start) looks these those → AllKeep told_in (ways_of old.by_name old.start) looks s (texts these)
+      H these those s = (looks : List Look) → AllStand told_in (ways_of old.by_name old.start) looks these those
           → StoppedAt told_in told (ways_of old.by_name old.start) looks s (texts these) old.printer slots watched_new slots_new why
 
 same_length : (names now : List NameState) → texts now ≡ texts names → length names ≡ length now
@@ -102,7 +97,7 @@ same_length names now same = sym (length-map names (λ (n : NameState). n.text))
 
 pub look_made : (told_in told : Bool) (snapshot : Snapshot) (old new : FollowState) (watched watched_new : List Watched) (slots slots_new : List Slot) (failed : Bool) → old.stage ≡ Looking
     → new.by_name ≡ old.by_name → new.start ≡ old.start → new.stage ≡ Looking → new.has_failed ≡ (old.has_failed || failed) → length watched_new ≡ length watched → Visits told_in told snapshot old watched slots new watched_new slots_new failed → LooksOn told_in told snapshot old watched slots new watched_new slots_new
-look_made told_in told snapshot old new watched watched_new slots slots_new failed looking by_name start looking_new has_failed count visits ways headers names looks first holds keep = (
+look_made told_in told snapshot old new watched watched_new slots slots_new failed looking by_name start looking_new has_failed count visits ways headers names looks first holds = (
   visited.fates,
   record {
     asked = holds.asked ∙ ap (λ way. ways_of way old.start) (sym by_name) ∙ ap (ways_of new.by_name) (sym start);
@@ -116,7 +111,7 @@ look_made told_in told snapshot old new watched watched_new slots slots_new fail
 ) where
   visited : VisitedAll told_in told ways looks snapshot old.names old.printer slots new.printer slots_new watched_new new.names failed
   visited = subst (λ way. VisitedAll told_in told way looks snapshot old.names old.printer slots new.printer slots_new watched_new new.names failed) (sym holds.asked)
-      (visits looks (stand_in told_in told ways headers names looks first old watched slots looking holds) (keep_in told_in told ways headers names looks snapshot first old watched slots holds keep))
+      (visits looks (stand_in told_in told ways headers names looks first old watched slots looking holds))
 
   look : Look
   look = record { snapshot = snapshot; fates = visited.fates }
@@ -130,7 +125,7 @@ length_names follow names same = sym (length-map follow.names (λ (n : NameState
 
 pub look_stopped : {told_in told : Bool} {snapshot : Snapshot} {old : FollowState} {watched watched_new : List Watched} {slots slots_new : List Slot} {why : Fault} → old.stage ≡ Looking → length watched_new ≡ length watched
     → Halts told_in told snapshot old watched slots watched_new slots_new why → StopsOn told_in told snapshot old watched slots watched_new slots_new why
-look_stopped {told_in} {told} {snapshot} {old} {watched} {watched_new} {slots} {slots_new} {why} looking count halts ways headers names looks first holds keep = record {
+look_stopped {told_in} {told} {snapshot} {old} {watched} {watched_new} {slots} {slots_new} {why} looking count halts ways headers names looks first holds = record {
   shares = holds.shares;
   are = holds.are;
   printer = old.printer;
@@ -144,7 +139,7 @@ look_stopped {told_in} {told} {snapshot} {old} {watched} {watched_new} {slots} {
   stopped : StoppedAt told_in told ways looks snapshot names old.printer slots watched_new slots_new why
   stopped = subst (λ those. StoppedAt told_in told ways looks snapshot those old.printer slots watched_new slots_new why) holds.same
       (subst (λ way. StoppedAt told_in told way looks snapshot (texts old.names) old.printer slots watched_new slots_new why) (sym holds.asked)
-      (halts looks (stand_in told_in told ways headers names looks first old watched slots looking holds) (keep_in told_in told ways headers names looks snapshot first old watched slots holds keep)))
+      (halts looks (stand_in told_in told ways headers names looks first old watched slots looking holds)))
 
 -- whatever looks were made, the names broke just where they tell so
 abbrev pub Unbroken : (told_in told : Bool) → FollowState → List Watched → List Slot → List Watched → Type 0
@@ -153,7 +148,7 @@ Unbroken told_in told old watched slots watched_new = (ways : Ways) (headers : B
 
 -- there was no memory to begin one
 look_refused : (told_in told : Bool) (snapshot : Snapshot) (old : FollowState) (watched watched_new : List Watched) (slots slots_new : List Slot) (why : Fault) → Unbroken told_in told old watched slots watched_new → why ≡ fault.Memory → slots_new ≡ slots → StopsOn told_in told snapshot old watched slots watched_new slots_new why
-look_refused told_in told snapshot old watched watched_new slots slots_new why unbroken is same ways headers names looks first holds keep = record {
+look_refused told_in told snapshot old watched watched_new slots slots_new why unbroken is same ways headers names looks first holds = record {
   shares = holds.shares;
   are = holds.are;
   printer = old.printer;
@@ -231,12 +226,12 @@ added_begins told_in old mid watched watched_mid is = record {
 pub begun_looked : {told_in told : Bool} {snapshot snapshot_mid : Snapshot} {old mid new : FollowState} {watched watched_mid watched_new : List Watched} {slots slots_new : List Slot} → Begins told_in old watched mid watched_mid → snapshot_mid ≡ snapshot
     → LooksOn told_in told snapshot_mid mid watched_mid slots new watched_new slots_new → LooksOn told_in told snapshot old watched slots new watched_new slots_new
 begun_looked {told_in} {told} {snapshot} {snapshot_mid} {old} {mid} {new} {watched} {watched_mid} {watched_new} {slots} {slots_new} begins same looks_on = subst (λ s. LooksOn told_in told s old watched slots new watched_new slots_new) same
-    (λ ways headers names looks first holds keep. looks_on ways headers names looks first (begins.holds told ways headers names looks first slots holds) keep)
+    (λ ways headers names looks first holds. looks_on ways headers names looks first (begins.holds told ways headers names looks first slots holds))
 
 pub begun_stopped : {told_in told : Bool} {snapshot snapshot_mid : Snapshot} {old mid : FollowState} {watched watched_mid watched_new : List Watched} {slots slots_new : List Slot} {why : Fault} → Begins told_in old watched mid watched_mid → snapshot_mid ≡ snapshot
     → StopsOn told_in told snapshot_mid mid watched_mid slots watched_new slots_new why → StopsOn told_in told snapshot old watched slots watched_new slots_new why
 begun_stopped {told_in} {told} {snapshot} {snapshot_mid} {old} {mid} {watched} {watched_mid} {watched_new} {slots} {slots_new} {why} begins same stops = subst (λ s. StopsOn told_in told s old watched slots watched_new slots_new why) same
-    (λ ways headers names looks first holds keep. stops ways headers names looks first (begins.holds told ways headers names looks first slots holds) keep)
+    (λ ways headers names looks first holds. stops ways headers names looks first (begins.holds told ways headers names looks first slots holds))
 
 pub makes_none : {told_in told : Bool} {snapshot : Snapshot} {seen seen_new : List Snapshot} {old new : FollowState} {watched watched_new : List Watched} {slots : List Slot} {why : Fault} → Unbroken told_in told old watched slots watched_new → why ≡ fault.Memory → seen_new ≡ seen
     → MakesLook told_in told snapshot seen old watched slots seen_new new watched_new slots (Err why)

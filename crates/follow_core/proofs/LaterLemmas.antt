@@ -2,9 +2,9 @@
 use Rattle.follow_core.specs.Standing.{BrokeIn, StandsAt}
 use Rattle.std.proofs.lemmas.Option.{none-some}
 use Rattle.follow_core.proofs.CallLemmas.{none_of}
-use Rattle.std.proofs.Common.{◌≡◌, ℕ, ◌==◌, Bool, true, false, List, [], ◌∷◌, ◌++◌, length, Option, Some, None, refl, sym, ◌∙◌, ap, if◌then◌else◌, map, drop, subst, take, Ok, Err, inl, inr, ◌⊎◌}
+use Rattle.std.proofs.Common.{◌≡◌, ℕ, ◌==◌, Bool, true, false, List, [], ◌∷◌, ◌++◌, length, Option, Some, None, refl, sym, ◌∙◌, ap, if◌then◌else◌, map, drop, subst, take, Ok, Err, inl, inr, ◌⊎◌, append_assoc}
 use Rattle.std.proofs.lemmas.Bool.{eqb-true}
-use Rattle.std.proofs.lemmas.List.{map-append}
+use Rattle.std.proofs.lemmas.List.{append-nil, map-append}
 use Rattle.watch_core.specs.Snapshot.{Snapshot}
 use Rattle.follow_core.specs.Version.{Entry, gap, version_in, entries_at_look, entries_led, entries_later, entries_of, entries_open, open_after, open_after_later, open_after_look}
 use Rattle.follow_core.specs.Gain.{file_of, last_from, last_of, seen_length, gains_later, gains_after}
@@ -13,8 +13,8 @@ use Rattle.follow_core.specs.Look.{Fate, Look, Ways, entries_in, failed_by, fail
 use Rattle.std.proofs.Math.Seq.{drop-append_seam as drop_front}
 use Rattle.follow_core.specs.Run.{AreKept, name_text}
 use Rattle.follow_core.specs.Notice.{notice_of, notices_of, notices_later}
-use Rattle.follow_core.specs.Share.{share_by, share_of, gain, said_at_look, IsFront}
-use Rattle.follow_core.proofs.RunLemmas.{gain_is, notices-append}
+use Rattle.follow_core.specs.Share.{share_by, share_of, gain, gains_from, new_entries, said_at_look, IsFront}
+use Rattle.follow_core.proofs.RunLemmas.{gains-append, notices-append, text_goes_on, text_is_gains}
 use Rattle.follow_core.proofs.ShareLemmas.{entries-append}
 use Rattle.ports_core.specs.Slot.{Slot}
 use Rattle.ports_core.specs.Text.{message_of}
@@ -29,12 +29,6 @@ use Rattle.follow_core.specs.inner.Visits.{Stopped}
 use Rattle.follow_core.specs.Printing.{PrinterState}
 use Rattle.follow_core.specs.Telling.{IsFailure}
 use Rattle.follow_core.proofs.FirstLemmas.{Dues, Looked, failed_share, given_share, looked_failed, looked_over, looked_whole}
-
--- A name stands so before a later look: this file of it is open, and this much of that was seen. A file that is appended to keeps its
--- bytes.
-pub record IsReady (ways : Ways) (looks : List Look) (snapshot : Snapshot) (name : List ℕ) (opened : Option ℕ) (position : ℕ) : Type 0 where
-  pub stands : StandsAt (last_of (entries_in ways name looks)) opened position
-  pub kept : AreKept (entries_in ways name (looks ++ record { snapshot = snapshot; fates = [] } ∷ []))
 
 -- what a look gives for a name, from where the looks before left it
 
@@ -63,19 +57,47 @@ entries_more ways name before looks look =
     ap (entries_of ways.by_name name) (map-append (λ (l : Look). l.snapshot) (before ∷ looks) (look ∷ []))
     ∙ entries-append ways.by_name name before.snapshot (snapshots looks) look.snapshot
 
-gain_later : (ways : Ways) (name : List ℕ) (looks : List Look) (look : Look) (more : List Entry) → entries_in ways name (looks ++ look ∷ []) ≡ entries_in ways name looks ++ more → Some_entries (entries_in ways name looks) → AreKept (entries_in ways name (looks ++ look ∷ [])) → gain ways name looks look ≡ gains_later (last_of (entries_in ways name looks)) more
-gain_later ways name looks look more is some all =
-    ap (λ entries. drop (length (name_text ways.start (entries_in ways name looks))) (name_text ways.start entries)) is
-    ∙ gain_is ways.start (entries_in ways name looks) more (subst AreKept is all) ∙ later_gain ways.start (entries_in ways name looks) more some
+-- what a look adds to the entries
+pub new_are : (ways : Ways) (name : List ℕ) (looks : List Look) (look : Look) (more : List Entry) → entries_in ways name (looks ++ look ∷ []) ≡ entries_in ways name looks ++ more → new_entries ways name looks look ≡ more
+new_are ways name looks look more is = ap (drop (length (entries_in ways name looks))) is ∙ drop_front (entries_in ways name looks) more
+
+gain_later : (ways : Ways) (name : List ℕ) (looks : List Look) (look : Look) (more : List Entry) → entries_in ways name (looks ++ look ∷ []) ≡ entries_in ways name looks ++ more → Some_entries (entries_in ways name looks) → gain ways name looks look ≡ gains_later (last_of (entries_in ways name looks)) more
+gain_later ways name looks look more is some =
+    ap (gains_after ways.start (entries_in ways name looks)) (new_are ways name looks look more is) ∙ later_gain ways.start (entries_in ways name looks) more some
+
+-- a look only adds entries
+pub entries_go_on : (ways : Ways) (name : List ℕ) (looks : List Look) (look : Look) → entries_in ways name (looks ++ look ∷ []) ≡ entries_in ways name looks ++ new_entries ways name looks look
+entries_go_on ways name [] look = refl
+entries_go_on ways name (before ∷ looks) look =
+    let more = entries_more ways name before looks look in
+    more ∙ ap (λ those. entries_in ways name (before ∷ looks) ++ those) (sym (new_are ways name (before ∷ looks) look _ more))
+
+-- so the text goes on by what a look gives, where a file that is appended to keeps its bytes
+pub look_goes_on : (ways : Ways) (name : List ℕ) (looks : List Look) (look : Look) → AreKept (entries_in ways name (looks ++ look ∷ [])) → name_text ways.start (entries_in ways name (looks ++ look ∷ [])) ≡ name_text ways.start (entries_in ways name looks) ++ gain ways name looks look
+look_goes_on ways name looks look kept =
+    let more = entries_go_on ways name looks look in
+    ap (name_text ways.start) more ∙ text_goes_on ways.start (entries_in ways name looks) (new_entries ways name looks look) (subst AreKept more kept)
+
+gains_are : (ways : Ways) (name : List ℕ) (before looks : List Look) → gains_after ways.start [] (entries_in ways name before) ++ gains_from ways name before looks ≡ gains_after ways.start [] (entries_in ways name (before ++ looks))
+gains_are ways name before [] = append-nil _ ∙ ap (λ those. gains_after ways.start [] (entries_in ways name those)) (sym (append-nil before))
+gains_are ways name before (look ∷ looks) =
+    sym (append_assoc (gains_after ways.start [] (entries_in ways name before)) (gain ways name before look) (gains_from ways name (before ++ look ∷ []) looks))
+    ∙ ap (λ front. front ++ gains_from ways name (before ++ look ∷ []) looks) (sym (ap (gains_after ways.start []) (entries_go_on ways name before look) ∙ gains-append ways.start (entries_in ways name before) (new_entries ways name before look)))
+    ∙ gains_are ways name (before ++ look ∷ []) looks
+    ∙ ap (λ those. gains_after ways.start [] (entries_in ways name those)) (append_assoc before (look ∷ []) looks)
+
+-- and what all looks give is the text
+pub looks_give_text : (ways : Ways) (name : List ℕ) (looks : List Look) → AreKept (entries_in ways name looks) → gains_from ways name [] looks ≡ name_text ways.start (entries_in ways name looks)
+looks_give_text ways name looks kept = gains_are ways name [] looks ∙ sym (text_is_gains ways.start (entries_in ways name looks) kept)
 
 tells_later : (ways : Ways) (name : List ℕ) (looks : List Look) (look : Look) (more : List Entry) → entries_in ways name (looks ++ look ∷ []) ≡ entries_in ways name looks ++ more → Some_entries (entries_in ways name looks) → said_at_look ways name looks look ≡ map (λ notice. notice_of notice name) (notices_later (last_of (entries_in ways name looks)) more)
 tells_later ways name looks look more is some =
     ap (map (λ notice. notice_of notice name)) (ap (λ entries. drop (length (notices_of (entries_in ways name looks))) (notices_of entries)) is ∙ later_said (entries_in ways name looks) more some)
 
 -- what a later look adds to a name's text and tells of it, from the last that was seen of it and the file that is open
-pub gain_more : (ways : Ways) (name : List ℕ) (before : Look) (looks : List Look) (look : Look) → AreKept (entries_in ways name ((before ∷ looks) ++ look ∷ []))
+pub gain_more : (ways : Ways) (name : List ℕ) (before : Look) (looks : List Look) (look : Look)
     → gain ways name (before ∷ looks) look ≡ gains_later (last_of (entries_in ways name (before ∷ looks))) (entries_at_look ways.by_name name (open_after ways.by_name name (snapshots (before ∷ looks))) look.snapshot)
-gain_more ways name before looks look all = gain_later ways name (before ∷ looks) look _ (entries_more ways name before looks look) (some_at ways.by_name name before.snapshot (snapshots looks)) all
+gain_more ways name before looks look = gain_later ways name (before ∷ looks) look _ (entries_more ways name before looks look) (some_at ways.by_name name before.snapshot (snapshots looks))
 
 pub more_said : (ways : Ways) (name : List ℕ) (before : Look) (looks : List Look) (look : Look)
     → said_at_look ways name (before ∷ looks) look ≡ map (λ notice. notice_of notice name) (notices_later (last_of (entries_in ways name (before ∷ looks))) (entries_at_look ways.by_name name (open_after ways.by_name name (snapshots (before ∷ looks))) look.snapshot))
@@ -83,12 +105,11 @@ more_said ways name before looks look = tells_later ways name (before ∷ looks)
 
 pub later_share : (ways : Ways) (name : List ℕ) (before : Look) (looks : List Look) (look : Look) (place : ℕ)
     → is_dropped place (before ∷ looks) ≡ false → fate_at place look ≡ sound
-    → AreKept (entries_in ways name ((before ∷ looks) ++ look ∷ []))
     → share_of ways (before ∷ looks) look place name ≡ given_share false name
     (gains_later (last_of (entries_in ways name (before ∷ looks))) (entries_at_look ways.by_name name (open_after ways.by_name name (snapshots (before ∷ looks))) look.snapshot))
     (map (λ notice. notice_of notice name) (notices_later (last_of (entries_in ways name (before ∷ looks))) (entries_at_look ways.by_name name (open_after ways.by_name name (snapshots (before ∷ looks))) look.snapshot)))
-later_share ways name before looks look place kept fine all = rw (kept, fine)
-    (ap (λ bytes. given_share false name bytes (said_at_look ways name (before ∷ looks) look)) (gain_more ways name before looks look all)
+later_share ways name before looks look place kept fine = rw (kept, fine)
+    (ap (λ bytes. given_share false name bytes (said_at_look ways name (before ∷ looks) look)) (gain_more ways name before looks look)
     ∙ ap (given_share false name _) (more_said ways name before looks look))
 
 pub open_step : (by_name : Bool) (name : List ℕ) (opened : Option ℕ) (snapshot : Snapshot) (last : Entry) → opened ≡ file_of last → open_after_look by_name name opened snapshot ≡ file_of (last_from last (entries_at_look by_name name opened snapshot))
@@ -217,11 +238,6 @@ broken_later ways looks look place failed why fate is fault kept at read = recor
   now : failed_in place (looks ++ look ∷ []) ≡ Some why
   now = failed_more place looks look fate (none_failed place looks kept) at ∙ fault
 
--- fates don't matter for what was seen
-pub same_entries : (ways : Ways) (name : List ℕ) (looks : List Look) (snapshot : Snapshot) (fates others : List Fate) → entries_in ways name (looks ++ record { snapshot = snapshot; fates = fates } ∷ []) ≡ entries_in ways name (looks ++ record { snapshot = snapshot; fates = others } ∷ [])
-same_entries ways name looks snapshot fates others =
-    ap (entries_of ways.by_name name) (map-append (λ (l : Look). l.snapshot) looks (record { snapshot = snapshot; fates = fates } ∷ []) ∙ sym (map-append (λ (l : Look). l.snapshot) looks (record { snapshot = snapshot; fates = others } ∷ [])))
-
 -- a later look at a name, with what is told of it
 
 if_out : (printer : PrinterState) (name : List ℕ) (test : Bool) → ◌≡◌ {A = PrinterState} (if test then record printer { last = Some name } else printer) (record printer { last = if test then Some name else printer.last })
@@ -241,19 +257,19 @@ abbrev pub last_in : Ways → List ℕ → Look → List Look → Entry
 last_in ways name before looks = last_of (entries_in ways name (before ∷ looks))
 
 -- what is due at the look is what the definition gives
-due_again : (ways : Ways) (name : List ℕ) (before : Look) (looks : List Look) (snapshot : Snapshot) (fates : List Fate) (opened : Option ℕ) (position : ℕ) (by_name : Bool) → ways.by_name ≡ by_name → IsReady ways (before ∷ looks) snapshot name opened position
+due_again : (ways : Ways) (name : List ℕ) (before : Look) (looks : List Look) (snapshot : Snapshot) (fates : List Fate) (opened : Option ℕ) (position : ℕ) (by_name : Bool) → ways.by_name ≡ by_name → StandsAt (last_in ways name before looks) opened position
     → (bytes_again by_name name (last_in ways name before looks) snapshot opened ≡ gain ways name (before ∷ looks) (record { snapshot = snapshot; fates = fates }))
     × (lines_again by_name name (last_in ways name before looks) snapshot opened ≡ said_at_look ways name (before ∷ looks) (record { snapshot = snapshot; fates = fates }))
-due_again ways name before looks snapshot fates opened position by_name way ready =
+due_again ways name before looks snapshot fates opened position by_name way stands =
     let last = last_in ways name before looks in
-    let same : opened ≡ open_after ways.by_name name (snapshots (before ∷ looks)) = ready.stands.file ∙ sym (last_file ways name before looks) in (
+    let same : opened ≡ open_after ways.by_name name (snapshots (before ∷ looks)) = stands.file ∙ sym (last_file ways name before looks) in (
       ap (λ those. bytes_again those name last snapshot opened) (sym way) ∙ ap (bytes_again ways.by_name name last snapshot) same
-          ∙ sym (gain_more ways name before looks (record { snapshot = snapshot; fates = fates }) (subst AreKept (same_entries ways name (before ∷ looks) snapshot [] fates) ready.kept)),
+          ∙ sym (gain_more ways name before looks (record { snapshot = snapshot; fates = fates })),
       ap (λ those. lines_again those name last snapshot opened) (sym way) ∙ ap (lines_again ways.by_name name last snapshot) same
           ∙ sym (more_said ways name before looks (record { snapshot = snapshot; fates = fates })),
     )
 
-pub again_whole : (told_in told : Bool) (ways : Ways) (before : Look) (looks : List Look) (snapshot : Snapshot) (place : ℕ) (name : List ℕ) (opened : Option ℕ) (position : ℕ) (by_name : Bool) (printer after : PrinterState) (old new : List Slot) (len : ℕ) → ways.by_name ≡ by_name → (told_in ≡ true → IsReady ways (before ∷ looks) snapshot name opened position)
+pub again_whole : (told_in told : Bool) (ways : Ways) (before : Look) (looks : List Look) (snapshot : Snapshot) (place : ℕ) (name : List ℕ) (opened : Option ℕ) (position : ℕ) (by_name : Bool) (printer after : PrinterState) (old new : List Slot) (len : ℕ) → ways.by_name ≡ by_name → (told_in ≡ true → StandsAt (last_in ways name before looks) opened position)
     → Ends {T = ℕ} told_in told printer name (bytes_again by_name name (last_in ways name before looks) snapshot opened) (lines_again by_name name (last_in ways name before looks) snapshot opened) old after new (Ok len)
     → Looked told_in told ways (before ∷ looks) snapshot place name printer old after new (Through len) None
 again_whole told_in told ways before looks snapshot place name opened position by_name printer after old new _ way ready (whole len bytes lines are gives) =
@@ -261,14 +277,14 @@ again_whole told_in told ways before looks snapshot place name opened position b
     (λ is fates. let due = due_again ways name before looks snapshot fates opened position by_name way (ready is) in (refl, ((are is).0 ∙ due.0, (are is).1 ∙ due.1)))
     (gives_shared told printer after name bytes lines old new gives)
 
-again_fronts : (told_in : Bool) (ways : Ways) (before : Look) (looks : List Look) (snapshot : Snapshot) (name : List ℕ) (opened : Option ℕ) (position : ℕ) (by_name : Bool) (bytes : List ℕ) (lines : List (List ℕ)) → ways.by_name ≡ by_name → (told_in ≡ true → IsReady ways (before ∷ looks) snapshot name opened position)
+again_fronts : (told_in : Bool) (ways : Ways) (before : Look) (looks : List Look) (snapshot : Snapshot) (name : List ℕ) (opened : Option ℕ) (position : ℕ) (by_name : Bool) (bytes : List ℕ) (lines : List (List ℕ)) → ways.by_name ≡ by_name → (told_in ≡ true → StandsAt (last_in ways name before looks) opened position)
     → (told_in ≡ true → IsFront bytes (bytes_again by_name name (last_in ways name before looks) snapshot opened) × IsFront lines (lines_again by_name name (last_in ways name before looks) snapshot opened))
     → Dues told_in ways (before ∷ looks) snapshot name (λ due said. IsFront bytes due × IsFront lines said)
 again_fronts told_in ways before looks snapshot name opened position by_name bytes lines way ready are is fates =
     let due = due_again ways name before looks snapshot fates opened position by_name way (ready is) in (refl, (subst (IsFront bytes) due.0 (are is).0, subst (IsFront lines) due.1 (are is).1))
 
 -- a call on it failed: a beginning was given, and the message follows
-pub again_broke : (told_in told : Bool) (ways : Ways) (before : Look) (looks : List Look) (snapshot : Snapshot) (place : ℕ) (name : List ℕ) (opened : Option ℕ) (position : ℕ) (by_name : Bool) (printer after : PrinterState) (old mid new : List Slot) (why : Fault) → ways.by_name ≡ by_name → (told_in ≡ true → IsReady ways (before ∷ looks) snapshot name opened position)
+pub again_broke : (told_in told : Bool) (ways : Ways) (before : Look) (looks : List Look) (snapshot : Snapshot) (place : ℕ) (name : List ℕ) (opened : Option ℕ) (position : ℕ) (by_name : Bool) (printer after : PrinterState) (old mid new : List Slot) (why : Fault) → ways.by_name ≡ by_name → (told_in ≡ true → StandsAt (last_in ways name before looks) opened position)
     → ((why ≡ Open place) × (by_name ≡ true)) ⊎ (why ≡ Read place)
     → Ends {T = ℕ} told_in told printer name (bytes_again by_name name (last_in ways name before looks) snapshot opened) (lines_again by_name name (last_in ways name before looks) snapshot opened) old after mid (Err (Broke why))
     → SaysOn told Tail (message_of Tail why name) mid new → Looked told_in told ways (before ∷ looks) snapshot place name printer old after new Dropped (Some why)
@@ -284,7 +300,7 @@ again_broke told_in told ways before looks snapshot place name opened position b
   by (inl unopen) = dropped (Open 0) (not_opened (length lines) (length bytes)) (ap Some (sym unopen.0)) (λ fates. refl) (name, inl refl) (subst (λ those. SaysOn told Tail (message_of Tail those name) mid new) unopen.0 says)
   by (inr read) = dropped (Read 0) (not_read (length lines) (length bytes)) (ap Some (sym read)) (λ fates. refl) (name, inr refl) (subst (λ those. SaysOn told Tail (message_of Tail those name) mid new) read says)
 
-pub again_over : (told_in told : Bool) (ways : Ways) (before : Look) (looks : List Look) (snapshot : Snapshot) (name : List ℕ) (opened : Option ℕ) (position : ℕ) (by_name : Bool) (printer after : PrinterState) (old new : List Slot) (why : Fault) → ways.by_name ≡ by_name → (told_in ≡ true → IsReady ways (before ∷ looks) snapshot name opened position)
+pub again_over : (told_in told : Bool) (ways : Ways) (before : Look) (looks : List Look) (snapshot : Snapshot) (name : List ℕ) (opened : Option ℕ) (position : ℕ) (by_name : Bool) (printer after : PrinterState) (old new : List Slot) (why : Fault) → ways.by_name ≡ by_name → (told_in ≡ true → StandsAt (last_in ways name before looks) opened position)
     → Ends {T = ℕ} told_in told printer name (bytes_again by_name name (last_in ways name before looks) snapshot opened) (lines_again by_name name (last_in ways name before looks) snapshot opened) old after new (Err (Over why))
     → Stopped told_in told ways (before ∷ looks) snapshot name printer old new why
 again_over told_in told ways before looks snapshot name opened position by_name printer after old new _ way ready (over why bytes lines are halts) =

@@ -75,7 +75,7 @@ pub later-append : (last : Entry) (entries more : List Entry) → gains_later la
 later-append last [] more = refl
 later-append last (entry ∷ entries) more = ap (λ x. gain_between last entry ++ x) (later-append entry entries more) ∙ sym (append_assoc (gain_between last entry) (gains_later entry entries) _)
 
-gains-append : (start : List ℕ → List ℕ) (entries more : List Entry) → gains_after start [] (entries ++ more) ≡ gains_after start [] entries ++ gains_after start entries more
+pub gains-append : (start : List ℕ → List ℕ) (entries more : List Entry) → gains_after start [] (entries ++ more) ≡ gains_after start [] entries ++ gains_after start entries more
 gains-append start [] [] = refl
 gains-append start [] (entry ∷ more) = refl
 gains-append start (entry ∷ entries) more = ap (λ x. started start entry ++ x) (later-append entry entries more) ∙ sym (append_assoc (started start entry) (gains_later entry entries) _)
@@ -92,10 +92,6 @@ pub text_goes_on : (start : List ℕ → List ℕ) (entries more : List Entry) �
 text_goes_on start entries more all =
     text_is_gains start (entries ++ more) all ∙ gains-append start entries more
     ∙ ap (λ x. x ++ gains_after start entries more) (sym (text_is_gains start entries (kept_before entries more all)))
-
--- and what a name gains is just that
-pub gain_is : (start : List ℕ → List ℕ) (entries more : List Entry) → AreKept (entries ++ more) → drop (length (name_text start entries)) (name_text start (entries ++ more)) ≡ gains_after start entries more
-gain_is start entries more all = ap (drop (length (name_text start entries))) (text_goes_on start entries more all) ∙ drop_front (name_text start entries) (gains_after start entries more)
 
 pub notices-append : (last : Entry) (entries more : List Entry) → notices_later last (entries ++ more) ≡ notices_later last entries ++ notices_later (last_from last entries) more
 notices-append last [] more = refl

@@ -11,7 +11,7 @@ use Rattle.follow_core.specs.inner.Visits.{Opened, Stopped, KeepsOthers, Stopped
 use Rattle.follow_core.specs.Printing.{PrinterState}
 use Rattle.follow_core.specs.Sharing.{AllShared, AllShort}
 use Rattle.follow_core.specs.inner.Giving.{Shared, SharedShort}
-use Rattle.follow_core.specs.Standing.{AllKeep, AllStand, BrokeIn, CanVisit, KeepsBytes, NameState, Stands, no_state, state_at, texts}
+use Rattle.follow_core.specs.Standing.{AllStand, BrokeIn, CanVisit, NameState, Stands, no_state, state_at, texts}
 use Rattle.follow_core.proofs.GiveLemmas.{short_as, wrote_as, wrote_both, wrote_none, wrote_short}
 use Rattle.ports_core.specs.declared.fault.Fault.{Fault}
 use Rattle.watch_core.specs.Snapshot.{Snapshot}
@@ -136,11 +136,11 @@ equal_or_not (suc a) (suc b) = elim (equal_or_not a b) [
 ]
 
 pub visited_more : (told_in told : Bool) (ways : Ways) (looks : List Look) (snapshot snapshot_now : Snapshot) (names now : List NameState) (default one : NameState) (place : ℕ) (printer mid after : PrinterState) (old slots new : List Slot) (watched watched_new : List Watched) (before failed : Bool)
-    → place < length now → one.text ≡ (get_or now place default).text → KeepsOthers place watched watched_new → snapshot_now ≡ snapshot → AllKeep told_in ways looks snapshot (texts names)
+    → place < length now → one.text ≡ (get_or now place default).text → KeepsOthers place watched watched_new → snapshot_now ≡ snapshot
     → VisitedUpTo told_in told ways looks snapshot place names printer old mid slots watched now before
-    → (Stands told_in ways looks place (get_or now place default).text (watched_at watched place) (get_or now place default).standing → KeepsBytes told_in ways looks snapshot_now (get_or now place default).text → Visited told_in told ways looks snapshot_now place (get_or now place default).text mid slots after new (watched_at watched_new place) one.standing failed)
+    → (Stands told_in ways looks place (get_or now place default).text (watched_at watched place) (get_or now place default).standing → Visited told_in told ways looks snapshot_now place (get_or now place default).text mid slots after new (watched_at watched_new place) one.standing failed)
     → (next : ℕ) → suc place ≡ next → VisitedUpTo told_in told ways looks snapshot next names printer old after new watched_new (set now place one) (before || failed)
-visited_more told_in told ways looks snapshot snapshot_now names now default one place printer mid after old slots new watched watched_new before failed within same keeps seen keep sofar visit next is = subst (λ n. VisitedUpTo told_in told ways looks snapshot n names printer old after new watched_new (set now place one) (before || failed)) is (record {
+visited_more told_in told ways looks snapshot snapshot_now names now default one place printer mid after old slots new watched watched_new before failed within same keeps seen sofar visit next is = subst (λ n. VisitedUpTo told_in told ways looks snapshot n names printer old after new watched_new (set now place one) (before || failed)) is (record {
   fates = sofar.fates ++ visited.fate ∷ [];
   shares = sofar.shares ++ visited.share ∷ [];
   count = length-append sofar.fates (visited.fate ∷ []) ∙ ap (λ n. n + 1) sofar.count ∙ omega arith;
@@ -158,13 +158,9 @@ visited_more told_in told ways looks snapshot snapshot_now names now default one
   found : item ≡ state_at now place
   found = state_there now place default within
 
-  keeps_item : KeepsBytes told_in ways looks snapshot_now item.text
-  keeps_item = subst (λ (s : Snapshot). KeepsBytes told_in ways looks s item.text) (sym seen)
-      (subst (KeepsBytes told_in ways looks snapshot) (text_there names now place sofar.same within ∙ ap (λ (n : NameState). n.text) (sym found)) (keep place (subst (λ n. place < n) (sym (length_texts names now sofar.same)) within)))
-
   visited : Visited told_in told ways looks snapshot place item.text mid slots after new (watched_at watched_new place) one.standing failed
   visited = subst (λ (s : Snapshot). Visited told_in told ways looks s place item.text mid slots after new (watched_at watched_new place) one.standing failed) seen
-      (visit (subst (λ (n : NameState). Stands told_in ways looks place n.text (watched_at watched place) n.standing) (sym found) (sofar.rest place (omega arith) within)) keeps_item)
+      (visit (subst (λ (n : NameState). Stands told_in ways looks place n.text (watched_at watched place) n.standing) (sym found) (sofar.rest place (omega arith) within)))
 
   both : told_in ≡ true → (later : List Fate) → sofar.shares ++ visited.share ∷ [] ≡ shares_at_look_from ways looks (record { snapshot = snapshot; fates = sofar.fates ++ visited.fate ∷ later }) 0 (take (suc place) (texts names))
   both t later =
@@ -230,11 +226,11 @@ before_or_not (suc a) (suc b) = elim (before_or_not a b) [
 
 -- a look that was stopped at a name
 pub visited_short : (told_in told : Bool) (ways : Ways) (looks : List Look) (snapshot snapshot_now : Snapshot) (names now : List NameState) (default : NameState) (place : ℕ) (printer mid : PrinterState) (old slots new : List Slot) (watched watched_new : List Watched) (before : Bool) (why : Fault)
-    → place < length now → snapshot_now ≡ snapshot → Opened place watched watched_new → AllKeep told_in ways looks snapshot (texts names)
+    → place < length now → snapshot_now ≡ snapshot → Opened place watched watched_new
     → VisitedUpTo told_in told ways looks snapshot place names printer old mid slots watched now before
-    → (Stands told_in ways looks place (get_or now place default).text (watched_at watched place) (get_or now place default).standing → KeepsBytes told_in ways looks snapshot_now (get_or now place default).text → (is_dropped place looks ≡ false) × Stopped told_in told ways looks snapshot_now (get_or now place default).text mid slots new why)
+    → (Stands told_in ways looks place (get_or now place default).text (watched_at watched place) (get_or now place default).standing → (is_dropped place looks ≡ false) × Stopped told_in told ways looks snapshot_now (get_or now place default).text mid slots new why)
     → StoppedAt told_in told ways looks snapshot (texts names) printer old watched_new new why
-visited_short told_in told ways looks snapshot snapshot_now names now default place printer mid old slots new watched watched_new before why within seen opened keep sofar stop = record {
+visited_short told_in told ways looks snapshot snapshot_now names now default place printer mid old slots new watched watched_new before why within seen opened sofar stop = record {
   fates = sofar.fates;
   place = place;
   count = sofar.count;
@@ -252,13 +248,9 @@ visited_short told_in told ways looks snapshot snapshot_now names now default pl
   found : item ≡ state_at now place
   found = state_there now place default within
 
-  keeps_item : KeepsBytes told_in ways looks snapshot_now item.text
-  keeps_item = subst (λ (s : Snapshot). KeepsBytes told_in ways looks s item.text) (sym seen)
-      (subst (KeepsBytes told_in ways looks snapshot) (text_there names now place sofar.same within ∙ ap (λ (n : NameState). n.text) (sym found)) (keep place (subst (λ n. place < n) (sym (length_texts names now sofar.same)) within)))
-
   stopped : (is_dropped place looks ≡ false) × Stopped told_in told ways looks snapshot item.text mid slots new why
   stopped = subst (λ (s : Snapshot). (is_dropped place looks ≡ false) × Stopped told_in told ways looks s item.text mid slots new why) seen
-      (stop (subst (λ (n : NameState). Stands told_in ways looks place n.text (watched_at watched place) n.standing) (sym found) (sofar.rest place (omega arith) within)) keeps_item)
+      (stop (subst (λ (n : NameState). Stands told_in ways looks place n.text (watched_at watched place) n.standing) (sym found) (sofar.rest place (omega arith) within)))
 
   look : Look
   look = record { snapshot = snapshot; fates = sofar.fates }

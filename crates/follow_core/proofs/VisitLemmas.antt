@@ -18,15 +18,14 @@ use Rattle.follow_core.specs.declared.visitor.Stop.TheVariants.{Broke, Over}
 use Rattle.follow_core.specs.inner.Calls.{Keeps, held_at}
 use Rattle.follow_core.specs.Gain.{file_of, gains_later, last_of, seen_length}
 use Rattle.follow_core.specs.Notice.{notice_of, notices_later}
-use Rattle.follow_core.specs.Run.{AreKept}
 use Rattle.follow_core.specs.Look.{Fate, Look, Ways, entries_in, failed_by, failed_in, fate_at, is_dropped, is_first, snapshots, sound, unread}
 use Rattle.follow_core.specs.inner.Visits.{Opened, TellsStop, Leaves, Stopped, has_failed, standing_after, KeepsOthers, Looks, Visited, Visits}
 use Rattle.follow_core.specs.Printing.{PrinterState}
 use Rattle.follow_core.specs.Share.{Share, no_share, share_by, share_of}
-use Rattle.follow_core.specs.Standing.{BrokeIn, CanVisit, IsFollowed, IsLeft, IsMissed, KeepsBytes, NameState, Stands}
+use Rattle.follow_core.specs.Standing.{BrokeIn, CanVisit, IsFollowed, IsLeft, IsMissed, NameState, Stands, StandsAt}
 use Rattle.follow_core.specs.Version.{Entry, version, gap, entries_at_look, open_after, open_after_look}
 use Rattle.follow_core.proofs.CallLemmas.{contents_led, none_of, opened_there, opens_same, LooksAgain}
-use Rattle.follow_core.proofs.LaterLemmas.{broken_first, broken_later, broken_sound, failed_more, failed_sound, later_share, again_broke, again_over, again_whole, last_in, first_last, last_file, last_later, same_entries, IsReady}
+use Rattle.follow_core.proofs.LaterLemmas.{broken_first, broken_later, broken_sound, failed_more, failed_sound, later_share, again_broke, again_over, again_whole, last_in, first_last, last_file, last_later}
 use Rattle.ports_core.specs.Message.{SaysOn}
 use Rattle.ports_core.specs.Text.{message_of}
 use Rattle.ports_core.specs.declared.tool.Tool.TheVariants.{Tail}
@@ -150,7 +149,7 @@ pub first_looks : {told_in told : Bool} {ways : Ways} {snapshot : Snapshot} {pla
     → Looked told_in told ways [] snapshot place name printer slots after slots_new came failed → Leaves told_in snapshot (snapshot.leads name) place old new failed came → IsThere told_in (snapshot.leads name) came
     → Looks told_in told ways snapshot place name New old printer slots new after slots_new (Ok came)
 first_looks {told_in} {told} {ways} {snapshot} {place} {name} {printer} {after} {slots} {slots_new} {old} {new} {failed} {came} looked leaves there = record {
-  visited = λ looks stands keeps. first_visited told_in told ways snapshot place name printer after slots slots_new old new failed came looks stands looked leaves there;
+  visited = λ looks stands. first_visited told_in told ways snapshot place name printer after slots slots_new old new failed came looks stands looked leaves there;
   stopped = tt;
   leaves = (failed, untold told_in snapshot (snapshot.leads name) (snapshot.leads name) place old new failed came leaves);
   halts = tt;
@@ -172,7 +171,7 @@ pub first_over : {told_in told : Bool} {ways : Ways} {snapshot : Snapshot} {plac
     → Opened place old new → Stopped told_in told ways [] snapshot name printer slots slots_new why → Looks told_in told ways snapshot place name New old printer slots new after slots_new (Err why)
 first_over {told_in} {told} {ways} {snapshot} {place} {name} {printer} {after} {slots} {slots_new} {old} {new} {why} opened stopped = record {
   visited = tt;
-  stopped = λ looks stands keeps. (ap (is_dropped place) stands.0, subst (λ those. Stopped told_in told ways those snapshot name printer slots slots_new why) (sym stands.0) stopped);
+  stopped = λ looks stands. (ap (is_dropped place) stands.0, subst (λ those. Stopped told_in told ways those snapshot name printer slots slots_new why) (sym stands.0) stopped);
   leaves = tt;
   halts = opened;
 }
@@ -217,14 +216,14 @@ later_share_of ways before looks look place name fate kept at =
     ∙ ap (λ test. if test then no_share name else share_by ways name (before ∷ looks) look (fate_at place look)) (sym kept)
 
 -- the looks that were made are not none
-later_visited : (told_in told : Bool) (ways : Ways) (snapshot : Snapshot) (place : ℕ) (name : List ℕ) (position : ℕ) (printer after : PrinterState) (slots slots_new : List Slot) (old new : List Watched) (failed : Option Fault) (came : Came) (looks : List Look) → IsFollowed told_in ways looks place name (watched_at old place) position → KeepsBytes told_in ways looks snapshot name
-    → ((before : Look) (looks : List Look) → (told_in ≡ true → IsReady ways (before ∷ looks) snapshot name (watched_at old place).opened position)
+later_visited : (told_in told : Bool) (ways : Ways) (snapshot : Snapshot) (place : ℕ) (name : List ℕ) (position : ℕ) (printer after : PrinterState) (slots slots_new : List Slot) (old new : List Watched) (failed : Option Fault) (came : Came) (looks : List Look) → IsFollowed told_in ways looks place name (watched_at old place) position
+    → ((before : Look) (looks : List Look) → (told_in ≡ true → StandsAt (last_in ways name before looks) (watched_at old place).opened position)
     → Looked told_in told ways (before ∷ looks) snapshot place name printer slots after slots_new came failed × Leaves told_in snapshot (open_after_look ways.by_name name (watched_at old place).opened snapshot) place old new failed came)
     → IsLater place ways.by_name failed came
     → Visited told_in told ways looks snapshot place name printer slots after slots_new (watched_at new place) (standing_after ways.by_name came) (has_failed came)
-later_visited told_in told ways snapshot place name position printer after slots slots_new old new failed came [] followed keeps made later = absurd (false≢true (sym followed.begun))
-later_visited told_in told ways snapshot place name position printer after slots slots_new old new failed came (before ∷ looks) followed keeps made later =
-    let both = made before looks (λ t. record { stands = followed.stands t; kept = keeps t }) in
+later_visited told_in told ways snapshot place name position printer after slots slots_new old new failed came [] followed made later = absurd (false≢true (sym followed.begun))
+later_visited told_in told ways snapshot place name position printer after slots slots_new old new failed came (before ∷ looks) followed made later =
+    let both = made before looks (λ t. followed.stands t) in
     let one : Looked told_in told ways (before ∷ looks) snapshot place name printer slots after slots_new came failed = both.0 in
     record {
       fate = one.fate;
@@ -235,20 +234,20 @@ later_visited told_in told ways snapshot place name position printer after slots
       stands = λ fates at. later_stands told_in ways before looks snapshot place name position old new failed came fates one.fate followed both.1 later one.fault at;
     }
 
-later_stopped : (told_in told : Bool) (ways : Ways) (snapshot : Snapshot) (place : ℕ) (name : List ℕ) (position : ℕ) (watched : Watched) (printer : PrinterState) (slots slots_new : List Slot) (why : Fault) (looks : List Look) → IsFollowed told_in ways looks place name watched position → KeepsBytes told_in ways looks snapshot name
-    → ((before : Look) (looks : List Look) → (told_in ≡ true → IsReady ways (before ∷ looks) snapshot name watched.opened position) → Stopped told_in told ways (before ∷ looks) snapshot name printer slots slots_new why)
+later_stopped : (told_in told : Bool) (ways : Ways) (snapshot : Snapshot) (place : ℕ) (name : List ℕ) (position : ℕ) (watched : Watched) (printer : PrinterState) (slots slots_new : List Slot) (why : Fault) (looks : List Look) → IsFollowed told_in ways looks place name watched position
+    → ((before : Look) (looks : List Look) → (told_in ≡ true → StandsAt (last_in ways name before looks) watched.opened position) → Stopped told_in told ways (before ∷ looks) snapshot name printer slots slots_new why)
     → (is_dropped place looks ≡ false) × Stopped told_in told ways looks snapshot name printer slots slots_new why
-later_stopped told_in told ways snapshot place name position watched printer slots slots_new why [] followed keeps stopped = absurd (false≢true (sym followed.begun))
-later_stopped told_in told ways snapshot place name position watched printer slots slots_new why (before ∷ looks) followed keeps stopped =
-    (followed.kept, stopped before looks (λ t. record { stands = followed.stands t; kept = keeps t }))
+later_stopped told_in told ways snapshot place name position watched printer slots slots_new why [] followed stopped = absurd (false≢true (sym followed.begun))
+later_stopped told_in told ways snapshot place name position watched printer slots slots_new why (before ∷ looks) followed stopped =
+    (followed.kept, stopped before looks (λ t. followed.stands t))
 
 pub again_through : {told_in told : Bool} {ways : Ways} {snapshot : Snapshot} {place : ℕ} {name : List ℕ} {position : ℕ} {old new : List Watched} {printer after : PrinterState} {slots slots_new : List Slot} {len : ℕ}
     → LooksAgain told_in told ways.by_name snapshot place name position old printer slots new after slots_new (Ok len)
     → Looks told_in told ways snapshot place name (Followed position) old printer slots new after slots_new (Ok (Through len))
 again_through {told_in} {told} {ways} {snapshot} {place} {name} {position} {old} {new} {printer} {after} {slots} {slots_new} {len} again = record {
-  visited = λ looks stands keeps. later_visited told_in told ways snapshot place name position printer after slots slots_new old new None (Through len) looks stands keeps (λ before looks ready. (
-    again_whole told_in told ways before looks snapshot place name (watched_at old place).opened position ways.by_name printer after slots slots_new len refl ready (again.ends (last_in ways name before looks) (λ t. (ready t).stands)),
-    (again.follows.0, again.follows.1, refl, λ t. (again.follows.2 t, again.len t (last_in ways name before looks) (ready t).stands)),
+  visited = λ looks stands. later_visited told_in told ways snapshot place name position printer after slots slots_new old new None (Through len) looks stands (λ before looks ready. (
+    again_whole told_in told ways before looks snapshot place name (watched_at old place).opened position ways.by_name printer after slots slots_new len refl ready (again.ends (last_in ways name before looks) (λ t. ready t)),
+    (again.follows.0, again.follows.1, refl, λ t. (again.follows.2 t, again.len t (last_in ways name before looks) (ready t))),
   )) tt;
   stopped = tt;
   leaves = (None, (again.follows.0, again.follows.1, refl, λ t. absurd (false≢true t)));
@@ -266,8 +265,8 @@ pub again_fails : {told_in told : Bool} {ways : Ways} {snapshot : Snapshot} {pla
     → Looks told_in told ways snapshot place name (Followed position) old printer slots new after slots_new result
 again_fails {told_in} {told} {ways} {snapshot} {place} {name} {position} {old} {new} {printer} {after} {slots} {mid} {slots_new} (Broke why) result again (is, says) =
     subst (λ those. Looks told_in told ways snapshot place name (Followed position) old printer slots new after slots_new those) (sym is) (record {
-      visited = λ looks stands keeps. later_visited told_in told ways snapshot place name position printer after slots slots_new old new (Some why) Dropped looks stands keeps (λ before looks ready. (
-        again_broke told_in told ways before looks snapshot place name (watched_at old place).opened position ways.by_name printer after slots mid slots_new why refl ready again.follows.2 (again.ends (last_in ways name before looks) (λ t. (ready t).stands)) says,
+      visited = λ looks stands. later_visited told_in told ways snapshot place name position printer after slots slots_new old new (Some why) Dropped looks stands (λ before looks ready. (
+        again_broke told_in told ways before looks snapshot place name (watched_at old place).opened position ways.by_name printer after slots mid slots_new why refl ready again.follows.2 (again.ends (last_in ways name before looks) (λ t. ready t)) says,
         (again.follows.0, why, again.follows.1, refl),
       )) (λ way other same. only_read ways.by_name place why other again.follows.2 way same);
       stopped = tt;
@@ -277,9 +276,9 @@ again_fails {told_in} {told} {ways} {snapshot} {place} {name} {position} {old} {
 again_fails {told_in} {told} {ways} {snapshot} {place} {name} {position} {old} {new} {printer} {after} {slots} {mid} {slots_new} (Over why) result again (is, same) =
     subst (λ those. Looks told_in told ways snapshot place name (Followed position) old printer slots new after slots_new those) (sym is) (record {
       visited = tt;
-      stopped = λ looks stands keeps. later_stopped told_in told ways snapshot place name position (watched_at old place) printer slots slots_new why looks stands keeps (λ before looks ready.
+      stopped = λ looks stands. later_stopped told_in told ways snapshot place name position (watched_at old place) printer slots slots_new why looks stands (λ before looks ready.
           subst (λ those. Stopped told_in told ways (before ∷ looks) snapshot name printer slots those why) (sym same)
-          (again_over told_in told ways before looks snapshot name (watched_at old place).opened position ways.by_name printer after slots mid why refl ready (again.ends (last_in ways name before looks) (λ t. (ready t).stands))));
+          (again_over told_in told ways before looks snapshot name (watched_at old place).opened position ways.by_name printer after slots mid why refl ready (again.ends (last_in ways name before looks) (λ t. ready t))));
       leaves = tt;
       halts = again.follows;
     })
@@ -333,23 +332,23 @@ no_last (version v) is = absurd (false≢true (ap is_some is))
 abbrev share_from : List ℕ → Entry → List Entry → Share
 share_from name entry entries = given_share false name (gains_later entry entries) (map (λ notice. notice_of notice name) (notices_later entry entries))
 
-missed_share : (told : Bool) (ways : Ways) (before : Look) (looks : List Look) (look : Look) (place : ℕ) (name : List ℕ) (watched : Watched) → told ≡ true → IsMissed told ways (before ∷ looks) place name watched → fate_at place look ≡ sound → AreKept (entries_in ways name ((before ∷ looks) ++ look ∷ []))
+missed_share : (told : Bool) (ways : Ways) (before : Look) (looks : List Look) (look : Look) (place : ℕ) (name : List ℕ) (watched : Watched) → told ≡ true → IsMissed told ways (before ∷ looks) place name watched → fate_at place look ≡ sound
     → (dropped : Bool) → is_dropped place (before ∷ looks) ≡ dropped → no_share name ≡ share_of ways (before ∷ looks) look place name
-missed_share told ways before looks look place name watched t missed fine kept true dropped =
+missed_share told ways before looks look place name watched t missed fine true dropped =
     sym (ap (λ test. if test then no_share name else share_by ways name (before ∷ looks) look (fate_at place look)) dropped)
-missed_share told ways before looks look place name watched t missed fine kept false dropped =
+missed_share told ways before looks look place name watched t missed fine false dropped =
     let last = last_of (entries_in ways name (before ∷ looks)) in
     let opened = open_after ways.by_name name (snapshots (before ∷ looks)) in
     let none : last ≡ gap = no_last last (sym (missed.unopened t) ∙ last_file ways name before looks) in
     let entries : entries_at_look ways.by_name name opened look.snapshot ≡ gap ∷ [] = ap (λ by_name. entries_at_look by_name name opened look.snapshot) missed.way ∙ ap (λ file. entries_at_look false name file look.snapshot) (missed.unopened t) in
-    sym (later_share ways name before looks look place dropped fine kept
+    sym (later_share ways name before looks look place dropped fine
     ∙ ap (λ those. share_from name those (entries_at_look ways.by_name name opened look.snapshot)) none ∙ ap (share_from name gap) entries)
 
-left_share : (told : Bool) (ways : Ways) (looks : List Look) (look : Look) (place : ℕ) (name : List ℕ) → (watched : Watched) → told ≡ true → IsLeft told ways looks place name watched → fate_at place look ≡ sound → AreKept (entries_in ways name (looks ++ look ∷ [])) → no_share name ≡ share_of ways looks look place name
-left_share told ways [] look place name watched t left fine kept = absurd (false≢true (sym left.begun))
-left_share told ways (before ∷ looks) look place name watched t left fine kept = elim left.why [
+left_share : (told : Bool) (ways : Ways) (looks : List Look) (look : Look) (place : ℕ) (name : List ℕ) → (watched : Watched) → told ≡ true → IsLeft told ways looks place name watched → fate_at place look ≡ sound → no_share name ≡ share_of ways looks look place name
+left_share told ways [] look place name watched t left fine = absurd (false≢true (sym left.begun))
+left_share told ways (before ∷ looks) look place name watched t left fine = elim left.why [
   | inl dropped ↦ sym (ap (λ test. if test then no_share name else share_by ways name (before ∷ looks) look (fate_at place look)) dropped.0)
-  | inr missed ↦ missed_share told ways before looks look place name watched t missed fine kept (is_dropped place (before ∷ looks)) refl
+  | inr missed ↦ missed_share told ways before looks look place name watched t missed fine (is_dropped place (before ∷ looks)) refl
 ]
 
 still_left : (told : Bool) (ways : Ways) (looks : List Look) (look : Look) (place : ℕ) (name : List ℕ) (watched : Watched) → fate_at place look ≡ sound → IsLeft told ways looks place name watched → IsLeft told ways (looks ++ look ∷ []) place name watched
@@ -372,14 +371,14 @@ still_left told ways (before ∷ looks) look place name watched fine left = reco
 left_at : (told : Bool) (ways : Ways) (looks : List Look) (place : ℕ) (name : List ℕ) (watched : Watched) (standing : Standing) → standing ≡ Left → Stands told ways looks place name watched standing → IsLeft told ways looks place name watched
 left_at told ways looks place name watched standing left stands = subst (λ those. Stands told ways looks place name watched those) left stands
 
-left_visited : (told_in told : Bool) (ways : Ways) (snapshot : Snapshot) (place : ℕ) (name : List ℕ) (printer : PrinterState) (slots : List Slot) (watched : Watched) (standing : Standing) (looks : List Look) → standing ≡ Left → Stands told_in ways looks place name watched standing → KeepsBytes told_in ways looks snapshot name
+left_visited : (told_in told : Bool) (ways : Ways) (snapshot : Snapshot) (place : ℕ) (name : List ℕ) (printer : PrinterState) (slots : List Slot) (watched : Watched) (standing : Standing) (looks : List Look) → standing ≡ Left → Stands told_in ways looks place name watched standing
     → Visited told_in told ways looks snapshot place name printer slots printer slots watched standing false
-left_visited told_in told ways snapshot place name printer slots watched standing looks is stands keeps =
+left_visited told_in told ways snapshot place name printer slots watched standing looks is stands =
     let left = left_at told_in ways looks place name watched standing is stands in
     record {
       fate = sound;
       share = no_share name;
-      is_share = λ t fates at. left_share told_in ways looks (record { snapshot = snapshot; fates = fates }) place name watched t left at (subst AreKept (same_entries ways name looks snapshot [] fates) (keeps t));
+      is_share = λ t fates at. left_share told_in ways looks (record { snapshot = snapshot; fates = fates }) place name watched t left at;
       is_failed = refl;
       shared = empty_shared told printer printer name slots slots refl refl;
       stands = λ fates at. subst (λ those. Stands told_in ways (looks ++ record { snapshot = snapshot; fates = fates } ∷ []) place name watched those) (sym is) (still_left told_in ways looks (record { snapshot = snapshot; fates = fates }) place name watched at left);
@@ -388,7 +387,7 @@ left_visited told_in told ways snapshot place name printer slots watched standin
 pub visit_left : {told_in told : Bool} {ways : Ways} {snapshot : Snapshot} {place : ℕ} {name : NameState} {watched : List Watched} {printer : PrinterState} {slots : List Slot} → name.standing ≡ Left → CanVisit name (watched_at watched place)
     → Visits told_in told ways snapshot place name watched printer slots name watched printer slots (Ok false)
 visit_left {told_in} {told} {ways} {snapshot} {place} {name} {watched} {printer} {slots} left can = record {
-  visited = λ looks stands keeps. left_visited told_in told ways snapshot place name.text printer slots (watched_at watched place) name.standing looks left stands keeps;
+  visited = λ looks stands. left_visited told_in told ways snapshot place name.text printer slots (watched_at watched place) name.standing looks left stands;
   stopped = tt;
   same = refl;
   ready = can;

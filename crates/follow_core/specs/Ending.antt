@@ -1,5 +1,5 @@
 -- How a run of following ends, by what its looks saw.
-use Rattle.std.specs.Prelude.{◌≡◌, ◌<◌, ◌≤◌, ◌++◌, ◌∷◌, ℕ, zero, suc, Bool, true, false, List, [], length, min, take, slice_index_or, if◌then◌else◌}
+use Rattle.std.specs.Prelude.{◌≡◌, ◌<◌, ◌≤◌, ◌++◌, ◌∷◌, ℕ, zero, suc, Bool, true, false, List, [], length, take, if◌then◌else◌}
 use Rattle.ports_core.specs.Message.{SaysOn, output_named}
 use Rattle.ports_core.specs.Slot.{Slot}
 use Rattle.ports_core.specs.Text.{message_of}
@@ -11,25 +11,14 @@ use Rattle.watch_core.specs.Watched.{Watched}
 use Rattle.follow_core.specs.Followed.{Followed, made_of}
 use Rattle.follow_core.specs.FollowState.{Halted, SawOrNot, is_alive}
 use Rattle.follow_core.specs.Look.{Look, Ways, snapshots}
-use Rattle.follow_core.specs.Run.{AreKept}
 use Rattle.follow_core.specs.Share.{Share, shares_of}
 use Rattle.follow_core.specs.Sharing.{Wrote}
 use Rattle.follow_core.specs.Standing.{AreBroken}
-use Rattle.follow_core.specs.Version.{entries_of}
 
 -- what the first n looks see
 abbrev pub seen_first : (ℕ → Snapshot) → ℕ → List Snapshot
 seen_first shows zero = []
 seen_first shows (suc n) = seen_first shows n ++ shows n ∷ []
-
--- a file that is appended to keeps its bytes, in the first n looks
-abbrev pub KeptIn : Bool → Bool → (ℕ → Snapshot) → ℕ → List (List ℕ) → Type 0
-KeptIn told by_name shows count names = told ≡ true → (n place : ℕ) → n ≤ count → place < length names
-    → AreKept (entries_of by_name (slice_index_or names place []) (seen_first shows n))
-
--- it does in the looks that were made, and in the one after them, where that was still asked for
-abbrev pub KeptSoLong : Bool → Bool → (ℕ → Snapshot) → ℕ → List Snapshot → List (List ℕ) → Type 0
-KeptSoLong told by_name shows count seen names = KeptIn told by_name shows (min count (suc (length seen))) names
 
 -- these looks were made, one after another, and after each but the last a further look could give something
 pub record Made (told_in : Bool) (ways : Ways) (names : List (List ℕ)) (shows : ℕ → Snapshot)
@@ -65,7 +54,8 @@ pub data FollowEndsAs (told_in told : Bool) (ways : Ways) (headers : Bool) (name
       → (told_in ≡ true → shares ≡ shares_of ways names looks) → Leaves told (made_of headers shares) first new status
       → FollowEndsAs told_in told ways headers names count shows first seen watched new status
   stopped : (mid : List Slot) (why : Fault)
-      → StoppedIn told_in told ways headers names count shows first seen watched mid why → SaysOn told Tail (message_of Tail why (output_named mid why)) mid new → status ≡ 1
+      → StoppedIn told_in told ways headers names count shows first seen watched mid why
+      → SaysOn told Tail (message_of Tail why (output_named mid why)) mid new → status ≡ 1
       → FollowEndsAs told_in told ways headers names count shows first seen watched new status
   no_room : seen ≡ [] → watched ≡ [] → SaysOn told Tail (message_of Tail Memory []) first new → status ≡ 1
       → FollowEndsAs told_in told ways headers names count shows first seen watched new status

@@ -13,7 +13,7 @@ use Rattle.follow_core.specs.Followed.{any_failed}
 use Rattle.follow_core.specs.Look.{Fate, Look, Ways, is_dropped, snapshots, ways_of}
 use Rattle.follow_core.specs.Share.{BeginsShare, Share, share_of, shares_at_look_from, shares_of}
 use Rattle.follow_core.specs.Printing.{PrinterState, fresh_printer}
-use Rattle.follow_core.specs.Standing.{AllKeep, AllStand, AreBroken, CanVisit, NameState, state_at, texts}
+use Rattle.follow_core.specs.Standing.{AllStand, AreBroken, CanVisit, NameState, state_at, texts}
 use Rattle.follow_core.specs.Version.{open_after}
 
 pub record FollowState : Type 0 where
@@ -77,7 +77,8 @@ pub data Begun (told_in : Bool) (ways : Ways) (names : List (List ℕ)) (looks :
     (watched : List Watched) : List Share → Type 0 where
   nothing : AreBroken ways looks names watched → Begun told_in ways names looks snapshot watched []
   up_to : (fates : List Fate) (place : ℕ) (shares : List Share) (share : Share) → length fates ≡ place
-      → place < length names → AreBroken ways (looks ++ record { snapshot = snapshot; fates = fates } ∷ []) names watched
+      → place < length names
+      → AreBroken ways (looks ++ record { snapshot = snapshot; fates = fates } ∷ []) names watched
       → (told_in ≡ true → shares ≡ shares_at_look_from ways looks (record { snapshot = snapshot; fates = fates }) 0
       (take place names))
       → (told_in ≡ true → BeginsShare share
@@ -107,7 +108,7 @@ abbrev pub LooksOn : (told_in told : Bool) → Snapshot → FollowState → List
     → List Watched → List Slot → Type 0
 LooksOn told_in told snapshot old watched slots new watched_new slots_new =
     (ways : Ways) (headers : Bool) (names : List (List ℕ)) (looks : List Look) (first : List Slot)
-    → Holds told_in told ways headers names looks first old watched slots → AllKeep told_in ways looks snapshot names
+    → Holds told_in told ways headers names looks first old watched slots
     → (fates : List Fate) × Holds told_in told ways headers names
     (looks ++ record { snapshot = snapshot; fates = fates } ∷ []) first new watched_new slots_new
 
@@ -116,7 +117,7 @@ abbrev pub StopsOn : (told_in told : Bool) → Snapshot → FollowState → List
     → List Slot → Fault → Type 0
 StopsOn told_in told snapshot old watched slots watched_new slots_new why =
     (ways : Ways) (headers : Bool) (names : List (List ℕ)) (looks : List Look) (first : List Slot)
-    → Holds told_in told ways headers names looks first old watched slots → AllKeep told_in ways looks snapshot names
+    → Holds told_in told ways headers names looks first old watched slots
     → Halted told_in told ways headers names looks snapshot first watched_new slots_new why
 
 -- the name at this place goes on: it wasn't dropped, and it is followed by name or a file of it is open

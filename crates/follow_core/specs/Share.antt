@@ -3,8 +3,9 @@ use Rattle.std.specs.Prelude.{◌≡◌, ℕ, ◌+◌, Bool, true, false, ◌&&�
 use Rattle.ports_core.specs.Text.{message_of}
 use Rattle.ports_core.specs.declared.tool.Tool.TheVariants.{Tail}
 use Rattle.ports_core.specs.declared.fault.Fault.TheVariants.{Open, Read}
-use Rattle.follow_core.specs.Run.{name_text}
+use Rattle.follow_core.specs.Gain.{gains_after}
 use Rattle.follow_core.specs.Notice.{notice_of, notices_of, is_missing}
+use Rattle.follow_core.specs.Version.{Entry}
 use Rattle.follow_core.specs.Look.{Look, Ways, Fate, sound, unopened, unread, fate_at, is_dropped, is_first, entries_in}
 
 pub record Share : Type 0 where
@@ -15,11 +16,20 @@ pub record Share : Type 0 where
   pub messages : List (List ℕ)
   pub has_failed : Bool
 
--- what the name's text gains by one more look
+-- the entries of a name that one more look adds
+abbrev pub new_entries : Ways → List ℕ → List Look → Look → List Entry
+new_entries ways name before look =
+    drop (length (entries_in ways name before)) (entries_in ways name (before ++ look ∷ []))
+
+-- what the name's text gains by that: of each of these entries what it has that the one before it lacks
 abbrev pub gain : Ways → List ℕ → List Look → Look → List ℕ
 gain ways name before look =
-    drop (length (name_text ways.start (entries_in ways name before)))
-    (name_text ways.start (entries_in ways name (before ++ look ∷ [])))
+    gains_after ways.start (entries_in ways name before) (new_entries ways name before look)
+
+-- what it gained in all looks
+abbrev pub gains_from : Ways → List ℕ → List Look → List Look → List ℕ
+gains_from ways name before [] = []
+gains_from ways name before (look ∷ looks) = gain ways name before look ++ gains_from ways name (before ++ look ∷ []) looks
 
 -- what is told of the name at that look
 abbrev pub said_at_look : Ways → List ℕ → List Look → Look → List (List ℕ)

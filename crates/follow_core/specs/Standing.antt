@@ -1,14 +1,12 @@
 -- How a name stands between two looks.
-use Rattle.std.specs.Prelude.{◌≡◌, ◌<◌, ℕ, Bool, true, false, List, [], ◌∷◌, ◌++◌, Option, Some, None, ◌⊎◌, length, map, slice_index_or, take, is_some}
+use Rattle.std.specs.Prelude.{◌≡◌, ◌<◌, ℕ, Bool, true, false, List, [], Option, Some, None, ◌⊎◌, length, map, slice_index_or, take, is_some}
 use Rattle.ports_core.specs.declared.fault.Fault.{Fault}
 use Rattle.ports_core.specs.declared.fault.Fault.TheVariants.{Read}
-use Rattle.watch_core.specs.Snapshot.{Snapshot}
 use Rattle.watch_core.specs.Watched.{Watched, added, watched_at}
 use Rattle.follow_core.specs.declared.name.Standing.{Standing}
 use Rattle.follow_core.specs.declared.name.Standing.TheVariants.{New, Followed, Left}
 use Rattle.follow_core.specs.Gain.{file_of, last_of, seen_length}
 use Rattle.follow_core.specs.Look.{Look, Ways, entries_in, failed_in, is_dropped, is_first, snapshots}
-use Rattle.follow_core.specs.Run.{AreKept}
 use Rattle.follow_core.specs.Version.{Entry, open_after}
 
 pub record NameState : Type 0 where
@@ -85,13 +83,3 @@ abbrev pub AllStand : Bool → Ways → List Look → List NameState → List Wa
 AllStand told ways looks names watched = (place : ℕ) → place < length names
     → Stands told ways looks place (state_at names place).text (watched_at watched place)
     (state_at names place).standing
-
--- a file that is appended to keeps its bytes, in these looks and one more
-abbrev pub KeepsBytes : Bool → Ways → List Look → Snapshot → List ℕ → Type 0
-KeepsBytes told ways looks snapshot name = told ≡ true
-    → AreKept (entries_in ways name (looks ++ record { snapshot = snapshot; fates = [] } ∷ []))
-
--- that is so of all these names
-abbrev pub AllKeep : Bool → Ways → List Look → Snapshot → List (List ℕ) → Type 0
-AllKeep told ways looks snapshot names = (place : ℕ) → place < length names
-    → KeepsBytes told ways looks snapshot (slice_index_or names place [])

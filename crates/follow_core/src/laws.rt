@@ -4,8 +4,8 @@ ghost use Rattle.watch_core.specs.Edits.{Edit};
 ghost use Rattle.follow_core.specs.Version.{Entry};
 ghost use Rattle.follow_core.specs.Run.{AreKept, name_text};
 ghost use Rattle.follow_core.specs.Gain.{gains_after};
-ghost use Rattle.follow_core.specs.Look.{Look, Ways};
-ghost use Rattle.follow_core.specs.Share.{shares_at_look};
+ghost use Rattle.follow_core.specs.Look.{Look, Ways, entries_in};
+ghost use Rattle.follow_core.specs.Share.{gain, gains_from, shares_at_look};
 ghost use Rattle.follow_core.specs.Followed.{any_failed, followed, last_header, messages_of, text_from};
 ghost use Rattle.follow_core.specs.Placing.{Agree};
 ghost use Rattle.follow_core.specs.Notice.{notice_of};
@@ -21,9 +21,11 @@ pub fn one_look_more()
 {}
 
 /// The text of a name only grows, where a file that is appended to keeps its bytes: what further entries add stands after what
-/// was there, and each adds what it has that the entry before it lacks.
+/// was there, and each adds what it has that the entry before it lacks; so does each look, and what all looks give is the text.
 pub fn text_goes_on()
-    ensures { (start : List ℕ → List ℕ) (before more : List Entry) → AreKept (before ++ more) → name_text start (before ++ more) ≡ name_text start before ++ gains_after start before more }
+    ensures entries { (start : List ℕ → List ℕ) (before more : List Entry) → AreKept (before ++ more) → name_text start (before ++ more) ≡ name_text start before ++ gains_after start before more }
+    ensures look { (ways : Ways) (name : List ℕ) (before : List Look) (look : Look) → AreKept (entries_in ways name (before ++ look ∷ [])) → name_text ways.start (entries_in ways name (before ++ look ∷ [])) ≡ name_text ways.start (entries_in ways name before) ++ gain ways name before look }
+    ensures looks { (ways : Ways) (name : List ℕ) (looks : List Look) → AreKept (entries_in ways name looks) → gains_from ways name [] looks ≡ name_text ways.start (entries_in ways name looks) }
 {}
 
 /// Looks don't matter: two placings of looks among the same edits give the same text of each name, where the first look stands

@@ -6,7 +6,7 @@ ghost use Rattle.follow_core.specs.Sharing.{CanPrint, HasError};
 ghost use Rattle.follow_core.specs.FollowState.{new_state};
 ghost use Rattle.follow_core.specs.Look.{Look, ways_of};
 ghost use Rattle.follow_core.specs.inner.Visits.{has_failed, any_goes_on, goes_on_as, standing_after, StoppedAt, VisitedAll, Visits};
-ghost use Rattle.follow_core.specs.Standing.{AllKeep, AllStand, CanVisit, NameState, state_at, texts};
+ghost use Rattle.follow_core.specs.Standing.{AllStand, CanVisit, NameState, state_at, texts};
 
 use crate::start::Start;
 use crate::visitor::{Came, Visitor};
@@ -190,9 +190,9 @@ pub(crate) fn visit_all<W: Watch, O: Outs>(
 ) -> Result<bool, Fault>
     requires ready { (place : ℕ) → place < length names.old → CanVisit (state_at names.old place) (watched_at (W.watched watch.old) place) }
     requires can { CanPrint (O.slots outs.old) }
-    ensures visited { IfOk result (λ failed. (looks : List Look) → AllStand W.told (ways_of by_name start) looks names.old (W.watched watch.old) → AllKeep W.told (ways_of by_name start) looks (latest (W.seen watch.old)) (texts names.old)
+    ensures visited { IfOk result (λ failed. (looks : List Look) → AllStand W.told (ways_of by_name start) looks names.old (W.watched watch.old)
         → VisitedAll W.told O.told (ways_of by_name start) looks (latest (W.seen watch.old)) names.old visitor.old (O.slots outs.old) visitor.new (O.slots outs.new) (W.watched watch.new) names.new failed) }
-    ensures stopped { IfErr result (λ why. (looks : List Look) → AllStand W.told (ways_of by_name start) looks names.old (W.watched watch.old) → AllKeep W.told (ways_of by_name start) looks (latest (W.seen watch.old)) (texts names.old)
+    ensures stopped { IfErr result (λ why. (looks : List Look) → AllStand W.told (ways_of by_name start) looks names.old (W.watched watch.old)
         → StoppedAt W.told O.told (ways_of by_name start) looks (latest (W.seen watch.old)) (texts names.old) visitor.old (O.slots outs.old) (W.watched watch.new) (O.slots outs.new) why) }
     ensures texts { texts names.new ≡ texts names.old }
     ensures ready { OnOk result ((place : ℕ) → place < length names.new → CanVisit (state_at names.new place) (watched_at (W.watched watch.new) place)) }

@@ -2,7 +2,7 @@
 ghost use Rattle.std.specs.Prelude.{◌≡◌, ◌∷◌, [], ℕ, Bool, List, map, IfErr, OnOk};
 ghost use Rattle.ports_core.specs.Slot.{Slot, streams};
 ghost use Rattle.follow_core.specs.Sharing.{HasError};
-ghost use Rattle.follow_core.specs.Ending.{FollowEndsAs, KeptSoLong, StoppedIn};
+ghost use Rattle.follow_core.specs.Ending.{FollowEndsAs, StoppedIn};
 ghost use Rattle.follow_core.specs.inner.Looks.{LookedAll};
 ghost use Rattle.follow_core.specs.FollowState.{CanLook, Holds};
 ghost use Rattle.follow_core.specs.Look.{Ways, ways_of};
@@ -17,11 +17,11 @@ use watch_core::Watch;
 /// directly after another. It ends sooner where after a look no further one can give anything. Its status is 1 where a name was missing
 /// at the first look or failed, or a fault ended following, and else 0.
 ///
-/// Where a file that is appended to keeps its bytes in these looks and the one after them, standard output has exactly the text of what
-/// the looks saw: of each file the part that `start` says, then what was appended; all of a file that was truncated, that came back, or
-/// that the name leads to in place of another. Standard error has a line for each such change and each failure. Where standard output
-/// breaks, or memory is wanting, that is told and ends the run, with all of the looks before written, and a beginning of that one. It
-/// takes memory for the names and a buffer of 65,536 bytes, before anything is opened, and for its lines and headers.
+/// Standard output has exactly what the looks saw: of each file the part that `start` says, then what it has past the length that the
+/// look before saw; all of a file that was truncated, that came back, or that the name leads to in place of another. Standard error has
+/// a line for each such change and each failure. Where standard output breaks, or memory is wanting, that is told and ends the run, with
+/// all of the looks before written, and a beginning of that one. It takes memory for the names and a buffer of 65,536 bytes, before
+/// anything is opened, and for its lines and headers.
 pub fn follow_files<W: Watch, O: Outs>(
     alloc: Global,
     names: &[&str],
@@ -35,8 +35,7 @@ pub fn follow_files<W: Watch, O: Outs>(
     requires unseen { W.seen watch.old ≡ [] }
     requires unwatched { W.watched watch.old ≡ [] }
     requires outputs { O.slots outs.old ≡ streams }
-    ensures { KeptSoLong W.told by_name (W.shows watch.old) looks (W.seen watch.new) (map (λ name. name.now) names.now)
-        → FollowEndsAs W.told O.told (ways_of by_name start) headers (map (λ name. name.now) names.now) looks (W.shows watch.old) (O.slots outs.old) (W.seen watch.new) (W.watched watch.new) (O.slots outs.new) result }
+    ensures { FollowEndsAs W.told O.told (ways_of by_name start) headers (map (λ name. name.now) names.now) looks (W.shows watch.old) (O.slots outs.old) (W.seen watch.new) (W.watched watch.new) (O.slots outs.new) result }
 {
     let mut follow = match Follow::open(alloc, names, start, by_name, headers) {
         Ok(follow) => follow,
@@ -69,10 +68,10 @@ fn make_looks<W: Watch, O: Outs>(
     requires can { CanLook follow.old (W.watched watch.old) (O.slots outs.old) }
     requires error { HasError (O.slots outs.old) }
     ensures looked { OnOk result ((ways : Ways) (headers : Bool) (names : List (List ℕ)) (first : List Slot)
-        → Holds W.told O.told ways headers names [] first follow.old (W.watched watch.old) (O.slots outs.old) → KeptSoLong W.told ways.by_name (W.shows watch.old) looks (W.seen watch.new) names
+        → Holds W.told O.told ways headers names [] first follow.old (W.watched watch.old) (O.slots outs.old)
         → LookedAll W.told O.told ways headers names looks (W.shows watch.old) first follow.new (W.seen watch.new) (W.watched watch.new) (O.slots outs.new)) }
     ensures stopped { IfErr result (λ why. (ways : Ways) (headers : Bool) (names : List (List ℕ)) (first : List Slot)
-        → Holds W.told O.told ways headers names [] first follow.old (W.watched watch.old) (O.slots outs.old) → KeptSoLong W.told ways.by_name (W.shows watch.old) looks (W.seen watch.new) names
+        → Holds W.told O.told ways headers names [] first follow.old (W.watched watch.old) (O.slots outs.old)
         → StoppedIn W.told O.told ways headers names looks (W.shows watch.old) first (W.seen watch.new) (W.watched watch.new) (O.slots outs.new) why) }
     ensures error { HasError (O.slots outs.new) }
 {

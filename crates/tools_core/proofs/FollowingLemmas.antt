@@ -12,7 +12,7 @@ use Rattle.ports_core.specs.Streams.{standard_error}
 use Rattle.watch_core.specs.Snapshot.{Snapshot}
 use Rattle.watch_core.specs.Watched.{Watched}
 use Rattle.follow_core.specs.declared.start.Start.{Start}
-use Rattle.follow_core.specs.Ending.{FollowEndsAs, KeptSoLong, no_room}
+use Rattle.follow_core.specs.Ending.{FollowEndsAs, no_room}
 use Rattle.follow_core.specs.Look.{ways_of}
 use Rattle.words_core.specs.declared.settings.Settings.{Settings}
 use Rattle.words_core.specs.declared.settings.Settings.TheVariants.{Head, Tail, Split, Csplit, Tee}
@@ -29,7 +29,7 @@ use Rattle.tools_core.proofs.SpeakerLemmas.{runs_as_named}
 -- what is followed is what the settings ask for
 pub follows_as : (told_in told : Bool) (asked : EndsAsked) (followed : Followed) (by_name : Bool) (start : Start) (headers : Bool) (names : List (List ℕ)) (looks : ℕ) (shows : ℕ → Snapshot) (first : List Slot) (seen : List Snapshot) (watched : List Watched) (new : List Slot) (status : ℕ)
     → by_name ≡ is_name followed → start ≡ start_of asked → headers ≡ has_headers asked.headers asked.names → names ≡ asked.names → first ≡ streams
-    → (KeptSoLong told_in by_name shows looks seen names → FollowEndsAs told_in told (ways_of by_name start) headers names looks shows first seen watched new status) → FollowsAs told_in told asked followed looks shows seen watched new status
+    → FollowEndsAs told_in told (ways_of by_name start) headers names looks shows first seen watched new status → FollowsAs told_in told asked followed looks shows seen watched new status
 follows_as told_in told asked followed by_name start headers names looks shows first seen watched new status name_is start_is headers_are names_are first_is ends =
     subst (λ b. F b (start_of asked) (has_headers asked.headers asked.names) asked.names streams) name_is
     (subst (λ (s : Start). F by_name s (has_headers asked.headers asked.names) asked.names streams) start_is
@@ -37,7 +37,7 @@ follows_as told_in told asked followed by_name start headers names looks shows f
     (subst (λ n. F by_name start headers n streams) names_are
     (subst (λ f. F by_name start headers names f) first_is ends)))) where
       F : Bool → Start → Bool → List (List ℕ) → List Slot → Type 0
-      F b s h n f = KeptSoLong told_in b shows looks seen n → FollowEndsAs told_in told (ways_of b s) h n looks shows f seen watched new status
+      F b s h n f = FollowEndsAs told_in told (ways_of b s) h n looks shows f seen watched new status
 
 -- words that weren't read for want of memory, where they ask for this
 
@@ -61,7 +61,7 @@ says_at told words new status speaks refuses output error since are = (
 )
 
 unread : (told_in told : Bool) (words : List (List ℕ)) (asked : EndsAsked) (followed : Option Followed) (looks : ℕ) (shows : ℕ → Snapshot) (seen : List Snapshot) (watched : List Watched) (new : List Slot) (status : ℕ) → speaker words ≡ tool.Tail → seen ≡ [] → watched ≡ [] → RefusesFor told words Memory new status → FollowsTail told_in told words asked followed looks shows seen watched new status
-unread told_in told words asked (Some followed) looks shows seen watched new status speaks unseen unwatched refuses = λ kept. no_room unseen unwatched (says_at told words new status speaks refuses) refuses.failed
+unread told_in told words asked (Some followed) looks shows seen watched new status speaks unseen unwatched refuses = no_room unseen unwatched (says_at told words new status speaks refuses) refuses.failed
 unread told_in told words asked None looks shows seen watched new status speaks unseen unwatched refuses = (unseen, unwatched, refused_memory told words (Usage BadFollow 0) new status refuses)
 
 unread_for : (told_in told : Bool) (words : List (List ℕ)) (meant : Result Settings Fault) (looks : ℕ) (shows : ℕ → Snapshot) (seen : List Snapshot) (watched : List Watched) (new : List Slot) (status : ℕ) → settings_of words ≡ meant → seen ≡ [] → watched ≡ [] → RefusesFor told words Memory new status → FollowingEndsAt told_in told words looks shows seen watched new status meant

@@ -8,7 +8,7 @@ use Rattle.ports_core.specs.declared.fault.UsageKind.TheVariants.{BadFollow}
 use Rattle.watch_core.specs.Snapshot.{Snapshot}
 use Rattle.watch_core.specs.Watched.{Watched}
 use Rattle.follow_core.specs.declared.start.Start.{Start}
-use Rattle.follow_core.specs.Ending.{FollowEndsAs, KeptSoLong}
+use Rattle.follow_core.specs.Ending.{FollowEndsAs}
 use Rattle.follow_core.specs.Look.{ways_of}
 use Rattle.words_core.specs.declared.settings.Settings.{Settings}
 use Rattle.words_core.specs.declared.settings.Settings.TheVariants.{Tail}
@@ -32,13 +32,11 @@ abbrev pub is_name : Followed → Bool
 is_name Descriptor = false
 is_name Name = true
 
--- these files are followed, in as many looks, and where a file that is appended to keeps its bytes so long, the run
--- ends so that it gave exactly what these looks give
+-- these files are followed, in as many looks, and the run ends so that it gave exactly what these looks give
 abbrev pub FollowsAs : (told_in told : Bool) → EndsAsked → Followed → (looks : ℕ) → (ℕ → Snapshot) → List Snapshot
     → List Watched → List Slot → (status : ℕ) → Type 0
 FollowsAs told_in told asked followed looks shows seen watched new status =
-    KeptSoLong told_in (is_name followed) shows looks seen asked.names
-    → FollowEndsAs told_in told (ways_of (is_name followed) (start_of asked)) (has_headers asked.headers asked.names)
+    FollowEndsAs told_in told (ways_of (is_name followed) (start_of asked)) (has_headers asked.headers asked.names)
     asked.names looks shows streams seen watched new status
 
 -- the words are refused for this, and no name was watched and no look made

@@ -4,7 +4,7 @@ use Rattle.follow_core.specs.declared.visitor.Came.{Came}
 use Rattle.follow_core.specs.declared.visitor.Came.TheVariants.{Through, Missing, Dropped}
 use Rattle.follow_core.specs.declared.name.Standing.{Standing}
 use Rattle.follow_core.specs.declared.name.Standing.TheVariants.{New, Followed, Left}
-use Rattle.follow_core.specs.Standing.{NameState, AllStand, BrokeIn, CanVisit, KeepsBytes, Stands, texts}
+use Rattle.follow_core.specs.Standing.{NameState, AllStand, BrokeIn, CanVisit, Stands, texts}
 use Rattle.ports_core.specs.Slot.{Slot, changed_at}
 use Rattle.ports_core.specs.Message.{SaysOn}
 use Rattle.ports_core.specs.Text.{message_of}
@@ -99,7 +99,6 @@ abbrev pub VisitsOn : (told_in told : Bool) → Ways → Snapshot → ℕ → Na
     → NameState → Watched → PrinterState → List Slot → (failed : Bool) → Type 0
 VisitsOn told_in told ways snapshot place old watched printer slots new watched_new printer_new slots_new failed =
     (looks : List Look) → Stands told_in ways looks place old.text watched old.standing
-    → KeepsBytes told_in ways looks snapshot old.text
     → Visited told_in told ways looks snapshot place old.text printer slots printer_new slots_new watched_new
     new.standing failed
 
@@ -107,7 +106,7 @@ VisitsOn told_in told ways snapshot place old watched printer slots new watched_
 abbrev pub StopsVisit : (told_in told : Bool) → Ways → Snapshot → ℕ → NameState → Watched → PrinterState → List Slot
     → List Slot → Fault → Type 0
 StopsVisit told_in told ways snapshot place name watched printer slots slots_new why = (looks : List Look)
-    → Stands told_in ways looks place name.text watched name.standing → KeepsBytes told_in ways looks snapshot name.text
+    → Stands told_in ways looks place name.text watched name.standing
     → (is_dropped place looks ≡ false) × Stopped told_in told ways looks snapshot name.text printer slots slots_new why
 
 -- What a look at one name leaves, where it stood so before: it stands then by how it came through.

@@ -1,5 +1,6 @@
+use Rattle.follow_core.proofs.LaterLemmas.{look_goes_on, looks_give_text}
 use Rattle.follow_core.proofs.RunLemmas.{text_goes_on}
 use Rattle.follow_core.proofs.laws.text_goes_on.Goals as goal
 
 pub returns : goal.returns
-returns c = text_goes_on
+returns c = record { entries = text_goes_on; look = look_goes_on; looks = looks_give_text }

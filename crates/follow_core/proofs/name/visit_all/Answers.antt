@@ -10,7 +10,7 @@ loop-place-init g c = record {
   within = omega arith;
   same = refl;
   ready = c.requires.ready;
-  visited = λ looks stand keep. visited_none g.W.Watch.told g.O.Outs.told (ways_of c.args.by_name c.args.start) looks (latest (g.W.Watch.seen c.args.watch.now)) c.args.names.now c.args.visitor.now (g.O.Outs.slots c.args.outs.now) (g.W.Watch.watched c.args.watch.now) stand;
+  visited = λ looks stand. visited_none g.W.Watch.told g.O.Outs.told (ways_of c.args.by_name c.args.start) looks (latest (g.W.Watch.seen c.args.watch.now)) c.args.names.now c.args.visitor.now (g.O.Outs.slots c.args.outs.now) (g.W.Watch.watched c.args.watch.now) stand;
   count = refl;
   can = c.requires.can;
   seen = refl;
@@ -18,10 +18,10 @@ loop-place-init g c = record {
 }
 
 pub returns-in-Err-clause-stopped : goal.returns-in-Err-clause-stopped
-returns-in-Err-clause-stopped g c looks stand keep =
+returns-in-Err-clause-stopped g c looks stand =
     let l = c.loop-place in
     visited_short g.W.Watch.told g.O.Outs.told (ways_of c.args.by_name c.args.start) looks (latest (g.W.Watch.seen c.args.watch.now)) (latest (g.W.Watch.seen l.watch)) c.args.names.now l.names c.index-names-place.result l.place c.args.visitor.now l.visitor (g.O.Outs.slots c.args.outs.now) (g.O.Outs.slots l.outs) (g.O.Outs.slots c.visit.new.outs) (g.W.Watch.watched l.watch) (g.W.Watch.watched c.visit.new.watch) l.has_failed c.in-Err.fault
-    c.loop-place-test.true (ap latest l.invariant.seen) c.in-Err.ensures.visits.halts keep (l.invariant.visited looks stand keep) (c.in-Err.ensures.visits.stopped looks)
+    c.loop-place-test.true (ap latest l.invariant.seen) c.in-Err.ensures.visits.halts (l.invariant.visited looks stand) (c.in-Err.ensures.visits.stopped looks)
 
 pub returns-in-Err-clause-texts : goal.returns-in-Err-clause-texts
 returns-in-Err-clause-texts g c = texts_set c.loop-place.names c.loop-place.place c.index-names-place.result c.visit.new.self c.loop-place-test.true c.visit.ensures.visits.same ∙ c.loop-place.invariant.same
@@ -37,8 +37,8 @@ loop-place-preserved g c =
       within = subst (λ n. l.place + 1 ≤ n) (sym (length-set l.names l.place c.visit.new.self)) (omega arith);
       same = texts_set l.names l.place c.index-names-place.result c.visit.new.self c.loop-place-test.true c.visit.ensures.visits.same ∙ l.invariant.same;
       ready = next_ready l.names c.visit.new.self l.place (g.W.Watch.watched l.watch) (g.W.Watch.watched c.visit.new.watch) c.loop-place-test.true l.invariant.ready c.in-Ok.ensures.visits.others c.in-Ok.ensures.visits.ready;
-      visited = λ looks stand keep. visited_more g.W.Watch.told g.O.Outs.told ways looks (latest (g.W.Watch.seen c.args.watch.now)) (latest (g.W.Watch.seen l.watch)) c.args.names.now l.names c.index-names-place.result c.visit.new.self l.place c.args.visitor.now l.visitor c.visit.new.visitor (g.O.Outs.slots c.args.outs.now) (g.O.Outs.slots l.outs) (g.O.Outs.slots c.visit.new.outs) (g.W.Watch.watched l.watch) (g.W.Watch.watched c.visit.new.watch) l.has_failed c.in-Ok.failed
-          c.loop-place-test.true c.visit.ensures.visits.same c.in-Ok.ensures.visits.others (ap latest l.invariant.seen) keep (l.invariant.visited looks stand keep) (c.in-Ok.ensures.visits.visited looks) (l.place + 1) (omega arith);
+      visited = λ looks stand. visited_more g.W.Watch.told g.O.Outs.told ways looks (latest (g.W.Watch.seen c.args.watch.now)) (latest (g.W.Watch.seen l.watch)) c.args.names.now l.names c.index-names-place.result c.visit.new.self l.place c.args.visitor.now l.visitor c.visit.new.visitor (g.O.Outs.slots c.args.outs.now) (g.O.Outs.slots l.outs) (g.O.Outs.slots c.visit.new.outs) (g.W.Watch.watched l.watch) (g.W.Watch.watched c.visit.new.watch) l.has_failed c.in-Ok.failed
+          c.loop-place-test.true c.visit.ensures.visits.same c.in-Ok.ensures.visits.others (ap latest l.invariant.seen) (l.invariant.visited looks stand) (c.in-Ok.ensures.visits.visited looks) (l.place + 1) (omega arith);
       count = c.in-Ok.ensures.visits.others.count ∙ l.invariant.count;
       can = c.in-Ok.ensures.can;
       seen = c.visit.ensures.seen ∙ l.invariant.seen;
@@ -46,6 +46,6 @@ loop-place-preserved g c =
     }
 
 pub returns-clause-visited : goal.returns-clause-visited
-returns-clause-visited g c looks stand keep =
+returns-clause-visited g c looks stand =
     let l = c.loop-place in
-    visited_all g.W.Watch.told g.O.Outs.told (ways_of c.args.by_name c.args.start) looks (latest (g.W.Watch.seen c.args.watch.now)) c.args.names.now l.names l.place c.args.visitor.now l.visitor (g.O.Outs.slots c.args.outs.now) (g.O.Outs.slots l.outs) (g.W.Watch.watched l.watch) l.has_failed (omega arith) (l.invariant.visited looks stand keep)
+    visited_all g.W.Watch.told g.O.Outs.told (ways_of c.args.by_name c.args.start) looks (latest (g.W.Watch.seen c.args.watch.now)) c.args.names.now l.names l.place c.args.visitor.now l.visitor (g.O.Outs.slots c.args.outs.now) (g.O.Outs.slots l.outs) (g.W.Watch.watched l.watch) l.has_failed (omega arith) (l.invariant.visited looks stand)

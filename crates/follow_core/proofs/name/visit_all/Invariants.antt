@@ -4,7 +4,7 @@ use Rattle.watch_core.specs.Snapshot.{latest}
 use Rattle.watch_core.specs.Watched.{watched_at}
 use Rattle.follow_core.specs.Sharing.{CanPrint}
 use Rattle.follow_core.specs.Look.{Look, ways_of}
-use Rattle.follow_core.specs.Standing.{AllKeep, AllStand, CanVisit, state_at, texts}
+use Rattle.follow_core.specs.Standing.{AllStand, CanVisit, state_at, texts}
 use Rattle.follow_core.proofs.name.visit_all.Given as goal
 
 abbrev pub invariant-loop-place : goal.invariant-loop-place
@@ -12,7 +12,7 @@ invariant-loop-place g l = let ways = ways_of l.fn.by_name l.fn.start in let sna
   within : l.place ≤ length l.names;
   same : texts l.names ≡ texts l.fn.names;
   ready : (place : ℕ) → place < length l.names → CanVisit (state_at l.names place) (watched_at (g.W.Watch.watched l.watch) place);
-  visited : (looks : List Look) → AllStand g.W.Watch.told ways looks l.fn.names (g.W.Watch.watched l.fn.watch) → AllKeep g.W.Watch.told ways looks snapshot (texts l.fn.names)
+  visited : (looks : List Look) → AllStand g.W.Watch.told ways looks l.fn.names (g.W.Watch.watched l.fn.watch)
       → VisitedUpTo g.W.Watch.told g.O.Outs.told ways looks snapshot l.place l.fn.names l.fn.visitor (g.O.Outs.slots l.fn.outs) l.visitor (g.O.Outs.slots l.outs) (g.W.Watch.watched l.watch) l.names l.has_failed;
   count : length (g.W.Watch.watched l.watch) ≡ length (g.W.Watch.watched l.fn.watch);
   can : CanPrint (g.O.Outs.slots l.outs);
