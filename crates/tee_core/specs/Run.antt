@@ -70,8 +70,8 @@ none_left call [] = true
 none_left call (first ∷ broke) = broke_before call first && none_left call broke
 
 -- How an input is read: to its end; or until it breaks off; or up to a piece with which it has more bytes than any tool
--- takes; or, where no output is left, up to the piece in which the last of them broke, so that nothing after it is met. x
--- is all that was copied, and `Leaves` says what is left unread.
+-- takes; or, where no output is left, up to the piece in which the last of them broke, so that nothing after it is met.
+-- x is all that was copied, and `Leaves` says what is left unread.
 pub data IsRead (content : Content) (Leaves : List ℕ → Type 0) : (is_vain : Bool) → List ℕ → Option Fault → Type 0 where
   to_end : (x : List ℕ) → content.bytes ≡ x → content.breaks_off ≡ false → Leaves []
       → IsRead content Leaves false x None

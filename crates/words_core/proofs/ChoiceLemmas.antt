@@ -1,6 +1,6 @@
 -- Lemmas on what options ask for, one after another.
-use Rattle.std.proofs.Common.{◌≡◌, ◌≤◌, Bool, true, false, ◌||◌, arith, List, [], ◌∷◌, ◌++◌, length, Option, Some, None, Result, Ok, Err, refl, sym, ◌∙◌, ap, if◌then◌else◌}
-use Rattle.std.specs.Prelude.{fold, filter, IsOk}
+use Rattle.std.proofs.Common.{◌≡◌, ◌≤◌, ℕ, Bool, true, false, ◌||◌, arith, List, [], ◌∷◌, ◌++◌, length, Option, Some, None, Result, Ok, Err, refl, sym, ◌∙◌, ap, if◌then◌else◌}
+use Rattle.std.specs.Prelude.{filter, IsOk}
 use Rattle.std.specs.List.{list_any}
 use Rattle.std.proofs.lemmas.Bool.{or_parts}
 use Rattle.std.proofs.lemmas.List.Elements.{filter-append}
@@ -18,11 +18,13 @@ use Rattle.words_core.specs.declared.tail_words.FollowOptions.{FollowOptions}
 use Rattle.words_core.specs.Value.{Meant, Byte, Counted, Following, Looks, Text, Width}
 use Rattle.words_core.specs.Given.{GivenOption, asked_by}
 use Rattle.words_core.specs.CsplitWords.{csplit_by}
+use Rattle.words_core.specs.EndsAsked.{EndsAsked}
+use Rattle.words_core.specs.SplitAsked.{SplitAsked}
 use Rattle.words_core.specs.EndsWords.{ends_by}
 use Rattle.words_core.specs.SplitWords.{is_way, only_way, split_by, way_in, way_of}
 use Rattle.words_core.specs.TailWords.{follow_by}
 use Rattle.words_core.specs.TeeWords.{mode_by}
-use Rattle.words_core.specs.Laws.{amount_of, appends, counts, counts_digits, counts_looks, drops_sizes, elides_files, has, heads, keeps_files, leaves_lines_out, names_prefix, retries, says_followed, spells, widens}
+use Rattle.words_core.specs.Laws.{amount_of, appends, counts, counts_digits, counts_looks, drops_sizes, elides_files, ends_with_zero, gives_ending, has, heads, keeps_files, leaves_lines_out, names_prefix, retries, says_followed, separates, spells, widens}
 
 -- a part of what is asked for that some options set, whatever was asked before them, and that the others leave
 
@@ -89,6 +91,18 @@ widens-sets asked other AdditionalSuffix (Text text) = (λ is. refl, λ is. absu
 widens-sets asked other Separator (Byte byte) = (λ is. refl, λ is. absurd (cc))
 widens-sets asked other choice value = (λ is. refl, λ is. absurd (cc))
 
+pub separates-sets : Sets split_by (λ asked. asked.delim) separates
+separates-sets asked other Separator (Byte byte) = (λ is. absurd (cc), λ is. refl)
+separates-sets asked other SuffixLength (Width width) = (λ is. refl, λ is. absurd (cc))
+separates-sets asked other AdditionalSuffix (Text text) = (λ is. refl, λ is. absurd (cc))
+separates-sets asked other choice value = (λ is. refl, λ is. absurd (cc))
+
+pub ending-sets : Sets split_by (λ asked. asked.ending) gives_ending
+ending-sets asked other AdditionalSuffix (Text text) = (λ is. absurd (cc), λ is. refl)
+ending-sets asked other SuffixLength (Width width) = (λ is. refl, λ is. absurd (cc))
+ending-sets asked other Separator (Byte byte) = (λ is. refl, λ is. absurd (cc))
+ending-sets asked other choice value = (λ is. refl, λ is. absurd (cc))
+
 pub prefix-sets : Sets csplit_by (λ asked. asked.prefix) names_prefix
 prefix-sets asked other Prefix (Text text) = (λ is. absurd (cc), λ is. refl)
 prefix-sets asked other Digits (Width digits) = (λ is. refl, λ is. absurd (cc))
@@ -140,6 +154,30 @@ pub says_suppress : (asked : Style) (choice : Choice) (value : Meant) → (cspli
 says_suppress asked Digits (Width digits) = refl
 says_suppress asked Prefix (Text text) = refl
 says_suppress asked choice value = refl
+
+pub says_leave_out : (asked : SplitAsked) (choice : Choice) (value : Meant) → (split_by asked choice value).elide ≡ elides_files choice || asked.elide
+says_leave_out asked SuffixLength (Width width) = refl
+says_leave_out asked AdditionalSuffix (Text text) = refl
+says_leave_out asked Separator (Byte byte) = refl
+says_leave_out asked choice value = refl
+
+says_zero : (asked : EndsAsked) (choice : Choice) (value : Meant) → (ends_by asked choice value).delim ≡ (if ends_with_zero choice then 0 else asked.delim)
+says_zero asked Lines (Counted count) = refl
+says_zero asked Bytes (Counted count) = refl
+says_zero asked choice value = refl
+
+either_zero : (one rest : Bool) (delim : ℕ) → (if rest then 0 else (if one then 0 else delim)) ≡ (if one || rest then 0 else delim)
+either_zero true true delim = refl
+either_zero true false delim = refl
+either_zero false true delim = refl
+either_zero false false delim = refl
+
+pub zero_given : (options : List GivenOption) (asked : EndsAsked) → (asked_by ends_by asked options).delim ≡ (if has ends_with_zero options then 0 else asked.delim)
+zero_given [] asked = refl
+zero_given (option ∷ options) asked =
+    zero_given options (ends_by asked option.choice option.value)
+    ∙ ap (λ (delim : ℕ). if has ends_with_zero options then 0 else delim) (says_zero asked option.choice option.value)
+    ∙ either_zero (ends_with_zero option.choice) (has ends_with_zero options) asked.delim
 
 abbrev pub is_append : Mode → Bool
 is_append mode.Append = true

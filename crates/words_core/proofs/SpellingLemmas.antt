@@ -3,6 +3,7 @@ use Rattle.std.proofs.Common.{◌≡◌, ℕ, ◌+◌, ◌-◌, ◌<◌, ◌≤�
 use Rattle.std.proofs.lemmas.List.{take_rest}
 use Rattle.ports_core.specs.declared.fault.Fault.{Fault}
 use Rattle.ports_core.specs.declared.fault.Fault.TheVariants.{Usage}
+use Rattle.ports_core.specs.declared.fault.UsageKind.{UsageKind}
 use Rattle.ports_core.specs.declared.fault.UsageKind.TheVariants.{MissingValue}
 use Rattle.words_core.specs.declared.table.Choice.{Choice}
 use Rattle.words_core.specs.declared.table.Kind.{Kind}
@@ -70,3 +71,29 @@ given_before-nothing given meant none = ap (λ front. given_before front meant) 
 pub one_place_more : (left : List (Bor (List ℕ))) (place total : ℕ) → 1 ≤ length left → place + length left ≡ total → place + 1 + length (take (length left - 1) (drop 1 left)) ≡ total
 one_place_more [] place total some is = absurd (omega arith)
 one_place_more (word ∷ words) place total some is = ap (λ (rest : List (Bor (List ℕ))). place + 1 + length rest) (take_rest (word ∷ words) 1) ∙ omega arith
+
+-- a fault among the first words, whatever follows them
+
+of_more : (given : Given) (meant : Result Given Fault) (fault : Fault) → given_before given meant ≡ Err fault → meant ≡ Err fault
+of_more given (Ok more) fault is = absurd (cc)
+of_more given (Err other) fault is = is
+
+at_the_end : (state : State) (more : List (List ℕ)) (rows : List OptionRow) (place : ℕ) (kind : UsageKind) (word : ℕ) → ended state ≡ Err (Usage kind word) → (kind ≡ MissingValue → ⊥) → spelled rows more place state ≡ Err (Usage kind word)
+at_the_end (Awaiting choice awaited option) more rows place kind word is other = absurd (other (sym (ap kind_of is))) where
+  kind_of : Result Given Fault → UsageKind
+  kind_of (Err (Usage kind word)) = kind
+  kind_of meant = MissingValue
+at_the_end state more rows place kind word is other = absurd (cc)
+
+still_told : (first more : List (List ℕ)) (rows : List OptionRow) (place : ℕ) (meant : Result Meaning Fault) (kind : UsageKind) (word : ℕ)
+    → ((state : State) → spelled rows first (place + 1) state ≡ Err (Usage kind word) → spelled rows (first ++ more) (place + 1) state ≡ Err (Usage kind word))
+    → onward (spelled rows first (place + 1)) meant ≡ Err (Usage kind word) → onward (spelled rows (first ++ more) (place + 1)) meant ≡ Err (Usage kind word)
+still_told first more rows place (Ok meaning) kind word rest is =
+    ap (given_before meaning.given) (rest meaning.next (of_more meaning.given (spelled rows first (place + 1) meaning.next) (Usage kind word) is))
+still_told first more rows place (Err fault) kind word rest is = is
+
+pub told_whatever_follows : (first more : List (List ℕ)) (rows : List OptionRow) (place : ℕ) (state : State) (kind : UsageKind) (word : ℕ) → (kind ≡ MissingValue → ⊥)
+    → spelled rows first place state ≡ Err (Usage kind word) → spelled rows (first ++ more) place state ≡ Err (Usage kind word)
+told_whatever_follows [] more rows place state kind word other is = at_the_end state more rows place kind word is other
+told_whatever_follows (front ∷ first) more rows place state kind word other is =
+    still_told first more rows place (meaning_of rows state place front) kind word (λ next. told_whatever_follows first more rows (place + 1) next kind word other) is

@@ -1,10 +1,11 @@
 -- Lemmas on the ways in which the value of an option is spelled.
-use Rattle.std.proofs.Common.{◌≡◌, ◌≢◌, ℕ, ◌+◌, ◌<◌, ◌==◌, nat_lt, not, Bool, true, false, arith, List, [], ◌∷◌, ◌++◌, length, take, drop, Option, Some, None, Result, Ok, cond, refl, ap, ◌∙◌, if◌then◌else◌}
+use Rattle.std.proofs.Common.{◌≡◌, ◌≢◌, ℕ, ◌+◌, ◌<◌, ◌==◌, nat_lt, not, Bool, true, false, arith, List, [], ◌∷◌, ◌++◌, length, take, drop, Option, Some, None, Result, Ok, cond, refl, sym, ap, ◌∙◌, if◌then◌else◌}
 use Rattle.std.specs.List.{list_any, position_or_len, before_first, after_first}
 use Rattle.std.proofs.lemmas.Bool.{or_parts}
 use Rattle.std.proofs.lemmas.Bool.Decides.{nat_tests}
 use Rattle.std.proofs.lemmas.List.{length-append}
 use Rattle.std.proofs.Math.Seq.{take-append_seam, drop-append-add, take-length}
+use Rattle.ports_core.specs.declared.fault.Fault.{Fault}
 use Rattle.ports_core.specs.declared.fault.UsageKind.{UsageKind}
 use Rattle.words_core.specs.declared.table.Choice.{Choice}
 use Rattle.words_core.specs.declared.table.Kind.{Kind}
@@ -13,10 +14,10 @@ use Rattle.words_core.specs.declared.table.Takes.TheVariants as takes
 use Rattle.words_core.specs.declared.spelling.State.TheVariants.{Reading}
 use Rattle.words_core.specs.Table.{OptionRow, option_named}
 use Rattle.words_core.specs.Value.{Meant, value_in}
-use Rattle.words_core.specs.Given.{nothing, one_option}
-use Rattle.words_core.specs.Spelling.{after_equals, awaiting, given_before, cluster, dashed, is_equals, lettered, long, mixed, named, onward, reading, said, spelled}
-use Rattle.words_core.specs.Laws.{Gives, IsLetter, IsName}
-use Rattle.words_core.proofs.SpellingLemmas.{given_before-nothing}
+use Rattle.words_core.specs.Given.{bare, nothing, one_option}
+use Rattle.words_core.specs.Spelling.{Meaning, after_equals, awaiting, before, given_before, cluster, dashed, is_equals, lettered, long, mixed, named, onward, reading, said, spelled}
+use Rattle.words_core.specs.Laws.{Gives, IsLetter, IsName, IsSwitch, takes_none}
+use Rattle.words_core.proofs.SpellingLemmas.{given_before-nothing, given_before-onward}
 
 choose : {A : Type 0} (test : Bool) (one other : A) → test ≡ true → (if test then one else other) ≡ one
 choose test one other is = ap (λ those. if those then one else other) is
@@ -37,6 +38,30 @@ by_its_letter : (rows : List OptionRow) (letter : ℕ) (choice : Choice) (kind :
 by_its_letter rows letter choice kind value place is =
     choose_other (letter == 45) (dashed rows place value) (cluster rows place (letter ∷ value)) (no_hyphen letter is.no_hyphen)
     ∙ ap (lettered place value (cluster rows place value)) (choose (nat_lt letter 128) (option_named rows (45 ∷ letter ∷ [])) None (is_ascii letter is.ascii) ∙ is.named)
+
+-- one that takes no value
+
+given_bare : (place : ℕ) (rest : List ℕ) (others : Result Meaning Fault) (choice : Choice) (takes : Takes) → takes_none takes ≡ true → lettered place rest others (Some (choice, takes)) ≡ before (bare choice place) others
+given_bare place rest others choice takes.Nothing none = refl
+given_bare place rest others choice (takes.Optional kind) none = refl
+given_bare place rest others choice (takes.Value kind) none = absurd (cc)
+
+by_its_switch : (rows : List OptionRow) (letter : ℕ) (choice : Choice) (rest : List ℕ) (place : ℕ) → IsSwitch rows letter choice → mixed rows place (45 ∷ letter ∷ rest) ≡ before (bare choice place) (cluster rows place rest)
+by_its_switch rows letter choice rest place is =
+    choose_other (letter == 45) (dashed rows place rest) (cluster rows place (letter ∷ rest)) (no_hyphen letter is.no_hyphen)
+    ∙ ap (lettered place rest (cluster rows place rest)) (choose (nat_lt letter 128) (option_named rows (45 ∷ letter ∷ [])) None (is_ascii letter is.ascii) ∙ is.named)
+    ∙ given_bare place rest (cluster rows place rest) choice is.takes is.none
+
+pub switch_together : (rows : List OptionRow) (letter next : ℕ) (choice : Choice) (rest : List ℕ) (words : List (List ℕ)) (place : ℕ) → IsSwitch rows letter choice → next ≢ 45
+    → spelled rows ((45 ∷ letter ∷ next ∷ rest) ∷ words) place Reading ≡ given_before (bare choice place) (spelled rows ((45 ∷ next ∷ rest) ∷ words) place Reading)
+switch_together rows letter next choice rest words place is differs =
+    ap (onward (spelled rows words (place + 1))) (by_its_switch rows letter choice (next ∷ rest) place is)
+    ∙ sym (given_before-onward (bare choice place) (spelled rows words (place + 1)) (cluster rows place (next ∷ rest)))
+    ∙ ap (λ those. given_before (bare choice place) (onward (spelled rows words (place + 1)) those)) (sym (choose_other (next == 45) (dashed rows place rest) (cluster rows place (next ∷ rest)) (no_hyphen next differs)))
+
+pub switch_apart : (rows : List OptionRow) (letter : ℕ) (choice : Choice) (words : List (List ℕ)) (place : ℕ) → IsSwitch rows letter choice
+    → spelled rows ((45 ∷ letter ∷ []) ∷ words) place Reading ≡ given_before (bare choice place) (spelled rows words (place + 1) Reading)
+switch_apart rows letter choice words place is = ap (onward (spelled rows words (place + 1))) (by_its_switch rows letter choice [] place is)
 
 given_one : (choice : Choice) (option place : ℕ) (meant : Meant) (value : Result Meant UsageKind) → value ≡ Ok meant → said choice option place value ≡ reading (one_option choice meant option)
 given_one choice option place meant value is = ap (said choice option place) is

@@ -1,5 +1,5 @@
 -- The words of the laws: which options ask for what, and the operands among words.
-use Rattle.std.specs.Prelude.{◌≡◌, ◌≢◌, ℕ, ◌+◌, ◌-◌, ◌^◌, ◌<◌, Bool, true, false, List, [], ◌∷◌, ◌++◌, codes, Option, Some, None, Result}
+use Rattle.std.specs.Prelude.{◌≡◌, ◌≢◌, ℕ, ◌+◌, ◌-◌, ◌^◌, ◌<◌, ◌==◌, not, Bool, true, false, List, [], ◌∷◌, ◌++◌, codes, Option, Some, None, Result}
 use Rattle.std.specs.List.{list_any}
 use Rattle.seg_core.specs.declared.count.Count.{Count}
 use Rattle.seg_core.specs.declared.unit.Unit.{Unit as Measured}
@@ -9,8 +9,9 @@ use Rattle.ports_core.specs.declared.fault.Fault.{Fault}
 use Rattle.seg_core.specs.declared.cut.Cut.{Cut}
 use Rattle.operand_core.specs.Style.{Style}
 use Rattle.words_core.specs.declared.table.Choice.{Choice}
-use Rattle.words_core.specs.declared.table.Choice.TheVariants.{Lines, Bytes, Quiet, Verbose, SuffixLength, NumericSuffixes, HexSuffixes, ElideEmptyFiles, Prefix, Digits, KeepFiles, SuppressMatched, Append, Follow, FollowNames, Retry, Looks as HowOften}
+use Rattle.words_core.specs.declared.table.Choice.TheVariants.{Lines, Bytes, Quiet, Verbose, ZeroTerminated, SuffixLength, NumericSuffixes, HexSuffixes, ElideEmptyFiles, AdditionalSuffix, Separator, Prefix, Digits, KeepFiles, SuppressMatched, Append, Follow, FollowNames, Retry, Looks as HowOften}
 use Rattle.words_core.specs.declared.table.Kind.{Kind}
+use Rattle.words_core.specs.declared.table.Takes.{Takes}
 use Rattle.words_core.specs.declared.table.Takes.TheVariants as takes
 use Rattle.words_core.specs.declared.spelling.State.TheVariants.{Reading}
 use Rattle.words_core.specs.declared.tail_words.FollowOptions.{FollowOptions}
@@ -21,7 +22,7 @@ use Rattle.words_core.specs.CsplitAsked.{CsplitAsked}
 use Rattle.words_core.specs.EndsAsked.{EndsAsked}
 use Rattle.words_core.specs.SplitAsked.{SplitAsked}
 use Rattle.words_core.specs.declared.settings.TailSettings.{TailSettings}
-use Rattle.words_core.specs.Value.{Meant, Counted, Text, Width, Looks}
+use Rattle.words_core.specs.Value.{Meant, Byte, Counted, Text, Width, Looks}
 use Rattle.words_core.specs.Given.{asked_by, Given, GivenOption, GivenOperand, one_option}
 use Rattle.words_core.specs.Spelling.{given_before, is_equals, spelled}
 use Rattle.words_core.specs.Table.{OptionRow, option_named}
@@ -52,6 +53,11 @@ counts choice value = false
 
 abbrev pub is_count : GivenOption → Bool
 is_count option = counts option.choice option.value
+
+-- whether it ends lines with byte 0
+abbrev pub ends_with_zero : Choice → Bool
+ends_with_zero ZeroTerminated = true
+ends_with_zero choice = false
 
 -- whether it says when headers come
 abbrev pub heads : Choice → Bool
@@ -100,6 +106,22 @@ widens choice value = false
 
 abbrev pub is_width : GivenOption → Bool
 is_width option = widens option.choice option.value
+
+-- whether it gives the byte that lines end with, and the ending of names
+
+abbrev pub separates : Choice → Meant → Bool
+separates Separator (Byte byte) = true
+separates choice value = false
+
+abbrev pub is_separator : GivenOption → Bool
+is_separator option = separates option.choice option.value
+
+abbrev pub gives_ending : Choice → Meant → Bool
+gives_ending AdditionalSuffix (Text text) = true
+gives_ending choice value = false
+
+abbrev pub is_ending : GivenOption → Bool
+is_ending option = gives_ending option.choice option.value
 
 -- which option of `csplit` it is: one for the prefix, one for the digits, or one without a value; and whether it lets
 -- `tee` append
@@ -172,6 +194,26 @@ pub record IsName (rows : List OptionRow) (name : List ℕ) (choice : Choice) (k
   pub named : option_named rows (codes "--" ++ name) ≡ Some (choice, takes.Value kind)
   pub some : name ≢ []
   pub no_equals : list_any is_equals name ≡ false
+
+-- a letter that names an option to which no value belongs in a cluster of letters
+
+abbrev pub takes_none : Takes → Bool
+takes_none takes.Nothing = true
+takes_none (takes.Optional kind) = true
+takes_none (takes.Value kind) = false
+
+pub record IsSwitch (rows : List OptionRow) (letter : ℕ) (choice : Choice) : Type 0 where
+  pub takes : Takes
+  pub named : option_named rows (codes "-" ++ letter ∷ []) ≡ Some (choice, takes)
+  pub none : takes_none takes ≡ true
+  pub ascii : letter < 128
+  pub no_hyphen : letter ≢ 45
+
+-- a word is an operand wherever options may stand: it doesn't begin with a hyphen, or is one alone
+abbrev pub is_plain : List ℕ → Bool
+is_plain [] = true
+is_plain (byte ∷ []) = true
+is_plain (byte ∷ next ∷ rest) = not (byte == 45)
 
 -- what is asked of `head` or `tail`, of `split`, and of `csplit` with the operand `1` in the word at this place, for
 -- standard input

@@ -1,12 +1,13 @@
 //! Laws of what words spell and ask for, with no code: each stands on the contract of a function whose body is empty.
-ghost use Rattle.std.specs.Prelude.{◌≡◌, ◌≢◌, ◌↔◌, ◌+◌, ◌-◌, ◌^◌, ◌≤◌, ◌<◌, ◌++◌, ℕ, List, [], ◌∷◌, Option, Some, None, Result, Ok, Err, IsOk, true, false, length, filter, codes};
+ghost use Rattle.std.specs.Prelude.{◌≡◌, ◌≢◌, ◌↔◌, ◌+◌, ◌-◌, ◌^◌, ◌≤◌, ◌<◌, ◌++◌, ℕ, List, [], ◌∷◌, Option, Some, None, Result, Ok, Err, IsOk, true, false, length, filter, codes, if◌then◌else◌};
 ghost use Rattle.std.specs.List.{list_any};
-ghost use Rattle.ports_core.specs.declared.fault.UsageKind.TheVariants.{TwoWays};
+ghost use Rattle.ports_core.specs.declared.fault.UsageKind.{UsageKind};
+ghost use Rattle.ports_core.specs.declared.fault.UsageKind.TheVariants.{MissingValue, TwoWays};
 ghost use Rattle.words_core.specs.declared.spelling.State.TheVariants.{Reading};
 ghost use Rattle.seg_core.specs.Count.{count_of, digits_of, is_number};
-ghost use Rattle.words_core.specs.Given.{Given, GivenOption, one_option};
+ghost use Rattle.words_core.specs.Given.{Given, GivenOption, bare, one_operand, one_option};
 ghost use Rattle.words_core.specs.CsplitWords.{style_of};
-ghost use Rattle.words_core.specs.Laws.{AreAmong, Gives, IsLetter, IsName, amount_of, appends, as_operands, csplit_as, drops_sizes, elides_files, ends_as, ends_of, has, is_alphabet, is_count, is_digits, is_headers, is_prefix, is_width, follow_of, following_as, is_following, is_looks, keeps_files, leaves_lines_out, retries, split_as, split_of, tail_as, plain_style};
+ghost use Rattle.words_core.specs.Laws.{AreAmong, Gives, IsLetter, IsName, IsSwitch, amount_of, appends, as_operands, csplit_as, drops_sizes, elides_files, ends_as, ends_of, ends_with_zero, has, is_alphabet, is_count, is_digits, is_ending, is_headers, is_plain, is_prefix, is_separator, is_width, follow_of, following_as, is_following, is_looks, keeps_files, leaves_lines_out, retries, split_as, split_of, tail_as, plain_style};
 ghost use Rattle.words_core.specs.Spelling.{given_before, spelled};
 ghost use Rattle.words_core.specs.EndsWords.{ten_lines};
 ghost use Rattle.words_core.specs.SplitWords.{is_way, least_width, way_in, way_of};
@@ -49,7 +50,7 @@ pub fn last_of_tail_decides()
 {}
 
 /// Of several options for the characters of suffixes the last decides, as if it stood alone, whatever options stand before it;
-/// and so does the last width. Other options change neither.
+/// and so do the last width, the last byte that lines end with, and the last ending of names. Other options change none.
 pub fn last_of_split_decides()
     ensures alphabet { (before after : List GivenOption) (option : GivenOption) → is_alphabet option ≡ true → list_any is_alphabet after ≡ false
         → (split_of (before ++ option ∷ after)).alphabet ≡ (split_of (option ∷ [])).alphabet }
@@ -57,6 +58,12 @@ pub fn last_of_split_decides()
     ensures width { (before after : List GivenOption) (option : GivenOption) → is_width option ≡ true → list_any is_width after ≡ false
         → (split_of (before ++ option ∷ after)).width ≡ (split_of (option ∷ [])).width }
     ensures no_width { (options : List GivenOption) → list_any is_width options ≡ false → (split_of options).width ≡ (split_of []).width }
+    ensures separator { (before after : List GivenOption) (option : GivenOption) → is_separator option ≡ true → list_any is_separator after ≡ false
+        → (split_of (before ++ option ∷ after)).delim ≡ (split_of (option ∷ [])).delim }
+    ensures no_separator { (options : List GivenOption) → list_any is_separator options ≡ false → (split_of options).delim ≡ 10 }
+    ensures ending { (before after : List GivenOption) (option : GivenOption) → is_ending option ≡ true → list_any is_ending after ≡ false
+        → (split_of (before ++ option ∷ after)).ending ≡ (split_of (option ∷ [])).ending }
+    ensures no_ending { (options : List GivenOption) → list_any is_ending options ≡ false → (split_of options).ending ≡ [] }
 {}
 
 /// Of several prefixes for `csplit` the last decides, as if it stood alone, whatever options stand before it; and so does
@@ -70,13 +77,15 @@ pub fn last_of_csplit_decides()
     ensures no_digits { (options : List GivenOption) → list_any is_digits options ≡ false → (style_of options).digits ≡ 2 }
 {}
 
-/// What an option without a value asks of `csplit` or `tee` is asked for exactly where the option is given, wherever it
-/// stands and however often.
+/// What an option without a value asks is asked for exactly where the option is given, wherever it stands and however
+/// often: of `csplit` and `tee`, `-e` of `split`, and `-z` of `head` and `tail`, without which lines end with the newline.
 pub fn options_stand_anywhere()
     ensures keep { (options : List GivenOption) → (style_of options).keep ≡ has keeps_files options }
     ensures quiet { (options : List GivenOption) → (style_of options).quiet ≡ has drops_sizes options }
     ensures elide { (options : List GivenOption) → (style_of options).elide ≡ has elides_files options }
     ensures suppress { (options : List GivenOption) → (style_of options).suppress ≡ has leaves_lines_out options }
+    ensures leave_out { (options : List GivenOption) → (split_of options).elide ≡ has elides_files options }
+    ensures zero { (options : List GivenOption) → (ends_of options).delim ≡ (if has ends_with_zero options then 0 else 10) }
     ensures append { (given : Given) → ((tee_asked given).mode ≡ Mode.Append) ↔ (has appends given.options ≡ true) }
 {}
 
@@ -113,6 +122,32 @@ pub fn values_are_spelled_alike()
     ensures after_name { (rows : List OptionRow) (name : List ℕ) (choice : Choice) (kind : Kind) (value : List ℕ) (meant : Meant) (words : List (List ℕ)) (place : ℕ)
         → IsName rows name choice kind → value_in kind value ≡ Ok meant
         → Gives rows ((codes "--" ++ name) ∷ value ∷ words) place choice meant (spelled rows words (place + 1 + 1) Reading) }
+{}
+
+/// Letters in one word spell what they spell apart (POSIX.1-2017, XBD 12.2, guideline 5). A letter to which no value belongs
+/// gives its option, and what comes after it is read as if it weren't there: the other letters of its word, behind their
+/// hyphen, and where it is the only one the words that follow.
+pub fn letters_stand_together()
+    ensures together { (rows : List OptionRow) (letter next : ℕ) (choice : Choice) (rest : List ℕ) (words : List (List ℕ)) (place : ℕ)
+        → IsSwitch rows letter choice → next ≢ 45
+        → spelled rows ((codes "-" ++ letter ∷ next ∷ rest) ∷ words) place Reading ≡ given_before (bare choice place) (spelled rows ((codes "-" ++ next ∷ rest) ∷ words) place Reading) }
+    ensures apart { (rows : List OptionRow) (letter : ℕ) (choice : Choice) (words : List (List ℕ)) (place : ℕ) → IsSwitch rows letter choice
+        → spelled rows ((codes "-" ++ letter ∷ []) ∷ words) place Reading ≡ given_before (bare choice place) (spelled rows words (place + 1) Reading) }
+{}
+
+/// Options and operands may mix: a word that doesn't begin with a hyphen, or is one alone, is an operand wherever options may
+/// stand, and they may stand after it as before (GNU's tools; POSIX.1-2017, XBD 12.2, guideline 9, wants options first).
+pub fn operands_may_mix()
+    ensures { (rows : List OptionRow) (word : List ℕ) (words : List (List ℕ)) (place : ℕ) → is_plain word ≡ true
+        → spelled rows (word ∷ words) place Reading ≡ given_before (one_operand word place) (spelled rows words (place + 1) Reading) }
+{}
+
+/// Of several faults the leftmost word's is told: one that is found among the first words is told whatever follows them, but
+/// that a value is missing, which is so only where no word follows.
+pub fn leftmost_fault_is_told()
+    ensures { (rows : List OptionRow) (first more : List (List ℕ)) (place : ℕ) (state : State) (kind : UsageKind) (word : ℕ)
+        → spelled rows first place state ≡ Err (Fault.Usage kind word) → kind ≢ MissingValue
+        → spelled rows (first ++ more) place state ≡ Err (Fault.Usage kind word) }
 {}
 
 /// The operands are some of the words, in their order, each with its place.

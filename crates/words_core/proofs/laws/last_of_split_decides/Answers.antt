@@ -1,6 +1,6 @@
 use Rattle.words_core.specs.SplitWords.{no_options, split_by}
-use Rattle.words_core.specs.Laws.{spells, widens}
-use Rattle.words_core.proofs.ChoiceLemmas.{decided, kept, spells-sets, widens-sets}
+use Rattle.words_core.specs.Laws.{gives_ending, separates, spells, widens}
+use Rattle.words_core.proofs.ChoiceLemmas.{decided, ending-sets, kept, separates-sets, spells-sets, widens-sets}
 use Rattle.words_core.proofs.laws.last_of_split_decides.Goals as goal
 
 pub returns-clause-alphabet : goal.returns-clause-alphabet
@@ -14,3 +14,15 @@ returns-clause-width c before after option is none = decided split_by (λ asked.
 
 pub returns-clause-no_width : goal.returns-clause-no_width
 returns-clause-no_width c options none = kept split_by (λ asked. asked.width) widens widens-sets options no_options none
+
+pub returns-clause-separator : goal.returns-clause-separator
+returns-clause-separator c before after option is none = decided split_by (λ asked. asked.delim) separates separates-sets before after option no_options no_options is none
+
+pub returns-clause-no_separator : goal.returns-clause-no_separator
+returns-clause-no_separator c options none = kept split_by (λ asked. asked.delim) separates separates-sets options no_options none
+
+pub returns-clause-ending : goal.returns-clause-ending
+returns-clause-ending c before after option is none = decided split_by (λ asked. asked.ending) gives_ending ending-sets before after option no_options no_options is none
+
+pub returns-clause-no_ending : goal.returns-clause-no_ending
+returns-clause-no_ending c options none = kept split_by (λ asked. asked.ending) gives_ending ending-sets options no_options none

@@ -1,9 +1,11 @@
 use Rattle.std.proofs.Common.{◌∙◌, ap, sym}
 use Rattle.ports_core.specs.declared.slot.Mode.TheVariants.{Fresh}
 use Rattle.words_core.specs.CsplitWords.{csplit_by, plain}
+use Rattle.words_core.specs.EndsWords.{ten_lines}
+use Rattle.words_core.specs.SplitWords.{no_options, split_by}
 use Rattle.words_core.specs.Laws.{appends, drops_sizes, elides_files, keeps_files, leaves_lines_out}
 use Rattle.words_core.specs.TeeWords.{mode_by, tee_asked}
-use Rattle.words_core.proofs.ChoiceLemmas.{append_is, given_anywhere, is_append, says_append, says_elide, says_keep, says_quiet, says_suppress}
+use Rattle.words_core.proofs.ChoiceLemmas.{append_is, given_anywhere, is_append, says_append, says_elide, says_keep, says_leave_out, says_quiet, says_suppress, zero_given}
 use Rattle.words_core.proofs.laws.options_stand_anywhere.Goals as goal
 
 pub returns-clause-keep : goal.returns-clause-keep
@@ -17,6 +19,12 @@ returns-clause-elide c options = given_anywhere csplit_by (λ asked. asked.elide
 
 pub returns-clause-suppress : goal.returns-clause-suppress
 returns-clause-suppress c options = given_anywhere csplit_by (λ asked. asked.suppress) leaves_lines_out says_suppress options plain
+
+pub returns-clause-leave_out : goal.returns-clause-leave_out
+returns-clause-leave_out c options = given_anywhere split_by (λ asked. asked.elide) elides_files says_leave_out options no_options
+
+pub returns-clause-zero : goal.returns-clause-zero
+returns-clause-zero c options = zero_given options ten_lines
 
 pub returns-clause-append : goal.returns-clause-append
 returns-clause-append c given =
