@@ -20,6 +20,8 @@ mod left;
 #[cfg(test)]
 mod pages;
 #[cfg(test)]
+mod promise_tests;
+#[cfg(test)]
 mod refused_tests;
 #[cfg(test)]
 mod split_run_tests;

@@ -5,3 +5,5 @@ pub mod SpeakerLemmas
 pub mod FollowingLemmas
 pub mod ProgramLemmas
 pub mod CalledLemmas
+pub mod PromiseLemmas
+pub mod EndsPromises

@@ -1,5 +1,6 @@
 pub mod Tasks
 pub mod Outcome
+pub mod Promises
 pub mod Following
 pub mod Program
 pub mod laws

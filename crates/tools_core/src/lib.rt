@@ -6,9 +6,11 @@ mod csplit;
 mod ends;
 mod follow;
 mod program;
+mod promises;
 pub mod run;
 mod split;
 
 pub use args::{ArgsFault, read_args};
 pub use follow::run_follow;
 pub use program::run_words;
+pub use promises::head_and_tail_meet;

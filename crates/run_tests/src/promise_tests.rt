@@ -1,0 +1,52 @@
+//! The laws of `promises` on small examples: each of these runs the program's `run`, and looks whether what it leaves is as
+//! promised, with no bytes written down that are wanted.
+ghost use Rattle.std.specs.Prelude.{IfOk};
+
+use crate::left::inputs_of;
+use ports_core::{Fault, MemOut, Outs};
+use std::alloc::Global;
+use std::process::Abort;
+use std::test::Fail;
+use tools_core::run::run;
+
+/// Five lines, the last of them open, and one of them longer than the others.
+const TEXT: &[u8] = b"a\nbb\nccccccccc\nd\ne";
+
+/// Words that write two parts of the input which are to meet.
+type Pair<'a> = (&'a [&'a str], &'a [&'a str]);
+
+/// Runs the words over the text, which comes by this many bytes at once, and returns what it left, if its status is 0.
+fn left_by(rt: &impl Abort, alloc: Global, words: &[&str], pieces: usize) -> Result<MemOut, Fault> {
+    let mut inputs = inputs_of(alloc, &[], TEXT)?;
+    inputs.pieces(pieces.max(1));
+    let mut outs = MemOut::new(alloc)?;
+    let status = run(alloc, words, &mut inputs, &mut outs);
+    assert_eq!(rt; status, 0, "of {words:?}");
+    Ok(outs)
+}
+
+#[test]
+fn head_and_tail_meet(rt: HostRuntime) -> Result<(), Fail> {
+    for pair in PAIRS {
+        meet(&rt, rt.alloc(), pair)?;
+    }
+    Ok(())
+}
+
+const PAIRS: &[Pair<'static>] = &[
+    (&["head", "-n", "2"], &["tail", "-n", "+3"]),
+    (&["head", "-n", "0"], &["tail", "-n", "+1"]),
+    (&["head", "-n", "-2"], &["tail", "-n", "2"]),
+    (&["head", "-n", "-9"], &["tail", "-n", "9"]),
+    (&["head", "-c", "7"], &["tail", "-c", "+8"]),
+    (&["head", "-c", "-7"], &["tail", "-c", "7"]),
+];
+
+fn meet(rt: &impl Abort, alloc: Global, pair: &Pair<'_>) -> Result<(), Fault> {
+    let head = left_by(rt, alloc, pair.0, 4)?;
+    let tail = left_by(rt, alloc, pair.1, 64)?;
+    let mut both = Vec::from_slice(alloc, head.bytes(0))?;
+    both.extend_from_slice(tail.bytes(0))?;
+    assert_eq!(rt; both.as_slice(), TEXT, "of {pair:?}");
+    Ok(())
+}

@@ -1,0 +1,68 @@
+-- What people rest on, in a manual's words: what a run leaves that ends with status 0, over inputs and outputs that
+-- tell their bytes, as those in memory do.
+use Rattle.std.specs.Prelude.{◌≡◌, ℕ, true, false, List, [], ◌∷◌, Option, Some, Ok, if◌then◌else◌}
+use Rattle.ports_core.specs.Slot.{Slot, slot_at}
+use Rattle.ports_core.specs.Source.{Content, Source}
+use Rattle.seg_core.specs.declared.count.Sign.{Sign}
+use Rattle.run_core.specs.Input.{World, is_dash}
+use Rattle.run_core.specs.RunEnds.{RunsOver}
+use Rattle.words_core.specs.declared.settings.Settings.{Settings}
+use Rattle.words_core.specs.declared.settings.Settings.TheVariants.{Head, Tail}
+use Rattle.words_core.specs.declared.value.Followed.{Followed}
+use Rattle.words_core.specs.EndsAsked.{EndsAsked}
+use Rattle.words_core.specs.Words.{settings_of}
+use Rattle.tools_core.specs.Outcome.{RunEnds, names_read}
+use Rattle.tools_core.specs.Tasks.{has_headers}
+
+-- one run: its words, what it found, and what it left
+pub record Run : Type 0 where
+  pub words : List (List ℕ)
+  -- what standard input holds, and what lies at each name
+  pub world : World
+  -- what is left of the inputs
+  pub inputs : List Source
+  -- standard output, standard error, and then the files, in the order in which they were opened
+  pub outputs : List Slot
+  pub status : ℕ
+
+-- its words are read as these settings, and it ended as `run` ensures, whatever its status
+pub record Ran (run : Run) (asked : Settings) : Type 0 where
+  pub read : settings_of run.words ≡ Ok asked
+  pub ends : RunsOver true run.world (names_read run.words)
+      (λ found. RunEnds true true run.words found run.inputs run.outputs run.status)
+
+-- and it met no fault
+pub record Does (run : Run) (asked : Settings) : Type 0 where
+  pub ran : Ran run asked
+  pub well : run.status ≡ 0
+
+-- what lies at a name; that of standard input is `-`
+abbrev pub lying_at : World → List ℕ → Option Content
+lying_at world name = if is_dash name then Some world.standard else world.laid 1 name
+
+-- the run has one input, which has these bytes and ends after them
+pub record HasInput (run : Run) (bytes : List ℕ) : Type 0 where
+  pub name : List ℕ
+  pub only : names_read run.words ≡ name ∷ []
+  pub holds : lying_at run.world name ≡ Some (record { bytes = bytes; breaks_off = false })
+
+-- what is on standard output
+abbrev pub output_of : Run → List ℕ
+output_of run = (slot_at run.outputs 0).written
+
+-- these options, and this count in place of theirs
+abbrev pub counted : EndsAsked → Sign → ℕ → EndsAsked
+counted options sign n = record options { count = record { sign = sign; amount = n } }
+
+-- `head` with them
+abbrev pub IsHead : Run → EndsAsked → Sign → ℕ → Type 0
+IsHead run options sign n = Does run (Head (counted options sign n))
+
+-- `tail` with them, run once, whether files are to be followed or not
+abbrev pub IsTail : Run → EndsAsked → Sign → ℕ → Type 0
+IsTail run options sign n = (followed : Option Followed) × (looks : ℕ)
+    × Does run (Tail (record { ends = counted options sign n; followed = followed; looks = looks }))
+
+-- no header is asked for
+abbrev pub IsBare : EndsAsked → Type 0
+IsBare options = has_headers options.headers options.names ≡ false
