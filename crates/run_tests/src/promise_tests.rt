@@ -50,3 +50,16 @@ fn meet(rt: &impl Abort, alloc: Global, pair: &Pair<'_>) -> Result<(), Fault> {
     assert_eq!(rt; both.as_slice(), TEXT, "of {pair:?}");
     Ok(())
 }
+
+#[test]
+fn tee_copies(rt: HostRuntime) -> Result<(), Fail> {
+    let outs = left_by(&rt, rt.alloc(), &["tee", "s", "t"], 4)?;
+    for slot in [0, 2, 3] {
+        same_bytes(&rt, outs.bytes(slot), TEXT);
+    }
+    Ok(())
+}
+
+fn same_bytes(rt: &impl Abort, found: &[u8], wanted: &[u8]) {
+    assert_eq!(rt; found, wanted);
+}

@@ -7,3 +7,4 @@ pub mod ProgramLemmas
 pub mod CalledLemmas
 pub mod PromiseLemmas
 pub mod EndsPromises
+pub mod TeePromises

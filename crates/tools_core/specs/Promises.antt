@@ -1,8 +1,9 @@
 -- What people rest on, in a manual's words: what a run leaves that ends with status 0, over inputs and outputs that
 -- tell their bytes, as those in memory do.
-use Rattle.std.specs.Prelude.{◌≡◌, ℕ, true, false, List, [], ◌∷◌, Option, Some, Ok, if◌then◌else◌}
+use Rattle.std.specs.Prelude.{◌≡◌, ℕ, true, false, List, [], ◌∷◌, map, drop, All, Option, Some, Ok, if◌then◌else◌}
 use Rattle.ports_core.specs.Slot.{Slot, slot_at}
 use Rattle.ports_core.specs.Source.{Content, Source}
+use Rattle.ports_core.specs.declared.slot.State.TheVariants.{Closed}
 use Rattle.seg_core.specs.declared.count.Sign.{Sign}
 use Rattle.run_core.specs.Input.{World, is_dash}
 use Rattle.run_core.specs.RunEnds.{RunsOver}
@@ -66,3 +67,16 @@ IsTail run options sign n = (followed : Option Followed) × (looks : ℕ)
 -- no header is asked for
 abbrev pub IsBare : EndsAsked → Type 0
 IsBare options = has_headers options.headers options.names ≡ false
+
+-- the files
+abbrev pub files_of : Run → List Slot
+files_of run = drop 2 run.outputs
+
+-- the file was closed, and never broke
+abbrev pub IsSound : Slot → Type 0
+IsSound file = (file.state ≡ Closed) × (file.is_broken ≡ false)
+
+-- there is a file for each name, in their order, and each has these bytes
+pub record AreCopies (names : List (List ℕ)) (bytes : List ℕ) (files : List Slot) : Type 0 where
+  pub named : map (λ (file : Slot). file.name) files ≡ names
+  pub each : All (λ (file : Slot). IsSound file × (file.written ≡ bytes)) files

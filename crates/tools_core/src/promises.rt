@@ -2,8 +2,10 @@
 //! speak of runs over inputs and outputs that tell their bytes, as those in memory do, and of what `run` ensures of each.
 ghost use Rattle.std.specs.Prelude.{◌≡◌, ◌+◌, ◌++◌, ℕ, List};
 ghost use Rattle.seg_core.specs.declared.count.Sign.TheVariants.{Minus, Plain, Plus};
-ghost use Rattle.tools_core.specs.Promises.{HasInput, IsBare, IsHead, IsTail, Run, output_of};
+ghost use Rattle.tools_core.specs.Promises.{AreCopies, Does, HasInput, IsBare, IsHead, IsTail, Run, files_of, output_of};
 ghost use Rattle.words_core.specs.EndsAsked.{EndsAsked};
+ghost use Rattle.words_core.specs.TeeAsked.{TeeAsked};
+ghost use Rattle.words_core.specs.declared.settings.Settings.TheVariants.{Tee};
 
 /// Of one input, the first N lines and all from the line after them on, written one after another, are the input:
 /// `head -n N` and then `tail -n +M`, where M is N + 1. So are all but the last N and the last N: `head -n -N` and then
@@ -11,4 +13,10 @@ ghost use Rattle.words_core.specs.EndsAsked.{EndsAsked};
 pub fn head_and_tail_meet()
     ensures first { (head tail : Run) (options : EndsAsked) (n : ℕ) (input : List ℕ) → IsBare options → IsHead head options Plain n → IsTail tail options Plus (n + 1) → HasInput head input → HasInput tail input → output_of head ++ output_of tail ≡ input }
     ensures last { (head tail : Run) (options : EndsAsked) (n : ℕ) (input : List ℕ) → IsBare options → IsHead head options Minus n → IsTail tail options Plain n → HasInput head input → HasInput tail input → output_of head ++ output_of tail ≡ input }
+{}
+
+/// After `tee` standard output and each file have the input's bytes; with `-a` each file has them after those that it had.
+pub fn tee_copies()
+    ensures output { (tee : Run) (asked : TeeAsked) (input : List ℕ) → Does tee (Tee asked) → HasInput tee input → output_of tee ≡ input }
+    ensures files { (tee : Run) (asked : TeeAsked) (input : List ℕ) → Does tee (Tee asked) → HasInput tee input → AreCopies asked.names input (files_of tee) }
 {}
