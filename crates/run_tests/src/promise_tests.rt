@@ -63,3 +63,37 @@ fn tee_copies(rt: HostRuntime) -> Result<(), Fail> {
 fn same_bytes(rt: &impl Abort, found: &[u8], wanted: &[u8]) {
     assert_eq!(rt; found, wanted);
 }
+
+#[test]
+fn cutting_changes_nothing(rt: HostRuntime) -> Result<(), Fail> {
+    for words in CUT {
+        leave_the_same(&rt, rt.alloc(), words, 1)?;
+        leave_the_same(&rt, rt.alloc(), words, 3)?;
+    }
+    Ok(())
+}
+
+const CUT: &[&[&str]] = &[
+    &["head", "-n", "-1"],
+    &["tail", "-c", "4"],
+    &["split", "-C", "4"],
+    &["split", "-n", "r/2"],
+    &["csplit", "-", "/c/-1", "5"],
+    &["tee", "s"],
+];
+
+/// What is left of an input that comes by this many bytes at once is left of one that comes whole.
+fn leave_the_same(
+    rt: &impl Abort,
+    alloc: Global,
+    words: &[&str],
+    pieces: usize,
+) -> Result<(), Fault> {
+    let one = left_by(rt, alloc, words, pieces)?;
+    let other = left_by(rt, alloc, words, 64)?;
+    for slot in 0..12 {
+        assert_eq!(rt; one.name(slot), other.name(slot), "of {words:?}");
+        assert_eq!(rt; one.bytes(slot), other.bytes(slot), "of {words:?}");
+    }
+    Ok(())
+}

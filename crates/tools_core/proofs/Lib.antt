@@ -8,3 +8,4 @@ pub mod CalledLemmas
 pub mod PromiseLemmas
 pub mod EndsPromises
 pub mod TeePromises
+pub mod SamePromises

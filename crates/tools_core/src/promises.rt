@@ -5,6 +5,7 @@ ghost use Rattle.seg_core.specs.declared.count.Sign.TheVariants.{Minus, Plain, P
 ghost use Rattle.tools_core.specs.Promises.{AreCopies, Does, HasInput, IsBare, IsHead, IsTail, Run, files_of, output_of};
 ghost use Rattle.words_core.specs.EndsAsked.{EndsAsked};
 ghost use Rattle.words_core.specs.TeeAsked.{TeeAsked};
+ghost use Rattle.words_core.specs.declared.settings.Settings.{Settings};
 ghost use Rattle.words_core.specs.declared.settings.Settings.TheVariants.{Tee};
 
 /// Of one input, the first N lines and all from the line after them on, written one after another, are the input:
@@ -19,4 +20,10 @@ pub fn head_and_tail_meet()
 pub fn tee_copies()
     ensures output { (tee : Run) (asked : TeeAsked) (input : List ℕ) → Does tee (Tee asked) → HasInput tee input → output_of tee ≡ input }
     ensures files { (tee : Run) (asked : TeeAsked) (input : List ℕ) → Does tee (Tee asked) → HasInput tee input → AreCopies asked.names input (files_of tee) }
+{}
+
+/// How an input comes changes nothing: two runs that are asked for the same, over inputs of the same bytes, leave the same
+/// outputs, whether a read gives one byte or all of them. A run's end says nothing of reads but what they leave.
+pub fn cutting_changes_nothing()
+    ensures { (one other : Run) (asked : Settings) → Does one asked → Does other asked → one.world ≡ other.world → one.outputs ≡ other.outputs }
 {}
