@@ -97,3 +97,32 @@ fn leave_the_same(
     }
     Ok(())
 }
+
+#[test]
+fn split_loses_nothing(rt: HostRuntime) -> Result<(), Fail> {
+    for words in SPLIT {
+        lose_nothing(&rt, rt.alloc(), words)?;
+    }
+    Ok(())
+}
+
+const SPLIT: &[&[&str]] = &[
+    &["split", "-l", "2"],
+    &["split", "-b", "3", "-d", "-a", "1"],
+    &["split", "-C", "4", "-", "part."],
+    &["split", "-l", "1", "-t", "c", "--additional-suffix=.txt"],
+];
+
+/// The files that the words make are joined the text, in the order of their names.
+fn lose_nothing(rt: &impl Abort, alloc: Global, words: &[&str]) -> Result<(), Fault> {
+    let outs = left_by(rt, alloc, words, 4)?;
+    let mut all = Vec::new(alloc);
+    for slot in 2..20 {
+        let comes_after = outs.name(slot) > outs.name(slot.saturating_sub(1));
+        let is_none = outs.name(slot).is_empty();
+        assert_eq!(rt; slot == 2 || comes_after || is_none, true, "of {words:?}");
+        all.extend_from_slice(outs.bytes(slot))?;
+    }
+    assert_eq!(rt; all.as_slice(), TEXT, "of {words:?}");
+    Ok(())
+}

@@ -7,5 +7,7 @@ pub mod ProgramLemmas
 pub mod CalledLemmas
 pub mod PromiseLemmas
 pub mod EndsPromises
+pub mod CanLemmas
 pub mod TeePromises
 pub mod SamePromises
+pub mod SplitPromises

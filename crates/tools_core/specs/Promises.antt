@@ -1,6 +1,10 @@
 -- What people rest on, in a manual's words: what a run leaves that ends with status 0, over inputs and outputs that
 -- tell their bytes, as those in memory do.
-use Rattle.std.specs.Prelude.{◌≡◌, ℕ, true, false, List, [], ◌∷◌, map, drop, All, Option, Some, Ok, if◌then◌else◌}
+use Rattle.std.specs.Prelude.{◌≡◌, ℕ, ◌+◌, ◌/◌, ◌%◌, ◌<◌, ◌≤◌, Bool, true, false, List, [], ◌∷◌, length, map, drop, All, slice_index_or, ◌⊎◌, Option, Some, Ok, if◌then◌else◌}
+use Rattle.std.specs.declared.cmp.Ordering.TheVariants.{Less}
+use Rattle.std.specs.Ordering.{nat_cmp}
+use Rattle.std.specs.Cmp.Lexicographic.{slice_cmp}
+use Rattle.seg_core.specs.Line.{delimiters, ends_with, joined, lines_of}
 use Rattle.ports_core.specs.Slot.{Slot, slot_at}
 use Rattle.ports_core.specs.Source.{Content, Source}
 use Rattle.ports_core.specs.declared.slot.State.TheVariants.{Closed}
@@ -80,3 +84,49 @@ IsSound file = (file.state ≡ Closed) × (file.is_broken ≡ false)
 pub record AreCopies (names : List (List ℕ)) (bytes : List ℕ) (files : List Slot) : Type 0 where
   pub named : map (λ (file : Slot). file.name) files ≡ names
   pub each : All (λ (file : Slot). IsSound file × (file.written ≡ bytes)) files
+
+-- what each file has
+abbrev pub contents_of : Run → List (List ℕ)
+contents_of run = map (λ (file : Slot). file.written) (files_of run)
+
+-- each name comes before the next, by the first byte in which they differ
+abbrev pub AreInOrder : List (List ℕ) → Type 0
+AreInOrder [] = Unit {0}
+AreInOrder (name ∷ []) = Unit {0}
+AreInOrder (name ∷ next ∷ names) = (slice_cmp nat_cmp name next ≡ Less) × AreInOrder (next ∷ names)
+
+-- a shell's `*` gives the files in this order, and each is sound
+pub record AreListed (files : List Slot) : Type 0 where
+  pub in_order : AreInOrder (map (λ (file : Slot). file.name) files)
+  pub sound : All IsSound files
+
+-- the text at a place; there is an empty one at any other
+abbrev pub text_at : List (List ℕ) → ℕ → List ℕ
+text_at texts place = slice_index_or texts place []
+
+-- The pieces are joined the input. Each has n of what is counted, but the last may have fewer; none has nothing.
+pub record ArePieces (size : List ℕ → ℕ) (n : ℕ) (input : List ℕ) (pieces : List (List ℕ)) : Type 0 where
+  pub all : joined pieces ≡ input
+  pub some : (place : ℕ) → place < length pieces → 0 < size (text_at pieces place)
+  pub most : (place : ℕ) → place < length pieces → size (text_at pieces place) ≤ n
+  pub full : (place : ℕ) → place + 1 < length pieces → size (text_at pieces place) ≡ n
+
+-- The piece ends with a line, or it is n bytes within one line.
+abbrev pub EndsLine : ℕ → ℕ → List ℕ → Type 0
+EndsLine delim n piece = (ends_with delim piece ≡ true) ⊎ ((length piece ≡ n) × (delimiters delim piece ≡ 0))
+
+-- The pieces are joined the input. None is empty, none has more than n bytes, and between two pieces a line is cut only
+-- where it is longer than that.
+pub record AreLinePieces (delim n : ℕ) (input : List ℕ) (pieces : List (List ℕ)) : Type 0 where
+  pub all : joined pieces ≡ input
+  pub some : (place : ℕ) → place < length pieces → 0 < length (text_at pieces place)
+  pub most : (place : ℕ) → place < length pieces → length (text_at pieces place) ≤ n
+  pub uncut : (place : ℕ) → place + 1 < length pieces → EndsLine delim n (text_at pieces place)
+
+-- Line i of the input, counted from 0, is line i / n of file i % n, and there is nothing else in the files. There are n,
+-- or those that have a line, where the others are left out.
+pub record AreDealt (delim n : ℕ) (elide : Bool) (input : List ℕ) (contents : List (List ℕ)) : Type 0 where
+  pub lines : (i : ℕ) → text_at (lines_of delim input) i ≡ text_at (lines_of delim (text_at contents (i % n))) (i / n)
+  pub all : length (joined contents) ≡ length input
+  pub count : elide ≡ false → length contents ≡ n
+  pub left_out : elide ≡ true → All (λ bytes. 0 < length bytes) contents

@@ -1,12 +1,15 @@
 //! What people rest on, as laws of runs, with no code: each stands on the contract of a function whose body is empty. They
 //! speak of runs over inputs and outputs that tell their bytes, as those in memory do, and of what `run` ensures of each.
-ghost use Rattle.std.specs.Prelude.{◌≡◌, ◌+◌, ◌++◌, ℕ, List};
+ghost use Rattle.std.specs.Prelude.{◌≡◌, ◌+◌, ◌++◌, ℕ, List, length};
+ghost use Rattle.seg_core.specs.Line.{joined, line_count};
 ghost use Rattle.seg_core.specs.declared.count.Sign.TheVariants.{Minus, Plain, Plus};
-ghost use Rattle.tools_core.specs.Promises.{AreCopies, Does, HasInput, IsBare, IsHead, IsTail, Run, files_of, output_of};
+ghost use Rattle.seg_core.specs.declared.cut.Cut.TheVariants.{Bytes, LineBytes, Lines, Round};
+ghost use Rattle.tools_core.specs.Promises.{AreCopies, AreDealt, AreLinePieces, AreListed, ArePieces, Does, HasInput, IsBare, IsHead, IsTail, Run, contents_of, files_of, output_of};
 ghost use Rattle.words_core.specs.EndsAsked.{EndsAsked};
+ghost use Rattle.words_core.specs.SplitAsked.{SplitAsked};
 ghost use Rattle.words_core.specs.TeeAsked.{TeeAsked};
 ghost use Rattle.words_core.specs.declared.settings.Settings.{Settings};
-ghost use Rattle.words_core.specs.declared.settings.Settings.TheVariants.{Tee};
+ghost use Rattle.words_core.specs.declared.settings.Settings.TheVariants.{Split, Tee};
 
 /// Of one input, the first N lines and all from the line after them on, written one after another, are the input:
 /// `head -n N` and then `tail -n +M`, where M is N + 1. So are all but the last N and the last N: `head -n -N` and then
@@ -26,4 +29,15 @@ pub fn tee_copies()
 /// outputs, whether a read gives one byte or all of them. A run's end says nothing of reads but what they leave.
 pub fn cutting_changes_nothing()
     ensures { (one other : Run) (asked : Settings) → Does one asked → Does other asked → one.world ≡ other.world → one.outputs ≡ other.outputs }
+{}
+
+/// `split` loses nothing. A shell's `*` gives its files in the order in which they follow one another. With `-l N` and
+/// `-b N` they are joined the input, and each but the last has N lines or bytes. With `-C N` they are joined the input,
+/// none has more than N bytes, and no line is cut that is not longer. With `-n r/N` each line is in just one file, in turn.
+pub fn split_loses_nothing()
+    ensures listed { (split : Run) (asked : SplitAsked) (input : List ℕ) → Does split (Split asked) → HasInput split input → AreListed (files_of split) }
+    ensures lines { (split : Run) (asked : SplitAsked) (n : ℕ) (input : List ℕ) → Does split (Split asked) → HasInput split input → asked.cut ≡ Lines n → ArePieces (line_count asked.delim) n input (contents_of split) }
+    ensures bytes { (split : Run) (asked : SplitAsked) (n : ℕ) (input : List ℕ) → Does split (Split asked) → HasInput split input → asked.cut ≡ Bytes n → ArePieces length n input (contents_of split) }
+    ensures line_bytes { (split : Run) (asked : SplitAsked) (n : ℕ) (input : List ℕ) → Does split (Split asked) → HasInput split input → asked.cut ≡ LineBytes n → AreLinePieces asked.delim n input (contents_of split) }
+    ensures dealt { (split : Run) (asked : SplitAsked) (n : ℕ) (input : List ℕ) → Does split (Split asked) → HasInput split input → asked.cut ≡ Round n → AreDealt asked.delim n asked.elide input (contents_of split) }
 {}

@@ -1,0 +1,272 @@
+-- What `split` leaves of its input.
+use Rattle.std.proofs.Common.{◌≡◌, ℕ, ◌+◌, ◌-◌, ◌*◌, ◌/◌, ◌%◌, ◌<◌, ◌≤◌, zero, suc, min, Bool, true, false, not, cond, List, [], ◌∷◌, ◌++◌, length, map, take, drop, filter, get_or, Some, None, inl, inr, refl, sym, ◌∙◌, ap, subst, arith}
+use Rattle.std.specs.List.{All}
+use Rattle.std.specs.Ordering.{nat_cmp}
+use Rattle.std.specs.Cmp.Lexicographic.{slice_cmp}
+use Rattle.std.specs.declared.cmp.Ordering.TheVariants.{Less}
+use Rattle.std.proofs.Math.Nat.{mul-le-mul_right, suc-mul}
+use Rattle.std.proofs.lemmas.Bool.{cases_lt}
+use Rattle.std.proofs.lemmas.List.{length-map, length-take, length-take-le, length-drop, get_or-take, get_or_past}
+use Rattle.std.proofs.lemmas.List.FromFn.{get_or-map-range_with_len, length-map-range_with_len}
+use Rattle.std.proofs.lemmas.Nat.{div-add-mod', mod_below}
+use Rattle.std.proofs.lemmas.List.Elements.{All-nil, All-cons}
+use Rattle.seg_core.specs.Line.{joined, lines_of, line_count, delimiters, ends_with, first_lines}
+use Rattle.seg_core.proofs.Delimiters.{delimiters-le-length}
+use Rattle.seg_core.proofs.FirstLines.{delimiters-first_lines, lines_of-first_lines}
+use Rattle.seg_core.proofs.LineCounts.{line_count-open}
+use Rattle.seg_core.specs.declared.cut.Cut.{Cut}
+use Rattle.seg_core.specs.declared.cut.Cut.TheVariants.{Lines, Bytes, LineBytes, Round}
+use Rattle.ports_core.specs.Name.{Naming}
+use Rattle.ports_core.specs.Part.{File}
+use Rattle.ports_core.specs.Slot.{Slot}
+use Rattle.ports_core.specs.declared.fault.Fault.TheVariants.{Suffixes}
+use Rattle.ports_core.specs.declared.slot.State.TheVariants.{Closed}
+use Rattle.ports_core.proofs.OrderLemmas.{in_order}
+use Rattle.split_core.specs.declared.limit.Limit.TheVariants as limit
+use Rattle.split_core.specs.Parts.{parts, round_robin, whole_lines}
+use Rattle.split_core.specs.Sections.{AreLineByteParts}
+use Rattle.split_core.specs.Sections as piece
+use Rattle.split_core.specs.Split.{Share, share, name_of, is_named, file_at, named, are_named, is_some, dealt_files, whole_shares}
+use Rattle.split_core.specs.inner.DealLaws.{share_of}
+use Rattle.split_core.specs.laws.CutLaws.{whole_of_lines, whole_of_none}
+use Rattle.split_core.specs.laws.DealLaws.{share_none}
+use Rattle.split_core.proofs.AgreedLemmas.{bytes_named, each_named, named_bytes}
+use Rattle.split_core.proofs.PlaceLemmas.{line_at, all_dealt, first_files}
+use Rattle.split_core.proofs.SectionLemmas.{bytes_of_shares, joined_parts, part_lines, part_bytes, lines_count, bytes_count, line_bytes_are_parts, line_bytes_within}
+use Rattle.words_core.specs.declared.settings.Settings.TheVariants.{Split}
+use Rattle.words_core.specs.SplitAsked.{SplitAsked}
+use Rattle.words_core.specs.SplitWords.{CanSplit, IsInLimits}
+use Rattle.tools_core.specs.Tasks.{naming_of, split_task}
+use Rattle.tools_core.specs.Promises.{Run, Does, HasInput, AreInOrder, AreListed, ArePieces, AreLinePieces, AreDealt, EndsLine, IsSound, contents_of, files_of, text_at}
+use Rattle.tools_core.proofs.CanLemmas.{can_run}
+use Rattle.tools_core.proofs.PromiseLemmas.{did_one, one_done, slot_of}
+
+-- The pieces, and their files
+
+abbrev pub pieces_of : ℕ → Cut → Bool → List ℕ → List (List ℕ)
+pieces_of delim (Lines n) elide x = parts (limit.Lines n delim) x
+pieces_of delim (Bytes n) elide x = parts (limit.Bytes n) x
+pieces_of delim (LineBytes n) elide x = parts (limit.LineBytes n delim) x
+pieces_of delim (Round n) elide x = dealt_files delim elide n x
+
+shares_are : (delim : ℕ) (cut : Cut) (elide : Bool) (x : List ℕ) → whole_shares delim cut elide x ≡ map (share Closed) (pieces_of delim cut elide x)
+shares_are delim (Lines n) elide x = refl
+shares_are delim (Bytes n) elide x = refl
+shares_are delim (LineBytes n) elide x = refl
+shares_are delim (Round n) elide x = refl
+
+-- a name for each
+not_short : (has : Bool) → cond (not has) (Some Suffixes) None ≡ None → has ≡ true
+not_short true well = refl
+not_short false well = absurd (cc)
+
+bytes_written : (files : List File) → map (λ (file : Slot). file.written) (map slot_of files) ≡ map (λ (file : File). file.bytes) files
+bytes_written [] = refl
+bytes_written (file ∷ files) = ap (λ those. file.bytes ∷ those) (bytes_written files)
+
+all_named : (names : Naming) (pieces : List (List ℕ)) → are_named names (length (map (share Closed) pieces)) ≡ true
+    → map (λ (file : Slot). file.written) (map slot_of (named names 0 (map (share Closed) pieces))) ≡ pieces
+all_named names pieces are =
+    bytes_written (named names 0 (map (share Closed) pieces)) ∙ bytes_named names 0 (map (share Closed) pieces)
+    ∙ ap (named_bytes names 0) (bytes_of_shares Closed pieces)
+    ∙ each_named names pieces (ap (are_named names) (sym (length-map pieces (share Closed))) ∙ are)
+
+-- Their names
+
+name_step : (names : Naming) (place : ℕ) (one two : Share) (rest : List File) (has next : Bool) → (next ≡ true → slice_cmp nat_cmp (name_of names place) (name_of names (place + 1)) ≡ Less)
+    → AreInOrder (map (λ (file : Slot). file.name) (map slot_of (cond next (file_at names (place + 1) two ∷ rest) [])))
+    → AreInOrder (map (λ (file : Slot). file.name) (map slot_of (cond has (file_at names place one ∷ cond next (file_at names (place + 1) two ∷ rest) []) [])))
+name_step names place one two rest false next less ordered = tt
+name_step names place one two rest true false less ordered = tt
+name_step names place one two rest true true less ordered = (less refl, ordered)
+
+name_last : (names : Naming) (place : ℕ) (one : Share) (has : Bool) → AreInOrder (map (λ (file : Slot). file.name) (map slot_of (cond has (file_at names place one ∷ []) [])))
+name_last names place one true = tt
+name_last names place one false = tt
+
+names_in_order : (names : Naming) (place : ℕ) (shares : List Share) → 0 < names.width → AreInOrder (map (λ (file : Slot). file.name) (map slot_of (named names place shares)))
+names_in_order names place [] wide = tt
+names_in_order names place (one ∷ []) wide = name_last names place one (is_named names place)
+names_in_order names place (one ∷ two ∷ shares) wide =
+    name_step names place one two (named names (place + 1 + 1) shares) (is_named names place) (is_named names (place + 1))
+    (λ has. in_order names.prefix names.alphabet names.width names.auto names.ending place (place + 1) wide (omega arith) has)
+    (names_in_order names (place + 1) (two ∷ shares) wide)
+
+sound_step : (names : Naming) (place : ℕ) (bytes : List ℕ) (files : List File) (has : Bool) → All IsSound (map slot_of files) → All IsSound (map slot_of (cond has (file_at names place (share Closed bytes) ∷ files) []))
+sound_step names place bytes files true are = All-cons IsSound _ _ (refl, refl) are
+sound_step names place bytes files false are = All-nil IsSound
+
+all_sound : (names : Naming) (place : ℕ) (pieces : List (List ℕ)) → All IsSound (map slot_of (named names place (map (share Closed) pieces)))
+all_sound names place [] = All-nil IsSound
+all_sound names place (bytes ∷ pieces) = sound_step names place bytes (named names (place + 1) (map (share Closed) pieces)) (is_named names place) (all_sound names (place + 1) pieces)
+
+-- What a run leaves
+
+pub record IsSplit (run : Run) (asked : SplitAsked) (input : List ℕ) : Type 0 where
+  pub can : CanSplit asked
+  pub listed : AreListed (files_of run)
+  pub contents : contents_of run ≡ pieces_of asked.delim asked.cut asked.elide input
+
+pub is_split : (run : Run) (asked : SplitAsked) (input : List ℕ) → Does run (Split asked) → HasInput run input → IsSplit run asked input
+is_split run asked input does has =
+    let one = did_one run (Split asked) input does has in
+    let made = one_done (split_task asked) one.input input run.inputs run.outputs one.content one.does in
+    let can = can_run run.words (Split asked) does.ran.read in
+    let names = naming_of asked in
+    let pieces = pieces_of asked.delim asked.cut asked.elide input in
+    let shares : whole_shares asked.delim asked.cut asked.elide input ≡ map (share Closed) pieces = shares_are asked.delim asked.cut asked.elide input in
+    let files : files_of run ≡ map slot_of (named names 0 (map (share Closed) pieces)) = ap (drop 2) made.slots ∙ ap (λ those. map slot_of (named names 0 those)) shares in
+    let are : are_named names (length (map (share Closed) pieces)) ≡ true =
+    ap (λ (those : List Share). are_named names (length those)) (sym shares) ∙ not_short _ made.unjudged in
+    record {
+      can = can;
+      listed = subst AreListed (sym files) (record { in_order = names_in_order names 0 (map (share Closed) pieces) can.width.0; sound = all_sound names 0 pieces });
+      contents = ap (map (λ (file : Slot). file.written)) files ∙ all_named names pieces are;
+    }
+
+-- Pieces of n lines or bytes
+
+up_to : (i count n : ℕ) → i < count → i * n + n ≤ count * n
+up_to i count n less =
+    let up : suc i ≤ count = omega arith in
+    let grows : suc i * n ≤ count * n = mul-le-mul_right n up in
+    let next : suc i * n ≡ i * n + n = suc-mul i n in omega (arith, grows, next)
+
+-- this many runs of n members have all that there are, and one run less has not
+abbrev AreFew : ℕ → ℕ → ℕ → Type 0
+AreFew count n all = (all ≤ count * n) × (count * n < all + n)
+
+run_size : {X : Type 0} (n i : ℕ) (xs : List X) → length (take n (drop (i * n) xs)) ≡ min n (length xs - i * n)
+run_size n i xs = length-take n (drop (i * n) xs) ∙ ap (min n) (length-drop (i * n) xs)
+
+run_some : {X : Type 0} (n count i : ℕ) (xs : List X) → 0 < n → AreFew count n (length xs) → i < count → 0 < length (take n (drop (i * n) xs))
+run_some n count i xs some few within = let here = up_to i count n within in let size = run_size n i xs in omega (arith, here, size, few.1, some)
+
+run_most : {X : Type 0} (n i : ℕ) (xs : List X) → length (take n (drop (i * n) xs)) ≤ n
+run_most n i xs = let size = run_size n i xs in omega (arith, size)
+
+run_full : {X : Type 0} (n count i : ℕ) (xs : List X) → AreFew count n (length xs) → i + 1 < count → length (take n (drop (i * n) xs)) ≡ n
+run_full n count i xs few next =
+    let there = up_to (suc i) count n (omega (arith, next)) in
+    let step : suc i * n ≡ i * n + n = suc-mul i n in
+    let size = run_size n i xs in omega (arith, there, step, size, few.1)
+
+pub line_pieces : (delim n : ℕ) (x : List ℕ) → 0 < n → ArePieces (line_count delim) n x (parts (limit.Lines n delim) x)
+line_pieces delim n x some =
+    let few = lines_count delim n x some in
+    let pieces = parts (limit.Lines n delim) x in record {
+      all = joined_parts (limit.Lines n delim) x;
+      some = λ i within. subst (λ size. 0 < size) (sym (ap length (part_lines delim n i x some))) (run_some n (length pieces) i (lines_of delim x) some few within);
+      most = λ i within. subst (λ size. size ≤ n) (sym (ap length (part_lines delim n i x some))) (run_most n i (lines_of delim x));
+      full = λ i next. ap length (part_lines delim n i x some) ∙ run_full n (length pieces) i (lines_of delim x) few next;
+    }
+
+pub byte_pieces : (n : ℕ) (x : List ℕ) → 0 < n → ArePieces length n x (parts (limit.Bytes n) x)
+byte_pieces n x some =
+    let few = bytes_count n x some in
+    let pieces = parts (limit.Bytes n) x in record {
+      all = joined_parts (limit.Bytes n) x;
+      some = λ i within. subst (λ size. 0 < size) (sym (ap length (part_bytes n i x some))) (run_some n (length pieces) i x some few within);
+      most = λ i within. subst (λ size. size ≤ n) (sym (ap length (part_bytes n i x some))) (run_most n i x);
+      full = λ i next. ap length (part_bytes n i x some) ∙ run_full n (length pieces) i x few next;
+    }
+
+-- Pieces of whole lines within n bytes
+
+-- complete lines end with a delimiter
+lines_end : (delim : ℕ) (bytes : List ℕ) (ends : Bool) → 0 < delimiters delim bytes → ends_with delim (first_lines delim (delimiters delim bytes) bytes) ≡ ends → ends ≡ true
+lines_end delim bytes true lines is = refl
+lines_end delim bytes false lines is =
+    let k = delimiters delim bytes in
+    let all : delimiters delim (first_lines delim k bytes) ≡ k = delimiters-first_lines delim k bytes (omega arith) in
+    let count : line_count delim (first_lines delim k bytes) ≡ min k (line_count delim bytes) = ap length (lines_of-first_lines delim k bytes) ∙ length-take k (lines_of delim bytes) in
+    let long : delimiters delim (first_lines delim k bytes) ≤ length (first_lines delim k bytes) = delimiters-le-length delim (first_lines delim k bytes) in
+    let one_more : line_count delim (first_lines delim k bytes) ≡ delimiters delim (first_lines delim k bytes) + 1 = line_count-open delim (first_lines delim k bytes) (omega (arith, all, long, lines)) is in
+    absurd (omega (arith, all, count, one_more))
+
+ends_line : (delim n : ℕ) (bytes : List ℕ) → length bytes ≡ n → EndsLine delim n (whole_lines delim bytes)
+ends_line delim n bytes long = elim (cases_lt 0 (delimiters delim bytes)) [
+  | inl lines ↦ inl (ap (ends_with delim) (whole_of_lines delim bytes lines) ∙ lines_end delim bytes _ lines refl)
+  | inr few ↦ let none : delimiters delim bytes ≡ 0 = omega (arith, few) in
+      inr (subst (λ piece. (length piece ≡ n) × (delimiters delim piece ≡ 0)) (sym (whole_of_none delim bytes none)) (long, none))
+]
+
+uncut : (delim n : ℕ) (x : List ℕ) (pieces : List (List ℕ)) → AreLineByteParts delim n x pieces → (place : ℕ) → place + 1 < length pieces → EndsLine delim n (text_at pieces place)
+uncut delim n _ _ piece.none place next = absurd (omega (arith, next))
+uncut delim n _ _ (piece.one x has short) place next = absurd (omega (arith, next))
+uncut delim n _ _ (piece.more x pieces enough past) zero next = ends_line delim n (take n x) (length-take-le n x enough)
+uncut delim n _ _ (piece.more x pieces enough past) (suc place) next = uncut delim n _ pieces past place (omega (arith, next))
+
+pub line_byte_pieces : (delim n : ℕ) (x : List ℕ) → 0 < n → AreLinePieces delim n x (parts (limit.LineBytes n delim) x)
+line_byte_pieces delim n x some =
+    let are = line_bytes_are_parts delim n x some in
+    let within = line_bytes_within delim n x (parts (limit.LineBytes n delim) x) some are in record {
+      all = joined_parts (limit.LineBytes n delim) x;
+      some = λ place less. (within place [] less).0;
+      most = λ place less. (within place [] less).1;
+      uncut = uncut delim n x (parts (limit.LineBytes n delim) x) are;
+    }
+
+-- Lines dealt in turn
+
+-- a file that is left out has no line
+dealt_at : (delim n : ℕ) (elide : Bool) (x : List ℕ) (file : ℕ) → file < n → text_at (dealt_files delim elide n x) file ≡ text_at (round_robin delim n x) file
+dealt_at delim n false x file within = refl
+dealt_at delim n true x file within = ap (λ files. text_at files file) (first_files delim n x) ∙ elim (cases_lt file (line_count delim x)) [
+  | inl some ↦ get_or-take (line_count delim x) (round_robin delim n x) file [] some
+  | inr past ↦
+      let here : 0 + file ≡ file = omega arith in
+      let few : length (take (line_count delim x) (round_robin delim n x)) ≤ file = (let size = length-take (line_count delim x) (round_robin delim n x) in omega (arith, size, past)) in
+      get_or_past (take (line_count delim x) (round_robin delim n x)) file [] few
+      ∙ sym (get_or-map-range_with_len (share_of delim n x) 0 n file file [] within here ∙ share_none delim n x file past within)
+]
+
+joined_some : (files : List (List ℕ)) → joined (filter is_some files) ≡ joined files
+joined_some [] = refl
+joined_some ([] ∷ files) = joined_some files
+joined_some ((byte ∷ bytes) ∷ files) = ap (λ rest. (byte ∷ bytes) ++ rest) (joined_some files)
+
+joined_dealt : (delim n : ℕ) (elide : Bool) (x : List ℕ) → joined (dealt_files delim elide n x) ≡ joined (round_robin delim n x)
+joined_dealt delim n true x = joined_some (round_robin delim n x)
+joined_dealt delim n false x = refl
+
+all_some : (files : List (List ℕ)) → All (λ bytes. 0 < length bytes) (filter is_some files)
+all_some [] = All-nil (λ bytes. 0 < length bytes)
+all_some ([] ∷ files) = all_some files
+all_some ((byte ∷ bytes) ∷ files) = All-cons (λ bytes. 0 < length bytes) (byte ∷ bytes) (filter is_some files) (omega arith) (all_some files)
+
+pub dealt_lines : (delim n : ℕ) (elide : Bool) (x : List ℕ) → 0 < n → AreDealt delim n elide x (dealt_files delim elide n x)
+dealt_lines delim n elide x some = record {
+  lines = λ i. sym (
+      ap (λ text. get_or (lines_of delim text) (i / n) []) (dealt_at delim n elide x (i % n) (mod_below i n some))
+      ∙ line_at delim n (i % n) (i / n) x (mod_below i n some)
+      ∙ ap (λ place. get_or (lines_of delim x) place []) (let sum = div-add-mod' i n in omega (arith, sum)));
+  all = ap length (joined_dealt delim n elide x) ∙ all_dealt delim n x some;
+  count = λ is. ap (λ those. length (dealt_files delim those n x)) is ∙ length-map-range_with_len (share_of delim n x) 0 n;
+  left_out = λ is. subst (λ those. All (λ bytes. 0 < length bytes) (dealt_files delim those n x)) (sym is) (all_some (round_robin delim n x));
+}
+
+-- By the way to split
+
+cut_is : (run : Run) (asked : SplitAsked) (cut : Cut) (input : List ℕ) → asked.cut ≡ cut → IsSplit run asked input → contents_of run ≡ pieces_of asked.delim cut asked.elide input
+cut_is run asked cut input is split = split.contents ∙ ap (λ those. pieces_of asked.delim those asked.elide input) is
+
+pub by_lines : (run : Run) (asked : SplitAsked) (n : ℕ) (input : List ℕ) → Does run (Split asked) → HasInput run input → asked.cut ≡ Lines n → ArePieces (line_count asked.delim) n input (contents_of run)
+by_lines run asked n input does has is =
+    let split = is_split run asked input does has in
+    subst (ArePieces (line_count asked.delim) n input) (sym (cut_is run asked (Lines n) input is split)) (line_pieces asked.delim n input (subst IsInLimits is split.can.cut))
+
+pub by_bytes : (run : Run) (asked : SplitAsked) (n : ℕ) (input : List ℕ) → Does run (Split asked) → HasInput run input → asked.cut ≡ Bytes n → ArePieces length n input (contents_of run)
+by_bytes run asked n input does has is =
+    let split = is_split run asked input does has in
+    subst (ArePieces length n input) (sym (cut_is run asked (Bytes n) input is split)) (byte_pieces n input (subst IsInLimits is split.can.cut))
+
+pub by_line_bytes : (run : Run) (asked : SplitAsked) (n : ℕ) (input : List ℕ) → Does run (Split asked) → HasInput run input → asked.cut ≡ LineBytes n → AreLinePieces asked.delim n input (contents_of run)
+by_line_bytes run asked n input does has is =
+    let split = is_split run asked input does has in
+    subst (AreLinePieces asked.delim n input) (sym (cut_is run asked (LineBytes n) input is split)) (line_byte_pieces asked.delim n input (subst IsInLimits is split.can.cut))
+
+pub by_turns : (run : Run) (asked : SplitAsked) (n : ℕ) (input : List ℕ) → Does run (Split asked) → HasInput run input → asked.cut ≡ Round n → AreDealt asked.delim n asked.elide input (contents_of run)
+by_turns run asked n input does has is =
+    let split = is_split run asked input does has in
+    subst (AreDealt asked.delim n asked.elide input) (sym (cut_is run asked (Round n) input is split)) (dealt_lines asked.delim n asked.elide input (subst IsInLimits is split.can.cut).0)
