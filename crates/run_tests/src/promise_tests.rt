@@ -113,6 +113,20 @@ const SPLIT: &[&[&str]] = &[
     &["split", "-l", "1", "-t", "c", "--additional-suffix=.txt"],
 ];
 
+#[test]
+fn csplit_loses_nothing(rt: HostRuntime) -> Result<(), Fail> {
+    for words in CSPLIT {
+        lose_nothing(&rt, rt.alloc(), words)?;
+    }
+    Ok(())
+}
+
+const CSPLIT: &[&[&str]] = &[
+    &["csplit", "-", "/c/", "/d/"],
+    &["csplit", "-z", "-f", "part", "-n", "1", "-", "/./", "{*}"],
+    &["csplit", "-s", "-", "/d/-2", "5"],
+];
+
 /// The files that the words make are joined the text, in the order of their names.
 fn lose_nothing(rt: &impl Abort, alloc: Global, words: &[&str]) -> Result<(), Fault> {
     let outs = left_by(rt, alloc, words, 4)?;

@@ -11,3 +11,5 @@ pub mod CanLemmas
 pub mod TeePromises
 pub mod SamePromises
 pub mod SplitPromises
+pub mod SkipLemmas
+pub mod CsplitPromises

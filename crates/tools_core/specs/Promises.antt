@@ -1,10 +1,11 @@
 -- What people rest on, in a manual's words: what a run leaves that ends with status 0, over inputs and outputs that
 -- tell their bytes, as those in memory do.
-use Rattle.std.specs.Prelude.{◌≡◌, ℕ, ◌+◌, ◌/◌, ◌%◌, ◌<◌, ◌≤◌, Bool, true, false, List, [], ◌∷◌, length, map, drop, All, slice_index_or, ◌⊎◌, Option, Some, Ok, if◌then◌else◌}
+use Rattle.std.specs.Prelude.{◌≡◌, ℕ, ◌+◌, ◌/◌, ◌%◌, ◌<◌, ◌≤◌, ◌==◌, Bool, true, false, List, [], ◌∷◌, length, map, drop, All, slice_index_or, ◌⊎◌, Option, Some, Ok, if◌then◌else◌}
 use Rattle.std.specs.declared.cmp.Ordering.TheVariants.{Less}
 use Rattle.std.specs.Ordering.{nat_cmp}
 use Rattle.std.specs.Cmp.Lexicographic.{slice_cmp}
 use Rattle.seg_core.specs.Line.{delimiters, ends_with, joined, lines_of}
+use Rattle.ports_core.specs.Name.{numbered_name}
 use Rattle.ports_core.specs.Slot.{Slot, slot_at}
 use Rattle.ports_core.specs.Source.{Content, Source}
 use Rattle.ports_core.specs.declared.slot.State.TheVariants.{Closed}
@@ -130,3 +131,20 @@ pub record AreDealt (delim n : ℕ) (elide : Bool) (input : List ℕ) (contents 
   pub all : length (joined contents) ≡ length input
   pub count : elide ≡ false → length contents ≡ n
   pub left_out : elide ≡ true → All (λ bytes. 0 < length bytes) contents
+
+-- the operand of `csplit` is a pattern between `%` and `%`, whose section is skipped
+abbrev pub skips : List ℕ → Bool
+skips [] = false
+skips (byte ∷ word) = byte == 37
+
+-- no operand is
+abbrev pub SkipNothing : List (List ℕ) → Type 0
+SkipNothing [] = Unit {0}
+SkipNothing (word ∷ words) = (skips word ≡ false) × SkipNothing words
+
+-- The files are numbered in their order: each name is the prefix and the file's number, from 0 on, filled with zeros to
+-- this many digits. Each file is sound.
+pub record AreNumbered (prefix : List ℕ) (digits : ℕ) (files : List Slot) : Type 0 where
+  pub named : (place : ℕ) → place < length files
+      → text_at (map (λ (file : Slot). file.name) files) place ≡ numbered_name prefix digits place
+  pub sound : All IsSound files

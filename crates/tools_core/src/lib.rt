@@ -13,4 +13,7 @@ mod split;
 pub use args::{ArgsFault, read_args};
 pub use follow::run_follow;
 pub use program::run_words;
-pub use promises::{cutting_changes_nothing, head_and_tail_meet, split_loses_nothing, tee_copies};
+pub use promises::{
+    csplit_loses_nothing, cutting_changes_nothing, head_and_tail_meet, split_loses_nothing,
+    tee_copies,
+};

@@ -1,15 +1,16 @@
 //! What people rest on, as laws of runs, with no code: each stands on the contract of a function whose body is empty. They
 //! speak of runs over inputs and outputs that tell their bytes, as those in memory do, and of what `run` ensures of each.
-ghost use Rattle.std.specs.Prelude.{◌≡◌, ◌+◌, ◌++◌, ℕ, List, length};
+ghost use Rattle.std.specs.Prelude.{◌≡◌, ◌+◌, ◌++◌, ℕ, List, false, length};
 ghost use Rattle.seg_core.specs.Line.{joined, line_count};
 ghost use Rattle.seg_core.specs.declared.count.Sign.TheVariants.{Minus, Plain, Plus};
 ghost use Rattle.seg_core.specs.declared.cut.Cut.TheVariants.{Bytes, LineBytes, Lines, Round};
-ghost use Rattle.tools_core.specs.Promises.{AreCopies, AreDealt, AreLinePieces, AreListed, ArePieces, Does, HasInput, IsBare, IsHead, IsTail, Run, contents_of, files_of, output_of};
+ghost use Rattle.tools_core.specs.Promises.{AreCopies, AreDealt, AreLinePieces, AreListed, AreNumbered, ArePieces, Does, HasInput, IsBare, IsHead, IsTail, Run, SkipNothing, contents_of, files_of, output_of};
+ghost use Rattle.words_core.specs.CsplitAsked.{CsplitAsked};
 ghost use Rattle.words_core.specs.EndsAsked.{EndsAsked};
 ghost use Rattle.words_core.specs.SplitAsked.{SplitAsked};
 ghost use Rattle.words_core.specs.TeeAsked.{TeeAsked};
 ghost use Rattle.words_core.specs.declared.settings.Settings.{Settings};
-ghost use Rattle.words_core.specs.declared.settings.Settings.TheVariants.{Split, Tee};
+ghost use Rattle.words_core.specs.declared.settings.Settings.TheVariants.{Csplit, Split, Tee};
 
 /// Of one input, the first N lines and all from the line after them on, written one after another, are the input:
 /// `head -n N` and then `tail -n +M`, where M is N + 1. So are all but the last N and the last N: `head -n -N` and then
@@ -40,4 +41,11 @@ pub fn split_loses_nothing()
     ensures bytes { (split : Run) (asked : SplitAsked) (n : ℕ) (input : List ℕ) → Does split (Split asked) → HasInput split input → asked.cut ≡ Bytes n → ArePieces length n input (contents_of split) }
     ensures line_bytes { (split : Run) (asked : SplitAsked) (n : ℕ) (input : List ℕ) → Does split (Split asked) → HasInput split input → asked.cut ≡ LineBytes n → AreLinePieces asked.delim n input (contents_of split) }
     ensures dealt { (split : Run) (asked : SplitAsked) (n : ℕ) (input : List ℕ) → Does split (Split asked) → HasInput split input → asked.cut ≡ Round n → AreDealt asked.delim n asked.elide input (contents_of split) }
+{}
+
+/// `csplit` loses nothing. Its files are numbered in their order. Where no section is skipped (`%`) and no line is left out
+/// at a cut (`--suppress-matched`), they are joined the input.
+pub fn csplit_loses_nothing()
+    ensures numbered { (csplit : Run) (asked : CsplitAsked) (input : List ℕ) → Does csplit (Csplit asked) → HasInput csplit input → AreNumbered asked.style.prefix asked.style.digits (files_of csplit) }
+    ensures joined { (csplit : Run) (asked : CsplitAsked) (input : List ℕ) → Does csplit (Csplit asked) → HasInput csplit input → asked.style.suppress ≡ false → SkipNothing asked.operands → joined (contents_of csplit) ≡ input }
 {}

@@ -1,0 +1,189 @@
+-- What `csplit` leaves of its input.
+use Rattle.std.proofs.Common.{◌≡◌, ℕ, ◌+◌, ◌<◌, zero, suc, Bool, true, false, not, ◌&&◌, cond, List, [], ◌∷◌, ◌++◌, length, map, drop, None, inl, inr, ◌⊎◌, refl, sym, ◌∙◌, ap, subst, arith}
+use Rattle.std.specs.List.{All}
+use Rattle.std.proofs.lemmas.List.{map-append}
+use Rattle.std.proofs.lemmas.List.Elements.{All-nil, All-cons}
+use Rattle.seg_core.specs.Line.{joined, lines_of}
+use Rattle.seg_core.proofs.FirstLines.{joined-append}
+use Rattle.seg_core.proofs.LinesOf.{joined-lines_of}
+use Rattle.ports_core.specs.Name.{numbered_name}
+use Rattle.ports_core.specs.Part.{File}
+use Rattle.ports_core.specs.Slot.{Slot}
+use Rattle.ports_core.specs.declared.slot.State.TheVariants.{Open, Closed}
+use Rattle.operand_core.specs.Style.{Style}
+use Rattle.operand_core.specs.Reading.{Asks}
+use Rattle.csplit_core.specs.Csplit.{verdict_of}
+use Rattle.csplit_core.specs.Input.{all_lines, marked, newline}
+use Rattle.operand_core.specs.declared.operand.Operand.{Operand}
+use Rattle.csplit_core.specs.Operand.{Line, has_more}
+use Rattle.csplit_core.specs.Output.{Contents, contents_of as contents_in, is_empty, makes_file, file_at, files_of as files_by}
+use Rattle.csplit_core.specs.Plan.{State, start, state_after, operands_after, Step, Ending, used_up, missed, above, below, Runs, is_used_up, misses, is_above, is_below, cuts}
+use Rattle.csplit_core.specs.Planned.{plan}
+use Rattle.csplit_core.specs.Section.{Section, section_of, bytes_of, is_final, is_last_kept, lines_in, whole_sections}
+use Rattle.csplit_core.specs.laws.PlanLaws.{plan_runs}
+use Rattle.csplit_core.proofs.WholeLemmas.{none_lost_at_end}
+use Rattle.words_core.specs.CsplitAsked.{CsplitAsked}
+use Rattle.words_core.specs.declared.settings.Settings.TheVariants.{Csplit}
+use Rattle.tools_core.specs.Outcome.{CsplitEndsAs}
+use Rattle.tools_core.specs.Outcome as outcome
+use Rattle.tools_core.specs.Tasks.{csplit_task}
+use Rattle.tools_core.specs.Promises.{Run, Does, HasInput, AreNumbered, IsSound, SkipNothing, contents_of, files_of, text_at}
+use Rattle.tools_core.proofs.PromiseLemmas.{DidOne, did_one, not_one, one_done, slot_of}
+use Rattle.tools_core.proofs.SkipLemmas.{KeepTargets, targets_keep}
+
+-- All sections are kept, where all operands keep theirs.
+
+abbrev AllKept : List Section → Type 0
+AllKept [] = Unit {0}
+AllKept (section ∷ sections) = (section.is_kept ≡ true) × AllKept sections
+
+kept_after : (more : Bool) (operand : Operand) (operands : List Operand) → KeepTargets (operand ∷ operands) → KeepTargets (operands_after more operand operands)
+kept_after true operand operands keep = keep
+kept_after false operand operands keep = keep.1
+
+kept_then : (sections : List Section) (last : Section) → AllKept sections → last.is_kept ≡ true → AllKept (sections ++ last ∷ [])
+kept_then [] last kept is = (is, tt)
+kept_then (section ∷ sections) last kept is = (kept.0, kept_then sections last kept.1 is)
+
+record Kept (lines : List Line) (steps : List Step) (ending : Ending) : Type 0 where
+  pub sections : AllKept (map (section_of lines) steps)
+  pub final : is_last_kept ending ≡ true
+
+-- the run's operands are these
+front_keeps : (operands : List Operand) (operand : Operand) (rest : List Operand) → operands ≡ operand ∷ rest → KeepTargets operands → KeepTargets (operand ∷ rest)
+front_keeps operands operand rest is keep = subst KeepTargets is keep
+
+runs_keep : (suppress : Bool) (lines : List Line) (state : State) (steps : List Step) (last : State) (ending : Ending) → Runs suppress lines state steps last ending → KeepTargets state.operands → Kept lines steps ending
+runs_keep suppress lines _ _ _ _ (is_used_up state none) keep = record { sections = tt; final = refl }
+runs_keep suppress lines _ _ _ _ (misses state operand operands is none) keep = record { sections = tt; final = (front_keeps state.operands operand operands is keep).0 }
+runs_keep suppress lines _ _ _ _ (is_above state operand operands matched cut is at far) keep = record { sections = tt; final = (front_keeps state.operands operand operands is keep).0 }
+runs_keep suppress lines _ _ _ _ (is_below state operand operands matched cut is at within low) keep = record { sections = tt; final = (front_keeps state.operands operand operands is keep).0 }
+runs_keep suppress lines _ _ _ _ (cuts state operand operands matched cut steps last ending is at from within rest) keep =
+    let these = front_keeps state.operands operand operands is keep in
+    let past = runs_keep suppress lines (state_after suppress operand operands state.repetition matched cut) steps last ending rest (kept_after (has_more operand.times state.repetition) operand operands these) in
+    record { sections = (these.0, past.sections); final = past.final }
+
+sections_kept : (suppress : Bool) (operands : List Operand) (lines : List Line) → KeepTargets operands → AllKept (whole_sections lines (plan suppress operands lines))
+sections_kept suppress operands lines keep =
+    let kept = runs_keep suppress lines (start operands) _ _ _ (plan_runs suppress operands lines) keep in
+    kept_then (map (section_of lines) (plan suppress operands lines).steps) _ kept.sections kept.final
+
+-- The files of sections that are kept are joined their lines.
+
+bytes_then : (one other : List Line) → bytes_of (one ++ other) ≡ bytes_of one ++ bytes_of other
+bytes_then one other = ap joined (map-append (λ (line : Line). line.text) one other) ∙ joined-append (map (λ (line : Line). line.text) one) (map (λ (line : Line). line.text) other)
+
+all_bytes : (lines : List (List ℕ)) → map (λ (line : Line). line.text) (map marked lines) ≡ lines
+all_bytes [] = refl
+all_bytes (line ∷ lines) = ap (λ rest. line ∷ rest) (all_bytes lines)
+
+abbrev written_in : List File → List ℕ
+written_in files = joined (map (λ (file : Slot). file.written) (map slot_of files))
+
+-- a section that makes no file is empty
+made_or_empty : (elide kept : Bool) (bytes : List ℕ) → kept ≡ true → ((kept && not (elide && is_empty bytes)) ≡ true) ⊎ (((kept && not (elide && is_empty bytes)) ≡ false) × (bytes ≡ []))
+made_or_empty elide false bytes is = absurd (cc)
+made_or_empty false true bytes is = inl refl
+made_or_empty true true [] is = inr (refl, refl)
+made_or_empty true true (byte ∷ bytes) is = inl refl
+
+files_joined : (style : Style) (place : ℕ) (sections : List Section) → AllKept sections → written_in (files_by style place (map contents_in sections)) ≡ bytes_of (lines_in sections)
+files_joined style place [] kept = refl
+files_joined style place (section ∷ sections) kept = elim (made_or_empty style.elide section.is_kept (bytes_of section.lines) kept.0) [
+  | inl made ↦
+      ap (λ has. written_in (cond has (file_at style place (contents_in section) ∷ files_by style (place + 1) (map contents_in sections)) (files_by style place (map contents_in sections)))) made
+      ∙ ap (λ rest. bytes_of section.lines ++ rest) (files_joined style (place + 1) sections kept.1) ∙ sym (bytes_then section.lines (lines_in sections))
+  | inr empty ↦
+      ap (λ has. written_in (cond has (file_at style place (contents_in section) ∷ files_by style (place + 1) (map contents_in sections)) (files_by style place (map contents_in sections)))) empty.0
+      ∙ files_joined style place sections kept.1 ∙ sym (bytes_then section.lines (lines_in sections) ∙ ap (λ front. front ++ bytes_of (lines_in sections)) empty.1)
+]
+
+-- Their names
+
+abbrev names_in : List File → List (List ℕ)
+names_in files = map (λ (file : Slot). file.name) (map slot_of files)
+
+-- the files are numbered from this place on
+abbrev AreFrom : Style → ℕ → List File → Type 0
+AreFrom style start files = (k : ℕ) → k < length (map slot_of files) → text_at (names_in files) k ≡ numbered_name style.prefix style.digits (start + k)
+
+from_step : (style : Style) (start : ℕ) (has : Bool) (contents : Contents) (made others : List File) → AreFrom style (start + 1) made → AreFrom style start others → AreFrom style start (cond has (file_at style start contents ∷ made) others)
+from_step style start true contents made others are without zero within = ap (numbered_name style.prefix style.digits) (omega arith)
+from_step style start true contents made others are without (suc k) within =
+    are k (omega (arith, within)) ∙ ap (numbered_name style.prefix style.digits) (omega arith)
+from_step style start false contents made others are without k within = without k within
+
+numbered_from : (style : Style) (start : ℕ) (all : List Contents) → AreFrom style start (files_by style start all)
+numbered_from style start [] k within = absurd (omega (arith, within))
+numbered_from style start (contents ∷ all) k within =
+    from_step style start (makes_file style contents) contents (files_by style (start + 1) all) (files_by style start all) (numbered_from style (start + 1) all) (numbered_from style start all) k within
+
+-- They were closed.
+
+abbrev AllClosed : List Section → Type 0
+AllClosed [] = Unit {0}
+AllClosed (section ∷ sections) = (section.is_closed ≡ true) × AllClosed sections
+
+closed_steps : (lines : List Line) (steps : List Step) (last : Section) → last.is_closed ≡ true → AllClosed (map (section_of lines) steps ++ last ∷ [])
+closed_steps lines [] last is = (is, tt)
+closed_steps lines (step ∷ steps) last is = (refl, closed_steps lines steps last is)
+
+sound_step : (style : Style) (place : ℕ) (has : Bool) (contents : Contents) (made others : List File) → contents.is_closed ≡ true → All IsSound (map slot_of made) → All IsSound (map slot_of others)
+    → All IsSound (map slot_of (cond has (file_at style place contents ∷ made) others))
+sound_step style place true contents made others is are without = All-cons IsSound _ _ (ap (λ closed. cond closed Closed Open) is, refl) are
+sound_step style place false contents made others is are without = without
+
+all_sound : (style : Style) (place : ℕ) (sections : List Section) → AllClosed sections → All IsSound (map slot_of (files_by style place (map contents_in sections)))
+all_sound style place [] closed = All-nil IsSound
+all_sound style place (section ∷ sections) closed =
+    sound_step style place (makes_file style (contents_in section)) (contents_in section) (files_by style (place + 1) (map contents_in sections)) (files_by style place (map contents_in sections)) closed.0
+    (all_sound style (place + 1) sections closed.1) (all_sound style place sections closed.1)
+
+-- What a run leaves
+
+-- a plan that ends well has no cut below the current line
+ends_well : (ending : Ending) → verdict_of ending ≡ None → is_final ending ≡ false
+ends_well used_up well = refl
+ends_well (missed operand repetition) well = refl
+ends_well (above operand repetition matched cut) well = refl
+ends_well (below operand repetition) well = absurd (cc)
+
+pub record IsCsplit (run : Run) (asked : CsplitAsked) (input : List ℕ) : Type 0 where
+  pub operands : List Operand
+  pub asks : Asks asked.operands operands
+  pub well : is_final (plan asked.style.suppress operands (all_lines input)).ending ≡ false
+  pub files : files_of run ≡ map slot_of (files_by asked.style 0 (map contents_in (whole_sections (all_lines input) (plan asked.style.suppress operands (all_lines input)))))
+
+was_cut : (run : Run) (asked : CsplitAsked) (input : List ℕ) (one : DidOne run (Csplit asked) input) → CsplitEndsAs true true asked (one.input ∷ []) run.inputs run.outputs 0 → IsCsplit run asked input
+was_cut run asked input one (outcome.cut operands asks ends) =
+    let made = one_done (csplit_task asked operands) one.input input run.inputs run.outputs one.content ends in record {
+      operands = operands;
+      asks = asks;
+      well = ends_well _ made.unjudged;
+      files = ap (drop 2) made.slots;
+    }
+was_cut run asked input one (outcome.unread untouched refuses) = absurd (not_one refuses.failed)
+
+is_csplit : (run : Run) (asked : CsplitAsked) (input : List ℕ) → Does run (Csplit asked) → HasInput run input → IsCsplit run asked input
+is_csplit run asked input does has = let one = did_one run (Csplit asked) input does has in was_cut run asked input one one.does
+
+pub are_numbered : (run : Run) (asked : CsplitAsked) (input : List ℕ) → Does run (Csplit asked) → HasInput run input → AreNumbered asked.style.prefix asked.style.digits (files_of run)
+are_numbered run asked input does has =
+    let split = is_csplit run asked input does has in
+    let lines = all_lines input in
+    let sections = whole_sections lines (plan asked.style.suppress split.operands lines) in
+    subst (AreNumbered asked.style.prefix asked.style.digits) (sym split.files) (record {
+      named = λ place within. numbered_from asked.style 0 (map contents_in sections) place within ∙ ap (numbered_name asked.style.prefix asked.style.digits) (omega arith);
+      sound = all_sound asked.style 0 sections (closed_steps lines (plan asked.style.suppress split.operands lines).steps _ refl);
+    })
+
+pub none_is_lost : (run : Run) (asked : CsplitAsked) (input : List ℕ) → Does run (Csplit asked) → HasInput run input → asked.style.suppress ≡ false → SkipNothing asked.operands → joined (contents_of run) ≡ input
+none_is_lost run asked input does has whole none =
+    let split = is_csplit run asked input does has in
+    let lines = all_lines input in
+    let keep = targets_keep asked.operands split.operands none split.asks in
+    ap (λ files. joined (map (λ (file : Slot). file.written) files)) split.files
+    ∙ files_joined asked.style 0 (whole_sections lines (plan asked.style.suppress split.operands lines)) (sections_kept asked.style.suppress split.operands lines keep)
+    ∙ ap (λ suppress. bytes_of (lines_in (whole_sections lines (plan suppress split.operands lines)))) whole
+    ∙ ap bytes_of (none_lost_at_end split.operands lines (subst (λ suppress. is_final (plan suppress split.operands lines).ending ≡ false) whole split.well))
+    ∙ ap joined (all_bytes (lines_of newline input)) ∙ joined-lines_of newline input
