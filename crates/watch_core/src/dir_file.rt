@@ -33,12 +33,28 @@ impl DirFile {
     }
 
     /// How many bytes it has; of a stream those that were taken. None where that can't be told, or where it is more than
-    /// a watch tells.
+    /// a watch tells. Where the system says of a regular file that it has none, they are counted by reading, for so it says
+    /// of its own files, as those in /proc.
     pub(crate) fn len(&self) -> Option<u64>
         ensures { IfSome result (λ len. len < 2 ^ 63) }
     {
+        let len = self.told_len()?;
+        if len > MOST_BYTES {
+            return None;
+        }
         match self {
-            DirFile::Placed(file) => len_of(file),
+            DirFile::Placed(file) if len == 0 => count(file),
+            _ => Some(len),
+        }
+    }
+
+    /// The same without counting: as the system says, so that it costs no read.
+    pub(crate) fn told_len(&self) -> Option<u64> {
+        match self {
+            DirFile::Placed(file) => match file.metadata() {
+                Ok(about) => Some(about.len()),
+                Err(_) => None,
+            },
             DirFile::Stream(stream) => stream.len(),
         }
     }
@@ -107,9 +123,7 @@ impl Stream {
         }
     }
 
-    fn len(&self) -> Option<u64>
-        ensures { IfSome result (λ len. len < 2 ^ 63) }
-    {
+    fn len(&self) -> Option<u64> {
         if self.is_broken {
             return None;
         }
@@ -142,21 +156,6 @@ fn place_in(from: u64, before: u64, waiting: usize) -> Option<usize>
         return None;
     }
     Some(place)
-}
-
-/// How many bytes a regular file has. Where the system says that it has none, they are counted by reading, for so it
-/// says of its own files, as those in /proc.
-fn len_of(file: &File) -> Option<u64>
-    ensures { IfSome result (λ len. len < 2 ^ 63) }
-{
-    let len = file.metadata().ok()?.len();
-    if len == 0 {
-        return count(file);
-    }
-    if len > MOST_BYTES {
-        return None;
-    }
-    Some(len)
 }
 
 /// How many bytes reads of a file give. None where one fails, or where they are more than a watch tells.

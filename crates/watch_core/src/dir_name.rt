@@ -25,7 +25,7 @@ pub(crate) struct DirName {
     is_gone: bool,
     /// What the name led to when a change was last looked for.
     led_to: Option<Seen>,
-    /// How many bytes the open file held then.
+    /// How many bytes the open file held then, as the system told.
     held: Option<u64>,
 }
 
@@ -94,7 +94,7 @@ impl DirName {
         match self.find_file(alloc, files) {
             Ok(Some(opened)) => {
                 self.opened = Some(opened.id);
-                self.held = opened.file.len();
+                self.held = opened.file.told_len();
                 self.file = Some(opened.file);
                 Ok(true)
             }
@@ -128,11 +128,13 @@ impl DirName {
         ensures same { OnSome result (self.new ≡ self.old) }
         ensures broke { IfNone result (self.new ≡ breaks (Fault.Read place) self.old) }
     {
-        let len = held_by(&self.file);
-        if len.is_none() {
-            self.break_off(Fault::Read(place));
+        if let Some(file) = &self.file {
+            if let Some(len) = file.len() {
+                return Some(len);
+            }
         }
-        len
+        self.break_off(Fault::Read(place));
+        None
     }
 
     /// Reads the open file once from a place on, and returns how many bytes that gave. Where it fails, the name is broken.
@@ -169,7 +171,7 @@ impl DirName {
         if !file.take() {
             return false;
         }
-        self.held = held_by(&self.file);
+        self.held = file.told_len();
         true
     }
 
@@ -182,7 +184,10 @@ impl DirName {
             return false;
         }
         let led_to = find(files, self.name.as_str()).unwrap_or(None);
-        let held = held_by(&self.file);
+        let held = match &self.file {
+            Some(file) => file.told_len(),
+            None => None,
+        };
         let changed = led_to != self.led_to || held != self.held;
         self.led_to = led_to;
         self.held = held;
@@ -232,15 +237,5 @@ fn open_file(
         }
         Err(error) if error.kind() == ErrorKind::NotFound => Ok(None),
         Err(error) => Err(error),
-    }
-}
-
-/// How many bytes the open file holds. None where none is open, where that can't be told, or where it is more than a watch tells.
-fn held_by(file: &Option<DirFile>) -> Option<u64>
-    ensures { IfSome result (λ len. len < 2 ^ 63) }
-{
-    match file {
-        Some(file) => file.len(),
-        None => None,
     }
 }
