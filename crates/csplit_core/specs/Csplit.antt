@@ -57,6 +57,7 @@ csplit_work style operands = record {
   verdict = verdict_by style.suppress operands;
   clears = not style.keep;
   means = csplit_means style;
+  ahead = 0;
 }
 
 -- the bytes that wait: the lines that do, and the line that lacks its newline; none once later input goes nowhere

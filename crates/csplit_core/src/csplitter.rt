@@ -260,5 +260,13 @@ impl<'o> Stage for Csplitter<'o> {
         self.cutter.held().saturating_add(self.rest.len() as u64)
     }
 
+    fn wanted(&self) -> u64 {
+        u64::MAX
+    }
+
+    fn unused(&self) -> u64 {
+        0
+    }
+
     ghost lawful = { λ stage. lawful stage.cutter.writer.style stage.cutter.operands };
 }

@@ -8,6 +8,7 @@ use Rattle.seg_core.proofs.FirstLines.{first_lines-nil, first_lines-more}
 use Rattle.seg_core.proofs.EndLines.{line_count_near, count_last}
 use Rattle.seg_core.specs.declared.unit.Unit.{Unit as Counted}
 use Rattle.seg_core.specs.declared.unit.Unit.TheVariants.{Lines, Bytes}
+use Rattle.ends_core.specs.declared.front.Front.{Front}
 use Rattle.ends_core.specs.Ends.{size, measure, first_of, after_of, last_of, but_last_of}
 use Rattle.ends_core.specs.laws.EndsLaws.{measure-append, first_then_after, ends_together, last_of-append}
 
@@ -38,6 +39,16 @@ but_last_is_take delim unit n x = sym (ap (take (length (but_last_of delim unit 
 -- what stands after the first, by how long these are
 pub after_is_drop : (delim : ℕ) (unit : Counted) (n k : ℕ) (x : List ℕ) → take k x ≡ first_of delim unit n x → drop k x ≡ after_of delim unit n x
 after_is_drop delim unit n k x front = append_cancel_left (first_of delim unit n x) _ _ (ap (λ z. z ++ drop k x) (sym front) ∙ take-append-drop k x ∙ sym (first_then_after delim unit n x))
+
+pub past_rest : (delim : ℕ) (unit : Counted) (n k : ℕ) (x : List ℕ) → take k x ≡ first_of delim unit n x → length x - k ≡ length (after_of delim unit n x)
+past_rest delim unit n k x front = sym (length-drop k x) ∙ ap length (after_is_drop delim unit n k x front)
+
+-- what came in after the first is counted
+pub front_past : (old now : Front) (left k : ℕ) (piece : List ℕ) → now ≡ record old { left = left } → take k piece ≡ first_of old.delim old.unit old.left piece
+    → record now { past = now.past + (length piece - k) } ≡ record old { left = left; past = old.past + length (after_of old.delim old.unit old.left piece) }
+front_past old now left k piece is front =
+    ap (λ (those : Front). record those { past = those.past + (length piece - k) }) is
+    ∙ ap (λ n. record old { left = left; past = old.past + n }) (past_rest old.delim old.unit old.left k piece front)
 
 -- there are no more among the last than were asked for
 pub last_is_few : (delim : ℕ) (unit : Counted) (n : ℕ) (x : List ℕ) → size delim unit (last_of delim unit n x) ≤ n

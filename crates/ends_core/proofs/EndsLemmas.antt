@@ -20,14 +20,14 @@ use Rattle.ends_core.specs.declared.kept.Kept.{Kept}
 use Rattle.ends_core.specs.Ends.{measure, first_of, after_of, last_of, but_last_of}
 use Rattle.ends_core.specs.Head.{head_work}
 use Rattle.ends_core.specs.Head.{IsDone}
-use Rattle.ends_core.specs.Stage.{Stretch, the_first, all_but_last, from_the_nth, the_last, keeps, work_in, waiting_in, front_in, stretch_of, delim_of, unit_of, count_of, left_of, waiting_of, waiting, may_lack, work, Holds}
-use Rattle.ends_core.specs.inner.Stage.{is_last, due, due_at_end, left_waiting, is_full, FullLacksNone, SameAsked}
+use Rattle.ends_core.specs.Stage.{Stretch, the_first, all_but_last, from_the_nth, the_last, keeps, work_in, waiting_in, front_in, stretch_of, delim_of, unit_of, count_of, left_of, waiting_of, waiting, past_in, past_of, may_lack, work, Holds}
+use Rattle.ends_core.specs.inner.Stage.{is_last, due, due_at_end, left_waiting, is_full, unused_of, FullLacksNone, SameAsked}
 use Rattle.ends_core.specs.Stage.{is_done}
 use Rattle.ends_core.specs.Kept.{most_of, may_lack_of, delim_of as kept_delim, unit_of as kept_unit}
 use Rattle.ends_core.specs.inner.Load.{Passes}
 use Rattle.ends_core.specs.inner.Stops.{Stops}
 use Rattle.ends_core.specs.laws.WorkLaws.{full_head}
-use Rattle.ends_core.specs.laws.EndsLaws.{ends_together, measure-append, first_of-append, first_of-short, after_of-append, last_of-append, but_last_of-append}
+use Rattle.ends_core.specs.laws.EndsLaws.{ends_together, first_then_after, measure-append, first_of-append, first_of-short, after_of-append, last_of-append, but_last_of-append}
 use Rattle.ends_core.proofs.EndsLaws.{measure-delimiters, first_of-more, but_last_grows}
 use Rattle.ends_core.proofs.StopLemmas as stop
 use Rattle.ends_core.proofs.KeptLemmas.{full_once}
@@ -112,15 +112,31 @@ full_lacks (ButLast kept) x waits full bytes enough = full bytes (full_once kept
 full_lacks (FromNth count front) x waits full bytes enough = refl
 full_lacks (Last kept) x waits full bytes enough = full bytes (full_once kept x waits bytes enough)
 
-pub takes_in : (ends next : Ends) (piece : List ℕ) → SameAsked ends next
+-- how many bytes come in after a head
+
+pub past_after : (delim : ℕ) (unit : Counted) (n : ℕ) (x : List ℕ) → length x - length (first_of delim unit n x) ≡ length (after_of delim unit n x)
+past_after delim unit n x = omega (arith, sym (ap length (first_then_after delim unit n x)) ∙ length-append (first_of delim unit n x) (after_of delim unit n x))
+
+past_next : (ends : Ends) (x piece : List ℕ) → Holds ends x → past_of ends + length (unused_of ends piece) ≡ past_in (stretch_of ends) (delim_of ends) (unit_of ends) (count_of ends) (x ++ piece)
+past_next (First count front) x piece holds =
+    let more : length (after_of front.delim front.unit front.left piece) ≡ length (after_of front.delim front.unit (count - measure front.delim front.unit x) piece) = ap (λ left. length (after_of front.delim front.unit left piece)) (holds.left refl) in
+    let all : length (after_of front.delim front.unit count (x ++ piece)) ≡ length (after_of front.delim front.unit count x) + length (after_of front.delim front.unit (count - measure front.delim front.unit x) piece)
+    = ap length (after_of-append front.delim front.unit count x piece) ∙ length-append (after_of front.delim front.unit count x) (after_of front.delim front.unit (count - measure front.delim front.unit x) piece) in
+    omega (arith, holds.past, past_after front.delim front.unit count x, more, all, past_after front.delim front.unit count (x ++ piece))
+past_next (ButLast kept) x piece holds = refl
+past_next (FromNth count front) x piece holds = refl
+past_next (Last kept) x piece holds = refl
+
+pub takes_in : (ends next : Ends) (piece : List ℕ) → SameAsked ends next → past_of next ≡ past_of ends + length (unused_of ends piece)
     → left_of next ≡ left_of ends - measure (delim_of ends) (unit_of ends) piece → waiting_of next ≡ left_waiting ends piece → FullLacksNone next → TakesIn Holds piece ends next
-takes_in ends next piece same left waits full x holds = record {
+takes_in ends next piece same past left waits full x holds = record {
   byte = subst (λ delim. delim < 256) (sym same.delim) holds.byte;
   left = λ none. left ∙ ap (λ n. n - measure (delim_of ends) (unit_of ends) piece) (holds.left (sym (ap keeps same.stretch) ∙ none))
       ∙ minus_both (front_in (stretch_of ends) (count_of ends)) (measure (delim_of ends) (unit_of ends) x) (measure (delim_of ends) (unit_of ends) piece)
       ∙ ap (λ n. front_in (stretch_of ends) (count_of ends) - n) (sym (measure-append (delim_of ends) (unit_of ends) x piece))
       ∙ sym (same_for (λ s d u n. front_in s n - measure d u (x ++ piece)) ends next same);
   waits = waits_now ends next x piece same waits holds;
+  past = past ∙ past_next ends x piece holds ∙ sym (same_for (λ s d u n. past_in s d u n (x ++ piece)) ends next same);
   none = none_lacks next;
   full = full_lacks next (x ++ piece) (waits_now ends next x piece same waits holds) full;
 }
@@ -232,9 +248,15 @@ not_last all_but_last none = refl
 not_last from_the_nth none = refl
 not_last the_last none = absurd (false≢true (sym none))
 
-pub loads : (told : Bool) (slot count : ℕ) (ends next : Ends) (old new : List Source) → Holds ends [] → SameAsked ends next → left_of next ≡ left_of ends → (is_last (stretch_of ends) ≡ false → count ≡ 0)
+past_same : (s : Stretch) (delim : ℕ) (unit : Counted) (n : ℕ) (x : List ℕ) → (is_last s ≡ false → x ≡ []) → past_in s delim unit n [] ≡ past_in s delim unit n x
+past_same the_first delim unit n x none = ap (past_in the_first delim unit n) (sym (none refl))
+past_same all_but_last delim unit n x none = refl
+past_same from_the_nth delim unit n x none = refl
+past_same the_last delim unit n x none = refl
+
+pub loads : (told : Bool) (slot count : ℕ) (ends next : Ends) (old new : List Source) → Holds ends [] → SameAsked ends next → left_of next ≡ left_of ends → past_of next ≡ past_of ends → (is_last (stretch_of ends) ≡ false → count ≡ 0)
     → Passes told slot count (λ x. waiting_of next ≡ waiting ends x) old new → FullLacksNone next → Loads Holds (λ (those : Ends) slots. IsTrue (is_writable slots 0)) OwnsNone work told slot count ends next old new
-loads told slot count ends next old new fresh same left others passes full =
+loads told slot count ends next old new fresh same left past others passes full =
     let none : is_last (stretch_of ends) ≡ false → passes.front ≡ [] = λ is. nil_from_length passes.front (sym passes.long ∙ others is) in
     let waits = passes.keeps ∙ sym (same_for (λ s d u n. waiting_in s d u n passes.front) ends next same) in
     record {
@@ -248,6 +270,7 @@ loads told slot count ends next old new fresh same left others passes full =
             left ∙ fresh.left before ∙ sym (same_for (λ s d u n. front_in s n - measure d u []) ends next same)
             ∙ sym (ap (λ x. front_in (stretch_of next) (count_of next) - measure (delim_of next) (unit_of next) x) (none (not_last (stretch_of ends) before)));
         waits = waits;
+        past = past ∙ fresh.past ∙ past_same (stretch_of ends) (delim_of ends) (unit_of ends) (count_of ends) passes.front none ∙ sym (same_for (λ s d u n. past_in s d u n passes.front) ends next same);
         none = none_lacks next;
         full = full_lacks next passes.front waits full;
       };

@@ -23,7 +23,7 @@ size-append delim Lines n x [] many = absurd (omega (arith, many))
 size-append delim Lines n x (byte ∷ y) many = line_count-front delim x (byte ∷ y) (omega arith)
 size-append delim Bytes n x y many = length-append x y
 
-after-past : (delim : ℕ) (unit : Counted) (n : ℕ) (x : List ℕ) → measure delim unit x < n → after_of delim unit n x ≡ []
+pub after-past : (delim : ℕ) (unit : Counted) (n : ℕ) (x : List ℕ) → measure delim unit x < n → after_of delim unit n x ≡ []
 after-past delim Lines n x past = after_lines-past delim n x past
 after-past delim Bytes n x past = drop_all n x (omega arith)
 

@@ -2,8 +2,15 @@
 use Rattle.std.specs.Prelude.{◌≡◌, ℕ, ◌<◌, ◌&&◌, not, nat_le, Bool, false, List, [], ◌++◌, All, if◌then◌else◌}
 use Rattle.ports_core.specs.Part.{only_out}
 use Rattle.seg_core.specs.declared.unit.Unit.{Unit as Counted}
+use Rattle.seg_core.specs.declared.unit.Unit.TheVariants.{Lines, Bytes}
 use Rattle.ports_core.specs.Work.{Work, on_output, always_well}
 use Rattle.ends_core.specs.Ends.{measure, last_of, head_of}
+
+-- how many bytes more than it uses a head may be given: none where bytes are counted, and else the end of a piece in which
+-- its last line ends
+abbrev pub ahead_of : Counted → ℕ
+ahead_of Lines = 4096
+ahead_of Bytes = 0
 
 -- What a head makes of its input: what belongs to the head whatever may still come is written at once, and nothing at
 -- the end. Of the first n it is complete once n came in. It takes memory where all but the last are asked for, since
@@ -16,6 +23,7 @@ head_work delim unit but_last n = record {
   verdict = always_well;
   clears = false;
   means = on_output but_last;
+  ahead = ahead_of unit;
 }
 
 -- what came in and isn't written yet, since what follows decides it: the last lines or bytes, where all but them are

@@ -9,7 +9,7 @@ use Rattle.seg_core.specs.declared.unit.Unit.{Unit as Counted}
 use Rattle.seg_core.specs.declared.unit.Unit.TheVariants.{Lines, Bytes}
 use Rattle.ends_core.specs.declared.ends.Ends.{Ends}
 use Rattle.ends_core.specs.declared.ends.Ends.TheVariants.{First, ButLast, FromNth, Last}
-use Rattle.ends_core.specs.Ends.{measure}
+use Rattle.ends_core.specs.Ends.{first_of, measure}
 use Rattle.ends_core.specs.Head.{head_work, head_waiting, IsDone}
 use Rattle.ends_core.specs.Tail.{tail_work, tail_waiting}
 use Rattle.ends_core.specs.Kept.{held_of, most_of, may_lack_of, delim_of as kept_delim, unit_of as kept_unit}
@@ -89,6 +89,20 @@ left_of (ButLast kept) = 0
 left_of (FromNth count front) = front.left
 left_of (Last kept) = 0
 
+-- how many bytes came in after a head
+abbrev pub past_of : Ends → ℕ
+past_of (First count front) = front.past
+past_of (ButLast kept) = 0
+past_of (FromNth count front) = 0
+past_of (Last kept) = 0
+
+-- how many bytes of an input stand after a head of its first n
+abbrev pub past_in : Stretch → ℕ → Counted → ℕ → List ℕ → ℕ
+past_in the_first delim unit n x = length x - length (first_of delim unit n x)
+past_in all_but_last delim unit n x = 0
+past_in from_the_nth delim unit n x = 0
+past_in the_last delim unit n x = 0
+
 -- the bytes that wait
 abbrev pub waiting_of : Ends → List ℕ
 waiting_of (First count front) = []
@@ -116,6 +130,7 @@ pub record Holds (ends : Ends) (x : List ℕ) : Type 0 where
   pub left : keeps (stretch_of ends) ≡ false
       → left_of ends ≡ front_in (stretch_of ends) (count_of ends) - measure (delim_of ends) (unit_of ends) x
   pub waits : waiting_of ends ≡ waiting ends x
+  pub past : past_of ends ≡ past_in (stretch_of ends) (delim_of ends) (unit_of ends) (count_of ends) x
   -- where nothing waits no memory can be wanting, nor once as many bytes came in as wait
   pub none : keeps (stretch_of ends) ≡ false → may_lack ends ≡ false
   pub full : unit_of ends ≡ Bytes → count_of ends ≤ length x → may_lack ends ≡ false

@@ -15,6 +15,7 @@ tail_work delim unit from_nth n = record {
   verdict = always_well;
   clears = false;
   means = on_output (not from_nth);
+  ahead = 0;
 }
 
 -- what came in and isn't written yet, since what follows decides it: the last lines or bytes, where these are asked for

@@ -7,9 +7,9 @@ ghost use Rattle.ports_core.specs.Guard.{HoldsIn};
 ghost use Rattle.ends_core.specs.Ends.{measure};
 ghost use Rattle.ends_core.specs.Head.{head_work};
 ghost use Rattle.ends_core.specs.Tail.{tail_work};
-ghost use Rattle.ends_core.specs.inner.Stage.{FullLacksNone, SameAsked, due, due_at_end, is_full, is_last, left_waiting};
+ghost use Rattle.ends_core.specs.inner.Stage.{FullLacksNone, SameAsked, due, due_at_end, is_full, is_last, left_waiting, unused_of, wanted_by};
 ghost use Rattle.ends_core.specs.Stage.{is_done};
-ghost use Rattle.ends_core.specs.Stage.{Holds, IsAsked, all_but_last, delim_of, from_the_nth, left_of, may_lack, stretch_of, the_first, the_last, unit_of, waiting, waiting_of, work};
+ghost use Rattle.ends_core.specs.Stage.{Holds, IsAsked, all_but_last, delim_of, from_the_nth, left_of, may_lack, past_of, stretch_of, the_first, the_last, unit_of, waiting, waiting_of, work};
 ghost use Rattle.ends_core.specs.laws.WorkLaws.{lawful};
 ghost use Rattle.ends_core.specs.inner.Load.{Passes};
 ghost use Rattle.ends_core.specs.inner.Stops.{Stops};
@@ -71,6 +71,7 @@ impl Head {
             unit,
             delim,
             left: count,
+            past: 0,
         };
         Ok(Guarded::new(Ends::First(count, front)))
     }
@@ -124,6 +125,7 @@ impl Tail {
                 unit,
                 delim,
                 left: count.saturating_sub(1),
+                past: 0,
             };
             return Ok(Guarded::new(Ends::FromNth(count, front)));
         }
@@ -141,7 +143,7 @@ impl Stage for Ends {
 
     ghost waiting = { waiting };
 
-    ghost size = { λ ends. length (waiting_of ends) };
+    ghost size = { λ ends. length (waiting_of ends) + past_of ends };
 
     ghost IsDone = { is_done };
 
@@ -158,10 +160,11 @@ impl Stage for Ends {
     ///
     /// `Write(0)` where standard output broke, `Memory` where there is no room for what waits.
     fn pass<O: Outs>(&mut self, piece: &[u8], outs: &mut O) -> Result<(), Fault>
-        requires fits { length (waiting_of self.old) + length piece.now < 2 ^ 64 }
+        requires fits { length (waiting_of self.old) + past_of self.old + length piece.now < 2 ^ 64 }
         requires writable { IsTrue (is_writable (O.slots outs.old) 0) }
         ensures same { SameAsked self.old self.new }
-        ensures bound { length (waiting_of self.new) ≤ length (waiting_of self.old) + length piece.now }
+        ensures bound { length (waiting_of self.new) + past_of self.new ≤ length (waiting_of self.old) + past_of self.old + length piece.now }
+        ensures past { past_of self.new ≡ past_of self.old + length (unused_of self.old piece.now) }
         ensures left { OnOk result (left_of self.new ≡ left_of self.old - measure (delim_of self.old) (unit_of self.old) piece.now) }
         ensures waits { OnOk result (waiting_of self.new ≡ left_waiting self.old piece.now) }
         ensures full { OnOk result (FullLacksNone self.new) }
@@ -185,6 +188,7 @@ impl Stage for Ends {
         requires full { FullLacksNone self.old }
         ensures same { SameAsked self.old self.new }
         ensures left { left_of self.new ≡ left_of self.old }
+        ensures past { past_of self.new ≡ past_of self.old }
         ensures others { is_last (stretch_of self.old) ≡ false → result ≡ 0 }
         ensures passes { Passes I.told slot result (λ x. waiting_of self.new ≡ waiting self.old x) (I.sources inputs.old) (I.sources inputs.new) }
         ensures full { FullLacksNone self.new }
@@ -205,7 +209,7 @@ impl Stage for Ends {
     fn finish<O: Outs>(&mut self, outs: &mut O) -> Result<(), Fault>
         requires writable { IsTrue (is_writable (O.slots outs.old) 0) }
         ensures same { SameAsked self.old self.new }
-        ensures bound { length (waiting_of self.new) ≤ length (waiting_of self.old) }
+        ensures bound { length (waiting_of self.new) + past_of self.new ≤ length (waiting_of self.old) + past_of self.old }
         ensures out { OnOk result (O.slots outs.new ≡ with_written 0 (told_of O.told (due_at_end self.old)) (O.slots outs.old)) }
         ensures cut { IfErr result (Stops O.told false (due_at_end self.old) (O.slots outs.old) (O.slots outs.new)) }
     {
@@ -236,6 +240,26 @@ impl Stage for Ends {
         match self {
             Ends::First(_, _) | Ends::FromNth(_, _) => 0,
             Ends::ButLast(kept) | Ends::Last(kept) => kept.len(),
+        }
+    }
+
+    /// For a head as many bytes as it still needs, where bytes are counted; where lines are, as many as lines, of which each
+    /// has one at least, but 4,096 where that is more.
+    fn wanted(&self) -> u64
+        ensures { result ≡ wanted_by self.now }
+    {
+        match self {
+            Ends::First(_, front) => front.wanted(),
+            Ends::ButLast(_) | Ends::FromNth(_, _) | Ends::Last(_) => u64::MAX,
+        }
+    }
+
+    fn unused(&self) -> u64
+        ensures { result ≡ past_of self.now }
+    {
+        match self {
+            Ends::First(_, front) => front.past,
+            Ends::ButLast(_) | Ends::FromNth(_, _) | Ends::Last(_) => 0,
         }
     }
 

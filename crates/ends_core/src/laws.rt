@@ -1,5 +1,5 @@
 //! Laws of the definitions, with no code: each stands on the contract of a function whose body is empty.
-ghost use Rattle.std.specs.Prelude.{◌≡◌, ◌<◌, ◌≤◌, ◌+◌, ◌-◌, ◌++◌, ◌⊎◌, ℕ, Bool, List, length, true, false};
+ghost use Rattle.std.specs.Prelude.{◌≡◌, ◌<◌, ◌≤◌, ◌+◌, ◌-◌, ◌++◌, ◌⊎◌, ℕ, Bool, List, [], length, true, false};
 ghost use Rattle.seg_core.specs.Line.{delimiters, ends_with, line_count};
 ghost use Rattle.ends_core.specs.Ends.{after_of, but_last_of, first_of, last_of, measure, size, tail_of};
 ghost use Rattle.ends_core.specs.Head.{head_waiting, head_work};
@@ -8,6 +8,7 @@ ghost use Rattle.ends_core.specs.Stage.{Holds, IsRefused, all_but_last, count_of
 ghost use Rattle.ends_core.specs.Tail.{tail_waiting, tail_work};
 ghost use Rattle.ends_core.specs.declared.ends.Ends.{Ends};
 ghost use Rattle.ports_core.specs.Agreed.{ArePlaced, IsAgreed, IsUndecided};
+ghost use Rattle.ports_core.specs.Work.{IsNeeded};
 ghost use Rattle.ports_core.specs.Guard.{GuardState, HoldsIn};
 ghost use Rattle.ports_core.specs.Slot.{Slot};
 
@@ -32,6 +33,16 @@ pub fn nothing_is_lost(unit: Unit, delim: u8)
     ensures first { (n : ℕ) (x : List ℕ) → first_of delim unit n x ++ after_of delim unit n x ≡ x }
     ensures last { (n : ℕ) (x : List ℕ) → but_last_of delim unit n x ++ last_of delim unit n x ≡ x }
     ensures waits { (head : GuardState Ends) (x : List ℕ) → HoldsIn Holds head x → stretch_of head.stage ≡ all_but_last → ((work head.stage).settled x).out ++ waiting_of head.stage ≡ x }
+{
+    let _ = (unit, delim);
+}
+
+/// A head of the first lines or bytes uses exactly what it writes. If what it used of a text was needed to the last byte,
+/// and was enough, as it is after a run over an input, then that is the head of the text, and what is left is what stands
+/// after it.
+pub fn head_uses_what_it_writes(unit: Unit, delim: u8)
+    ensures used { (n : ℕ) (used rest : List ℕ) → IsNeeded (head_work delim unit false n).is_complete 1 used → (rest ≡ []) ⊎ ((head_work delim unit false n).is_complete used ≡ true) → first_of delim unit n (used ++ rest) ≡ used }
+    ensures left { (n : ℕ) (used rest : List ℕ) → IsNeeded (head_work delim unit false n).is_complete 1 used → (rest ≡ []) ⊎ ((head_work delim unit false n).is_complete used ≡ true) → after_of delim unit n (used ++ rest) ≡ rest }
 {
     let _ = (unit, delim);
 }

@@ -6,6 +6,8 @@ pub mod SweepLemmas
 pub mod FileLemmas
 pub mod SlotLemmas
 pub mod SourceLemmas
+pub mod SpareLemmas
+pub mod MemInLemmas
 pub mod InputsLemmas
 pub mod TextLemmas
 pub mod WriteLemmas

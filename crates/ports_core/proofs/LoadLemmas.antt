@@ -1,5 +1,6 @@
 -- Lemmas on what an engine takes in without a read.
-use Rattle.std.proofs.Common.{◌≡◌, ℕ, zero, suc, ◌<◌, Bool, IsTrue, List, [], ◌∷◌, length, slice_index_or, inl, refl, ◌∙◌, ap, arith}
+use Rattle.std.proofs.Common.{◌≡◌, ℕ, zero, suc, ◌<◌, Bool, IsTrue, List, [], ◌∷◌, length, slice_index_or, inl, refl, sym, ◌∙◌, ap, arith}
+use Rattle.std.proofs.lemmas.List.{append-nil}
 use Rattle.ports_core.specs.Slot.{Slot, changed_at}
 use Rattle.ports_core.specs.Source.{Source, source_at, is_readable, skips}
 use Rattle.ports_core.specs.Work.{Work}
@@ -9,7 +10,7 @@ use Rattle.ports_core.proofs.SourceLemmas.{readable_within}
 -- an input of which nothing is passed over is as it was
 pub none_passed : (slot : ℕ) (sources : List Source) → sources ≡ changed_at slot (skips 0) sources
 none_passed slot [] = refl
-none_passed zero (source ∷ sources) = refl
+none_passed zero (source ∷ sources) = ap (λ (taken : List ℕ). record source { taken = taken } ∷ sources) (sym (append-nil source.taken))
 none_passed (suc slot) (source ∷ sources) = ap (λ those. source ∷ those) (none_passed slot sources)
 
 pub changed_there : {X : Type 0} (default : X) (place : ℕ) (change : X → X) (xs : List X) → place < length xs → slice_index_or (changed_at place change xs) place default ≡ change (slice_index_or xs place default)

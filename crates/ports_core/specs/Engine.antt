@@ -5,7 +5,7 @@ use Rattle.ports_core.specs.Slot.{Slot, Rose, changed_at}
 use Rattle.ports_core.specs.Source.{Source, source_at, skips}
 use Rattle.ports_core.specs.Part.{Part, OutputsAt, StoppedBetween}
 use Rattle.ports_core.specs.Swept.{Swept}
-use Rattle.ports_core.specs.Work.{Work, Means, Needs, IsSettled, Judges}
+use Rattle.ports_core.specs.Work.{Work, Means, Needs, IsSettled, IsSpare, Judges}
 use Rattle.ports_core.specs.declared.fault.Fault.{Fault}
 use Rattle.ports_core.specs.declared.fault.Fault.TheVariants.{Memory, Write, Read, Open, Suffixes, NoMatch, Range, Usage, Failed, TooLong}
 use Rattle.ports_core.specs.declared.fault.Fault.TheVariants as fault_is
@@ -123,3 +123,10 @@ pub record Loads {E : Type 0} (Holds : E → List ℕ → Type 0) (Ready : E →
   pub owns : (first : ℕ) (slots : List Slot) → Owns before first slots → Owns after first slots
   pub idle : (work before).settled front ≡ (work before).settled []
   pub going : (front ≡ []) ⊎ ((work before).is_complete front ≡ false)
+
+-- The next piece may have so many bytes: fed them after any x with which its output isn't complete, the engine leaves no
+-- more than its work's `ahead` of them unused.
+abbrev pub MayGet : {E : Type 0} → (E → List ℕ → Type 0) → (E → Work) → E → ℕ → Type 0
+MayGet {E = E} Holds work engine most = (x piece : List ℕ) (after : E) (n : ℕ) → Holds engine x
+    → (work engine).is_complete x ≡ false → length piece ≤ most → work after ≡ work engine → Holds after (x ++ piece)
+    → IsSpare (work engine) (x ++ piece) n → n ≤ (work engine).ahead

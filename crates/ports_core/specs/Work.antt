@@ -1,5 +1,5 @@
 -- What a tool makes of an input, whatever engine does it: what is written once some bytes came in, and what at the end.
-use Rattle.std.specs.Prelude.{◌≡◌, Bool, true, false, List, ◌++◌, ℕ, Option, Some, None}
+use Rattle.std.specs.Prelude.{◌≡◌, ◌≤◌, ◌⊎◌, Bool, true, false, List, [], ◌++◌, ℕ, length, Option, Some, None}
 use Rattle.ports_core.specs.Part.{Part, Begins}
 use Rattle.ports_core.specs.declared.fault.Fault.{Fault}
 
@@ -44,6 +44,8 @@ pub record Work : Type 0 where
   -- after a fault, and after an input that breaks off, its files are removed
   pub clears : Bool
   pub means : Means
+  -- how many bytes more than it uses it may be given, of an input that others read after it
+  pub ahead : ℕ
 
 -- the work of a tool that ends with no fault of its own
 abbrev pub always_well : List ℕ → Option Fault
@@ -63,6 +65,22 @@ pub record IsComplete (work : Work) (x y : List ℕ) : Type 0 where
   pub settled_stays : work.settled (x ++ y) ≡ work.settled x
   pub whole_stays : work.whole (x ++ y) ≡ work.settled x
   pub verdict_stays : work.verdict (x ++ y) ≡ work.verdict x
+
+-- What came in was needed: the last piece has at most `most` bytes, and the output of those before it was not complete.
+abbrev pub IsNeeded : (List ℕ → Bool) → ℕ → List ℕ → Type 0
+IsNeeded is_complete most x = (x ≡ [])
+    ⊎ ((before : List ℕ) × (piece : List ℕ) × (x ≡ before ++ piece) × (length piece ≤ most)
+    × (is_complete before ≡ false))
+
+-- The last n bytes of x are not used: the output is complete before them, and was not before the last byte that is used.
+-- Where it isn't complete, all are used.
+pub record IsSpare (work : Work) (x : List ℕ) (n : ℕ) : Type 0 where
+  pub used : List ℕ
+  pub rest : List ℕ
+  pub joined : x ≡ used ++ rest
+  pub long : length rest ≡ n
+  pub needed : IsNeeded work.is_complete 1 used
+  pub enough : (rest ≡ []) ⊎ (work.is_complete used ≡ true)
 
 -- What is written is never taken back, and once the output is complete it stays.
 pub record IsLawful (work : Work) : Type 0 where

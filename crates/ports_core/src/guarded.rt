@@ -3,7 +3,8 @@
 ghost use Rattle.std.specs.Prelude.{◌≡◌, ◌+◌, ◌^◌, ◌<◌, ◌≤◌, ◌↔◌, ℕ, List, [], true, false, length, IfErr, OnOk, OnErr, IsErrOf, IsTrue};
 ghost use Rattle.ports_core.specs.Slot.{is_writable};
 ghost use Rattle.ports_core.specs.Source.{is_readable};
-ghost use Rattle.ports_core.specs.Engine.{Loads, TakesIn, PutsOut, CutsOff, Finishes, EndsShort, EndsWith, EndsThere, IsCaused, IsMet, KeepsOwn, Clears, is_verdict};
+ghost use Rattle.ports_core.specs.Engine.{Loads, TakesIn, PutsOut, CutsOff, Finishes, EndsShort, EndsWith, EndsThere, IsCaused, IsMet, KeepsOwn, Clears, MayGet, is_verdict};
+ghost use Rattle.ports_core.specs.Work.{IsSpare};
 ghost use Rattle.ports_core.specs.Guard.{GuardState, HoldsIn};
 
 use crate::{Fault, Inputs, Outs, Stage, fed_with};
@@ -148,6 +149,22 @@ impl<S: Stage> Guarded<S> {
         ensures exact { (x : List ℕ) → HoldsIn S.Holds self.now x → (IsTrue result ↔ S.IsDone self.now.stage x) }
     {
         self.stage.is_done()
+    }
+
+    /// How many bytes the next piece may have, so that no more of them than its work's `ahead` are not used: of an input that
+    /// others read after it, such as a pipe, no more is to be read at once.
+    pub fn wanted(&self) -> u64
+        ensures some { (x : List ℕ) → HoldsIn S.Holds self.now x → (S.work self.now.stage).is_complete x ≡ false → 0 < result }
+        ensures few { MayGet S.Holds S.work self.now.stage result }
+    {
+        self.stage.wanted()
+    }
+
+    /// How many of the bytes that came in are not used: those after the byte with which the output was complete.
+    pub fn unused(&self) -> u64
+        ensures { (x : List ℕ) → HoldsIn S.Holds self.now x → IsSpare (S.work self.now.stage) x result }
+    {
+        self.stage.unused()
     }
 
     /// How many bytes wait, and so aren't written: those that came in and of which it isn't decided yet where they go.

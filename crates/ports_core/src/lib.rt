@@ -20,6 +20,7 @@ mod names;
 mod outs;
 mod slot;
 mod stage;
+mod standard_input;
 mod sweep;
 mod text;
 mod tool;

@@ -1,8 +1,8 @@
 ghost use Rattle.std.specs.Prelude.{◌≡◌, ◌+◌, ◌^◌, ◌<◌, ◌≤◌, ◌↔◌, ℕ, List, [], Bool, true, false, length, IfErr, OnOk, IsTrue};
 ghost use Rattle.ports_core.specs.Slot.{Slot, is_writable};
 ghost use Rattle.ports_core.specs.Source.{is_readable};
-ghost use Rattle.ports_core.specs.Work.{Work, IsLawful};
-ghost use Rattle.ports_core.specs.Engine.{Loads, TakesIn, PutsOut, CutsOff, Finishes, EndsShort, EndsWith, EndsThere, IsMet, KeepsOwn, Clears, is_verdict};
+ghost use Rattle.ports_core.specs.Work.{Work, IsLawful, IsSpare};
+ghost use Rattle.ports_core.specs.Engine.{Loads, TakesIn, PutsOut, CutsOff, Finishes, EndsShort, EndsWith, EndsThere, IsMet, KeepsOwn, Clears, MayGet, is_verdict};
 
 use crate::{Fault, Inputs, Outs};
 
@@ -105,6 +105,15 @@ pub trait Stage {
     fn waits(&self) -> u64
         ensures bytes { result ≡ held self.now }
         ensures waits { (x : List ℕ) → length x < 2 ^ 63 → Holds self.now x → result ≡ length (waiting self.now x) };
+
+    /// How many bytes the next piece may have, so that at most its work's `ahead` of them are not used.
+    fn wanted(&self) -> u64
+        ensures some { (x : List ℕ) → Holds self.now x → (work self.now).is_complete x ≡ false → 0 < result }
+        ensures few { MayGet Holds work self.now result };
+
+    /// How many of the bytes that came in are not used: those after the byte with which the output was complete.
+    fn unused(&self) -> u64
+        ensures { (x : List ℕ) → Holds self.now x → IsSpare (work self.now) x result };
 
     ghost lawful: { (stage : Self) → IsLawful (work stage) };
 }

@@ -4,9 +4,9 @@ use Rattle.std.proofs.lemmas.List.{append-nil}
 use Rattle.std.proofs.lemmas.Bool.{false≢true}
 use Rattle.ports_core.specs.Slot.{Slot}
 use Rattle.ports_core.specs.Source.{Content}
-use Rattle.ports_core.specs.Part.{Part, OutputsAt}
+use Rattle.ports_core.specs.Part.{Part, OutputsAt, StoppedBetween}
 use Rattle.ports_core.specs.Swept.{Swept}
-use Rattle.ports_core.specs.Work.{Work, Means, Needs, IsLawful, IsComplete, Judges, IsSettled}
+use Rattle.ports_core.specs.Work.{Work, Means, Needs, IsLawful, IsComplete, IsNeeded, IsSpare, Judges, IsSettled}
 use Rattle.ports_core.specs.Engine.{StandsAt, TakesIn, PutsOut, CutsOff, EndsShort, EndsWith, EndsThere, IsCaused, IsMet, Ended, is_verdict, KeepsOwn, Clears}
 use Rattle.ports_core.specs.Engine as engine
 use Rattle.ports_core.specs.Guard.{GuardState, HoldsIn}
@@ -15,7 +15,7 @@ use Rattle.ports_core.specs.declared.fault.Fault.TheVariants.{Memory, Write, Rea
 use Rattle.run_core.specs.declared.feeding.Fed.{Fed}
 use Rattle.run_core.specs.declared.feeding.Fed.TheVariants.{Whole, Enough, Broken}
 use Rattle.ports_core.specs.Inputs.{empty}
-use Rattle.run_core.specs.Feeding.{Stops, HasAll, to_end, enough, call_of, feeds, closes, FedAs, whole, had_enough, broke_off, judged, stopped, IsNeeded, ReadsFor}
+use Rattle.run_core.specs.Feeding.{Stops, HasAll, to_end, enough, call_of, feeds, closes, FedAs, whole, had_enough, broke_off, judged, stopped}
 use Rattle.run_core.specs.inner.Feeding.{EndsSo, finished, fell_short}
 
 -- a change of one input
@@ -39,7 +39,7 @@ stops work read low high needs Lacks Ends fault taken size old new is long (engi
   by_why (Usage kind word) is why = absurd why
 
 -- a verdict comes only where the work ends so
-judges : (means : Means) (needs : Needs) (Lacks : Type 0) (Ends : Fault → Type 0) (fault : Fault) (over : Bool) (taken size : ℕ) (old new : List Slot) → is_verdict fault ≡ true → IsCaused (IsMet means needs Lacks Ends old new) over taken size old new fault → Ends fault
+pub judges : (means : Means) (needs : Needs) (Lacks : Type 0) (Ends : Fault → Type 0) (fault : Fault) (over : Bool) (taken size : ℕ) (old new : List Slot) → is_verdict fault ≡ true → IsCaused (IsMet means needs Lacks Ends old new) over taken size old new fault → Ends fault
 judges means needs Lacks Ends _ over taken size old new is (engine.over is_over kept) = absurd (false≢true is)
 judges means needs Lacks Ends _ over taken size old new is (engine.long live many kept) = absurd (false≢true is)
 judges means needs Lacks Ends fault over taken size old new is (engine.met _ live why) = by_why fault is why where
@@ -54,6 +54,13 @@ judges means needs Lacks Ends fault over taken size old new is (engine.met _ liv
   by_why (NoMatch operand repetition) is why = why
   by_why (Range operand repetition) is why = why
   by_why (Usage kind word) is why = absurd why
+
+-- a fault that doesn't stop is a verdict
+pub judging_of : (given fault : Fault) → given ≡ fault → not (is_verdict given) ≡ false → is_verdict fault ≡ true
+judging_of given fault is ends = ap is_verdict (sym is) ∙ by_flag (is_verdict given) ends where
+  by_flag : (b : Bool) → not b ≡ false → b ≡ true
+  by_flag true is = refl
+  by_flag false is = absurd (false≢true (sym is))
 
 ends_whole : (breaks complete : Bool) → breaks ≡ false → (not breaks || complete) ≡ true
 ends_whole false complete is = refl
@@ -114,14 +121,34 @@ judged_all told opening most work content WasRead x reached new before Enough fa
     (subst (λ part. OutputsAt told before part reached) (sym (ap work.whole got.1.1 ∙ whole_at work x got.1.0 lawful got.0)) at) swept
 judged_all told opening most work content WasRead x reached new before Broken fault judging lawful got verdict at swept = absurd got
 
--- what a fault left at the end, and what was made of its files then
-short_of_end : (told : Bool) (opening : Needs) (most : ℕ) (work : Work) (content : Content) (WasRead : List ℕ → Type 0) (x : List ℕ) (reached new before : List Slot) (fed : Fed) (fault : Fault) → IsLawful work → HasGot work content x fed → IsNeeded work.is_complete most x → WasRead x
+-- the engine makes of x what it makes of z
+pub record MadeAlike (work : Work) (x z : List ℕ) : Type 0 where
+  pub settled : work.settled x ≡ work.settled z
+  pub whole : work.whole x ≡ work.whole z
+  pub verdict : work.verdict x ≡ work.verdict z
+
+pub alike_itself : (work : Work) (x : List ℕ) → MadeAlike work x x
+alike_itself work x = record { settled = refl; whole = refl; verdict = refl }
+
+-- what is spare changes nothing
+pub alike_used : (work : Work) (x : List ℕ) (n : ℕ) (spare : IsSpare work x n) → IsLawful work → work.is_complete spare.used ≡ true → MadeAlike work x spare.used
+alike_used work x n spare lawful done =
+    let stays : IsComplete work spare.used spare.rest = lawful.stays spare.used spare.rest done in record {
+      settled = ap work.settled spare.joined ∙ stays.settled_stays;
+      whole = ap work.whole spare.joined ∙ whole_at work spare.used spare.rest lawful done;
+      verdict = ap work.verdict spare.joined ∙ stays.verdict_stays;
+    }
+
+-- What a fault left at the end, and what was made of its files then. The engine was fed x, of which z was used.
+short_of_end : (told : Bool) (opening : Needs) (most : ℕ) (work : Work) (content : Content) (WasRead : List ℕ → Type 0) (x z : List ℕ) (reached new before : List Slot) (fed : Fed) (fault : Fault) → IsLawful work → HasGot work content x fed → HasAll work content z → MadeAlike work x z → IsNeeded work.is_complete most z → WasRead z
     → Ended told before (work.settled x) (work.whole x) work.clears fault reached
-    → (is_verdict fault ≡ false → Stops (call_of work work.means.closing x (work.settled x) (work.whole x)) reached fault) → (is_verdict fault ≡ true → Judges work x fault)
+    → (is_verdict fault ≡ false → Stops (call_of work work.means.closing z (work.settled z) (work.whole z)) reached fault) → (is_verdict fault ≡ true → Judges work x fault)
     → (is_verdict fault ≡ true → new ≡ reached) → (is_verdict fault ≡ false → Swept work.clears (length before) reached new) → FedAs told before work opening most content WasRead new (Err fault)
-short_of_end told opening most work content WasRead x reached new before fed fault lawful got needed read (engine.cut unjudged stop) why verdict kept swept =
-    stopped fault unjudged _ (closes x (got_all work content x fed got) needed) read reached (why unjudged) stop (swept unjudged)
-short_of_end told opening most work content WasRead x reached new before fed fault lawful got needed read (engine.judged judging first at cleared) why verdict kept swept =
+short_of_end told opening most work content WasRead x z reached new before fed fault lawful got all alike needed read (engine.cut unjudged stop) why verdict kept swept =
+    stopped fault unjudged _ (closes z all needed) read reached (why unjudged)
+    (subst (λ low. StoppedBetween told before low (work.whole z) fault reached) alike.settled (subst (λ high. StoppedBetween told before (work.settled x) high fault reached) alike.whole stop))
+    (swept unjudged)
+short_of_end told opening most work content WasRead x z reached new before fed fault lawful got all alike needed read (engine.judged judging first at cleared) why verdict kept swept =
     judged_all told opening most work content WasRead x first new before fed fault judging lawful got (verdict judging) at (subst (λ those. Swept work.clears (length before) first those) (sym (kept judging)) cleared)
 
 module _ {S : Type 0} (Holds : S → List ℕ → Type 0) (Owns : S → ℕ → List Slot → Type 0) (work : S → Work) where
@@ -166,16 +193,16 @@ module _ {S : Type 0} (Holds : S → List ℕ → Type 0) (Owns : S → ℕ → 
       (λ unjudged. subst (λ (those : Work). Swept those.clears (length before) reached new) same (cleared unjudged (length before) (owned unjudged (length before) (so_far.owns (length before) own)))))
 
   -- the loop ended with the input, or where nothing more can follow
-  pub ended : (laws : (s : S) → IsLawful (work s)) (told : Bool) (opening : Needs) (most : ℕ) (start now : GuardState S) (content : Content) (WasRead : List ℕ → Type 0) (x : List ℕ) (old mid new before : List Slot) (fed : Fed) (result : Result Fed Fault) → Feeds told start now x old mid → Owns start.stage (length before) old → OutputsAt told before ((work start.stage).settled []) old → HasGot (work now.stage) content x fed → IsNeeded (work now.stage).is_complete most x → WasRead x
+  pub ended : (laws : (s : S) → IsLawful (work s)) (told : Bool) (opening : Needs) (most : ℕ) (start now : GuardState S) (content : Content) (WasRead : List ℕ → Type 0) (x z : List ℕ) (old mid new before : List Slot) (fed : Fed) (result : Result Fed Fault) → Feeds told start now x old mid → Owns start.stage (length before) old → OutputsAt told before ((work start.stage).settled []) old → HasGot (work now.stage) content x fed → HasAll (work now.stage) content z → MadeAlike (work now.stage) x z → IsNeeded (work now.stage).is_complete most z → WasRead z
       → EndsSo Holds Owns work told now fed mid new result → FedAs told before (work start.stage) opening most content WasRead new result
-  ended laws told opening most start now content WasRead x old mid new before fed result so_far own at got needed read (finished finishes) =
+  ended laws told opening most start now content WasRead x z old mid new before fed result so_far own at got all alike needed read (finished finishes) =
       let done = finishes before x (stands told start now x old mid before so_far own at) in
       subst (λ (those : Work). FedAs told before those opening most content WasRead new (Ok fed)) so_far.same (fed_all told opening most (work now.stage) content WasRead x new before fed (laws now.stage) got done.0 done.1)
-  ended laws told opening most start now content WasRead x old mid new before fed result so_far own at got needed read (fell_short fault reached short caused kept cleared) =
+  ended laws told opening most start now content WasRead x z old mid new before fed result so_far own at got all alike needed read (fell_short fault reached short caused kept cleared) =
       let why = subst (λ over. IsCaused (IsMet (work now.stage).means (work now.stage).means.closing (Unit {0}) (EndsThere Holds work now.stage) mid reached) over now.fed 0 mid reached fault) so_far.holds.live caused in
       subst (λ (those : Work). FedAs told before those opening most content WasRead new (Err fault)) so_far.same
-      (short_of_end told opening most (work now.stage) content WasRead x reached new before fed fault (laws now.stage) got needed read (short before x (stands told start now x old mid before so_far own at))
-      (λ unjudged. stops (work now.stage) x ((work now.stage).settled x) ((work now.stage).whole x) (work now.stage).means.closing (Unit {0}) (EndsThere Holds work now.stage) fault now.fed 0 mid reached unjudged (λ long. absurd (let bound : now.fed < 2 ^ 63 = so_far.bound in omega (arith, bound, long))) why)
+      (short_of_end told opening most (work now.stage) content WasRead x z reached new before fed fault (laws now.stage) got all alike needed read (short before x (stands told start now x old mid before so_far own at))
+      (λ unjudged. stops (work now.stage) z ((work now.stage).settled z) ((work now.stage).whole z) (work now.stage).means.closing (Unit {0}) (EndsThere Holds work now.stage) fault now.fed 0 mid reached unjudged (λ long. absurd (let bound : now.fed < 2 ^ 63 = so_far.bound in omega (arith, bound, long))) why)
       (λ judging. judges (work now.stage).means (work now.stage).means.closing (Unit {0}) (EndsThere Holds work now.stage) fault _ _ _ mid reached judging caused x so_far.holds.within)
       kept
       (λ unjudged. cleared unjudged (length before) (so_far.owns (length before) own)))
@@ -193,7 +220,7 @@ module _ {S : Type 0} (Holds : S → List ℕ → Type 0) (Owns : S → ℕ → 
   pub closed_at_start : (laws : (s : S) → IsLawful (work s)) (told : Bool) (opening : Needs) (most : ℕ) (start : GuardState S) (old new before : List Slot) (fed : Fed) (result : Result Fed Fault) → HoldsIn Holds start [] → start.fed < 2 ^ 63 → Owns start.stage (length before) old → OutputsAt told before ((work start.stage).settled []) old → HasGot (work start.stage) empty [] fed
       → EndsSo Holds Owns work told start fed old new result → FedAs told before (work start.stage) opening most empty (λ read. Unit {0}) new result
   closed_at_start laws told opening most start old new before fed result holds bound own at got ends =
-      ended laws told opening most start start empty (λ read. Unit {0}) [] old old new before fed result (begins told start old holds bound) own at got (inl refl) tt ends
+      ended laws told opening most start start empty (λ read. Unit {0}) [] [] old old new before fed result (begins told start old holds bound) own at got (got_all (work start.stage) empty [] fed got) (alike_itself (work start.stage) []) (inl refl) tt ends
 
   -- an input that ended, or was enough, didn't break off
   pub ends_sound : (told : Bool) (engine : GuardState S) (fed : Fed) (old new : List Slot) (result : Result Fed Fault) (P : Type 0) → (fed ≡ Broken → ⊥) → EndsSo Holds Owns work told engine fed old new result → IfOk result (λ found. found ≡ Broken → P)
@@ -218,10 +245,6 @@ piece_within n most buffer within = omega (arith, length-take n buffer)
 
 pub needed_more : (is_complete : List ℕ → Bool) (most n : ℕ) (x buffer : List ℕ) → is_complete x ≡ false → n ≤ most → IsNeeded is_complete most (x ++ take n buffer)
 needed_more is_complete most n x buffer going within = inr (x, take n buffer, refl, piece_within n most buffer within, going)
-
--- nothing was read
-pub reads_none : (is_complete : List ℕ → Bool) (most : ℕ) (there left : Content) → left ≡ there → ReadsFor is_complete most there left
-reads_none is_complete most there left is = ([], needed_none is_complete most, ap (λ (content : Content). content.bytes) (sym is))
 
 -- the same of the fault that is handed on
 pub given_so : (told : Bool) (before new : List Slot) (work : Work) (opening : Needs) (most : ℕ) (content : Content) (WasRead : List ℕ → Type 0) (given fault : Fault) → given ≡ fault → FedAs told before work opening most content WasRead new (Err fault) → FedAs told before work opening most content WasRead new (Err given)

@@ -1,5 +1,5 @@
 -- Lemmas on one input of a run.
-use Rattle.std.proofs.Common.{arith, ◌≡◌, ℕ, ◌<◌, ◌≤◌, Bool, true, false, not, ◌&&◌, ◌||◌, IsTrue, if◌then◌else◌, List, [], ◌∷◌, length, take, Option, Some, None, Result, Ok, Err, refl, sym, ◌∙◌, ap, subst}
+use Rattle.std.proofs.Common.{arith, ◌≡◌, ℕ, ◌<◌, ◌≤◌, Bool, true, false, not, ◌&&◌, ◌||◌, IsTrue, if◌then◌else◌, List, [], ◌∷◌, length, take, Option, Some, None, IfSome, Result, Ok, Err, refl, sym, ◌∙◌, ap, subst}
 use Rattle.std.proofs.lemmas.Bool.{false≢true}
 use Rattle.ports_core.specs.Slot.{Slot, is_open, slot_at, is_writable, told_of, with_written}
 use Rattle.ports_core.specs.Write.{BrokeAfter}
@@ -20,7 +20,7 @@ use Rattle.ports_core.proofs.SlotLemmas.{length-changed_at}
 use Rattle.run_core.specs.declared.inputs.Progress.{Progress}
 use Rattle.run_core.specs.declared.feeding.Fed.{Fed}
 use Rattle.run_core.specs.declared.feeding.Fed.TheVariants.{Whole, Enough, Broken}
-use Rattle.run_core.specs.Feeding.{is_enough, Step, Stops, opens, FedAs, whole, had_enough, broke_off, judged, stopped, LeavesOf, ReadsFor}
+use Rattle.run_core.specs.Feeding.{is_enough, Step, Stops, opens, FedAs, whole, had_enough, broke_off, judged, stopped, is_stop, IsUnread, LeavesOf, Uses}
 use Rattle.ports_core.specs.Inputs.{BreaksOnly, OfContent, empty}
 use Rattle.run_core.specs.Reading.{IsDone, Leaves}
 use Rattle.run_core.specs.RunEnds.{unheaded, heading, calling, step_after}
@@ -182,7 +182,7 @@ module _ (told_in told : Bool) (task : Task) (most : ℕ) (is_first : Bool) (nam
   part_after error_now part reached there = subst (λ those. OutputsAt told (streams_with error_now) those reached) (after_assoc so_far (only_out (header_text task.with_header is_first name)) part) there
 
   -- it went well
-  went_well : (content : Content) (new : List Slot) → IsDone told_in task.work.is_complete most source (Some content) sources → is_enough task.work content ≡ true → task.work.verdict content.bytes ≡ None → OutputsAt told mid (task.work.whole content.bytes) new → TookSo content new (Ok (record progress { is_first = false }))
+  went_well : (content : Content) (new : List Slot) → IsDone told_in task.work most source (Some content) sources → is_enough task.work content ≡ true → task.work.verdict content.bytes ≡ None → OutputsAt told mid (task.work.whole content.bytes) new → TookSo content new (Ok (record progress { is_first = false }))
   went_well content new done enough well there =
       subst (λ outcome. TookInput told_in told task most outcome (header_text task.with_header is_first name) source (Some content) progress progress.was_read so_far error count sources new (Ok (record progress { is_first = false }))) (sym (made_well task is_first name content enough well))
       (took (record progress { is_first = false }) error new
@@ -190,7 +190,7 @@ module _ (told_in told : Bool) (task : Task) (most : ℕ) (is_first : Bool) (nam
       done refl (part_after error _ new (at_after told (streams_with error) _ _ mid new at there)) refl)
 
   -- a message is due
-  went_badly : (content : Content) (part : Part) (text : List ℕ) (reached old new : List Slot) → IsDone told_in task.work.is_complete most source (Some content) sources
+  went_badly : (content : Content) (part : Part) (text : List ℕ) (reached old new : List Slot) → IsDone told_in task.work most source (Some content) sources
       → of_content task is_first name (Some content) ≡ record { part = after_part (only_out (header_text task.with_header is_first name)) part; messages = text ∷ []; failed = true; sweeps = task.work.clears }
       → OutputsAt told mid part reached → Swept task.work.clears (length mid) reached old → SaysOn told task.tool text old new → TookSo content new (Ok (record progress { is_first = false; failed = true }))
   went_badly content part text reached old new done made there swept says =
@@ -200,22 +200,22 @@ module _ (told_in told : Bool) (task : Task) (most : ℕ) (is_first : Bool) (nam
       (ap (λ (b : Bool). record { was_read = progress.was_read; is_first = b; failed = true }) (sym (and_false progress.is_first)) ∙ ap (λ (b : Bool). record { was_read = progress.was_read; is_first = progress.is_first && false; failed = b }) (sym (or_true progress.failed)))
       done (said.0, said.1, refl) (part_after said.0 part said.2.0 said.2.1) said.2.2)
 
-  pub took_whole : (content : Content) (new : List Slot) (fed : Fed) → IsDone told_in task.work.is_complete most source (Some content) sources → fed ≡ Whole → FedAs told mid task.work task.opening most content (Leaves told_in content source sources) new (Ok fed) → TookSo content new (Ok (record progress { is_first = false }))
+  pub took_whole : (content : Content) (new : List Slot) (fed : Fed) → IsDone told_in task.work most source (Some content) sources → fed ≡ Whole → FedAs told mid task.work task.opening most content (Leaves told_in content source sources) new (Ok fed) → TookSo content new (Ok (record progress { is_first = false }))
   took_whole content new fed done is ends = from_whole (subst (λ those. FedAs told mid task.work task.opening most content (Leaves told_in content source sources) new (Ok those)) is ends) where
     from_whole : FedAs told mid task.work task.opening most content (Leaves told_in content source sources) new (Ok Whole) → TookSo content new (Ok (record progress { is_first = false }))
     from_whole (whole sound going well there) = went_well content new done (ended_enough task.work content sound) well there
 
-  pub took_enough : (content : Content) (new : List Slot) (fed : Fed) → IsDone told_in task.work.is_complete most source (Some content) sources → fed ≡ Enough → FedAs told mid task.work task.opening most content (Leaves told_in content source sources) new (Ok fed) → TookSo content new (Ok (record progress { is_first = false }))
+  pub took_enough : (content : Content) (new : List Slot) (fed : Fed) → IsDone told_in task.work most source (Some content) sources → fed ≡ Enough → FedAs told mid task.work task.opening most content (Leaves told_in content source sources) new (Ok fed) → TookSo content new (Ok (record progress { is_first = false }))
   took_enough content new fed done is ends = from_enough (subst (λ those. FedAs told mid task.work task.opening most content (Leaves told_in content source sources) new (Ok those)) is ends) where
     from_enough : FedAs told mid task.work task.opening most content (Leaves told_in content source sources) new (Ok Enough) → TookSo content new (Ok (record progress { is_first = false }))
     from_enough (had_enough complete well there) = went_well content new done (complete_enough task.work content complete) well there
 
-  pub took_broken : (content : Content) (old new : List Slot) (fed : Fed) → IsDone told_in task.work.is_complete most source (Some content) sources → fed ≡ Broken → FedAs told mid task.work task.opening most content (Leaves told_in content source sources) old (Ok fed) → SaysOn told task.tool (message_of task.tool (Read 0) name) old new → TookSo content new (Ok (record progress { is_first = false; failed = true }))
+  pub took_broken : (content : Content) (old new : List Slot) (fed : Fed) → IsDone told_in task.work most source (Some content) sources → fed ≡ Broken → FedAs told mid task.work task.opening most content (Leaves told_in content source sources) old (Ok fed) → SaysOn told task.tool (message_of task.tool (Read 0) name) old new → TookSo content new (Ok (record progress { is_first = false; failed = true }))
   took_broken content old new fed done is ends says = from_broken (subst (λ those. FedAs told mid task.work task.opening most content (Leaves told_in content source sources) old (Ok those)) is ends) where
     from_broken : FedAs told mid task.work task.opening most content (Leaves told_in content source sources) old (Ok Broken) → TookSo content new (Ok (record progress { is_first = false; failed = true }))
     from_broken (broke_off breaks going reached there swept) = went_badly content _ _ reached old new done (made_short task is_first name content (breaks_short task.work content breaks going)) there swept says
 
-  pub took_verdict : (content : Content) (old new : List Slot) (fault : Fault) → IsDone told_in task.work.is_complete most source (Some content) sources → is_verdict fault ≡ true → FedAs told mid task.work task.opening most content (Leaves told_in content source sources) old (Err fault) → SaysOn told task.tool (message_of task.tool fault (task.subject fault)) old new → TookSo content new (Ok (record progress { is_first = false; failed = true }))
+  pub took_verdict : (content : Content) (old new : List Slot) (fault : Fault) → IsDone told_in task.work most source (Some content) sources → is_verdict fault ≡ true → FedAs told mid task.work task.opening most content (Leaves told_in content source sources) old (Err fault) → SaysOn told task.tool (message_of task.tool fault (task.subject fault)) old new → TookSo content new (Ok (record progress { is_first = false; failed = true }))
   took_verdict content old new fault done judging (judged _ is enough judges reached there swept) says = went_badly content _ _ reached old new done (made_judged task is_first name content fault enough judges) there swept says
   took_verdict content old new fault done judging (stopped _ unjudged call is_call read reached why stop swept) says = absurd (false≢true (sym unjudged ∙ judging))
 
@@ -241,6 +241,13 @@ pub judged_open : (told : Bool) (work : Work) (opening : Needs) (most : ℕ) (er
 judged_open told work opening most error part mid new content WasRead fault judging opened at (judged _ is enough judges reached there swept) = swept_open told work.clears error _ reached new (length mid) (part_two told error part mid at) opened (at_after told (streams_with error) part _ mid reached at there) swept
 judged_open told work opening most error part mid new content WasRead fault judging opened at (stopped _ unjudged call is_call read reached why stop swept) = absurd (false≢true (sym unjudged ∙ judging))
 
+-- a fault that is no verdict stops
+pub stops_here : {P : Type 0} (fault : Fault) → is_verdict fault ≡ false → not (is_verdict fault) ≡ false → P
+stops_here fault unjudged ends = absurd (false≢true (sym ends ∙ ap not unjudged))
+
+pub unread_at : (source : Option ℕ) (slot : ℕ) (sources : List Source) → source ≡ Some slot → IfSome source (λ place. IsUnread (source_at sources place)) → IsUnread (source_at sources slot)
+unread_at source slot sources is unread = subst (λ from. IfSome from (λ place. IsUnread (source_at sources place))) is unread
+
 -- an engine that could not be opened
 pub not_opened : (told : Bool) (work : Work) (opening : Needs) (most : ℕ) (content : Content) (WasRead : List ℕ → Type 0) (old new : List Slot) (fault : Fault) → OpensShort work opening told old new fault → WasRead [] → FedAs told old work opening most content WasRead new (Err fault)
 not_opened told work opening most content WasRead old new fault short read = stopped fault short.unjudged _ opens read short.reached short.why short.stop short.swept
@@ -249,23 +256,23 @@ not_opened told work opening most content WasRead old new fault short read = sto
 pub fed_as : {S : Type 0} (Holds : S → List ℕ → Type 0) (Owns : S → ℕ → List Slot → Type 0) (work : S → Work) (Ready : S → List Slot → Type 0) (asked : Work) (opening : Needs) (told told_in : Bool) (old mid new : List Slot) (engine : GuardState S) (source : Option ℕ) (slot : ℕ) (sources left : List Source) (most : ℕ) (result : Result Fed Fault)
     → source ≡ Some slot → Opens Holds Owns work Ready asked told old mid engine → slot < length left
     → ((before : List Slot) (opening : Needs) → Owns engine.stage (length before) mid → OutputsAt told before ((work engine.stage).settled []) mid → OfContent told_in (source_at sources slot).left (λ content. FedAs told before (work engine.stage) opening most content (LeavesOf told_in content (source_at left slot)) new result × BreaksOnly told_in content (source_at left slot)))
-    → (told_in ≡ true → ReadsFor (work engine.stage).is_complete most (source_at sources slot).left (source_at left slot).left)
-    → OfSource told_in source sources (λ content. FedAs told old asked opening most content (Leaves told_in content source left) new result × IsDone told_in asked.is_complete most source (Some content) left)
-fed_as Holds Owns work Ready asked opening told told_in old mid new engine source slot sources left most result is had within feeds reads =
-    subst (λ from. OfSource told_in from sources (λ content. FedAs told old asked opening most content (Leaves told_in content from left) new result × IsDone told_in asked.is_complete most from (Some content) left)) (sym is)
-    (subst (λ (those : Work). OfContent told_in (source_at sources slot).left (λ content. FedAs told old those opening most content (LeavesOf told_in content (source_at left slot)) new result × IsDone told_in those.is_complete most (Some slot) (Some content) left)) had.does
-    (left_of told_in (work engine.stage).is_complete most slot (source_at sources slot).left left (λ content. FedAs told old (work engine.stage) opening most content (LeavesOf told_in content (source_at left slot)) new result) within reads
+    → (told_in ≡ true → is_stop result ≡ false → Uses (work engine.stage) most slot (source_at sources slot).left (source_at left slot))
+    → OfSource told_in source sources (λ content. FedAs told old asked opening most content (Leaves told_in content source left) new result × (is_stop result ≡ false → IsDone told_in asked most source (Some content) left))
+fed_as Holds Owns work Ready asked opening told told_in old mid new engine source slot sources left most result is had within feeds uses =
+    subst (λ from. OfSource told_in from sources (λ content. FedAs told old asked opening most content (Leaves told_in content from left) new result × (is_stop result ≡ false → IsDone told_in asked most from (Some content) left))) (sym is)
+    (subst (λ (those : Work). OfContent told_in (source_at sources slot).left (λ content. FedAs told old those opening most content (LeavesOf told_in content (source_at left slot)) new result × (is_stop result ≡ false → IsDone told_in those most (Some slot) (Some content) left))) had.does
+    (left_of told_in (work engine.stage) most slot (source_at sources slot).left left (λ content. FedAs told old (work engine.stage) opening most content (LeavesOf told_in content (source_at left slot)) new result) (is_stop result) within uses
     (feeds old opening had.owns (subst (λ (those : Work). OutputsAt told old (those.settled []) mid) (sym had.does) had.outputs))))
 
 pub fed_none : {S : Type 0} (Holds : S → List ℕ → Type 0) (Owns : S → ℕ → List Slot → Type 0) (work : S → Work) (Ready : S → List Slot → Type 0) (asked : Work) (opening : Needs) (told told_in : Bool) (old mid new : List Slot) (engine : GuardState S) (source : Option ℕ) (sources left : List Source) (most : ℕ) (result : Result Fed Fault)
     → source ≡ None → Opens Holds Owns work Ready asked told old mid engine
     → ((before : List Slot) (opening : Needs) (room : ℕ) → Owns engine.stage (length before) mid → OutputsAt told before ((work engine.stage).settled []) mid → FedAs told before (work engine.stage) opening room empty (λ read. Unit {0}) new result)
-    → OfSource told_in source sources (λ content. FedAs told old asked opening most content (Leaves told_in content source left) new result × IsDone told_in asked.is_complete most source (Some content) left)
+    → OfSource told_in source sources (λ content. FedAs told old asked opening most content (Leaves told_in content source left) new result × (is_stop result ≡ false → IsDone told_in asked most source (Some content) left))
 fed_none Holds Owns work Ready asked opening told told_in old mid new engine source sources left most result is had feeds =
-    subst (λ from. OfSource told_in from sources (λ content. FedAs told old asked opening most content (Leaves told_in content from left) new result × IsDone told_in asked.is_complete most from (Some content) left)) (sym is) (
+    subst (λ from. OfSource told_in from sources (λ content. FedAs told old asked opening most content (Leaves told_in content from left) new result × (is_stop result ≡ false → IsDone told_in asked most from (Some content) left))) (sym is) (
       subst (λ (those : Work). FedAs told old those opening most empty (λ read. Unit {0}) new result) had.does
           (feeds old opening most had.owns (subst (λ (those : Work). OutputsAt told old (those.settled []) mid) (sym had.does) had.outputs)),
-      tt,
+      λ ends. tt,
     )
 
 -- no input but that of the source was touched

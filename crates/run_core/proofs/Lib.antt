@@ -6,3 +6,4 @@ pub mod InputLemmas
 pub mod NamesLemmas
 pub mod RunLemmas
 pub mod LoadLemmas
+pub mod UsedLemmas

@@ -4,11 +4,10 @@ use Rattle.std.proofs.lemmas.List.{append-nil}
 use Rattle.ports_core.specs.Slot.{Slot}
 use Rattle.ports_core.specs.Source.{Source, source_at, is_readable, skips}
 use Rattle.ports_core.specs.Part.{OutputsAt}
-use Rattle.ports_core.specs.Work.{Work}
+use Rattle.ports_core.specs.Work.{Work, IsNeeded}
 use Rattle.ports_core.specs.Engine.{Loads}
 use Rattle.ports_core.specs.Guard.{GuardState}
 use Rattle.ports_core.proofs.LoadLemmas.{passed_at}
-use Rattle.run_core.specs.Feeding.{IsNeeded}
 use Rattle.ports_core.specs.Inputs.{KeepsOthers}
 use Rattle.run_core.proofs.FeedingLemmas.{Feeds}
 use Rattle.ports_core.proofs.InputsLemmas.{HasRead, keeps_others}

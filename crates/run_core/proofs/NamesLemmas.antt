@@ -125,7 +125,7 @@ took_missing told_in told task most progress name sources after slot so_far erro
     (ap (λ (b : Bool). record { was_read = b; is_first = progress.is_first; failed = true }) (sym (ap (λ (b : Bool). progress.was_read || b) differs ∙ or_false progress.was_read))
     ∙ ap (λ (b : Bool). record { was_read = progress.was_read || is_dash name; is_first = b; failed = true }) (sym (and_true progress.is_first))
     ∙ ap (λ (b : Bool). record { was_read = progress.was_read || is_dash name; is_first = progress.is_first && true; failed = b }) (sym (or_true progress.failed)))
-    (missing_done told_in task.work.is_complete most sources after are)
+    (missing_done told_in task.work most sources after are)
     (said.0, said.1, refl)
     (subst (λ part. OutputsAt told (streams_with said.0) part new) (sym (nothing_after so_far)) said.2) refl
 
@@ -221,7 +221,7 @@ pub record Walked (told_in told : Bool) (task : Task) (world : World) (names lef
   pub laid_same : laid ≡ world.laid
   pub standard : progress.was_read ≡ false → source_at sources 0 ≡ source_of world.standard
   pub some : 0 < length sources
-  pub known : StayDone told_in task.work.is_complete largest_piece progress.was_read done sources
+  pub known : StayDone told_in task.work largest_piece progress.was_read done sources
   pub asked : AsksAtMost largest_piece sources
   pub count : count_after (length sources) left ≡ count_after 1 names
 
@@ -351,10 +351,10 @@ walk_goes_on told_in told task world names name left progress next laid new_laid
             laid_same = same ∙ walked.laid_same;
             standard = λ unread. let both = neither progress.was_read (is_dash name) (sym was ∙ unread) in leaves.unasked both.1 ∙ walked.standard both.0;
             some = subst (λ n. 0 < n) (sym opens) (more_some (is_dash name));
-            known = subst (λ (b : Bool). StayDone told_in task.work.is_complete largest_piece b (walked.done ++ input ∷ []) new_sources) (sym was)
-                (done_more told_in task.work.is_complete largest_piece (progress.was_read || is_dash name) walked.done input new_sources
-                (still_done told_in task.work.is_complete largest_piece largest_piece progress.was_read (progress.was_read || is_dash name) name walked.done sources new_sources (λ had. ap (λ (b : Bool). b || is_dash name) had) leaves walked.known)
-                (done_with told_in task.work.is_complete largest_piece progress.was_read (length sources) name input new_sources is_for walked.some is_done));
+            known = subst (λ (b : Bool). StayDone told_in task.work largest_piece b (walked.done ++ input ∷ []) new_sources) (sym was)
+                (done_more told_in task.work largest_piece (progress.was_read || is_dash name) walked.done input new_sources
+                (still_done told_in task.work largest_piece largest_piece progress.was_read (progress.was_read || is_dash name) name walked.done sources new_sources (λ had. ap (λ (b : Bool). b || is_dash name) had) leaves walked.known)
+                (done_with told_in task.work largest_piece progress.was_read (length sources) name input new_sources is_for walked.some is_done));
             asked = leaves.asked walked.asked;
             count = sym (ap (λ n. count_after n left) (sym opens)) ∙ walked.count;
           } where
@@ -385,8 +385,8 @@ walk_stops told_in told task world names name left progress laid sources new_sou
               there = λ t. ap (λ (first : Input). walked.done ++ first ∷ rest) (there t ∙ same_input world progress.was_read (length sources) name (is_dash name) laid sources walked.laid_same walked.standard) ∙ walked.rest_there t;
             },
             stopped_at fault walked.done input rest walked.error step reached refl
-                (all_done told_in task.work.is_complete largest_piece (progress.was_read || is_dash name) walked.done new_sources
-                (still_done told_in task.work.is_complete largest_piece largest_piece progress.was_read (progress.was_read || is_dash name) name walked.done sources new_sources (λ had. ap (λ (b : Bool). b || is_dash name) had) leaves walked.known))
+                (all_done told_in task.work largest_piece (progress.was_read || is_dash name) walked.done new_sources
+                (still_done told_in task.work largest_piece largest_piece progress.was_read (progress.was_read || is_dash name) name walked.done sources new_sources (λ had. ap (λ (b : Bool). b || is_dash name) had) leaves walked.known))
                 (rest_untouched world (progress.was_read || is_dash name) (next_slot (length sources) name) left new_sources
                 (λ unread. let both = neither progress.was_read (is_dash name) unread in leaves.unasked both.1 ∙ walked.standard both.0) leaves.within)
                 (subst (λ (outcome : Outcome). RunStep told_in task largest_piece outcome.part (header_text task.with_header (are_missing walked.done) input.name) input.slot new_sources input.content step) (sym before)
@@ -419,7 +419,7 @@ walk_ends told_in told task world names left progress laid sources slots none wa
           (subst (λ (those : Outcome). SaysAll told task.tool those.messages standard_error walked.error) (sym made) walked.says)
           (subst (λ (those : Outcome). OutputsAt told (streams_with walked.error) those.part walked.reached) (sym made) walked.at)
           (subst (λ (those : Outcome). Swept those.sweeps 2 walked.reached slots) (sym made) walked.swept)
-          (all_done_nil told_in task.work.is_complete largest_piece walked.done sources (all_done told_in task.work.is_complete largest_piece progress.was_read walked.done sources walked.known)),
+          (all_done_nil told_in task.work largest_piece walked.done sources (all_done told_in task.work largest_piece progress.was_read walked.done sources walked.known)),
     )
 
 pub walk_counts : (told_in told : Bool) (task : Task) (world : World) (names left : List (List ℕ)) (progress : Progress) (laid : ℕ → List ℕ → Option Content) (sources : List Source) (slots : List Slot) → left ≡ []

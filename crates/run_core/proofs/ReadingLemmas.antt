@@ -6,14 +6,14 @@ use native.Mathlib.Decide.{ℕ_discrete}
 use Rattle.ports_core.specs.Source.{Content, Source, source_at, source_of, is_readable, missing, Opens, OpensNothing}
 use Rattle.ports_core.specs.Source as from
 use Rattle.ports_core.specs.declared.fault.Fault.{Fault}
-use Rattle.run_core.specs.Feeding.{ReadsFor}
+use Rattle.ports_core.specs.Work.{Work}
+use Rattle.run_core.specs.Feeding.{IsUnread, Uses}
 use Rattle.ports_core.specs.Inputs.{BreaksOnly, KeepsOthers, OfContent, AsksAtMost, empty}
 use Rattle.run_core.specs.Input.{Input, World, IsFor, is_dash, input_of, inputs_from, next_slot}
 use Rattle.run_core.specs.Reading.{AreDone, AreUntouched, IsDone, IsLeft, IsUntouched, Leaves, count_after}
 use Rattle.run_core.specs.inner.Reading.{TakesOne}
 use Rattle.run_core.specs.inner.RunSteps.{KeepsOther, OfSource, standard_source}
 use Rattle.ports_core.proofs.SourceLemmas.{readable_within}
-use Rattle.run_core.proofs.FeedingLemmas.{reads_none}
 use Rattle.ports_core.proofs.InputsLemmas.{keeps_itself, sound_at}
 
 -- one input more
@@ -49,14 +49,11 @@ asks_from most slot source old new is keeps there = asks_there most slot old new
 -- what is left of the input of a source
 
 -- an input of which nothing was read
-pub unread_source : (told : Bool) (is_complete : List ℕ → Bool) (most : ℕ) (source : Option ℕ) (sources : List Source) (Q : Content → Type 0) → IfSome source (λ slot. IsTrue (is_readable sources slot))
-    → ((content : Content) → Leaves told content source sources [] → IsDone told is_complete most source (Some content) sources → Q content) → OfSource told source sources Q
-unread_source told is_complete most None sources Q can holds = holds empty tt tt
-unread_source true is_complete most (Some slot) sources Q can holds =
-    let there = (source_at sources slot).left in
-    (there, λ t. refl, holds there (sound_at sources slot can, λ t. refl) (readable_within sources slot can, (λ t. reads_none is_complete most there there refl, λ untold. absurd (false≢true (sym untold)))))
-unread_source false is_complete most (Some slot) sources Q can holds =
-    (empty, λ t. absurd (false≢true t), holds empty (sound_at sources slot can, λ t. absurd (false≢true t)) (readable_within sources slot can, (λ t. absurd (false≢true t), λ untold breaks. absurd (false≢true breaks))))
+pub unread_source : (told : Bool) (source : Option ℕ) (sources : List Source) (Q : Content → Type 0) → IfSome source (λ slot. IsTrue (is_readable sources slot))
+    → ((content : Content) → Leaves told content source sources [] → Q content) → OfSource told source sources Q
+unread_source told None sources Q can holds = holds empty tt
+unread_source true (Some slot) sources Q can holds = ((source_at sources slot).left, λ t. refl, holds (source_at sources slot).left (sound_at sources slot can, λ t. refl))
+unread_source false (Some slot) sources Q can holds = (empty, λ t. absurd (false≢true t), holds empty (sound_at sources slot can, λ t. absurd (false≢true t)))
 
 -- an input that could be read is still there
 pub still_within : (source : Option ℕ) (slot : ℕ) (old new : List Source) → source ≡ Some slot → IfSome source (λ slot. IsTrue (is_readable old slot)) → KeepsOthers slot old new → slot < length new
@@ -64,11 +61,15 @@ still_within source slot old new is can keeps =
     let within : slot < length old = readable_within old slot (subst (λ from. IfSome from (λ slot. IsTrue (is_readable old slot))) is can) in
     omega (arith, within, keeps.count)
 
--- an input that was fed to an engine
-pub left_of : (told : Bool) (is_complete : List ℕ → Bool) (most slot : ℕ) (there : Content) (sources : List Source) (P : Content → Type 0) → slot < length sources → (told ≡ true → ReadsFor is_complete most there (source_at sources slot).left)
-    → OfContent told there (λ content. P content × BreaksOnly told content (source_at sources slot)) → OfContent told there (λ content. P content × IsDone told is_complete most (Some slot) (Some content) sources)
-left_of told is_complete most slot there sources P within reads (content, is, holds) =
-    (content, is, (holds.0, (within, (λ t. subst (λ (those : Content). ReadsFor is_complete most those (source_at sources slot).left) (sym (is t)) (reads t), holds.1))))
+-- an input that was fed to an engine, unless a fault stopped it
+pub left_of : (told : Bool) (work : Work) (most slot : ℕ) (there : Content) (sources : List Source) (P : Content → Type 0) (stops : Bool) → slot < length sources → (told ≡ true → stops ≡ false → Uses work most slot there (source_at sources slot))
+    → OfContent told there (λ content. P content × BreaksOnly told content (source_at sources slot)) → OfContent told there (λ content. P content × (stops ≡ false → IsDone told work most (Some slot) (Some content) sources))
+left_of told work most slot there sources P stops within uses (content, is, holds) =
+    (content, is, (holds.0, λ ends. (within, (λ t. subst (λ (those : Content). Uses work most slot those (source_at sources slot)) (sym (is t)) (uses t ends), holds.1))))
+
+-- nothing was taken of an input that was just opened
+pub nothing_taken : (sources : List Source) (slot : ℕ) (content : Content) → source_at sources slot ≡ source_of content → IsUnread (source_at sources slot)
+nothing_taken sources slot content is = (ap (λ (source : Source). source.taken) is, ap (λ (source : Source). source.reached) is)
 
 -- what taking a name leaves
 
@@ -131,70 +132,70 @@ takes_missing told laid most was_read name old new fault differs some (from.brok
 takes_missing told laid most was_read name old new fault differs some (from.no_room is) = takes_none most was_read name old new is
 
 -- a file that could not be opened is not open
-pub missing_done : (told : Bool) (is_complete : List ℕ → Bool) (most : ℕ) (old new : List Source) → new ≡ old ++ missing ∷ [] → IsDone told is_complete most (Some (length old)) None new
-missing_done told is_complete most old new is = (
+pub missing_done : (told : Bool) (work : Work) (most : ℕ) (old new : List Source) → new ≡ old ++ missing ∷ [] → IsDone told work most (Some (length old)) None new
+missing_done told work most old new is = (
   omega (arith, ap length is, one_more old missing),
   ap (λ those. (source_at those (length old)).is_open) is ∙ ap (λ (source : Source). source.is_open) (last_source old missing),
 )
 
 -- the inputs that were done stay so
 
-abbrev pub StaysDone : Bool → (List ℕ → Bool) → ℕ → Bool → Option ℕ → Option Content → List Source → Type 0
-StaysDone told is_complete most was_read None content sources = Unit {0}
-StaysDone told is_complete most was_read (Some slot) content sources = (slot ≡ 0 → was_read ≡ true) × IsDone told is_complete most (Some slot) content sources
+abbrev pub StaysDone : Bool → Work → ℕ → Bool → Option ℕ → Option Content → List Source → Type 0
+StaysDone told work most was_read None content sources = Unit {0}
+StaysDone told work most was_read (Some slot) content sources = (slot ≡ 0 → was_read ≡ true) × IsDone told work most (Some slot) content sources
 
-abbrev pub StayDone : Bool → (List ℕ → Bool) → ℕ → Bool → List Input → List Source → Type 0
-StayDone told is_complete most was_read [] sources = Unit {0}
-StayDone told is_complete most was_read (input ∷ inputs) sources = StaysDone told is_complete most was_read input.slot input.content sources × StayDone told is_complete most was_read inputs sources
+abbrev pub StayDone : Bool → Work → ℕ → Bool → List Input → List Source → Type 0
+StayDone told work most was_read [] sources = Unit {0}
+StayDone told work most was_read (input ∷ inputs) sources = StaysDone told work most was_read input.slot input.content sources × StayDone told work most was_read inputs sources
 
-still_done_at : (told : Bool) (is_complete : List ℕ → Bool) (most room : ℕ) (was_read now_read : Bool) (name : List ℕ) (slot : Option ℕ) (content : Option Content) (old new : List Source) → (was_read ≡ true → now_read ≡ true) → TakesOne room was_read name old new
-    → StaysDone told is_complete most was_read slot content old → StaysDone told is_complete most now_read slot content new
-still_done_at told is_complete most room was_read now_read name None content old new reads takes done = tt
-still_done_at told is_complete most room was_read now_read name (Some zero) content old new reads takes done =
+still_done_at : (told : Bool) (work : Work) (most room : ℕ) (was_read now_read : Bool) (name : List ℕ) (slot : Option ℕ) (content : Option Content) (old new : List Source) → (was_read ≡ true → now_read ≡ true) → TakesOne room was_read name old new
+    → StaysDone told work most was_read slot content old → StaysDone told work most now_read slot content new
+still_done_at told work most room was_read now_read name None content old new reads takes done = tt
+still_done_at told work most room was_read now_read name (Some zero) content old new reads takes done =
     let is_read : was_read ≡ true = done.0 refl in
     let grown : length old ≤ length new = takes.grown in
     let within : 0 < length old = done.1.0 in
-    (λ _. reads is_read, (omega (arith, grown, within), subst (IsLeft told is_complete most content) (sym (takes.again is_read)) done.1.1))
-still_done_at told is_complete most room was_read now_read name (Some (suc slot)) content old new reads takes done =
+    (λ _. reads is_read, (omega (arith, grown, within), subst (IsLeft told work most 0 content) (sym (takes.again is_read)) done.1.1))
+still_done_at told work most room was_read now_read name (Some (suc slot)) content old new reads takes done =
     let grown : length old ≤ length new = takes.grown in
     let within : suc slot < length old = done.1.0 in
-    (λ is. absurd (omega (arith, is)), (omega (arith, grown, within), subst (IsLeft told is_complete most content) (sym (takes.files (suc slot) (omega arith) within)) done.1.1))
+    (λ is. absurd (omega (arith, is)), (omega (arith, grown, within), subst (IsLeft told work most (suc slot) content) (sym (takes.files (suc slot) (omega arith) within)) done.1.1))
 
-pub still_done : (told : Bool) (is_complete : List ℕ → Bool) (most room : ℕ) (was_read now_read : Bool) (name : List ℕ) (inputs : List Input) (old new : List Source) → (was_read ≡ true → now_read ≡ true) → TakesOne room was_read name old new
-    → StayDone told is_complete most was_read inputs old → StayDone told is_complete most now_read inputs new
-still_done told is_complete most room was_read now_read name [] old new reads takes done = tt
-still_done told is_complete most room was_read now_read name (input ∷ inputs) old new reads takes done =
-    (still_done_at told is_complete most room was_read now_read name input.slot input.content old new reads takes done.0, still_done told is_complete most room was_read now_read name inputs old new reads takes done.1)
+pub still_done : (told : Bool) (work : Work) (most room : ℕ) (was_read now_read : Bool) (name : List ℕ) (inputs : List Input) (old new : List Source) → (was_read ≡ true → now_read ≡ true) → TakesOne room was_read name old new
+    → StayDone told work most was_read inputs old → StayDone told work most now_read inputs new
+still_done told work most room was_read now_read name [] old new reads takes done = tt
+still_done told work most room was_read now_read name (input ∷ inputs) old new reads takes done =
+    (still_done_at told work most room was_read now_read name input.slot input.content old new reads takes done.0, still_done told work most room was_read now_read name inputs old new reads takes done.1)
 
-pub done_more : (told : Bool) (is_complete : List ℕ → Bool) (most : ℕ) (was_read : Bool) (inputs : List Input) (input : Input) (sources : List Source) → StayDone told is_complete most was_read inputs sources → StaysDone told is_complete most was_read input.slot input.content sources
-    → StayDone told is_complete most was_read (inputs ++ input ∷ []) sources
-done_more told is_complete most was_read [] input sources done one = (one, tt)
-done_more told is_complete most was_read (first ∷ inputs) input sources done one = (done.0, done_more told is_complete most was_read inputs input sources done.1 one)
+pub done_more : (told : Bool) (work : Work) (most : ℕ) (was_read : Bool) (inputs : List Input) (input : Input) (sources : List Source) → StayDone told work most was_read inputs sources → StaysDone told work most was_read input.slot input.content sources
+    → StayDone told work most was_read (inputs ++ input ∷ []) sources
+done_more told work most was_read [] input sources done one = (one, tt)
+done_more told work most was_read (first ∷ inputs) input sources done one = (done.0, done_more told work most was_read inputs input sources done.1 one)
 
-done_at : (told : Bool) (is_complete : List ℕ → Bool) (most : ℕ) (was_read : Bool) (slot : Option ℕ) (content : Option Content) (sources : List Source) → StaysDone told is_complete most was_read slot content sources → IsDone told is_complete most slot content sources
-done_at told is_complete most was_read None content sources done = tt
-done_at told is_complete most was_read (Some slot) content sources done = done.1
+done_at : (told : Bool) (work : Work) (most : ℕ) (was_read : Bool) (slot : Option ℕ) (content : Option Content) (sources : List Source) → StaysDone told work most was_read slot content sources → IsDone told work most slot content sources
+done_at told work most was_read None content sources done = tt
+done_at told work most was_read (Some slot) content sources done = done.1
 
-pub all_done : (told : Bool) (is_complete : List ℕ → Bool) (most : ℕ) (was_read : Bool) (inputs : List Input) (sources : List Source) → StayDone told is_complete most was_read inputs sources → AreDone told is_complete most inputs sources
-all_done told is_complete most was_read [] sources done = tt
-all_done told is_complete most was_read (input ∷ inputs) sources done = (done_at told is_complete most was_read input.slot input.content sources done.0, all_done told is_complete most was_read inputs sources done.1)
+pub all_done : (told : Bool) (work : Work) (most : ℕ) (was_read : Bool) (inputs : List Input) (sources : List Source) → StayDone told work most was_read inputs sources → AreDone told work most inputs sources
+all_done told work most was_read [] sources done = tt
+all_done told work most was_read (input ∷ inputs) sources done = (done_at told work most was_read input.slot input.content sources done.0, all_done told work most was_read inputs sources done.1)
 
-pub all_done_nil : (told : Bool) (is_complete : List ℕ → Bool) (most : ℕ) (inputs : List Input) (sources : List Source) → AreDone told is_complete most inputs sources → AreDone told is_complete most (inputs ++ []) sources
-all_done_nil told is_complete most [] sources done = tt
-all_done_nil told is_complete most (input ∷ inputs) sources done = (done.0, all_done_nil told is_complete most inputs sources done.1)
+pub all_done_nil : (told : Bool) (work : Work) (most : ℕ) (inputs : List Input) (sources : List Source) → AreDone told work most inputs sources → AreDone told work most (inputs ++ []) sources
+all_done_nil told work most [] sources done = tt
+all_done_nil told work most (input ∷ inputs) sources done = (done.0, all_done_nil told work most inputs sources done.1)
 
 -- the input of a name that was taken stays done
-done_for : (told : Bool) (is_complete : List ℕ → Bool) (most : ℕ) (world : World) (was_read : Bool) (count : ℕ) (name : List ℕ) (dash : Bool) (sources : List Source) → 0 < count
-    → (let input = input_of world was_read count name dash in IsDone told is_complete most input.slot input.content sources → StaysDone told is_complete most (was_read || dash) input.slot input.content sources)
-done_for told is_complete most world true count name true sources some done = tt
-done_for told is_complete most world false count name true sources some done = (λ _. refl, done)
-done_for told is_complete most world was_read count name false sources some done = (λ is. absurd (omega (arith, some, is)), done)
+done_for : (told : Bool) (work : Work) (most : ℕ) (world : World) (was_read : Bool) (count : ℕ) (name : List ℕ) (dash : Bool) (sources : List Source) → 0 < count
+    → (let input = input_of world was_read count name dash in IsDone told work most input.slot input.content sources → StaysDone told work most (was_read || dash) input.slot input.content sources)
+done_for told work most world true count name true sources some done = tt
+done_for told work most world false count name true sources some done = (λ _. refl, done)
+done_for told work most world was_read count name false sources some done = (λ is. absurd (omega (arith, some, is)), done)
 
-pub done_with : (told : Bool) (is_complete : List ℕ → Bool) (most : ℕ) (was_read : Bool) (count : ℕ) (name : List ℕ) (input : Input) (sources : List Source) → IsFor was_read count name input → 0 < count
-    → IsDone told is_complete most input.slot input.content sources → StaysDone told is_complete most (was_read || is_dash name) input.slot input.content sources
-done_with told is_complete most was_read count name input sources (world, is) some done =
-    subst (λ (those : Input). StaysDone told is_complete most (was_read || is_dash name) those.slot those.content sources) (sym is)
-    (done_for told is_complete most world was_read count name (is_dash name) sources some (subst (λ (those : Input). IsDone told is_complete most those.slot those.content sources) is done))
+pub done_with : (told : Bool) (work : Work) (most : ℕ) (was_read : Bool) (count : ℕ) (name : List ℕ) (input : Input) (sources : List Source) → IsFor was_read count name input → 0 < count
+    → IsDone told work most input.slot input.content sources → StaysDone told work most (was_read || is_dash name) input.slot input.content sources
+done_with told work most was_read count name input sources (world, is) some done =
+    subst (λ (those : Input). StaysDone told work most (was_read || is_dash name) those.slot those.content sources) (sym is)
+    (done_for told work most world was_read count name (is_dash name) sources some (subst (λ (those : Input). IsDone told work most those.slot those.content sources) is done))
 
 -- the inputs after the place where a run was stopped were not touched
 

@@ -1,10 +1,10 @@
 -- What becomes of an input that is fed to an engine piece by piece.
-use Rattle.std.specs.Prelude.{◌≡◌, ℕ, ◌≤◌, ◌^◌, Bool, true, false, not, ◌||◌, List, [], ◌++◌, length, ◌⊎◌, None, Result, Ok, Err, if◌then◌else◌}
+use Rattle.std.specs.Prelude.{◌≡◌, ℕ, ◌≤◌, ◌^◌, Bool, true, false, not, ◌||◌, List, [], ◌+◌, ◌++◌, length, ◌⊎◌, None, Result, Ok, Err, if◌then◌else◌}
 use Rattle.ports_core.specs.Slot.{Slot, slot_at}
 use Rattle.ports_core.specs.Source.{Content, Source}
 use Rattle.ports_core.specs.Part.{Part, OutputsAt, StoppedBetween, nothing}
 use Rattle.ports_core.specs.Swept.{Swept}
-use Rattle.ports_core.specs.Work.{Work, Needs, Judges}
+use Rattle.ports_core.specs.Work.{Work, Needs, Judges, IsNeeded}
 use Rattle.ports_core.specs.Engine.{is_verdict}
 use Rattle.ports_core.specs.declared.fault.Fault.{Fault}
 use Rattle.run_core.specs.declared.feeding.Fed.{Fed}
@@ -50,13 +50,6 @@ Stops step now Failed = ⊥
 pub data HasAll (work : Work) (content : Content) (x : List ℕ) : Type 0 where
   to_end : content.breaks_off ≡ false → content.bytes ≡ x → HasAll work content x
   enough : (rest : List ℕ) → content.bytes ≡ x ++ rest → work.is_complete x ≡ true → HasAll work content x
-
--- What was read of an input was needed: the last piece has at most `most` bytes, and the output of those before it was
--- not complete.
-abbrev pub IsNeeded : (List ℕ → Bool) → ℕ → List ℕ → Type 0
-IsNeeded is_complete most x = (x ≡ [])
-    ⊎ ((before : List ℕ) × (piece : List ℕ) × (x ≡ before ++ piece) × (length piece ≤ most)
-    × (is_complete before ≡ false))
 
 -- a call of an engine, which may need this
 abbrev pub call_of : Work → Needs → List ℕ → Part → Part → Step
@@ -108,6 +101,26 @@ pub data FedAs (told : Bool) (before : List Slot) (work : Work) (opening : Needs
 abbrev pub LeavesOf : Bool → Content → Source → List ℕ → Type 0
 LeavesOf told content source read = (source.is_broken ≡ false)
     × (told ≡ true → content.bytes ≡ read ++ source.left.bytes)
+
+-- a fault that stops the run: one that is no verdict
+abbrev pub is_stop : Result Fed Fault → Bool
+is_stop (Ok fed) = false
+is_stop (Err fault) = not (is_verdict fault)
+
+-- nothing was taken from the source
+abbrev pub IsUnread : Source → Type 0
+IsUnread source = (source.taken ≡ []) × (source.reached ≡ 0)
+
+-- What is left of an input that was done: all but what was read of it. That was enough, for nothing is left or the
+-- output was complete with it; and it was needed, where the work ends well to the last byte. Of standard input, which
+-- others may read after it, reads gave at most `ahead` bytes more.
+pub record Uses (work : Work) (most slot : ℕ) (there : Content) (source : Source) : Type 0 where
+  pub read : List ℕ
+  pub joined : there.bytes ≡ read ++ source.left.bytes
+  pub enough : (source.left.bytes ≡ []) ⊎ (work.is_complete read ≡ true)
+  pub needed : IsNeeded work.is_complete most read
+  pub exact : work.verdict read ≡ None → IsNeeded work.is_complete 1 read
+  pub few : slot ≡ 0 → source.reached ≤ length read + work.ahead
 
 -- of the input that was there, this is left, and what was read was needed
 abbrev pub ReadsFor : (List ℕ → Bool) → ℕ → Content → Content → Type 0

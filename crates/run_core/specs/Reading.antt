@@ -1,28 +1,28 @@
 -- What a run leaves of its inputs.
 use Rattle.std.specs.Prelude.{◌≡◌, ℕ, ◌≤◌, ◌<◌, Bool, true, false, List, [], ◌∷◌, ◌⊎◌, length, Option, Some, None}
 use Rattle.ports_core.specs.Source.{Content, Source, source_at, source_of}
-use Rattle.run_core.specs.Feeding.{LeavesOf, ReadsFor}
+use Rattle.ports_core.specs.Work.{Work}
+use Rattle.run_core.specs.Feeding.{LeavesOf, Uses}
 use Rattle.ports_core.specs.Inputs.{BreaksOnly}
 use Rattle.run_core.specs.Input.{Input, next_slot}
 
--- What is left of an input that was done, which was read from this source: where inputs tell their bytes, no more was
--- read than was needed; where they don't, it breaks off only where the source is broken. What could not be opened is
--- not open.
-abbrev pub IsLeft : Bool → (List ℕ → Bool) → ℕ → Option Content → Source → Type 0
-IsLeft told is_complete most None source = source.is_open ≡ false
-IsLeft told is_complete most (Some content) source = (told ≡ true → ReadsFor is_complete most content source.left)
+-- What is left of an input that was done, which was read from this source: where inputs tell their bytes, all but what
+-- was used; where they don't, it breaks off only where the source is broken. What could not be opened is not open.
+abbrev pub IsLeft : Bool → Work → ℕ → ℕ → Option Content → Source → Type 0
+IsLeft told work most slot None source = source.is_open ≡ false
+IsLeft told work most slot (Some content) source = (told ≡ true → Uses work most slot content source)
     × BreaksOnly told content source
 
 -- the same of an input by its number, under which it was opened; a second `-` has none
-abbrev pub IsDone : Bool → (List ℕ → Bool) → ℕ → Option ℕ → Option Content → List Source → Type 0
-IsDone told is_complete most None content sources = Unit {0}
-IsDone told is_complete most (Some slot) content sources = (slot < length sources)
-    × IsLeft told is_complete most content (source_at sources slot)
+abbrev pub IsDone : Bool → Work → ℕ → Option ℕ → Option Content → List Source → Type 0
+IsDone told work most None content sources = Unit {0}
+IsDone told work most (Some slot) content sources = (slot < length sources)
+    × IsLeft told work most slot content (source_at sources slot)
 
-abbrev pub AreDone : Bool → (List ℕ → Bool) → ℕ → List Input → List Source → Type 0
-AreDone told is_complete most [] sources = Unit {0}
-AreDone told is_complete most (input ∷ inputs) sources = IsDone told is_complete most input.slot input.content sources
-    × AreDone told is_complete most inputs sources
+abbrev pub AreDone : Bool → Work → ℕ → List Input → List Source → Type 0
+AreDone told work most [] sources = Unit {0}
+AreDone told work most (input ∷ inputs) sources = IsDone told work most input.slot input.content sources
+    × AreDone told work most inputs sources
 
 -- the same as `LeavesOf`, of an input by its number
 abbrev pub Leaves : Bool → Content → Option ℕ → List Source → List ℕ → Type 0

@@ -71,11 +71,11 @@ pub data EndsAs (told_in told : Bool) (task : Task) (inputs : List Input) (sourc
       → SaysAll told task.tool (made_by task inputs).messages standard_error error
       → OutputsAt told (streams_with error) (made_by task inputs).part reached
       → Swept (made_by task inputs).sweeps 2 reached new
-      → AreDone told_in task.work.is_complete largest_piece inputs sources → status ≡ status_of (made_by task inputs)
+      → AreDone told_in task.work largest_piece inputs sources → status ≡ status_of (made_by task inputs)
       → EndsAs told_in told task inputs sources new status
   stopped : (fault : Fault) (before : List Input) (input : Input) (after : List Input) (error : Slot) (step : Step)
       (reached : List Slot)
-      → inputs ≡ before ++ input ∷ after → AreDone told_in task.work.is_complete largest_piece before sources
+      → inputs ≡ before ++ input ∷ after → AreDone told_in task.work largest_piece before sources
       → AreUntouched after sources
       → RunStep told_in task largest_piece (made_by task before).part
       (header_text task.with_header (are_missing before) input.name) input.slot sources input.content step

@@ -1,13 +1,13 @@
 //! Feeding an engine one input, piece by piece.
 ghost use Rattle.std.specs.Prelude.{◌≡◌, ◌^◌, ◌<◌, ◌≤◌, ℕ, List, [], true, false, length, IsTrue, IfOk, IfErr, OnOk};
-ghost use Rattle.ports_core.specs.Slot.{Slot};
-ghost use Rattle.ports_core.specs.Source.{source_at, is_readable};
+ghost use Rattle.ports_core.specs.Slot.{Slot, changed_at};
+ghost use Rattle.ports_core.specs.Source.{source_at, is_readable, gives, fails, Gave, BrokeOff};
 ghost use Rattle.ports_core.specs.Part.{OutputsAt};
 ghost use Rattle.ports_core.specs.Work.{Needs};
 ghost use Rattle.ports_core.specs.Guard.{HoldsIn};
 ghost use Rattle.ports_core.specs.Engine.{Clears, KeepsOwn, is_verdict};
 ghost use Rattle.ports_core.specs.Inputs.{empty, BreaksOnly, KeepsOthers, OfContent};
-ghost use Rattle.run_core.specs.Feeding.{FedAs, LeavesOf, ReadsFor};
+ghost use Rattle.run_core.specs.Feeding.{FedAs, IsUnread, LeavesOf, ReadsFor, Uses, is_stop};
 ghost use Rattle.run_core.specs.inner.Feeding.{EndsSo};
 
 use ports_core::{Fault, Guarded, Inputs, Outs, Stage};
@@ -24,9 +24,10 @@ pub enum Fed {
 }
 
 /// Feeds an engine all of an input until it is done with it: first what it takes in without a read, and then pieces of at
-/// most the buffer's length. Then, or at the end of the input, the engine is closed. Where the input breaks off before
-/// that, and after a fault, the engine gives its files up. The engine was opened before; what that may have needed
-/// (`opening` in the clause) is the caller's to say.
+/// most the buffer's length; of standard input pieces of no more than it wants at once. What it doesn't use of the last
+/// piece is given back. Then, or at the end of the input, the engine is closed. Where the input breaks off before that,
+/// and after a fault, the engine gives its files up. The engine was opened before; what that may have needed (`opening`
+/// in the clause) is the caller's to say.
 ///
 /// # Errors
 ///
@@ -49,6 +50,7 @@ pub fn feed_input<S: Stage, I: Inputs, O: Outs>(
         (λ content. FedAs O.told before (S.work engine.old.stage) opening (length buffer.old) content (LeavesOf I.told content (source_at (I.sources inputs.new) slot)) (O.slots outs.new) result
         × BreaksOnly I.told content (source_at (I.sources inputs.new) slot)) }
     ensures reads { I.told ≡ true → ReadsFor (S.work engine.old.stage).is_complete (length buffer.old) (source_at (I.sources inputs.old) slot).left (source_at (I.sources inputs.new) slot).left }
+    ensures used { I.told ≡ true → is_stop result ≡ false → IsUnread (source_at (I.sources inputs.old) slot) → Uses (S.work engine.old.stage) (length buffer.old) slot (source_at (I.sources inputs.old) slot).left (source_at (I.sources inputs.new) slot) }
     ensures asked { (source_at (I.sources inputs.old) slot).asked ≤ length buffer.old → (source_at (I.sources inputs.new) slot).asked ≤ length buffer.old }
     ensures broke { IfOk result (λ fed. fed ≡ Fed.Broken → (source_at (I.sources inputs.new) slot).is_broken ≡ true) }
     ensures laid { I.laid inputs.new ≡ I.laid inputs.old }
@@ -56,7 +58,8 @@ pub fn feed_input<S: Stage, I: Inputs, O: Outs>(
 {
     engine.load(slot, buffer, inputs);
     'pieces: while !engine.done() {
-        let n = match inputs.read(slot, buffer) {
+        let size = piece_size(slot, engine.wanted(), buffer.len());
+        let n = match read_part(slot, size, buffer, inputs) {
             Ok(n) => n,
             Err(_) => {
                 engine.abandon(outs);
@@ -71,7 +74,55 @@ pub fn feed_input<S: Stage, I: Inputs, O: Outs>(
             Err(fault) => return Err(given_up(engine, fault, outs)),
         }
     }
+    let unused = engine.unused();
+    inputs.give_back(slot, unused);
     end(engine, Fed::Enough, outs)
+}
+
+/// How many bytes are read at once: as many as there is room for, but of standard input, which others may read after this
+/// run, no more than are wanted.
+fn piece_size(slot: usize, wanted: u64, most: usize) -> usize
+    requires wanted { 0 < wanted }
+    requires room { 0 < most }
+    ensures some { 0 < result }
+    ensures within { result ≤ most }
+    ensures few { slot ≡ 0 → result ≤ wanted }
+{
+    if slot != 0 {
+        return most;
+    }
+    if wanted < most as u64 {
+        return wanted as usize;
+    }
+    most
+}
+
+/// Reads once into the first `size` bytes of a buffer, and returns how many bytes that gave.
+///
+/// # Errors
+///
+/// That of the read.
+fn read_part<I: Inputs>(
+    slot: usize,
+    size: usize,
+    buffer: &mut [u8],
+    inputs: &mut I,
+) -> Result<usize, Fault>
+    requires input { IsTrue (is_readable (I.sources inputs.old) slot) }
+    requires some { 0 < size }
+    requires within { size ≤ length buffer.old }
+    ensures bound { IfOk result (λ n. n ≤ size) }
+    ensures bytes { IfOk result (λ n. I.told ≡ true → Gave (source_at (I.sources inputs.old) slot).left buffer.old buffer.new n) }
+    ensures rest { IfOk result (λ n. I.sources inputs.new ≡ changed_at slot (gives size n) (I.sources inputs.old)) }
+    ensures err { IfErr result (λ fault. I.sources inputs.new ≡ changed_at slot (fails size) (I.sources inputs.old)) }
+    ensures break_off { IfErr result (λ _. I.told ≡ true → BrokeOff (source_at (I.sources inputs.old) slot).left) }
+    ensures kept { I.laid inputs.new ≡ I.laid inputs.old }
+    ensures room { length buffer.new ≡ length buffer.old }
+{
+    match inputs.read(slot, &mut buffer[..size]) {
+        Ok(n) => Ok(n),
+        Err(fault) => Err(fault),
+    }
 }
 
 /// Feeds an engine an input without bytes.

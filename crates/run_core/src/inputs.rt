@@ -5,7 +5,7 @@ ghost use Rattle.ports_core.specs.Source.{source_at, is_readable, IsFresh};
 ghost use Rattle.ports_core.specs.Part.{Part, OutputsAt};
 ghost use Rattle.ports_core.specs.Engine.{is_verdict};
 ghost use Rattle.ports_core.specs.Work.{Needs};
-ghost use Rattle.run_core.specs.Feeding.{FedAs};
+ghost use Rattle.run_core.specs.Feeding.{FedAs, IsUnread, is_stop};
 ghost use Rattle.run_core.specs.Input.{has_dash, is_dash, next_slot};
 ghost use Rattle.run_core.specs.Reading.{IsDone, Leaves, count_after};
 ghost use Rattle.ports_core.specs.Inputs.{AsksAtMost, largest_piece};
@@ -147,6 +147,7 @@ fn take_name<A: Adapter, I: Inputs, O: Outs>(
     requires room { 0 < length buffer.old }
     requires some { 0 < length (I.sources inputs.old) }
     requires standard { progress.was_read ≡ false → IsTrue (is_readable (I.sources inputs.old) 0) }
+    requires unread { progress.was_read ≡ false → IsUnread (source_at (I.sources inputs.old) 0) }
     requires outputs { HasStreams O.told (O.slots outs.old) }
     ensures took { (so_far : Part) (error : Slot) → is_open error.state ≡ true → OutputsAt O.told (streams_with error) so_far (O.slots outs.old)
         → OfName I.told (world_of (I.laid inputs.old) (I.sources inputs.old)) progress.was_read (length (I.sources inputs.old)) name.now
@@ -224,6 +225,7 @@ fn take_input<A: Adapter, I: Inputs, O: Outs>(
 ) -> Result<Progress, Fault>
     requires room { 0 < length buffer.old }
     requires input { IfSome source (λ slot. IsTrue (is_readable (I.sources inputs.old) slot)) }
+    requires unread { IfSome source (λ slot. IsUnread (source_at (I.sources inputs.old) slot)) }
     requires outputs { HasStreams O.told (O.slots outs.old) }
     ensures took { (so_far : Part) (error : Slot) → is_open error.state ≡ true → OutputsAt O.told (streams_with error) so_far (O.slots outs.old)
         → OfSource I.told source (I.sources inputs.old)
@@ -298,11 +300,12 @@ fn feed_source<A: Adapter, I: Inputs, O: Outs>(
 ) -> Result<Fed, Fault>
     requires room { 0 < length buffer.old }
     requires input { IfSome source (λ slot. IsTrue (is_readable (I.sources inputs.old) slot)) }
+    requires unread { IfSome source (λ slot. IsUnread (source_at (I.sources inputs.old) slot)) }
     requires streams { 2 ≤ length (O.slots outs.old) }
     requires output { IsTrue (is_writable (O.slots outs.old) 0) }
     ensures fed { OfSource I.told source (I.sources inputs.old)
         (λ content. FedAs O.told (O.slots outs.old) (A.task job.now.adapter.now).work (A.task job.now.adapter.now).opening (length buffer.old) content (Leaves I.told content source (I.sources inputs.new)) (O.slots outs.new) result
-        × IsDone I.told (A.task job.now.adapter.now).work.is_complete (length buffer.old) source (Some content) (I.sources inputs.new)) }
+        × (is_stop result ≡ false → IsDone I.told (A.task job.now.adapter.now).work (length buffer.old) source (Some content) (I.sources inputs.new))) }
     ensures asked { AsksAtMost (length buffer.old) (I.sources inputs.old) → AsksAtMost (length buffer.old) (I.sources inputs.new) }
     ensures others { KeepsOther source (I.sources inputs.old) (I.sources inputs.new) }
     ensures laid { I.laid inputs.new ≡ I.laid inputs.old }

@@ -346,6 +346,7 @@ does_all delim names others elide n fresh are same =
         verdict = λ x. cond (short x) (Some fault.Suffixes) None;
         clears = false;
         means = split_means;
+        ahead = 0;
       }
 
 -- nothing waits

@@ -19,6 +19,7 @@ parts_work limit names = record {
   verdict = λ x. if not (are_named names (length (map (share Closed) (parts limit x)))) then Some Suffixes else None;
   clears = false;
   means = split_means;
+  ahead = 0;
 }
 
 -- the work of a state: it doesn't depend on how many names were drawn

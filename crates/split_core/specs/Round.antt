@@ -25,6 +25,7 @@ round_work plan = record {
   verdict = always_well;
   clears = false;
   means = split_means;
+  ahead = 0;
 }
 
 abbrev pub work : RoundState → Work

@@ -128,5 +128,13 @@ impl Stage for Splitter {
         }
     }
 
+    fn wanted(&self) -> u64 {
+        u64::MAX
+    }
+
+    fn unused(&self) -> u64 {
+        0
+    }
+
     ghost lawful = { lawful };
 }

@@ -23,6 +23,7 @@ tee_work mode names = record {
   verdict = always_well;
   clears = false;
   means = record { output = true; files = true; feeding = no_needs; closing = no_needs };
+  ahead = 0;
 }
 
 -- the byte at i goes to that offset of the outputs from a place on, one for each name

@@ -1,7 +1,7 @@
 -- What private calls say: the one stage of `head` and `tail`, as contracts see it.
-use Rattle.std.specs.Prelude.{◌≡◌, ℕ, ◌==◌, ◌≤◌, Bool, true, false, List, [], ◌++◌, length}
+use Rattle.std.specs.Prelude.{◌≡◌, ℕ, ◌-◌, ◌^◌, max, ◌==◌, ◌≤◌, Bool, true, false, List, [], ◌++◌, length}
 use Rattle.seg_core.specs.declared.unit.Unit.{Unit as Counted}
-use Rattle.seg_core.specs.declared.unit.Unit.TheVariants.{Bytes}
+use Rattle.seg_core.specs.declared.unit.Unit.TheVariants.{Lines, Bytes}
 use Rattle.ends_core.specs.declared.ends.Ends.{Ends}
 use Rattle.ends_core.specs.declared.ends.Ends.TheVariants.{First, ButLast, FromNth, Last}
 use Rattle.ends_core.specs.Ends.{first_of, after_of, last_of, but_last_of}
@@ -24,6 +24,25 @@ due (First count front) piece = first_of front.delim front.unit front.left piece
 due (ButLast kept) piece = but_last_of (kept_delim kept) (kept_unit kept) (most_of kept) (held_of kept ++ piece)
 due (FromNth count front) piece = after_of front.delim front.unit front.left piece
 due (Last kept) piece = []
+
+-- what of a piece comes in after a head
+abbrev pub unused_of : Ends → List ℕ → List ℕ
+unused_of (First count front) piece = after_of front.delim front.unit front.left piece
+unused_of (ButLast kept) piece = []
+unused_of (FromNth count front) piece = []
+unused_of (Last kept) piece = []
+
+-- how many bytes a piece may have of which so many lines or bytes are still to come
+abbrev pub piece_for : Counted → ℕ → ℕ
+piece_for Lines left = max left 4096
+piece_for Bytes left = left
+
+-- how many bytes the next piece may have
+abbrev pub wanted_by : Ends → ℕ
+wanted_by (First count front) = piece_for front.unit front.left
+wanted_by (ButLast kept) = 2 ^ 64 - 1
+wanted_by (FromNth count front) = 2 ^ 64 - 1
+wanted_by (Last kept) = 2 ^ 64 - 1
 
 -- what waits after the piece
 abbrev pub left_waiting : Ends → List ℕ → List ℕ

@@ -7,7 +7,6 @@ use Rattle.ports_core.specs.Guard.{GuardState}
 use Rattle.ports_core.specs.Engine.{Finishes, EndsShort, EndsThere, IsCaused, IsMet, is_verdict}
 use Rattle.ports_core.specs.declared.fault.Fault.{Fault}
 use Rattle.run_core.specs.declared.feeding.Fed.{Fed}
-use Rattle.run_core.specs.Feeding.{stopped}
 
 -- How closing an engine ends that has got all of its input: it finished; or a fault stopped it, and its files went if
 -- the work clears them, by itself where that fault is a verdict.

@@ -57,7 +57,7 @@ pub data TookInput (told_in told : Bool) (task : Task) (most : ℕ) (outcome : O
     (first : ℕ) (sources : List Source) (new : List Slot) : Result Progress Fault → Type 0 where
   took : (next : Progress) (after : Slot) (reached : List Slot)
       → next ≡ after_input progress was_read outcome.failed content
-      → IsDone told_in task.work.is_complete most slot content sources
+      → IsDone told_in task.work most slot content sources
       → SaysAll told task.tool outcome.messages error after
       → OutputsAt told (streams_with after) (after_part so_far outcome.part) reached
       → Swept outcome.sweeps first reached new
@@ -77,11 +77,11 @@ pub data TookAll (told_in told : Bool) (task : Task) (inputs : List Input) (sour
       → SaysAll told task.tool (made_by task inputs).messages standard_error error
       → OutputsAt told (streams_with error) (made_by task inputs).part reached
       → Swept (made_by task inputs).sweeps 2 reached new
-      → AreDone told_in task.work.is_complete largest_piece inputs sources
+      → AreDone told_in task.work largest_piece inputs sources
       → TookAll told_in told task inputs sources new (Ok failed)
   stopped_at : (fault : Fault) (before : List Input) (input : Input) (after : List Input) (error : Slot) (step : Step)
       (reached : List Slot)
-      → inputs ≡ before ++ input ∷ after → AreDone told_in task.work.is_complete largest_piece before sources
+      → inputs ≡ before ++ input ∷ after → AreDone told_in task.work largest_piece before sources
       → AreUntouched after sources
       → RunStep told_in task largest_piece (made_by task before).part
       (header_text task.with_header (are_missing before) input.name) input.slot sources input.content step

@@ -1,9 +1,10 @@
 use Rattle.std.proofs.Common.{◌≡◌, ◌≤◌, ◌-◌, ◌^◌, ℕ, List, length, true, IsTrue}
 use Rattle.ports_core.specs.Source.{source_at, is_readable}
-use Rattle.run_core.specs.Feeding.{IsNeeded}
+use Rattle.ports_core.specs.Work.{IsNeeded, IsSpare}
 use Rattle.ports_core.specs.Inputs.{KeepsOthers}
 use Rattle.run_core.proofs.FeedingLemmas.{Feeds}
 use Rattle.ports_core.proofs.InputsLemmas.{HasRead}
+use Rattle.run_core.proofs.UsedLemmas.{HasTaken}
 use Rattle.run_core.proofs.feeding.feed_input.Given as goal
 
 abbrev pub invariant-pieces : goal.invariant-pieces
@@ -13,6 +14,9 @@ invariant-pieces g l = record {
   readable : IsTrue (is_readable (g.I.Inputs.sources l.inputs) l.slot);
   others : KeepsOthers l.slot (g.I.Inputs.sources l.fn.inputs) (g.I.Inputs.sources l.inputs);
   read : g.I.Inputs.told ≡ true → HasRead (source_at (g.I.Inputs.sources l.fn.inputs) l.slot).left fed l.slot (g.I.Inputs.sources l.inputs);
+  took : g.I.Inputs.told ≡ true → HasTaken fed l.slot (g.I.Inputs.sources l.fn.inputs) (g.I.Inputs.sources l.inputs);
+  few : l.slot ≡ 0 → (n : ℕ) → IsSpare (g.S.Stage.work l.fn.engine.stage) fed n → n ≤ (g.S.Stage.work l.fn.engine.stage).ahead;
+  room : length l.buffer ≡ length l.fn.buffer;
   needed : IsNeeded (g.S.Stage.work l.fn.engine.stage).is_complete (length l.fn.buffer) fed;
   asked : (source_at (g.I.Inputs.sources l.fn.inputs) l.slot).asked ≤ length l.fn.buffer → (source_at (g.I.Inputs.sources l.inputs) l.slot).asked ≤ length l.fn.buffer;
   laid : g.I.Inputs.laid l.inputs ≡ g.I.Inputs.laid l.fn.inputs;

@@ -1,4 +1,4 @@
-use Rattle.std.proofs.Common.{sym, refl}
+use Rattle.std.proofs.Common.{not, ap, sym, refl}
 use Rattle.ports_core.specs.declared.fault.Fault.TheVariants as fault
 use Rattle.ports_core.proofs.HandedOn.{handed_on}
 use Rattle.run_core.proofs.InputLemmas.{of_source_too, from_source, part_writable, part_two, headed, headed_count, stopped_in_header, took_whole, took_enough, took_broken, took_verdict, took_stopped, fed_open, judged_open, keeps_all, said_as}
@@ -16,7 +16,7 @@ feed_source-requires-clause-output g c = let had = c.requires.outputs in part_wr
 
 pub returns-in_err-put_header-clause-took : goal.returns-in_err-put_header-clause-took
 returns-in_err-put_header-clause-took g c so_far error opened at =
-    rw (handed_on _ _ c.from_residual.ensures.1) (unread_source _ (g.A.Adapter.task c.args.job.now.adapter.now).work.is_complete 0 _ _ _ c.requires.input (λ content unread done. stopped_in_header _ _ _ _ _ _ _ content _ _ _ so_far error _ _ _ c.in_err-put_header.field-0.0 c.in_err-put_header.ensures.due unread at c.in_err-put_header.ensures.err))
+    rw (handed_on _ _ c.from_residual.ensures.1) (unread_source _ _ _ _ c.requires.input (λ content unread. stopped_in_header _ _ _ _ _ _ _ content _ _ _ so_far error _ _ _ c.in_err-put_header.field-0.0 c.in_err-put_header.ensures.due unread at c.in_err-put_header.ensures.err))
 
 pub returns-in_err-put_header-clause-others : goal.returns-in_err-put_header-clause-others
 returns-in_err-put_header-clause-others g c = keeps_all _ _
@@ -33,15 +33,15 @@ say-requires-in-Err g c =
 
 pub returns-in-Ok-Whole-clause-took : goal.returns-in-Ok-Whole-clause-took
 returns-in-Ok-Whole-clause-took g c so_far error opened at =
-    of_source_too _ _ _ _ _ _ (λ content fed done. took_whole _ _ _ _ _ _ _ so_far error _ _ _ _ (headed_count g.O.Outs.told _ _ _ c.in_ok-put_header.ensures.ok) (part_two _ error so_far _ at) (headed _ _ so_far _ _ _ at c.in_ok-put_header.ensures.ok) content _ _ done c.in-Ok-Whole.field-0-is fed) c.in-Ok-Whole.ensures.fed
+    of_source_too _ _ _ _ _ _ (λ content fed done. took_whole _ _ _ _ _ _ _ so_far error _ _ _ _ (headed_count g.O.Outs.told _ _ _ c.in_ok-put_header.ensures.ok) (part_two _ error so_far _ at) (headed _ _ so_far _ _ _ at c.in_ok-put_header.ensures.ok) content _ _ (done refl) c.in-Ok-Whole.field-0-is fed) c.in-Ok-Whole.ensures.fed
 
 pub returns-in-Ok-Enough-clause-took : goal.returns-in-Ok-Enough-clause-took
 returns-in-Ok-Enough-clause-took g c so_far error opened at =
-    of_source_too _ _ _ _ _ _ (λ content fed done. took_enough _ _ _ _ _ _ _ so_far error _ _ _ _ (headed_count g.O.Outs.told _ _ _ c.in_ok-put_header.ensures.ok) (part_two _ error so_far _ at) (headed _ _ so_far _ _ _ at c.in_ok-put_header.ensures.ok) content _ _ done c.in-Ok-Enough.field-0-is fed) c.in-Ok-Enough.ensures.fed
+    of_source_too _ _ _ _ _ _ (λ content fed done. took_enough _ _ _ _ _ _ _ so_far error _ _ _ _ (headed_count g.O.Outs.told _ _ _ c.in_ok-put_header.ensures.ok) (part_two _ error so_far _ at) (headed _ _ so_far _ _ _ at c.in_ok-put_header.ensures.ok) content _ _ (done refl) c.in-Ok-Enough.field-0-is fed) c.in-Ok-Enough.ensures.fed
 
 pub returns-in-Ok-Broken-clause-took : goal.returns-in-Ok-Broken-clause-took
 returns-in-Ok-Broken-clause-took g c so_far error opened at =
-    of_source_too _ _ _ _ _ _ (λ content fed done. took_broken _ _ _ _ _ _ _ so_far error _ _ _ _ (headed_count g.O.Outs.told _ _ _ c.in_ok-put_header.ensures.ok) (part_two _ error so_far _ at) (headed _ _ so_far _ _ _ at c.in_ok-put_header.ensures.ok) content _ _ _ done c.in-Ok-Broken.field-0-is fed (said_as _ _ _ (fault.Read 0) c.args.name.now _ _ _ c.tool.ensures refl c.say.ensures)) c.in-Ok-Broken.ensures.fed
+    of_source_too _ _ _ _ _ _ (λ content fed done. took_broken _ _ _ _ _ _ _ so_far error _ _ _ _ (headed_count g.O.Outs.told _ _ _ c.in_ok-put_header.ensures.ok) (part_two _ error so_far _ at) (headed _ _ so_far _ _ _ at c.in_ok-put_header.ensures.ok) content _ _ _ (done refl) c.in-Ok-Broken.field-0-is fed (said_as _ _ _ (fault.Read 0) c.args.name.now _ _ _ c.tool.ensures refl c.say.ensures)) c.in-Ok-Broken.ensures.fed
 
 pub returns-then-not-is_verdict-clause-took : goal.returns-then-not-is_verdict-clause-took
 returns-then-not-is_verdict-clause-took g c so_far error opened at =
@@ -49,4 +49,4 @@ returns-then-not-is_verdict-clause-took g c so_far error opened at =
 
 pub returns-else-not-is_verdict-clause-took : goal.returns-else-not-is_verdict-clause-took
 returns-else-not-is_verdict-clause-took g c so_far error opened at =
-    of_source_too _ _ _ _ _ _ (λ content fed done. took_verdict _ _ _ _ _ _ _ so_far error _ _ _ _ (headed_count g.O.Outs.told _ _ _ c.in_ok-put_header.ensures.ok) (part_two _ error so_far _ at) (headed _ _ so_far _ _ _ at c.in_ok-put_header.ensures.ok) content _ _ c.in-Err.fault done (sym c.if-not-is_verdict.ensures) fed (said_as _ _ _ _ _ _ _ _ c.tool-in-Err.ensures c.subject-subject.ensures c.say-in-Err.ensures)) c.in-Err.ensures.fed
+    of_source_too _ _ _ _ _ _ (λ content fed done. took_verdict _ _ _ _ _ _ _ so_far error _ _ _ _ (headed_count g.O.Outs.told _ _ _ c.in_ok-put_header.ensures.ok) (part_two _ error so_far _ at) (headed _ _ so_far _ _ _ at c.in_ok-put_header.ensures.ok) content _ _ c.in-Err.fault (done (ap not (sym c.if-not-is_verdict.ensures))) (sym c.if-not-is_verdict.ensures) fed (said_as _ _ _ _ _ _ _ _ c.tool-in-Err.ensures c.subject-subject.ensures c.say-in-Err.ensures)) c.in-Err.ensures.fed

@@ -1,6 +1,7 @@
 use Rattle.std.proofs.Common.{◌∙◌}
 use Rattle.ports_core.proofs.HandedOn.{handed_on}
 use Rattle.run_core.proofs.NamesLemmas.{walk_begins, walk_streams, walk_readable, walk_goes_on_at, walk_stops_at, walk_ends, walk_counts, walk_within_at, asks_on_at, untouched_at_first, untouched_on, untouched_by, none_left, some_left}
+use Rattle.run_core.proofs.ReadingLemmas.{nothing_taken}
 use Rattle.run_core.proofs.inputs.take_names.Goals as goal
 
 pub loop-left-init : goal.loop-left-init
@@ -15,6 +16,9 @@ take_name-requires-clause-some g c = c.loop-left.invariant.walked.some
 
 pub take_name-requires-clause-standard : goal.take_name-requires-clause-standard
 take_name-requires-clause-standard g c = walk_readable _ _ _ _ _ _ _ _ _ _ c.loop-left.invariant.walked
+
+pub take_name-requires-clause-unread : goal.take_name-requires-clause-unread
+take_name-requires-clause-unread g c = λ first. nothing_taken (g.I.Inputs.sources c.loop-left.inputs) 0 _ (c.loop-left.invariant.walked.standard first)
 
 pub take_name-requires-clause-outputs : goal.take_name-requires-clause-outputs
 take_name-requires-clause-outputs g c = walk_streams _ _ _ _ _ _ _ _ _ _ (some_left c.loop-left.left.now c.in-len1-up.len_at_least) c.loop-left.invariant.walked

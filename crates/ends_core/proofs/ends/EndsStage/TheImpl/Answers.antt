@@ -1,8 +1,11 @@
-use Rattle.std.proofs.Common.{◌∙◌, ap, length, arith}
-use Rattle.ends_core.specs.Stage.{count_of, delim_of, stretch_of, unit_of}
+use Rattle.std.proofs.Common.{◌<◌, ◌∙◌, sym, ap, subst, length, arith}
+use Rattle.ports_core.specs.Work.{IsSpare}
+use Rattle.ports_core.specs.Engine.{MayGet}
+use Rattle.ends_core.specs.Stage.{Holds, work, count_of, delim_of, stretch_of, unit_of}
 use Rattle.ends_core.specs.inner.Stage.{due, due_at_end}
 use Rattle.ends_core.proofs.StopLemmas.{writable_still}
 use Rattle.ends_core.proofs.EndsLemmas.{on_ok, on_ok_each, if_err, same_work, takes_in, puts_out, cuts_off, met, finishes, ends_short, end_met, loads, waits_within, full_is, done_is_exact}
+use Rattle.ends_core.proofs.UsedLemmas.{may_get, spare_here, wants_some}
 use Rattle.ends_core.proofs.ends.EndsStage.TheImpl.Goals as goal
 
 pub pass-tells : goal.pass-tells
@@ -11,7 +14,7 @@ pass-tells g c =
     let piece = c.args.piece.now in record {
       same = same_work ends c.new.self.now c.ensures.same;
       size = c.ensures.bound;
-      holds = on_ok_each c.result (λ left waits full. takes_in ends c.new.self.now piece c.ensures.same left waits full) c.ensures.left c.ensures.waits c.ensures.full;
+      holds = on_ok_each c.result (λ left waits full. takes_in ends c.new.self.now piece c.ensures.same c.ensures.past left waits full) c.ensures.left c.ensures.waits c.ensures.full;
       outputs = on_ok c.result (λ wrote. puts_out g.O.Outs.told ends piece _ _ wrote) c.ensures.out;
       ready = on_ok c.result (λ wrote. writable_still g.O.Outs.told _ _ (due ends piece) c.requires.ready wrote) c.ensures.out;
       owns = on_ok c.result (λ wrote first own. tt) c.ensures.out;
@@ -38,8 +41,8 @@ load-tells g c =
     let ends = c.args.self.now in
     let passes = c.ensures.passes in record {
       same = same_work ends c.new.self.now c.ensures.same;
-      size = omega (arith, passes.long, ap length passes.keeps, waits_within (stretch_of ends) (delim_of ends) (unit_of ends) (count_of ends) passes.front);
-      loads = loads _ c.args.slot c.result ends c.new.self.now _ _ c.requires.fresh c.ensures.same c.ensures.left c.ensures.others passes c.ensures.full;
+      size = omega (arith, passes.long, ap length passes.keeps, waits_within (stretch_of ends) (delim_of ends) (unit_of ends) (count_of ends) passes.front, c.ensures.past, c.requires.none);
+      loads = loads _ c.args.slot c.result ends c.new.self.now _ _ c.requires.fresh c.ensures.same c.ensures.left c.ensures.past c.ensures.others passes c.ensures.full;
       laid = c.ensures.laid;
       bound = c.ensures.bound;
     }
@@ -49,3 +52,12 @@ is_done-tells c = record {
   complete = λ x holds. c.ensures ∙ full_is c.args.self.now x holds;
   exact = λ x holds. done_is_exact c.args.self.now x _ holds (c.ensures ∙ full_is c.args.self.now x holds);
 }
+
+pub wanted-tells : goal.wanted-tells
+wanted-tells c = record {
+  some = λ x holds going. subst (λ n. 0 < n) (sym c.ensures) (wants_some c.args.self.now x holds going);
+  few = subst (MayGet Holds work c.args.self.now) (sym c.ensures) (may_get c.args.self.now);
+}
+
+pub unused-tells : goal.unused-tells
+unused-tells c x holds = subst (IsSpare (work c.args.self.now) x) (sym c.ensures) (spare_here c.args.self.now x holds)
