@@ -8,7 +8,7 @@ use Rattle.scan_core.specs.declared.table.Table.{Table}
 use Rattle.scan_core.specs.declared.table.State.{State}
 use Rattle.std.proofs.Math.Nat.{mul-le-mul}
 use Rattle.scan_core.specs.Code.{Entered, weight}
-use Rattle.scan_core.specs.Counted.{set_at, AreSteps, IsStepCount, EndsIn}
+use Rattle.scan_core.specs.Counted.{AreSteps, EndsIn, HasStepsBefore, IsStepCount, set_at}
 use Rattle.scan_core.specs.Sets.{IsMarked, positions_among}
 use Rattle.scan_core.specs.inner.Sets.{Flows, FlowsOn, LeadsOn, Passes}
 use Rattle.scan_core.specs.inner.Table.{Next, Inner, InSets, entry, IsState, no_state, IsTableOf, Walked}
@@ -148,10 +148,39 @@ walked_stops code sets table line place state steps t w h b e = (
       (next_by code (slice_index line place) (InSets sets state) (Inner code line place) (λ n. (w.exact n).0) (length code) ((t.told state (slice_index line place) w.known b).stop e)),
 )
 
+-- where a byte leads to the end, it is entered first
+walked_least : (code : List Node) (sets : List (List Bool)) (table : Table) (line : List ℕ) (place state steps : ℕ) → IsTableOf code sets table → Walked code sets line place state steps → place < length line → slice_index line place < 256
+    → entry table.rows.items state (slice_index line place) ≡ 65535 → HasStepsBefore code line (steps + positions_among code (set_at sets state))
+unfolding walked_stops
+walked_least code sets table line place state steps t w h b e = record {
+  place = suc place;
+  within = omega (arith, h);
+  ends = (walked_stops code sets table line place state steps t w h b e).2;
+  first = λ before l f. elim (cases_eq before place) [
+    | inl same ↦ t.none state w.known ((here (length code)).1 (subst (λ p. Entered code line (length code) p) same f))
+    | inr other ↦ w.none before (omega (arith, l, other)) f
+  ];
+  before = steps + positions_among code (set_at sets state);
+  counted =
+      let one : place + 1 ≡ suc place = omega arith in
+      subst (λ n. AreSteps code line n (steps + positions_among code (set_at sets state))) one (one_counted code line place steps (steps + positions_among code (set_at sets state)) (set_at sets state) w.counted here refl);
+  least = omega arith;
+}
+  where
+    here : (number : ℕ) → InSets sets state number ↔ Entered code line number place
+    here number = let i = inner_entered code line place h number in (λ m. i.0 ((w.exact number).0 m), λ f. (w.exact number).1 (i.1 f))
+
+-- the steps of a byte that leads to the end, as they are noted
+pub walk_least : (code : List Node) (sets : List (List Bool)) (table : Table) (line : List ℕ) (place state steps added : ℕ) (noted : State) → IsTableOf code sets table → Walked code sets line place state steps → place < length line → slice_index line place < 256
+    → entry table.rows.items state (slice_index line place) ≡ 65535 → IsState code sets table.rows.items state noted → added ≡ noted.positions → HasStepsBefore code line (steps + added)
+walk_least code sets table line place state steps added noted t w h b e n same =
+    subst (λ p. HasStepsBefore code line (steps + p)) (sym (same ∙ n.positions)) (walked_least code sets table line place state steps t w h b e)
+
 -- the line's end
 pub record WalkEnds (code : List Node) (line : List ℕ) (found : Bool) (steps : ℕ) : Type 0 where
   pub exact : IsTrue found ↔ EndsIn code line
   pub counted : IsStepCount code line steps
+  pub least : IsTrue found → HasStepsBefore code line steps
   pub bound : steps ≤ (length line + 1) * (weight code + 1)
 
 pub walked_ends : (code : List Node) (sets : List (List Bool)) (rows : List ℕ) (line : List ℕ) (place state steps : ℕ) (noted : State) → IsState code sets rows state noted → Walked code sets line place state steps → place ≡ length line → 0 < length line
@@ -167,6 +196,15 @@ walked_ends code sets rows line (suc place) state steps noted n w h some = recor
   );
   counted = subst (λ m. AreSteps code line (m + 1) (steps + noted.last_positions)) h
       (one_counted code line (suc place) steps (steps + noted.last_positions) n.last w.counted last (ap (λ p. steps + p) n.last_positions));
+  least = λ f. record {
+    place = suc place;
+    within = omega (arith, h);
+    ends = (last (length code)).0 (n.ends.0 f);
+    first = w.none;
+    before = steps;
+    counted = w.counted;
+    least = omega arith;
+  };
   bound =
       let m = positions_most code n.last in
       let q = steps_more (suc place) steps noted.last_positions (weight code + 1) w.bound (let p = n.last_positions in omega (arith, m, p)) in
@@ -225,6 +263,7 @@ walk_stops code table line place state next steps d' noted d w h b e k f =
     record {
       exact = (λ t. walked_stops code w.0 table line place state steps w.1 w.2 h b (sym r ∙ k), λ t. refl);
       counted = λ f. absurd (false≢true (sym f));
+      least = λ t. walk_least code w.0 table line place state steps noted.positions noted w.1 w.2 h b (sym r ∙ k) (noted_read table code w.0 state noted d w.1 w.2.known f) refl;
       bound = steps_wider (place + 1) (length line + 1) (steps + noted.positions) (weight code + 1) (walk_one code table line place state steps noted d w f) (omega (arith, h));
     }
 
@@ -233,7 +272,7 @@ pub walk_ends : (code : List Node) (table : Table) (line : List ℕ) (place stat
 walk_ends code table line place state steps noted d w h some e =
     let n = noted_read table code w.0 state noted d w.1 w.2.known e in
     let q = walked_ends code w.0 table.rows.items line place state steps noted n w.2 h some in
-    record { exact = q.exact; counted = λ f. q.counted; bound = q.bound }
+    record { exact = q.exact; counted = λ f. q.counted; least = q.least; bound = q.bound }
 
 pub bound_fits : (code : List Node) (places steps : ℕ) → length code ≤ 65536 → steps ≤ places * (weight code + 1) → places ≤ 18446744073709551617 → steps < 340282366920938463463374607431768211456
 bound_fits code places steps few h p =

@@ -27,3 +27,4 @@ pub mod Hoppings
 pub mod Bases
 pub mod Landed
 pub mod Apart
+pub mod Needles

@@ -84,6 +84,15 @@ pub search_found : (code : List Node) (line : List ℕ) (place steps positions :
 search_found code line place steps positions old now s here h p is = record {
   exact = (λ t. (place, omega (arith, h), (here (length code)).0 is), λ e. refl);
   counted = λ f. absurd (false≢true (sym f));
+  least = λ t. record {
+    place = place;
+    within = omega (arith, h);
+    ends = (here (length code)).0 is;
+    first = s.none;
+    before = steps;
+    counted = s.counted;
+    least = omega arith;
+  };
   bound = steps_wider (place + 1) (length line + 1) (steps + positions) (weight code + 1) (steps_more place steps positions (weight code + 1) s.bound (few_positions code now positions p)) (omega (arith, h));
 }
 
@@ -98,6 +107,15 @@ search_ends code line place steps positions old now found s here e p test = reco
       | inr other ↦ absurd (s.none k.0 (omega (arith, k.1, e, other)) k.2)
     ],
   );
+  least = λ t. record {
+    place = place;
+    within = omega (arith, e);
+    ends = (here (length code)).0 (test.0 t);
+    first = s.none;
+    before = steps;
+    counted = s.counted;
+    least = omega arith;
+  };
   counted = λ absent. subst (λ n. AreSteps code line (n + 1) (steps + positions)) e (one_counted code line place steps (steps + positions) (flags_of now) s.counted (marked_here code line place now here) (ap (λ q. steps + q) p));
   bound = steps_wider (place + 1) (length line + 1) (steps + positions) (weight code + 1) (steps_more place steps positions (weight code + 1) s.bound (few_positions code now positions p)) (omega (arith, e));
 }

@@ -8,13 +8,13 @@ use Rattle.scan_core.specs.declared.shift_table.ShiftTable.{ShiftTable}
 use Rattle.scan_core.specs.declared.table.State.{State}
 use Rattle.scan_core.specs.declared.table.Table.{Table}
 use Rattle.scan_core.specs.Code.{weight}
-use Rattle.scan_core.specs.Counted.{set_at, EndsIn}
+use Rattle.scan_core.specs.Counted.{set_at, HasStepsBefore}
 use Rattle.scan_core.specs.inner.Shifts.{AreLight, IsAt, IsComplete, IsOffset, IsReached, IsShiftTable, IsShifted, IsStateAt, IsWeight, six_bits}
 use Rattle.scan_core.specs.Table.{IsFound, IsOutcome}
 use Rattle.scan_core.specs.inner.Table.{IsTable, IsTableOf, Walked, entry, no_state}
 use Rattle.scan_core.proofs.Along.{steps_more, steps_wider}
 use Rattle.scan_core.proofs.Enterings.{positions_most, weight_length}
-use Rattle.scan_core.proofs.Inners.{any_default, walked_starts, walked_stops, walk_next, walk_run, walk_ends, fixed_stays, bound_fits}
+use Rattle.scan_core.proofs.Inners.{any_default, walked_starts, walk_least, walk_next, walk_run, walk_ends, fixed_stays, bound_fits}
 
 -- a word's six bits after one state more was put before them
 pub six_more : (word offset state : ℕ) → offset < 64 → six_bits (word * 64 + offset) (suc state) ≡ six_bits word state
@@ -99,7 +99,19 @@ weight_small code table state low added t w l h =
     let m = positions_most code (set_at t.0 state) in
     omega (arith, e, p, m)
 
-state_over : (code : List Node) (table : Table) (line : List ℕ) (place state steps added : ℕ) → IsTable code table → IsStateAt code table line place state steps → place < length line → EndsIn code line → added ≤ weight code + 1
+-- the end that was entered stays entered, whatever steps come
+more_steps : (code : List Node) (line : List ℕ) (steps added : ℕ) → HasStepsBefore code line steps → HasStepsBefore code line (steps + added)
+more_steps code line steps added has = record {
+  place = has.place;
+  within = has.within;
+  ends = has.ends;
+  first = has.first;
+  before = has.before;
+  counted = has.counted;
+  least = let l = has.least in omega (arith, l);
+}
+
+state_over : (code : List Node) (table : Table) (line : List ℕ) (place state steps added : ℕ) → IsTable code table → IsStateAt code table line place state steps → place < length line → HasStepsBefore code line (steps + added) → added ≤ weight code + 1
     → IsStateAt code table line (place + 1) (length table.states.items) (steps + added)
 state_over code table line place state steps added t a h e w = record {
   within = omega (arith, h);
@@ -125,9 +137,9 @@ state_going code table line place state steps added t a h b k n e w = record {
   bound = steps_more place steps added (weight code + 1) a.bound w;
 }
 
-state_ends : (code : List Node) (table : Table) (line : List ℕ) (place state steps : ℕ) → IsComplete table.rows.items → IsStateAt code table line place state steps → place < length line → slice_index line place < 256 → state < length table.states.items
-    → length table.states.items ≤ entry table.rows.items state (slice_index line place) → EndsIn code line
-state_ends code table line place state steps c a h b k n =
+state_ends : (code : List Node) (table : Table) (line : List ℕ) (place state steps added : ℕ) → added ≡ (get_or table.states.items state no_state).positions → IsComplete table.rows.items → IsStateAt code table line place state steps → place < length line → slice_index line place < 256 → state < length table.states.items
+    → length table.states.items ≤ entry table.rows.items state (slice_index line place) → HasStepsBefore code line (steps + added)
+state_ends code table line place state steps added same c a h b k n =
     let g = a.going k in
     let s = g.1.states in
     let r = g.1.rows in
@@ -135,7 +147,7 @@ state_ends code table line place state steps c a h b k n =
       | inl less ↦ absurd (let m = ((g.1.told state (slice_index line place) g.2.known b).next less).0 in omega (arith, m, n, s))
       | inr more ↦ more
     ] in
-    walked_stops code g.0 table line place state steps g.1 g.2 h b (c (state * 256 + slice_index line place) (omega (arith, k, b, r, s)) high)
+    walk_least code g.0 table line place state steps added (get_or table.states.items state no_state) g.1 g.2 h b (c (state * 256 + slice_index line place) (omega (arith, k, b, r, s)) high) (g.1.noted state g.2.known) same
 
 state_more : (code : List Node) (table : Table) (line : List ℕ) (place state steps added six : ℕ) → IsTable code table → IsComplete table.rows.items → IsStateAt code table line place state steps → place < length line → slice_index line place < 256
     → IsWeight table.states.items (6 * state) added → IsOffset table.rows.items (length table.states.items) state (slice_index line place) six → (n : ℕ) × (six ≡ 6 * n) × IsStateAt code table line (place + 1) n (steps + added)
@@ -143,10 +155,10 @@ state_more code table line place state steps added six t c a h b w o = elim (cas
   | inr over ↦
       let k = a.known in
       let same : state ≡ length table.states.items = omega (arith, over, k) in
-      (length table.states.items, o.stop (λ l. absurd (omega (arith, l, over))), state_over code table line place state steps added t a h (a.over same) (let z = w.stop (ap (λ n. 6 * n) same) in omega (arith, z)))
+      (length table.states.items, o.stop (λ l. absurd (omega (arith, l, over))), state_over code table line place state steps added t a h (more_steps code line steps added (a.over same)) (let z = w.stop (ap (λ n. 6 * n) same) in omega (arith, z)))
   | inl below ↦ elim (cases_lt (entry table.rows.items state (slice_index line place)) (length table.states.items)) [
     | inl less ↦ (entry table.rows.items state (slice_index line place), o.next below less, state_going code table line place state steps added t a h b below less (w.exact state below refl) (weight_small code table state (6 * state) added t w refl below))
-    | inr more ↦ (length table.states.items, o.stop (λ l. more), state_over code table line place state steps added t a h (state_ends code table line place state steps c a h b below more) (weight_small code table state (6 * state) added t w refl below))
+    | inr more ↦ (length table.states.items, o.stop (λ l. more), state_over code table line place state steps added t a h (state_ends code table line place state steps added (w.exact state below refl) c a h b below more) (weight_small code table state (6 * state) added t w refl below))
   ]
 ]
 
@@ -167,8 +179,9 @@ pub at_stop : (code : List Node) (shifts : ShiftTable) (line : List ℕ) (place 
 at_stop code shifts line place word steps a e =
     let same : a.3.0 ≡ length a.0.states.items = (let s = a.2.stop in let q = a.3.1 in omega (arith, e, s, q)) in
     record {
-      exact = (λ t. a.3.2.over same, λ t. refl);
+      exact = (λ t. let has = a.3.2.over same in (has.place, has.within, has.ends), λ t. refl);
       counted = λ f. absurd (false≢true (sym f));
+      least = λ t. a.3.2.over same;
       bound = steps_wider place (length line + 1) steps (weight code + 1) a.3.2.bound (let h = a.3.2.within in omega (arith, h));
     }
 

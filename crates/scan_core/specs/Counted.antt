@@ -29,3 +29,13 @@ IsStepCount code line steps = AreSteps code line (length line + 1) steps
 -- the end is entered at some place
 abbrev pub EndsIn : List Node → List ℕ → Type 0
 EndsIn code line = (place : ℕ) × (place ≤ length line) × Entered code line (length code) place
+
+-- at least the steps of all places before the one at which the end is entered first
+pub record HasStepsBefore (code : List Node) (line : List ℕ) (steps : ℕ) : Type 0 where
+  pub place : ℕ
+  pub within : place ≤ length line
+  pub ends : Entered code line (length code) place
+  pub first : (before : ℕ) → before < place → Entered code line (length code) before → ⊥
+  pub before : ℕ
+  pub counted : AreSteps code line place before
+  pub least : before ≤ steps

@@ -3,7 +3,7 @@ use Rattle.std.specs.Prelude.{◌↔◌, ℕ, ◌+◌, ◌*◌, ◌≤◌, Bool,
 use Rattle.scan_core.specs.declared.node.Node.{Node}
 use Rattle.scan_core.specs.declared.walk.Outcome.{Outcome}
 use Rattle.scan_core.specs.Code.{weight}
-use Rattle.scan_core.specs.Counted.{EndsIn, IsStepCount}
+use Rattle.scan_core.specs.Counted.{EndsIn, HasStepsBefore, IsStepCount}
 
 -- whether a line has a match
 abbrev pub IsFound : List Node → List ℕ → Bool → Type 0
@@ -13,4 +13,5 @@ IsFound code line found = IsTrue found ↔ EndsIn code line
 pub record IsOutcome (code : List Node) (line : List ℕ) (outcome : Outcome) : Type 0 where
   pub exact : IsFound code line outcome.found
   pub counted : IsFalse outcome.found → IsStepCount code line outcome.steps
+  pub least : IsTrue outcome.found → HasStepsBefore code line outcome.steps
   pub bound : outcome.steps ≤ (length line + 1) * (weight code + 1)

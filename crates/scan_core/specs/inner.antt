@@ -5,6 +5,7 @@ pub mod Closures
 pub mod Compiling
 pub mod Hops
 pub mod Landings
+pub mod Needles
 pub mod Sets
 pub mod Shifts
 pub mod Table

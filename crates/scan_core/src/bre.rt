@@ -5,6 +5,7 @@ ghost use Rattle.bre_core.specs.Pattern.{Pattern, Reads, positions_of, depth_of}
 ghost use Rattle.bre_core.specs.Refusal.{IsOfText, IsTooLarge};
 ghost use Rattle.bre_core.specs.Search.{contains};
 ghost use Rattle.bre_core.specs.declared.fault.BreFault.TheVariants.{Memory, TooLarge};
+ghost use Rattle.scan_core.specs.Clear.{IsClear};
 ghost use Rattle.scan_core.specs.Code.{code_of, IsOrdered};
 ghost use Rattle.scan_core.specs.Table.{IsFound, IsOutcome};
 
@@ -13,7 +14,9 @@ use crate::build::build;
 use crate::closures::{Closures, closures_of};
 use crate::compile::compile;
 use crate::masks::{Masks, masks_of};
+use crate::needle::Needle;
 use crate::node::Node;
+use crate::rarest::needle_of;
 use crate::search::search;
 use crate::shift_find::find_by_shifts;
 use crate::shift_table::{ShiftTable, shifts_of};
@@ -34,6 +37,8 @@ pub struct Bre {
     base: Base,
     table: Option<Table>,
     shifts: Option<ShiftTable>,
+    /// What each line with a match has, where that is known.
+    needle: Option<Needle>,
 }
 
 impl Model for Bre {
@@ -45,6 +50,7 @@ impl Model for Bre {
     ghost use Rattle.scan_core.specs.inner.Shifts.{IsShiftTable};
     ghost use Rattle.scan_core.specs.inner.Base.{IsBase};
     ghost use Rattle.scan_core.specs.inner.Closures.{AreClosures};
+    ghost use Rattle.scan_core.specs.inner.Needles.{IsNeedle};
     ghost use Rattle.scan_core.specs.inner.Words.{IsMasks};
 
     ghost Value = { Pattern };
@@ -54,7 +60,7 @@ impl Model for Bre {
     ghost view = { λ b. b.expression };
 
     ghost invariant = { λ b. (b.code.items ≡ code_of b.expression) × IsOrdered b.expression × (positions_of b.expression ≤ 65535)
-        × IsMasks b.code.items b.masks × IfSome b.table (IsTable b.code.items) × IfSome b.shifts (IsShiftTable b.code.items) × AreClosures b.code.items b.closures × IsBase b.code.items b.base };
+        × IsMasks b.code.items b.masks × IfSome b.table (IsTable b.code.items) × IfSome b.shifts (IsShiftTable b.code.items) × AreClosures b.code.items b.closures × IsBase b.code.items b.base × IfSome b.needle (IsNeedle b.code.items) };
 }
 
 impl Bre {
@@ -63,7 +69,8 @@ impl Bre {
     ///
     /// A pattern keeps one entry for each of its tokens, of which it has no more than the text has bytes, at most two nodes
     /// of 340 bytes for each of its positions, and where it has at most 8,191 nodes a table of up to 4,096 sets with 544 bytes
-    /// for each; where these are at most nine, also 4,096 bytes of words.
+    /// for each; where these are at most nine, also 4,096 bytes of words. What each line with a match has takes no more bytes than
+    /// the pattern has positions.
     ///
     /// # Errors
     ///
@@ -85,6 +92,7 @@ impl Bre {
         let base = base_of(alloc, &code, &closures)?;
         let table = build(alloc, &code)?;
         let shifts = shifts_of(alloc, &code, &table)?;
+        let needle = needle_of(alloc, &code)?;
         Ok(Bre {
             expression,
             code,
@@ -93,6 +101,7 @@ impl Bre {
             base,
             table,
             shifts,
+            needle,
         })
     }
 
@@ -142,6 +151,19 @@ impl Bre {
         match self.walk(line) {
             Some(outcome) => Some(outcome.found),
             None => None,
+        }
+    }
+
+    /// How many bytes at the beginning of a text are seen to have no match without matching: no stretch of the text that ends
+    /// before them, such as a line, contains one. What each line with a match has is looked for, the rarest such byte or
+    /// text; where nothing is known that each has, these are none.
+    pub fn clear_before(&self, text: &[u8]) -> usize
+        ensures within { result ≤ length text.now }
+        ensures clear { IsClear self.now text.now result }
+    {
+        match &self.needle {
+            Some(needle) => needle.find(text),
+            None => 0,
         }
     }
 

@@ -1,11 +1,11 @@
 //! Matching lines against a pattern.
 
-ghost use Rattle.std.specs.Prelude.{◌≡◌, ◌≤◌, ◌+◌, ◌*◌, IsFalse, IfOk, IfErr, length};
+ghost use Rattle.std.specs.Prelude.{◌≡◌, ◌≤◌, ◌+◌, ◌*◌, IsFalse, IsTrue, IfOk, IfErr, length};
 ghost use Rattle.bre_core.specs.Pattern.{positions_of};
 ghost use Rattle.bre_core.specs.Search.{contains};
 ghost use Rattle.bre_core.specs.declared.fault.BreFault.TheVariants.{Memory};
 ghost use Rattle.scan_core.specs.Code.{code_of};
-ghost use Rattle.scan_core.specs.Counted.{IsStepCount};
+ghost use Rattle.scan_core.specs.Counted.{HasStepsBefore, IsStepCount};
 
 use crate::bre::Bre;
 use bre_core::BreFault;
@@ -59,12 +59,14 @@ impl Scan {
     /// positions as the one that the room was made for. It takes no memory.
     ///
     /// Afterwards `steps` returns how many steps it took: a position that is entered at one place of the line is one step.
-    /// The search begins at every place, enters a position at most once at a place, and ends where the pattern's end is
-    /// entered; where it goes to the end of the line, it enters every position that can be entered at each place.
+    /// The search begins at every place, and enters a position at most once at a place. Where there is no match, the steps
+    /// are all positions that can be entered at each place; where there is one, they are at least those of all places before
+    /// the one at which the pattern's end is entered first.
     pub fn matches(&mut self, bre: &Bre, line: &[u8]) -> bool
         requires { self.old.positions ≡ positions_of bre.now }
         ensures exact { result ≡ contains bre.now line.now }
         ensures counted { IsFalse result → IsStepCount (code_of bre.now) line.now self.new.steps }
+        ensures least { IsTrue result → HasStepsBefore (code_of bre.now) line.now self.new.steps }
         ensures bound { self.new.steps ≤ (length line.now + 1) * positions_of bre.now }
         ensures positions { self.new.positions ≡ self.old.positions }
     {

@@ -240,6 +240,15 @@ fn line_of(rt: &impl Abort, alloc: Global, number: usize) -> Vec<u8> {
     line
 }
 
+/// What is passed over without matching has no match: a line that ends before `clear_before`, here by its newline.
+fn stays_clear(rt: &impl Abort, alloc: Global, bre: &Bre, line: &[u8], plain: bool) {
+    let text = repeated(rt, alloc, line, b"\n", 1, b"ab");
+    assert!(rt;
+        !(plain && bre.clear_before(&text) > line.len()),
+        "passed over: {line:?}"
+    );
+}
+
 /// Compares the table, the sets, the search that counts nothing and the plain matcher; where the line doesn't match, the steps of the first two as well.
 fn agree(rt: &impl Abort, alloc: Global, bre: &Bre, line: &[u8]) {
     let plain = matches_plain(alloc, bre, line).expect(rt, "there is memory");
@@ -260,6 +269,7 @@ fn agree(rt: &impl Abort, alloc: Global, bre: &Bre, line: &[u8]) {
     assert_eq!(rt; scan.matches(bre, line), plain, "{line:?}");
     assert!(rt; plain || scan.steps() == by_sets.steps, "steps: {line:?}");
     assert_eq!(rt; scan.contains(bre, line), plain, "uncounted: {line:?}");
+    stays_clear(rt, alloc, bre, line, plain);
 }
 
 #[test]
@@ -293,8 +303,39 @@ fn few_sets_have_a_table(rt: HostRuntime) {
     }
 }
 
+/// A pattern, a text, and how much of it is seen to have no match: what stands there is the rarest byte or text that each
+/// match has. Of the last four nothing is known that each has, or it is one of too many bytes.
+const CLEAR: [(&[u8], &[u8], usize); 17] = [
+    (b"timeout", b"tim\nout\na timeout", 10),
+    (b"#[A-Z]* [0-9]", b"a b 1\nc #", 8),
+    (b"zq[xy]*zq", b"zx zzq", 4),
+    (b"[0-9]\\{3\\} ms$", b"12 m 1 ms", 6),
+    (b"a*b", b"aac b", 4),
+    (b"[xy]z*", b"aaya", 2),
+    (b"a\\{0,1\\}bc", b"ab cbc", 4),
+    (b"\\(ab\\)\\{2\\}", b"ab abab", 3),
+    (b"\\(ab\\)*abc", b"ab abababc", 7),
+    (b"x\\{3,\\}", b"xx xxx", 3),
+    (b"^#", b"a#", 1),
+    (b"[abc]", b"zzb", 2),
+    (b"x", b"aaa", 3),
+    (b"a*", b"bb", 0),
+    (b"^", b"bb", 0),
+    (b"[abcd]", b"zz", 0),
+    (b"[a-z]x*", b"11", 0),
+];
+
+/// Without it the result would be the same, and come later: no contract says how much is seen.
+#[test]
+fn lines_are_passed_over(rt: HostRuntime) {
+    for (pattern, text, want) in &CLEAR {
+        let bre = read(&rt, rt.alloc(), pattern);
+        assert_eq!(rt; bre.clear_before(text), *want, "{pattern:?} in {text:?}");
+    }
+}
+
 /// Tokens that random patterns are made of; what they make may not read.
-const TOKENS: [&[u8]; 14] = [
+const TOKENS: [&[u8]; 18] = [
     b"a",
     b"b",
     b"c",
@@ -309,6 +350,10 @@ const TOKENS: [&[u8]; 14] = [
     b"\\{2\\}",
     b"\\{0,1\\}",
     b"\\{1,\\}",
+    b"ab",
+    b"bca",
+    b"c*b",
+    b"[abc]",
 ];
 
 /// The next of a row of numbers that look random.
@@ -330,7 +375,7 @@ fn random_pairs(rt: HostRuntime) {
         }
         let mut pattern = Vec::new(alloc);
         for _token in 0..1 + next_number(&mut state) % 6 {
-            let token = TOKENS[next_number(&mut state) % 14];
+            let token = TOKENS[next_number(&mut state) % 18];
             pattern
                 .extend_from_slice(token)
                 .expect(&rt, "there is memory");

@@ -5,7 +5,7 @@ use Rattle.scan_core.specs.declared.shift_table.ShiftTable.{ShiftTable}
 use Rattle.scan_core.specs.declared.table.State.{State}
 use Rattle.scan_core.specs.declared.table.Table.{Table}
 use Rattle.scan_core.specs.Code.{weight}
-use Rattle.scan_core.specs.Counted.{EndsIn}
+use Rattle.scan_core.specs.Counted.{HasStepsBefore}
 use Rattle.scan_core.specs.inner.Table.{entry, no_state, IsTable, IsTableOf, Walked}
 
 -- no entry is unknown
@@ -66,7 +66,7 @@ pub record IsStateAt (code : List Node) (table : Table) (line : List ℕ) (place
   pub known : state ≤ length table.states.items
   pub going : state < length table.states.items → (sets : List (List Bool)) × IsTableOf code sets table
       × Walked code sets line place state steps
-  pub over : state ≡ length table.states.items → EndsIn code line
+  pub over : state ≡ length table.states.items → HasStepsBefore code line steps
   pub bound : steps ≤ place * (weight code + 1)
 
 -- the low six bits of a word are the state that the bytes before a place lead to

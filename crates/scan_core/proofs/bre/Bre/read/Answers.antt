@@ -1,6 +1,7 @@
 use Rattle.std.proofs.Common.{IfSome, length, sym, ap, ◌∙◌, subst, arith}
 use Rattle.scan_core.specs.inner.Base.{IsBase}
 use Rattle.scan_core.specs.inner.Closures.{AreClosures}
+use Rattle.scan_core.specs.inner.Needles.{IsNeedle}
 use Rattle.scan_core.specs.inner.Sets.{IsCode}
 use Rattle.scan_core.specs.inner.Shifts.{IsShiftTable}
 use Rattle.scan_core.specs.inner.Table.{IsTable}
@@ -26,6 +27,9 @@ base_of-requires-clause-closures c = subst (λ code. AreClosures code c.in_ok-cl
 pub build-requires : goal.build-requires
 build-requires c = subst IsCode (sym (c.deref-4.ensures.value ∙ c.in_ok-code.ensures.ok)) (is_code c.in_ok-expression.expression c.in_ok-code.ensures.order)
 
+pub needle_of-requires : goal.needle_of-requires
+needle_of-requires c = subst IsCode (sym (c.deref-6.ensures.value ∙ c.in_ok-code.ensures.ok)) (is_code c.in_ok-expression.expression c.in_ok-code.ensures.order)
+
 pub invariant_of-result : goal.invariant_of-result
 invariant_of-result c = (
   c.in_ok-code.ensures.ok,
@@ -36,4 +40,5 @@ invariant_of-result c = (
   subst (λ code. IfSome c.in_ok-shifts.shifts (IsShiftTable code)) c.deref-5.ensures.value c.in_ok-shifts.ensures.ok,
   subst (λ code. AreClosures code c.in_ok-closures.closures) c.deref-2.ensures.value c.in_ok-closures.ensures.ok,
   subst (λ code. IsBase code c.in_ok-base.base) c.deref-3.ensures.value c.in_ok-base.ensures.ok,
+  subst (λ code. IfSome c.in_ok-needle.needle (IsNeedle code)) c.deref-6.ensures.value c.in_ok-needle.ensures.ok,
 )

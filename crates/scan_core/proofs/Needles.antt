@@ -1,0 +1,198 @@
+-- What each line with a match has, and where a text lacks it.
+use Rattle.std.proofs.Common.{◌≡◌, inl, inr, ℕ, zero, suc, ◌+◌, ◌-◌, ◌<◌, ◌≤◌, Bool, true, false, IsTrue, List, [], ◌∷◌, ◌++◌, length, slice_index, refl, sym, ap, ◌∙◌, subst, arith, length-append}
+use Rattle.std.proofs.lemmas.Bool.{cases_eq}
+use Rattle.std.proofs.lemmas.List.{get_or_append_left, get_or-append-add}
+use Rattle.std.proofs.Math.Seq.{get_or-append_seam}
+use Rattle.memchr.specs.Find.{Nowhere, Passes, OccursAt}
+use Rattle.bre_core.specs.ByteSet.{has}
+use Rattle.bre_core.specs.Pattern.{Pattern}
+use Rattle.bre_core.specs.Search.{contains}
+use Rattle.bre_core.proofs.Searching.{contains_tells}
+use Rattle.scan_core.specs.declared.few_bytes.FewBytes.{FewBytes}
+use Rattle.scan_core.specs.declared.needle.Needle.{Needle}
+use Rattle.scan_core.specs.declared.needle.Needle.TheVariants.{Byte, Text}
+use Rattle.scan_core.specs.declared.node.Node.{Node}
+use Rattle.scan_core.specs.declared.node.Node.TheVariants.{Take, First, Last, Choose, Back}
+use Rattle.scan_core.specs.declared.rarest.Rarest.{Rarest}
+use Rattle.scan_core.specs.Clear.{IsClear}
+use Rattle.scan_core.specs.Code.{At, Leads, Walks, code_of, IsOrdered}
+use Rattle.scan_core.specs.Counted.{EndsIn}
+use Rattle.scan_core.specs.inner.Needles.{is_among, AreBytes, IsNeedle, LacksBefore, IsPassed, IsRarest, TakesOnly, IsLiteral}
+use Rattle.scan_core.proofs.Codes.{contained}
+use Rattle.scan_core.proofs.Enterings.{at_once, at_least}
+use Rattle.scan_core.proofs.Walks.{at_at}
+
+-- Each walk to the end comes by a node beyond which no choice leads.
+
+step_near : (code : List Node) (line : List ℕ) (number : ℕ) (node : Node) (at place at' place' : ℕ) → IsPassed code number → At code at node → Leads node line at place at' place' → at < number → at' ≤ number
+step_near code line number (Take bytes) at place at' place' passed here led low = omega (arith, led.0, low)
+step_near code line number First at place at' place' passed here led low = omega (arith, led.0, low)
+step_near code line number Last at place at' place' passed here led low = omega (arith, led.0, low)
+step_near code line number (Choose skip) at place at' place' passed here led low = elim led.0 [
+  | inl next ↦ omega (arith, next, low)
+  | inr far ↦ let near = passed at skip low here in omega (arith, far, near)
+]
+step_near code line number (Back by) at place at' place' passed here led low = omega (arith, led.0, low)
+
+come_by : (code : List Node) (line : List ℕ) (number : ℕ) → IsPassed code number → (count at place to stop : ℕ) → Walks code line count at place to stop → at ≤ number → number < to → (there : ℕ) × (rest : ℕ) × Walks code line rest number there to stop
+come_by code line number passed zero at place to stop w low high = absurd (omega (arith, w.0, low, high))
+come_by code line number passed (suc count) at place to stop w low high = elim (cases_eq at number) [
+  | inl same ↦ (place, suc count, subst (λ n. Walks code line (suc count) n place to stop) same w)
+  | inr other ↦ come_by code line number passed count w.0 w.1 to stop w.3 (step_near code line number w.2.0 at place w.0 w.1 passed w.2.1 w.2.2 (omega (arith, low, other))) high
+]
+
+-- A walk that goes on from nodes which take bytes takes one after another.
+
+led_on : (code : List Node) (line : List ℕ) (count number place to stop : ℕ) (bytes : List Bool) → Walks code line (suc count) number place to stop → At code number (Take bytes) → (place < length line) × IsTrue (has bytes (slice_index line place)) × Walks code line count (number + 1) (place + 1) to stop
+led_on code line count number place to stop bytes w here =
+    let led : Leads (Take bytes) line number place w.0 w.1 = subst (λ n. Leads n line number place w.0 w.1) (at_once code number w.2.0 (Take bytes) w.2.1 here) w.2.2 in
+    (led.2, led.3, subst (λ p. Walks code line count (number + 1) p to stop) led.1 (subst (λ n. Walks code line count n w.1 to stop) led.0 w.3))
+
+abbrev AreTakes : List Node → ℕ → ℕ → Type 0
+AreTakes code number last = (k : ℕ) → k ≤ last → (bytes : List Bool) × At code (number + k) (Take bytes)
+
+taken : (code : List Node) (line : List ℕ) (k number place to stop count : ℕ) → Walks code line count number place to stop → number + k < to → AreTakes code number k
+    → (place + k < length line) × ((bytes : List Bool) → At code (number + k) (Take bytes) → IsTrue (has bytes (slice_index line (place + k))))
+taken code line k number place to stop zero w high takes = absurd (omega (arith, w.0, high))
+taken code line zero number place to stop (suc count) w high takes =
+    let first = takes 0 (omega arith) in
+    let here : number + 0 ≡ number = omega arith in
+    let there : place ≡ place + 0 = omega arith in
+    let led = led_on code line count number place to stop first.0 w (at_at code (number + 0) number (Take first.0) here first.1) in (
+      omega (arith, led.0),
+      λ bytes at. subst (λ n. IsTrue (has bytes (slice_index line n))) there (led_on code line count number place to stop bytes w (at_at code (number + 0) number (Take bytes) here at)).1,
+    )
+taken code line (suc k) number place to stop (suc count) w high takes =
+    let first = takes 0 (omega arith) in
+    let led = led_on code line count number place to stop first.0 w (at_at code (number + 0) number (Take first.0) (omega arith) first.1) in
+    let more = taken code line k (number + 1) (place + 1) to stop count led.2 (omega (arith, high)) (λ j low. let next = takes (suc j) (omega (arith, low)) in (next.0, at_at code (number + suc j) (number + 1 + j) (Take next.0) (omega arith) next.1)) in
+    let there : place + 1 + k ≡ place + suc k = omega arith in (
+      omega (arith, more.0),
+      λ bytes at. subst (λ n. IsTrue (has bytes (slice_index line n))) there (more.1 bytes (at_at code (number + suc k) (number + 1 + k) (Take bytes) (omega arith) at)),
+    )
+
+-- the walk of a line with a match, from such a node on
+comes : (code : List Node) (line : List ℕ) (number : ℕ) → IsPassed code number → number < length code → EndsIn code line → (there : ℕ) × (rest : ℕ) × (stop : ℕ) × Walks code line rest number there (length code) stop
+comes code line number passed within ends =
+    let by = come_by code line number passed ends.2.2.0 0 ends.2.0 (length code) ends.0 ends.2.2.1 (omega arith) within in
+    (by.0, by.1, ends.0, by.2)
+
+pub is_byte_needle : (code : List Node) (number : ℕ) (bytes : List Bool) (few : FewBytes) → IsPassed code number → At code number (Take bytes) → ((byte : ℕ) → byte < 256 → IsTrue (has bytes byte) → is_among few byte ≡ true) → IsNeedle code (Byte few)
+is_byte_needle code number bytes few passed here among line are ends =
+    let walk = comes code line number passed (at_least code number (Take bytes) here) ends in
+    let same : number ≡ number + 0 = omega arith in
+    let first : AreTakes code number 0 = λ k low. (bytes, at_at code number (number + k) (Take bytes) (omega (arith, low)) here) in
+    let t = taken code line 0 number walk.0 (length code) walk.2 walk.1 walk.3 (let low = at_least code number (Take bytes) here in omega (arith, low)) first in
+    (walk.0 + 0, t.0, among (slice_index line (walk.0 + 0)) (are (walk.0 + 0) t.0) (t.1 bytes (at_at code number (number + 0) (Take bytes) same here)))
+
+-- a node that takes one byte alone takes bytes
+only_takes : (code : List Node) (number byte : ℕ) (node : Node) → At code number node → TakesOnly node byte → (bytes : List Bool) × At code number (Take bytes) × ((other : ℕ) → other < 256 → IsTrue (has bytes other) → other ≡ byte)
+only_takes code number byte (Take bytes) here only = (bytes, here, only)
+only_takes code number byte First here only = absurd only
+only_takes code number byte Last here only = absurd only
+only_takes code number byte (Choose skip) here only = absurd only
+only_takes code number byte (Back by) here only = absurd only
+
+pub is_text_needle : (code : List Node) (number : ℕ) (text needle : List ℕ) → IsPassed code number → IsLiteral code number text → needle ≡ text → 0 < length text → IsNeedle code (Text needle)
+is_text_needle code number text needle passed literal same some line are ends = (
+  walk.0,
+  subst (λ those. OccursAt line those walk.0) (sym same) (record {
+    fits = let last = each (length text - 1) (omega (arith, some)) in omega (arith, last.0, some);
+    reads = λ j within. (each j within).1;
+  }),
+)
+  where
+    takes : (k : ℕ) → k < length text → (bytes : List Bool) × At code (number + k) (Take bytes) × ((other : ℕ) → other < 256 → IsTrue (has bytes other) → other ≡ slice_index text k)
+    takes k within = let one = literal k within in only_takes code (number + k) (slice_index text k) one.0 one.1 one.2
+
+    walk : (there : ℕ) × (rest : ℕ) × (stop : ℕ) × Walks code line rest number there (length code) stop
+    walk = comes code line number passed (let one = takes 0 some in let low = at_least code (number + 0) (Take one.0) one.1 in omega (arith, low)) ends
+
+    each : (k : ℕ) → k < length text → (walk.0 + k < length line) × (slice_index line (walk.0 + k) ≡ slice_index text k)
+    each k within =
+        let one = takes k within in
+        let t = taken code line k number walk.0 (length code) walk.2 walk.1 walk.3 (at_least code (number + k) (Take one.0) one.1) (λ j low. let next = takes j (omega (arith, low, within)) in (next.0, next.1)) in
+        (t.0, one.2 (slice_index line (walk.0 + k)) (are (walk.0 + k) t.0) (t.1 one.0 one.1))
+
+-- Stretches of a text
+
+pub part_at : (before part after : List ℕ) (k : ℕ) → k < length part → slice_index (before ++ part ++ after) (length before + k) ≡ slice_index part k
+part_at before part after k within =
+    let both : length (before ++ part) ≡ length before + length part = length-append before part in
+    get_or_append_left (before ++ part) after _ (length before + k) (omega (arith, both, within)) ∙ get_or-append-add before part k _
+
+pub lacks_byte : (few : FewBytes) (text : List ℕ) (place : ℕ) → Nowhere (Passes (is_among few) text) 0 place → LacksBefore (Byte few) text place
+lacks_byte few text place none before part after all ends has =
+    none (length before + has.0) (omega arith) (omega (arith, ends, has.1))
+    (subst (λ those. Passes (is_among few) those (length before + has.0)) (sym all) (subst (λ byte. is_among few byte ≡ true) (sym (part_at before part after has.0 has.1)) has.2))
+
+pub lacks_text : (needle text : List ℕ) (place : ℕ) → Nowhere (OccursAt text needle) 0 place → LacksBefore (Text needle) text place
+lacks_text needle text place none before part after all ends has =
+    let fits = has.1.fits in
+    none (length before + has.0) (omega arith) (omega (arith, ends, fits)) (subst (λ those. OccursAt those needle (length before + has.0)) (sym all) (record {
+      fits = (let one : length (before ++ part) ≡ length before + length part = length-append before part in let two : length (before ++ part ++ after) ≡ length (before ++ part) + length after = length-append (before ++ part) after in omega (arith, one, two, fits));
+      reads = λ j within.
+          let there : length before + has.0 + j ≡ length before + (has.0 + j) = omega arith in
+          ap (λ n. slice_index (before ++ part ++ after) n) there ∙ part_at before part after (has.0 + j) (omega (arith, within, fits)) ∙ has.1.reads j within;
+    }))
+
+-- a stretch that lacks the needle contains no match
+
+part_bytes : (before part after : List ℕ) → AreBytes (before ++ part ++ after) → AreBytes part
+part_bytes before part after are k within =
+    let one : length (before ++ part) ≡ length before + length part = length-append before part in
+    let two : length (before ++ part ++ after) ≡ length (before ++ part) + length after = length-append (before ++ part) after in
+    subst (λ byte. byte < 256) (part_at before part after k within) (are (length before + k) (omega (arith, one, two, within)))
+
+pub clear_of : (pattern : Pattern) (needle : Needle) (text : List ℕ) (place : ℕ) → IsOrdered pattern → AreBytes text → IsNeedle (code_of pattern) needle → LacksBefore needle text place → IsClear pattern text place
+clear_of pattern needle text place ordered are is lacks before line after all ends = by (contains pattern line) refl
+  where
+    by : (found : Bool) → contains pattern line ≡ found → found ≡ false
+    by false same = refl
+    by true same = absurd (lacks before line after all ends (is line (part_bytes before line after (subst AreBytes all are)) ((contained pattern line ordered).0 ((contains_tells pattern line).0 same))))
+
+pub clear_none : (pattern : Pattern) (text : List ℕ) → IsClear pattern text 0
+clear_none pattern text before line after all ends = absurd (omega (arith, ends))
+
+-- Choosing the rarest nodes
+
+pub other_node : (code : List Node) (number : ℕ) (node : Node) → At code number node → ((skip : ℕ) → node ≡ Choose skip → ⊥) → (skip : ℕ) → At code number (Choose skip) → ⊥
+other_node code number node here differs skip there = differs skip (at_once code number node (Choose skip) here there)
+
+-- how far a choice leads
+abbrev skip_of : Node → ℕ
+skip_of (Take bytes) = 0
+skip_of First = 0
+skip_of Last = 0
+skip_of (Choose skip) = skip
+skip_of (Back by) = 0
+
+pub same_choice : (code : List Node) (number one other : ℕ) → At code number (Choose one) → At code number (Choose other) → one ≡ other
+same_choice code number one other here there = ap skip_of (at_once code number (Choose one) (Choose other) here there)
+
+pub no_choice : (code : List Node) (number : ℕ) (bytes : List Bool) → At code number (Take bytes) → (skip : ℕ) → At code number (Choose skip) → ⊥
+no_choice code number bytes here = other_node code number (Take bytes) here (λ skip same. cc)
+
+pub rarest_more : (code : List Node) (at : ℕ) (rarest : Rarest) (far : ℕ) → IsRarest code at rarest → rarest.far ≤ far → ((skip : ℕ) → At code at (Choose skip) → at + skip ≤ far)
+    → IsRarest code (at + 1) (record { far = far; run = at + 1; from = rarest.from; rank = rarest.rank })
+rarest_more code at rarest far so_far low choice = record {
+  near = λ number skip less here. elim (cases_eq number at) [
+    | inl same ↦ let f = choice skip (subst (λ n. At code n (Choose skip)) same here) in omega (arith, f, same)
+    | inr other ↦ let f = so_far.near number skip (omega (arith, less, other)) here in omega (arith, f, low)
+  ];
+  begun = omega arith;
+  passed = so_far.passed;
+}
+
+pub literal_more : (code : List Node) (from at byte : ℕ) (text : List ℕ) (node : Node) → from + length text ≡ at → IsLiteral code from text → At code at node → TakesOnly node byte → IsLiteral code from (text ++ byte ∷ [])
+literal_more code from at byte text node all literal here only k within = elim (cases_eq k (length text)) [
+  | inl same ↦
+      let there : at ≡ from + k = omega (arith, all, same) in
+      let last : byte ≡ slice_index (text ++ byte ∷ []) k = sym (ap (λ n. slice_index (text ++ byte ∷ []) n) same ∙ get_or-append_seam text byte [] _) in
+      (node, at_at code at (from + k) node there here, subst (TakesOnly node) last only)
+  | inr other ↦
+      let long : length (text ++ byte ∷ []) ≡ length text + 1 = length-append text (byte ∷ []) in
+      let less : k < length text = omega (arith, within, long, other) in
+      let one = literal k less in
+      (one.0, one.1, subst (TakesOnly one.0) (sym (get_or_append_left text (byte ∷ []) _ k less)) one.2)
+]
