@@ -8,7 +8,6 @@ pub mod TurnLemmas
 pub mod MoveLemmas
 pub mod AdvanceLemmas
 pub mod WholeLemmas
-pub mod MatchLemmas
 pub mod CutterLemmas
 pub mod LineLemmas
 pub mod WriterLemmas
@@ -40,3 +39,4 @@ pub mod StageSteps
 pub mod StageClauses
 pub mod WaitingBytes
 pub mod HeldBytes
+pub mod ClearLemmas

@@ -1,7 +1,7 @@
 -- Lines of a text as operands see them, and their bytes.
 use Rattle.std.proofs.Common.{◌≡◌, ◌⊎◌, inl, inr, ℕ, suc, ◌+◌, ◌-◌, ◌<◌, ◌≤◌, List, [], ◌∷◌, ◌++◌, length, map, take, drop, refl, sym, ◌∙◌, ap, subst, arith, length-append}
 use Rattle.std.proofs.lemmas.Bool.{cases_lt}
-use Rattle.std.proofs.lemmas.List.{map-append, take-map, drop-map, length-map, length-drop, drop_at, drop_all, drop-append-le, take-append-le, drop-drop}
+use Rattle.std.proofs.lemmas.List.{take-append-drop, map-append, take-map, drop-map, length-map, length-drop, drop_at, drop_all, drop-append-le, take-append-le, drop-drop}
 use Rattle.std.proofs.Math.Seq.{take-add}
 use Rattle.seg_core.specs.Line.{lines_of, line_count, delimiters, joined, first_lines, after_lines, ends_with, EndsAt, FallsShort}
 use Rattle.seg_core.proofs.LinesOf.{lines_of-append, joined-lines_of}
@@ -47,6 +47,13 @@ whole-append x (byte ∷ t) whole (inl none) = absurd (some byte t none) where
   some : (byte : ℕ) (t : List ℕ) → byte ∷ t ≡ [] → ⊥
   some byte t is = let e : suc (length t) ≡ 0 = ap length is in omega (arith, e)
 whole-append x (byte ∷ t) whole (inr ends) = inr (ends_with-append newline x (byte ∷ t) (omega arith) ∙ ends)
+
+pub whole_drop : (n : ℕ) (text : List ℕ) → IsWhole text → IsWhole (drop n text)
+whole_drop n text (inl none) = inl (ap (drop n) none ∙ drop_all n [] (omega arith))
+whole_drop n text (inr ends) = elim (cases_lt n (length text)) [
+  | inl within ↦ inr (sym (ends_with-append newline (take n text) (drop n text) (let e : length (drop n text) ≡ length text - n = length-drop n text in omega (arith, e, within))) ∙ ap (ends_with newline) (take-append-drop n text) ∙ ends)
+  | inr past ↦ inl (drop_all n text past)
+]
 
 -- bytes of lines
 

@@ -1,12 +1,13 @@
 -- Lines over which the next operand stands as it does.
-use Rattle.std.proofs.Common.{◌≡◌, inl, inr, ℕ, zero, suc, ◌+◌, ◌-◌, ◌^◌, ◌<◌, ◌≤◌, eqb, Bool, true, false, cond, List, [], ◌∷◌, ◌++◌, length, take, drop, get_or, refl, sym, ◌∙◌, ap, subst, arith, length-append}
+use Rattle.std.proofs.Common.{◌≡◌, inl, inr, ℕ, zero, suc, ◌+◌, ◌-◌, ◌^◌, ◌<◌, ◌≤◌, eqb, Bool, true, false, cond, List, [], ◌∷◌, ◌++◌, length, take, drop, get_or, refl, sym, ◌∙◌, ap, subst, arith, Some, None, IfSome, length-append}
 use Rattle.std.specs.Prelude.{min}
 use Rattle.std.specs.List.{onto_first}
 use Rattle.std.proofs.lemmas.Bool.{cases_lt, eq-eqb, ne_eqb}
-use Rattle.std.proofs.lemmas.List.{take_all, take_at, length-drop, take-append-drop, append_assoc, length-take-le, get_or_append_left}
+use Rattle.std.proofs.lemmas.List.{get_or-map, drop_at, take_all, take_at, length-drop, take-append-drop, append_assoc, length-take-le, get_or_append_left}
 use Rattle.std.proofs.Math.Nat.{min-le_left}
 use Rattle.std.proofs.Math.Seq.{get_or-append_right, get_or-append_seam}
 use Rattle.memchr.specs.Find.{Nowhere, Passes, is_byte}
+use Rattle.bre_core.specs.Pattern.{Pattern}
 use Rattle.bre_core.specs.Search.{contains}
 use Rattle.seg_core.specs.Line.{lines_of, line_count, delimiters, ends_with, EndsAt, FallsShort}
 use Rattle.seg_core.proofs.Delimiters.{delimiters-le-length}
@@ -14,17 +15,18 @@ use Rattle.seg_core.proofs.EndLines.{line_count_near}
 use Rattle.seg_core.proofs.FirstLines.{EndsAt-enough, lines_of-first_lines}
 use Rattle.seg_core.proofs.LineCounts.{line_count-open, line_count-le-length}
 use Rattle.csplit_core.specs.Cutter.{CutterState, suppress_in, state_in, pattern_in, pattern_by, AimHolds, IsFit, IsSound}
-use Rattle.csplit_core.specs.inner.Cutter.{IsWhole, IsLine, IsFound, PassesOver}
+use Rattle.csplit_core.specs.inner.Cutter.{AreClear, IsWhole, IsLine, IsFound, IsNextFound, PassesClear, PassesOver, StopsAt}
 use Rattle.csplit_core.specs.Input.{newline, without_newline, is_match_of, marked, all_lines}
 use Rattle.csplit_core.specs.Measure.{Moves, IsRepeatedBy, IsRepeated, Fits}
 use Rattle.csplit_core.specs.Operand.{Target, Number, Search, Operand, Line, unmarked}
 use Rattle.csplit_core.specs.Plan.{State, Step, Ending, used_up, missed, above, below, search_line, MatchesNone, Misses, state_after, Runs, is_used_up, misses, is_above, is_below, cuts}
 use Rattle.csplit_core.specs.Progress.{AimsAt, WillMove}
+use Rattle.csplit_core.specs.declared.line_cutter.Passed.{Passed}
 use Rattle.csplit_core.specs.declared.progress.Turn.{Turn}
 use Rattle.csplit_core.specs.declared.progress.Turn.TheVariants.{UsedUp, Missed, Above, Below, Cuts}
 use Rattle.csplit_core.specs.laws.MatchLaws.{search_some, match_still}
 use Rattle.csplit_core.specs.laws.PlanLaws.{cuts_still}
-use Rattle.csplit_core.proofs.LineLemmas.{all_lines-append, all_lines-line, count-append, count-line, length-all_lines, whole_count, whole-append}
+use Rattle.csplit_core.proofs.LineLemmas.{whole_drop, all_lines-append, all_lines-line, count-append, count-line, length-all_lines, whole_count, whole-append}
 
 -- What stays so of a state when more lines come
 
@@ -249,7 +251,7 @@ none_yet cutter text = record {
 
 -- the line up to the first newline
 
-first_ends : (x : List ℕ) (end : ℕ) → end < length x → Passes (is_byte newline) x end → ends_with newline (take (suc end) x) ≡ true
+pub first_ends : (x : List ℕ) (end : ℕ) → end < length x → Passes (is_byte newline) x end → ends_with newline (take (suc end) x) ≡ true
 first_ends [] end within here = absurd (omega (arith, within))
 first_ends (byte ∷ x) zero within here = here
 first_ends (byte ∷ []) (suc end) within here = absurd (omega (arith, within))
@@ -358,3 +360,92 @@ one_more_at cutter text left rest next before same now end found so before_is sa
 
 pub all_passed_at : (cutter : CutterState) (text left : List ℕ) (next now : CutterState) → IsSound cutter → cutter.aim ≡ Missed → Unmatched cutter text left next → now ≡ next → PassesOver cutter text now (length text - length left)
 all_passed_at cutter text left next now sound aim so is = subst (λ (those : CutterState). PassesOver cutter text those (length text - length left)) (sym is) (all_passed cutter text left next sound aim so)
+
+-- Lines that are seen to have no match
+
+mark_clear : (line : List ℕ) (target : Target) → ((pattern : Pattern) → pattern_in target ≡ Some pattern → contains pattern (without_newline line) ≡ false) → is_match_of line target ≡ false
+mark_clear line (Number n) clear = refl
+mark_clear line (Search pattern kept offset) clear = clear pattern refl
+
+marks_clear : (operand : Operand) (x : List ℕ) → ((pattern : Pattern) → pattern_in operand.target ≡ Some pattern → AreClear pattern x) → (k : ℕ) → k < length (all_lines x) → (get_or (all_lines x) k unmarked).marks operand ≡ false
+marks_clear operand x clear k less =
+    let few : k < line_count newline x = (let e : length (all_lines x) ≡ line_count newline x = length-all_lines x in omega (arith, e, less)) in
+    ap (λ (l : Line). l.marks operand) (get_or-map marked (lines_of newline x) k [] unmarked few)
+    ∙ mark_clear (get_or (lines_of newline x) k []) operand.target (λ pattern is. clear pattern is k few)
+
+none_more : (operand : Operand) (count : ℕ) (a b : List Line) (from : ℕ) → NoneFrom operand count a from → ((k : ℕ) → k < length b → (get_or b k unmarked).marks operand ≡ false) → NoneFrom operand count (a ++ b) from
+none_more operand count a b from those others k less near = elim (cases_lt k (length a)) [
+  | inl before ↦ ap (λ (l : Line). l.marks operand) (get_or_append_left a b unmarked k before) ∙ those k before near
+  | inr past ↦ ap (λ (l : Line). l.marks operand) (get_or-append_right a b k unmarked past) ∙ others (k - length a) (let e : length (a ++ b) ≡ length a + length b = length-append a b in omega (arith, e, past, less))
+]
+
+pub more_clear : (cutter : CutterState) (text left rest : List ℕ) (next now after : CutterState) (n : ℕ) → Unmatched cutter text left next → now ≡ next → PassesClear now left after n → rest ≡ drop n left → Unmatched cutter text rest after
+more_clear cutter text left rest next now after n so now_is passes rest_is =
+    let clear : PassesClear next left after n = subst (λ (those : CutterState). PassesClear those left after n) now_is passes in
+    let t = take n left in record {
+      front = so.front ++ t;
+      all = so.all ∙ ap (λ those. so.front ++ those) (sym (take-append-drop n left) ∙ ap (λ those. t ++ those) (sym rest_is)) ∙ sym (append_assoc so.front t rest);
+      whole = whole-append so.front t so.whole clear.whole;
+      same = clear.same ∙ ap (λ (those : CutterState). record those { lines = after.lines }) so.same;
+      count = clear.count ∙ (let more : line_count newline (so.front ++ t) ≡ line_count newline so.front + line_count newline t = count-append so.front t so.whole in let c : next.lines ≡ cutter.lines + line_count newline so.front = so.count in omega (arith, more, c));
+      none = λ operand same. subst (λ those. NoneFrom operand cutter.lines those (search_line (suppress_in cutter) (state_in cutter))) (sym (all_lines-append so.front t so.whole))
+          (none_more operand cutter.lines (all_lines so.front) (all_lines t) (search_line (suppress_in cutter) (state_in cutter)) (so.none operand same)
+          (marks_clear operand t (λ pattern is. clear.clear pattern (ap (λ (those : CutterState). those.sought) so.same ∙ same ∙ is))));
+    }
+
+pub counts_clear : (cutter now : CutterState) (text : List ℕ) (n count : ℕ) → cutter ≡ now → n ≤ length text → IsWhole (take n text) → count ≡ delimiters newline (take n text) → ((pattern : Pattern) → now.sought ≡ Some pattern → AreClear pattern (take n text))
+    → PassesClear now text (record cutter { lines = cutter.lines + count }) n
+counts_clear cutter now text n count is within whole counted clear = subst (λ (those : CutterState). PassesClear those text (record cutter { lines = cutter.lines + count }) n) is (record {
+  same = refl;
+  within = within;
+  whole = whole;
+  count = (let e : line_count newline (take n text) ≡ delimiters newline (take n text) = whole_count (take n text) whole in omega (arith, e, counted));
+  clear = λ pattern same. clear pattern (ap (λ (those : CutterState). those.sought) (sym is) ∙ same);
+})
+
+-- what is left is complete lines
+pub left_whole : (cutter : CutterState) (text left : List ℕ) (next : CutterState) → IsWhole text → Unmatched cutter text left next → IsWhole left
+left_whole cutter text left next whole so = subst IsWhole (ap (drop (length so.front)) so.all ∙ drop_at so.front left (length so.front) refl) (whole_drop (length so.front) text whole)
+
+-- the numbers are small
+pub fits_clear : (cutter now : CutterState) (text : List ℕ) (n count : ℕ) → cutter ≡ now → now.lines + length text < 2 ^ 64 → n ≤ length text → count ≡ delimiters newline (take n text) → cutter.lines + count < 2 ^ 64
+fits_clear cutter now text n count is fits within counted =
+    let same : cutter.lines ≡ now.lines = ap (λ (those : CutterState). those.lines) is in
+    let less : delimiters newline (take n text) ≤ length (take n text) = delimiters-le-length newline (take n text) in
+    let long : length (take n text) ≡ n = length-take-le n text within in
+    omega (arith, same, less, long, fits, within, counted)
+
+pub few_left : (cutter : CutterState) (text left : List ℕ) (next : CutterState) → Unmatched cutter text left next → cutter.lines + length text < 2 ^ 63 → next.lines + length left < 2 ^ 64
+few_left cutter text left next so fits =
+    let long : length text ≡ length so.front + length left = ap length so.all ∙ length-append so.front left in
+    let less : line_count newline so.front ≤ length so.front = line_count-le-length newline so.front in
+    let c : next.lines ≡ cutter.lines + line_count newline so.front = so.count in omega (arith, long, less, c, fits)
+
+-- what is left of a slice
+pub all_after : (left : List ℕ) (n : ℕ) → take (length left - n) (drop n left) ≡ drop n left
+all_after left n = take_all (length left - n) (drop n left) (let e : length (drop n left) ≡ length left - n = length-drop n left in omega (arith, e))
+
+pub stops_unfound : (cutter : CutterState) (text : List ℕ) (next : CutterState) (n : ℕ) (passed : Passed) → PassesOver cutter text next n → passed.size ≡ n → passed.found ≡ None → StopsAt cutter text next passed
+stops_unfound cutter text next n passed over size_is found_is = record {
+  over = subst (PassesOver cutter text next) (sym size_is) over;
+  found = subst (λ found. IfSome found (IsNextFound next (drop passed.size text))) (sym found_is) tt;
+}
+
+-- The line in which the pattern was found is the next one.
+
+pub next_found : (cutter : CutterState) (text left : List ℕ) (next before now : CutterState) (end : ℕ) (found : Bool) → cutter.aim ≡ Missed → Unmatched cutter text left next → before ≡ next → now ≡ next → end < length left → Passes (is_byte newline) left end → Nowhere (Passes (is_byte newline) left) 0 end
+    → IsFound next (take end left) (before.lines + 1) found → found ≡ true → IsNextFound now (drop (length text - length left) text) (end + 1)
+next_found cutter text left next before now end found aim so before_is now_is within here none finds sure =
+    let long : length text ≡ length so.front + length left = ap length so.all ∙ length-append so.front left in
+    let left_is : drop (length text - length left) text ≡ left = ap (drop (length text - length left)) so.all ∙ drop_at so.front left (length text - length left) (omega (arith, long)) in
+    let one : suc end ≡ end + 1 = omega arith in
+    subst (λ (those : CutterState). IsNextFound those (drop (length text - length left) text) (end + 1)) (sym now_is)
+    (subst (λ those. IsNextFound next those (end + 1)) (sym left_is) (subst (IsNextFound next left) one (record {
+      some = omega arith;
+      within = omega (arith, within);
+      line = first_line left end within none;
+      ends = first_ends left end within here;
+      aim = ap (λ (those : CutterState). those.aim) so.same ∙ aim;
+      found = subst (λ those. IsFound next those (next.lines + 1) true) (sym (first_text left end within here none))
+          (subst (λ n. IsFound next (take end left) n true) (ap (λ (those : CutterState). those.lines + 1) before_is) (subst (IsFound next (take end left) (before.lines + 1)) sure finds));
+    })))

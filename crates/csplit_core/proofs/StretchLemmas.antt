@@ -1,7 +1,6 @@
 -- Taking a text of complete lines in, stretch by stretch.
 use Rattle.std.proofs.Common.{◌≡◌, ◌⊎◌, inl, inr, ℕ, ◌+◌, ◌-◌, ◌<◌, ◌≤◌, Bool, true, false, List, [], ◌∷◌, ◌++◌, length, take, drop, refl, sym, ◌∙◌, ap, subst, arith, append_assoc, length-append}
-use Rattle.std.proofs.lemmas.Bool.{cases_lt}
-use Rattle.std.proofs.lemmas.List.{append-nil, take-append-drop, drop_all, drop_at, drop-drop, length-drop}
+use Rattle.std.proofs.lemmas.List.{append-nil, take-append-drop, drop_all, drop_at, drop-drop, length-drop, length-take-le}
 use Rattle.std.proofs.Math.Seq.{take-add}
 use Rattle.seg_core.specs.Line.{lines_of, line_count, ends_with}
 use Rattle.seg_core.proofs.LineCounts.{ends_with-append}
@@ -14,9 +13,9 @@ use Rattle.csplit_core.specs.Output.{Style}
 use Rattle.csplit_core.specs.laws.SectionLaws.{grows}
 use Rattle.csplit_core.specs.declared.progress.Turn.TheVariants.{Below}
 use Rattle.csplit_core.specs.Writer.{IsReady}
-use Rattle.csplit_core.specs.Cutter.{CutterState, load, IsFit, IsSound, IsLive, EndsNow}
-use Rattle.csplit_core.specs.inner.Cutter.{settled_part, IsWhole, IsLine, Held, HeldNot, PassesOver, Took, TookNot}
-use Rattle.csplit_core.proofs.LineLemmas.{all_lines-append, whole-append}
+use Rattle.csplit_core.specs.Cutter.{CutterState, load, state_in, IsFit, IsSound, IsLive, EndsNow}
+use Rattle.csplit_core.specs.inner.Cutter.{settled_part, IsNextFound, IsWhole, IsLine, Held, HeldNot, PassesOver, Took, TookNot}
+use Rattle.csplit_core.proofs.LineLemmas.{all_lines-append, whole-append, whole_drop}
 use Rattle.csplit_core.proofs.TakeLemmas.{took_held, took_not_held}
 use Rattle.csplit_core.proofs.WriterLemmas.{moves_again, moves_as, moves_same, halts_after, halts_wider, halts_as, breaks_later, owns_again}
 use Rattle.csplit_core.proofs.ByteLemmas.{first_line}
@@ -64,13 +63,6 @@ not_wider told cutter next a b old new fault whole not_taken = record {
 }
 
 -- parts of a text of complete lines
-
-pub whole_drop : (n : ℕ) (text : List ℕ) → IsWhole text → IsWhole (drop n text)
-whole_drop n text (inl none) = inl (ap (drop n) none ∙ drop_all n [] (omega arith))
-whole_drop n text (inr ends) = elim (cases_lt n (length text)) [
-  | inl within ↦ inr (sym (ends_with-append newline (take n text) (drop n text) (let e : length (drop n text) ≡ length text - n = length-drop n text in omega (arith, e, within))) ∙ ap (ends_with newline) (take-append-drop n text) ∙ ends)
-  | inr past ↦ inl (drop_all n text past)
-]
 
 -- a line after the first bytes
 pub take_more : (text line rest : List ℕ) (n : ℕ) → n ≤ length text → drop n text ≡ line ++ rest → take (n + length line) text ≡ take n text ++ line
@@ -129,6 +121,27 @@ stretch_line_stopped told cutter mid held next text bytes line rest n old betwee
     subst (λ those. TookNot told cutter those old new next fault) (append_assoc (take n text) line rest ∙ ap (λ those. take n text ++ those) (sym is) ∙ take-append-drop n text)
     (not_wider told cutter next (take n text ++ line) rest old new fault whole_line
     (took_then_not told cutter held next (take n text) line old between new fault passes.whole (stretch_held told cutter mid held text bytes n old between fit differs passes bytes_is first) second))
+
+-- where the line after the stretch was found already
+
+next_joined : (n size : ℕ) (text line : List ℕ) → line ≡ take size (drop n text) → drop n text ≡ line ++ drop size (drop n text)
+next_joined n size text line is = sym (take-append-drop size (drop n text)) ∙ ap (λ those. those ++ drop size (drop n text)) (sym is)
+
+pub stretch_found : (told : Bool) (cutter mid held next : CutterState) (text bytes line : List ℕ) (n size : ℕ) (old between new : List Slot) → IsFit cutter → (cutter.aim ≡ Below → ⊥) → IsWhole text → PassesOver cutter text mid n → bytes ≡ take n text → Held told mid (mid.window.held ++ bytes) old between held
+    → n < length text → IsNextFound mid (drop n text) size → line ≡ take size (drop n text) → Took told held line between new next
+    → (0 < n + size) × (n + size ≤ length text) × IsWhole (take (n + size) text) × Took told cutter (take (n + size) text) old new next
+stretch_found told cutter mid held next text bytes line n size old between new fit differs whole passes bytes_is first within found line_is second =
+    let long : length line ≡ size = ap length line_is ∙ length-take-le size (drop n text) found.within in
+    subst (λ k. (0 < n + k) × (n + k ≤ length text) × IsWhole (take (n + k) text) × Took told cutter (take (n + k) text) old new next) long
+    (stretch_done told cutter mid held next text bytes line (drop size (drop n text)) n old between new fit differs whole passes bytes_is first within (next_joined n size text line line_is)
+    (λ some. let s = found.some in omega (arith, s, long)) (inr (ap (ends_with newline) line_is ∙ found.ends)) second)
+
+pub found_stopped : (told : Bool) (cutter mid held next : CutterState) (text bytes line : List ℕ) (n size : ℕ) (old between new : List Slot) (fault : Fault) → IsFit cutter → (cutter.aim ≡ Below → ⊥) → IsWhole text → PassesOver cutter text mid n → bytes ≡ take n text
+    → Held told mid (mid.window.held ++ bytes) old between held → n < length text → IsNextFound mid (drop n text) size → line ≡ take size (drop n text) → TookNot told held line between new next fault → TookNot told cutter text old new next fault
+found_stopped told cutter mid held next text bytes line n size old between new fault fit differs whole passes bytes_is first within found line_is second =
+    let long : length line ≡ size = ap length line_is ∙ length-take-le size (drop n text) found.within in
+    stretch_line_stopped told cutter mid held next text bytes line (drop size (drop n text)) n old between new fault fit differs whole passes bytes_is first (next_joined n size text line line_is)
+    (line_whole n text line (drop size (drop n text)) whole (omega (arith, within)) (next_joined n size text line line_is) (inr (ap (ends_with newline) line_is ∙ found.ends)) (let s = found.some in omega (arith, s, long))) second
 
 pub last_or_ends : (line rest : List ℕ) → (ends_with newline line ≡ false → rest ≡ []) → (rest ≡ []) ⊎ (ends_with newline line ≡ true)
 last_or_ends line rest last = by (ends_with newline line) refl where

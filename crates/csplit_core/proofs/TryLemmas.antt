@@ -256,3 +256,15 @@ next_tries cutter before mid next line (Some cut) same mid_is fit one aim next_i
       subst (λ (c : CutterState). GoesPast (suppress_in c) (all_lines (x ++ line)) (state_in c) cut.matched cut.line) mid_as both.0,
       (let lines' : next.lines ≡ cutter.lines + 1 = ap (λ (c : CutterState). c.lines) (next_is ∙ ap (λ (c : CutterState). record c { aim = next.aim }) mid_as) in omega (arith, near, lines')),
     )
+
+-- a line in which the pattern was found is counted
+pub found_counted : (cutter before : CutterState) (text : List ℕ) (found : Bool) → before ≡ cutter → IsFound cutter text (cutter.lines + 1) found → IsFound (record before { lines = before.lines + 1 }) text (before.lines + 1) found
+found_counted cutter before text found same finds =
+    let here : IsFound before text (before.lines + 1) found = subst (λ (those : CutterState). IsFound those text (those.lines + 1) found) (sym same) finds in
+    record { none = here.none; before = here.before; some = here.some }
+
+pub missed_lives : (aim : Turn) → aim ≡ Missed → aim ≡ Below → ⊥
+missed_lives aim missed_is below_is = differs (sym missed_is ∙ below_is)
+  where
+    differs : Missed ≡ Below → ⊥
+    differs same = cc

@@ -1,5 +1,6 @@
 //! Cutting lines into sections as they come in: what is settled of them goes to the sections, and the others wait.
-ghost use Rattle.std.specs.Prelude.{◌≡◌, ◌≢◌, ◌+◌, ◌-◌, ◌<◌, ◌≤◌, ◌^◌, ◌++◌, List, ℕ, [], length, drop, Some, IfOk, IfErr, IfSome, IfNone, OnOk, IsTrue, true, false};
+ghost use Rattle.std.specs.Prelude.{◌≡◌, ◌≢◌, ◌+◌, ◌-◌, ◌<◌, ◌≤◌, ◌^◌, ◌++◌, List, ℕ, [], length, drop, take, Some, None, IfOk, IfErr, IfSome, IfNone, OnOk, IsTrue, true, false};
+ghost use Rattle.bre_core.specs.Pattern.{Pattern};
 ghost use Rattle.seg_core.specs.Line.{delimiters};
 ghost use Rattle.ports_core.specs.Engine.{is_verdict};
 ghost use Rattle.ports_core.specs.Slot.{is_writable};
@@ -8,8 +9,8 @@ ghost use Rattle.csplit_core.specs.Plan.{above, missed};
 ghost use Rattle.csplit_core.specs.Planned.{plan};
 ghost use Rattle.ports_core.specs.Swept.{SweptFrom};
 ghost use Rattle.csplit_core.specs.Cutter.{AimHolds, IsFit, IsSound, load, most_by, pattern_by, state_in, suppress_in};
-ghost use Rattle.csplit_core.specs.inner.Cutter.{CutAt, CutNot, CutsAll, EndsAll, IsJudged, Opens, Holds, IsFound, IsLine, IsNoCut, IsWhole, PassesOn, PassesOver, Stretches, Takes, Tries, TriesNext, WillCut};
-ghost use Rattle.csplit_core.specs.Input.{all_lines, newline};
+ghost use Rattle.csplit_core.specs.inner.Cutter.{AreClear, CutAt, CutNot, CutsAll, EndsAll, IsJudged, Opens, Holds, IsFound, IsLine, IsNoCut, IsWhole, PassesClear, PassesOn, PassesOver, StopsAt, Stretches, Takes, Tries, TriesNext, WillCut};
+ghost use Rattle.csplit_core.specs.Input.{all_lines, newline, without_newline};
 ghost use Rattle.csplit_core.specs.Measure.{Fits};
 ghost use Rattle.csplit_core.specs.Operand.{Line};
 ghost use Rattle.csplit_core.specs.inner.PlanLaws.{needed};
@@ -40,6 +41,19 @@ pub struct Cut {
     /// The line of the cut.
     pub line: u64,
 }
+
+/// How far lines were passed over.
+#[derive(Clone, Copy)]
+pub struct Passed {
+    /// How many bytes they are.
+    pub size: usize,
+    /// How many bytes the next line is, with its newline, where the pattern that is searched for was found in it.
+    pub found: Option<usize>,
+}
+
+/// So often what each line with a match has may be looked for and be found in the very next line, which has no match; then
+/// the lines are matched one by one.
+const PATIENCE: u32 = 8;
 
 /// The sections of the lines that came in, and where the run stands.
 #[derive(Drop)]
@@ -202,15 +216,24 @@ impl<'o> LineCutter<'o> {
         if self.is_past() {
             return Ok(text.len());
         }
-        let n = self.pass_over(text);
+        let passed = self.pass_over(text);
+        let n = passed.size;
         self.hold(&text[..n], outs)?;
         if n == text.len() {
             return Ok(n);
         }
         let (_, rest) = text.split_at(n);
-        let (line, _) = next_line(rest, NEWLINE);
-        self.take_line(line, outs)?;
-        Ok(n + line.len())
+        match passed.found {
+            Some(size) => {
+                self.take_found(&rest[..size], outs)?;
+                Ok(n + size)
+            }
+            None => {
+                let (line, _) = next_line(rest, NEWLINE);
+                self.take_line(line, outs)?;
+                Ok(n + line.len())
+            }
+        }
     }
 
     /// Takes in one line, which may lack its newline.
@@ -230,20 +253,35 @@ impl<'o> LineCutter<'o> {
         }
     }
 
-    /// Counts the lines at the beginning of a text of complete lines after which the next operand stands as it does now,
-    /// and returns how many bytes they are.
-    fn pass_over(&mut self, text: &[u8]) -> usize
+    /// Takes in one line in which the pattern that is searched for was found.
+    fn take_found<O: Outs>(&mut self, line: &[u8], outs: &mut O) -> Result<(), Fault>
+        requires line { IsLine line.now }
+        requires found { IsFound self.old (without_newline line.now) (self.old.lines + 1) true }
+        requires aim { self.old.aim ≡ turn_is.Missed }
+        requires fits { load self.old + length line.now < 2 ^ 63 }
+        requires sound { IsSound self.old }
+        requires ready { IsReady self.old.writer (O.slots outs.old) }
+        ensures { Takes O.told self.old line.now (O.slots outs.old) (O.slots outs.new) self.new result }
+    {
+        match self.try_found() {
+            None => self.hold(line, outs),
+            Some(cut) => self.cut_line(cut, line, outs),
+        }
+    }
+
+    /// Counts the lines at the beginning of a text of complete lines after which the next operand stands as it does now.
+    fn pass_over(&mut self, text: &[u8]) -> Passed
         requires whole { IsWhole text.now }
         requires fits { self.old.lines + length text.now < 2 ^ 63 }
         requires sound { IsSound self.old }
-        ensures { PassesOver self.old text.now self.new result }
+        ensures { StopsAt self.old text.now self.new result }
     {
         match self.aim {
-            Turn::Above(_, line) => self.pass_below(line, text),
+            Turn::Above(_, line) => unfound(self.pass_below(line, text)),
             Turn::Missed => self.pass_unmatched(text),
-            Turn::UsedUp => self.pass_all(text),
-            Turn::Below => 0,
-            Turn::Cuts(_, _) => 0,
+            Turn::UsedUp => unfound(self.pass_all(text)),
+            Turn::Below => unfound(0),
+            Turn::Cuts(_, _) => unfound(0),
         }
     }
 
@@ -279,22 +317,59 @@ impl<'o> LineCutter<'o> {
     }
 
     /// Counts the lines of a text before the first one with the pattern that is searched for.
-    fn pass_unmatched(&mut self, text: &[u8]) -> usize
+    fn pass_unmatched(&mut self, text: &[u8]) -> Passed
         requires whole { IsWhole text.now }
         requires fits { self.old.lines + length text.now < 2 ^ 63 }
         requires sound { IsSound self.old }
         requires aim { self.old.aim ≡ turn_is.Missed }
-        ensures { PassesOver self.old text.now self.new result }
+        ensures { StopsAt self.old text.now self.new result }
     {
-        let mut left = text;
+        let mut patience = PATIENCE;
+        let clear = self.pass_clear(patience, text);
+        let mut left = &text[clear..];
         while let Some(end) = memchr(NEWLINE, left) {
             if self.is_match(&left[..end], self.lines + 1) {
-                return text.len() - left.len();
+                return Passed {
+                    size: text.len() - left.len(),
+                    found: Some(end + 1),
+                };
             }
             self.lines += 1;
             left = &left[end + 1..];
+            let clear = self.pass_clear(patience, left);
+            patience = patience.saturating_sub(u32::from(clear == 0));
+            left = &left[clear..];
         }
-        text.len() - left.len()
+        unfound(text.len() - left.len())
+    }
+
+    /// Counts the lines at the beginning of a text of complete lines that are seen to have no match without matching them,
+    /// if there is patience for it. Returns how many bytes they are.
+    fn pass_clear(&mut self, patience: u32, text: &[u8]) -> usize
+        requires whole { IsWhole text.now }
+        requires fits { self.old.lines + length text.now < 2 ^ 64 }
+        ensures { PassesClear self.old text.now self.new result }
+    {
+        if patience == 0 {
+            return 0;
+        }
+        let size = self.clear_lines(text);
+        self.lines += count_delimiters(&text[..size], NEWLINE) as u64;
+        size
+    }
+
+    /// How many bytes the lines at the beginning of a text of complete lines are that are seen to have no match without
+    /// matching them.
+    fn clear_lines(&self, text: &[u8]) -> usize
+        requires whole { IsWhole text.now }
+        ensures within { result ≤ length text.now }
+        ensures whole { IsWhole (take result text.now) }
+        ensures clear { (pattern : Pattern) → self.now.sought ≡ Some pattern → AreClear pattern (take result text.now) }
+    {
+        match &self.matcher {
+            Some(matcher) => matcher.clear_lines(text),
+            None => 0,
+        }
     }
 
     /// Counts one more line, and tries the next operand with it. Returns its cut, if it makes one.
@@ -324,9 +399,26 @@ impl<'o> LineCutter<'o> {
         }
     }
 
+    /// Counts one more line, in which the pattern that is searched for was found, and tries the next operand with it.
+    /// Returns its cut, if it makes one.
+    fn try_found(&mut self) -> Option<Cut>
+        requires few { self.old.lines < 2 ^ 63 }
+        requires sound { IsSound self.old }
+        requires aim { self.old.aim ≡ turn_is.Missed }
+        ensures same { self.new ≡ record self.old { lines = self.old.lines + 1; aim = self.new.aim } }
+        ensures fit { IsFit self.new }
+        ensures aim { IfNone result (AimHolds self.new.operands self.new.lines self.new.progress self.new.aim) }
+        ensures cuts { IfSome result (WillCut self.new) }
+        ensures tries { (line : List ℕ) → IsLine line → IsFound self.old (without_newline line) (self.old.lines + 1) true → TriesNext self.old line self.new result }
+    {
+        self.lines += 1;
+        self.turn_last(true)
+    }
+
     /// Tries the next operand, where this is the last line that came in, and none before it is to be looked at. Returns
     /// its cut, if it makes one.
     fn try_last(&mut self, line: &[u8]) -> Option<Cut>
+        requires line { IsLine line.now }
         requires few { self.old.lines ≤ 2 ^ 63 }
         requires fit { IsFit self.old }
         ensures same { self.new ≡ record self.old { aim = self.new.aim } }
@@ -335,6 +427,19 @@ impl<'o> LineCutter<'o> {
         ensures tries { Tries self.old line.now self.new result }
     {
         let found = self.is_match(text_of(line), self.lines);
+        self.turn_last(found)
+    }
+
+    /// Tries the next operand with the last line that came in, where `found` says whether it has the operand's pattern.
+    /// Returns its cut, if it makes one.
+    fn turn_last(&mut self, found: bool) -> Option<Cut>
+        requires few { self.old.lines ≤ 2 ^ 63 }
+        requires fit { IsFit self.old }
+        ensures same { self.new ≡ record self.old { aim = self.new.aim } }
+        ensures aim { IfNone result (AimHolds self.new.operands self.new.lines self.new.progress self.new.aim) }
+        ensures cuts { IfSome result (WillCut self.old) }
+        ensures tries { (line : List ℕ) → IsFound self.old (without_newline line) self.old.lines found → Tries self.old line self.new result }
+    {
         let turn = self.find_turn(found);
         match cut_of(turn) {
             Some(cut) => Some(cut),
@@ -379,6 +484,7 @@ impl<'o> LineCutter<'o> {
 
     /// Cuts the lines that wait and the last line, and then keeps of them what waits.
     fn cut_line<O: Outs>(&mut self, cut: Cut, line: &[u8], outs: &mut O) -> Result<(), Fault>
+        requires line { IsLine line.now }
         requires few { self.old.lines ≤ 2 ^ 63 }
         requires fits { size_of self.old.writer.current + length self.old.window.held + length line.now < 2 ^ 63 }
         requires fit { IsFit self.old }
@@ -405,6 +511,7 @@ impl<'o> LineCutter<'o> {
         line: &[u8],
         outs: &mut O,
     ) -> Result<(), Fault>
+        requires line { IsLine line.now }
         requires few { self.old.lines ≤ 2 ^ 63 }
         requires fits { size_of self.old.writer.current + length waiting.now < 2 ^ 63 }
         requires fit { IsFit self.old }
@@ -496,6 +603,14 @@ impl<'o> LineCutter<'o> {
         }
         hold_last(&mut self.window, text, &mut self.writer, outs)
     }
+}
+
+/// Lines that were passed over, after which no match was found.
+fn unfound(size: usize) -> Passed
+    ensures size { result.size ≡ size }
+    ensures found { result.found ≡ None }
+{
+    Passed { size, found: None }
 }
 
 /// The fault where an operand's pattern matches no line, if that is one.

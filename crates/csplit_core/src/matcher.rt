@@ -1,9 +1,10 @@
 //! Matching lines with the pattern that is searched for.
-ghost use Rattle.std.specs.Prelude.{◌≡◌, IfOk, IfErr};
+ghost use Rattle.std.specs.Prelude.{◌≡◌, ◌≤◌, IfOk, IfErr, length, take};
 ghost use Rattle.bre_core.specs.Search.{contains};
 ghost use Rattle.csplit_core.specs.Input.{without_newline};
+ghost use Rattle.csplit_core.specs.inner.Cutter.{AreClear, IsLine, IsWhole};
 
-use memchr::memchr;
+use memchr::memrchr;
 use ports_core::Fault;
 use scan_core::{Bre, Scan};
 use seg_core::line::NEWLINE;
@@ -54,14 +55,31 @@ impl<'o> Matcher<'o> {
     {
         self.scan.contains(self.pattern, text)
     }
+
+    /// How many bytes the lines at the beginning of a text of complete lines are that are seen to have no match without
+    /// matching them.
+    pub(crate) fn clear_lines(&self, text: &[u8]) -> usize
+        requires { IsWhole text.now }
+        ensures within { result ≤ length text.now }
+        ensures whole { IsWhole (take result text.now) }
+        ensures clear { AreClear self.now (take result text.now) }
+    {
+        let place = self.pattern.clear_before(text);
+        match memrchr(NEWLINE, &text[..place]) {
+            Some(end) => end + 1,
+            None => 0,
+        }
+    }
 }
 
-/// A line without its newline.
+/// A line without its newline, which stands nowhere but at its end.
 pub(crate) fn text_of(line: &[u8]) -> &[u8]
+    requires { IsLine line.now }
     ensures { result.now ≡ without_newline line.now }
 {
-    match memchr(NEWLINE, line) {
-        Some(end) => &line[..end],
-        None => line,
+    let end = line.len() - 1;
+    if line[end] == NEWLINE {
+        return &line[..end];
     }
+    line
 }

@@ -1,12 +1,12 @@
 //! Times matching: finds the lines of standard input, without and with matching each against the pattern of the first
-//! word, in rounds that take turns, and prints the best of each in nanoseconds, with how many lines match and the
-//! steps.
+//! word, and with matching only those that aren't seen to have no match, in rounds that take turns. It prints the best
+//! of each in nanoseconds, with how many lines match, each way, and the steps.
 #![tactic(auto)]
 
-ghost use Rattle.std.specs.Prelude.{◌≡◌};
+ghost use Rattle.std.specs.Prelude.{◌≡◌, ◌≤◌, length};
 ghost use Rattle.bre_core.specs.Pattern.{positions_of};
 
-use memchr::memchr;
+use memchr::{memchr, memrchr};
 use scan_core::{Bre, Scan};
 use std::env;
 use std::io::{self, Read};
@@ -53,12 +53,51 @@ fn each_line(scan: &mut Scan, bre: &Bre, text: &[u8], is_matched: bool) -> Found
     found
 }
 
-/// The best times of all rounds, in nanoseconds: without matching, and with it.
+/// How many bytes the lines at the beginning of a text are that are seen to have no match.
+fn clear_lines(bre: &Bre, text: &[u8]) -> usize
+    ensures { result ≤ length text.now }
+{
+    let place = bre.clear_before(text);
+    match memrchr(b'\n', &text[..place]) {
+        Some(end) => end + 1,
+        None => 0,
+    }
+}
+
+/// How many lines of a text match, of which those that are seen to have no match are passed over.
+fn each_unclear(scan: &mut Scan, bre: &Bre, text: &[u8]) -> u64
+    requires { scan.old.positions ≡ positions_of bre.now }
+    ensures { scan.new.positions ≡ scan.old.positions }
+{
+    let mut lines: u64 = 0;
+    let mut rest = text;
+    while !rest.is_empty() {
+        let (_, left) = rest.split_at(clear_lines(bre, rest));
+        let end = match memchr(b'\n', left) {
+            Some(end) => end.min(left.len()),
+            None => left.len(),
+        };
+        let (line, behind) = left.split_at(end);
+        rest = match behind {
+            [_, more @ ..] => more,
+            [] => behind,
+        };
+        if scan.contains(bre, line) {
+            lines = lines.wrapping_add(1);
+        }
+    }
+    lines
+}
+
+/// The best times of all rounds, in nanoseconds: without matching, with it, and where lines are passed over.
 #[derive(Clone, Copy, Debug)]
 struct Best {
     plain: u128,
     matched: u128,
+    passed: u128,
     found: Found,
+    /// The lines that match, where lines are passed over.
+    unclear: u64,
 }
 
 /// Times the rounds.
@@ -68,7 +107,9 @@ fn best_of_rounds(rt: &impl Clock, scan: &mut Scan, bre: &Bre, text: &[u8]) -> i
     let mut best = Best {
         plain: u128::MAX,
         matched: u128::MAX,
+        passed: u128::MAX,
         found: Found { lines: 0, steps: 0 },
+        unclear: 0,
     };
     for _round in 0..ROUNDS {
         let start = Instant::now(rt)?;
@@ -78,6 +119,9 @@ fn best_of_rounds(rt: &impl Clock, scan: &mut Scan, bre: &Bre, text: &[u8]) -> i
         best.found = each_line(scan, bre, text, true);
         best.matched = best.matched.min(start.elapsed(rt)?.as_nanos());
         best.found.steps = best.found.steps.wrapping_add(lines.steps);
+        let start = Instant::now(rt)?;
+        best.unclear = each_unclear(scan, bre, text);
+        best.passed = best.passed.min(start.elapsed(rt)?.as_nanos());
     }
     Ok(best)
 }
@@ -102,8 +146,13 @@ fn main(rt: HostRuntime) -> io::Result<()> {
     rt.stdin().read_to_end(&mut text)?;
     let best = best_of_rounds(&rt, &mut scan, &bre, &text)?;
     println!(rt;
-        "{} {} {} {}",
-        best.plain, best.matched, best.found.lines, best.found.steps
+        "{} {} {} {} {} {}",
+        best.plain,
+        best.matched,
+        best.found.lines,
+        best.found.steps,
+        best.passed,
+        best.unclear
     )?;
     Ok(())
 }

@@ -1,5 +1,5 @@
 -- What private calls say: what contracts see of the cutter of lines, and what its calls do.
-use Rattle.std.specs.Prelude.{◌≡◌, ◌⊎◌, ℕ, ◌+◌, ◌<◌, ◌≤◌, Bool, true, false, List, [], ◌∷◌, ◌++◌, length, take, Option, Some, None, Result, Ok, Err}
+use Rattle.std.specs.Prelude.{◌≡◌, ◌⊎◌, ℕ, ◌+◌, ◌<◌, ◌≤◌, Bool, true, false, List, [], ◌∷◌, ◌++◌, length, take, drop, get_or, Option, Some, None, IfSome, Result, Ok, Err}
 use Rattle.bre_core.specs.Pattern.{Pattern}
 use Rattle.bre_core.specs.Search.{contains}
 use Rattle.seg_core.specs.Line.{lines_of, line_count, ends_with}
@@ -10,7 +10,7 @@ use Rattle.ports_core.specs.inner.Slot.{KeepsBroken}
 use Rattle.ports_core.specs.declared.fault.Fault.{Fault}
 use Rattle.csplit_core.specs.Csplit.{settled_of, whole_of}
 use Rattle.csplit_core.specs.Draft.{draft_part}
-use Rattle.csplit_core.specs.Input.{newline, marked, all_lines}
+use Rattle.csplit_core.specs.Input.{newline, without_newline, marked, all_lines}
 use Rattle.csplit_core.specs.Measure.{Moves}
 use Rattle.csplit_core.specs.Operand.{Operand, Line, is_match}
 use Rattle.csplit_core.specs.Output.{Style}
@@ -25,6 +25,7 @@ use Rattle.csplit_core.specs.inner.Writer.{KeepsFiles, Halts, Moves as Gets}
 use Rattle.csplit_core.specs.declared.progress.Turn.{Turn}
 use Rattle.csplit_core.specs.declared.progress.Turn.TheVariants.{UsedUp, Missed, Above, Below, Cuts}
 use Rattle.csplit_core.specs.declared.line_cutter.Cut.{Cut}
+use Rattle.csplit_core.specs.declared.line_cutter.Passed.{Passed}
 use Rattle.csplit_core.specs.Cutter.{CutterState, suppress_in, state_in, kept_by, IsFit, IsSound, load, draft_by, IsAt, EndsNow, IsLive, Stands}
 
 -- a text of complete lines
@@ -260,6 +261,33 @@ pub record PassesOver (cutter : CutterState) (text : List ℕ) (next : CutterSta
   pub sound : IsSound next
   pub ends : (x : List ℕ) → IsWhole x → IsLive cutter x → (next.lines ≡ line_count newline (x ++ take n text))
       × EndsNow next (x ++ take n text)
+
+-- the pattern that is searched for was found in the first of these lines, which is so long
+pub record IsNextFound (cutter : CutterState) (rest : List ℕ) (size : ℕ) : Type 0 where
+  pub some : 0 < size
+  pub within : size ≤ length rest
+  pub line : IsLine (take size rest)
+  pub ends : ends_with newline (take size rest) ≡ true
+  pub aim : cutter.aim ≡ Missed
+  pub found : IsFound cutter (without_newline (take size rest)) (cutter.lines + 1) true
+
+-- What passing over lines says where it may find the line that follows.
+pub record StopsAt (cutter : CutterState) (text : List ℕ) (next : CutterState) (passed : Passed) : Type 0 where
+  pub over : PassesOver cutter text next passed.size
+  pub found : IfSome passed.found (IsNextFound next (drop passed.size text))
+
+-- no line of a text contains the pattern
+abbrev pub AreClear : Pattern → List ℕ → Type 0
+AreClear pattern x = (k : ℕ) → k < line_count newline x
+    → contains pattern (without_newline (get_or (lines_of newline x) k [])) ≡ false
+
+-- These lines were counted, and none has the pattern that is searched for.
+pub record PassesClear (cutter : CutterState) (text : List ℕ) (next : CutterState) (n : ℕ) : Type 0 where
+  pub same : next ≡ record cutter { lines = next.lines }
+  pub within : n ≤ length text
+  pub whole : IsWhole (take n text)
+  pub count : next.lines ≡ cutter.lines + line_count newline (take n text)
+  pub clear : (pattern : Pattern) → cutter.sought ≡ Some pattern → AreClear pattern (take n text)
 
 -- A stretch of the text was taken in, or a fault came.
 abbrev pub Stretches : Bool → CutterState → List ℕ → List Slot → List Slot → CutterState → Result ℕ Fault → Type 0

@@ -1,8 +1,9 @@
-use Rattle.csplit_core.proofs.MatchLemmas.{to_newline, no_newline}
+use Rattle.std.proofs.Common.{refl}
+use Rattle.csplit_core.proofs.ClearLemmas.{text_ended, text_open}
 use Rattle.csplit_core.proofs.matcher.text_of.Goals as goal
 
-pub returns-in-Some : goal.returns-in-Some
-returns-in-Some c = let found = c.in-Some.ensures in to_newline c.args.line.now c.in-Some.end found.0.high found.1 found.0.before
+pub returns-then-line-end-eq-NEWLINE : goal.returns-then-line-end-eq-NEWLINE
+returns-then-line-end-eq-NEWLINE c = text_ended c.args.line.now _ 0 c.requires refl c.if-line-end-eq-NEWLINE.true
 
-pub returns-in-None : goal.returns-in-None
-returns-in-None c = no_newline c.args.line.now c.in-None.ensures
+pub returns : goal.returns
+returns c = text_open c.args.line.now _ 0 c.requires refl c.if-line-end-eq-NEWLINE.false
