@@ -6,8 +6,8 @@ use Rattle.csplit_core.specs.Operand.{Plus, Minus, Target, Number, Search, Opera
 use Rattle.csplit_core.specs.Plan.{State, start, Step, Ending, used_up, missed, above, below, search_line, Misses, step_of, Runs}
 use Rattle.csplit_core.specs.Planned.{plan}
 use Rattle.csplit_core.specs.Section.{Section, section, section_of, lines_between, is_last_kept, whole_end, settled_end, sections_by, whole_sections}
-use Rattle.csplit_core.specs.Agreed.{kept_lines, whole_outputs, settled_outputs, IsFront, AreFronts, output_at, IsAgreed}
-use Rattle.csplit_core.proofs.TurnedLemmas.{search_within, search_at_start, matching_line, Turned, too_low, turns, turned}
+use Rattle.csplit_core.specs.Agreed.{CanCome, kept_lines, whole_outputs, settled_outputs, IsFront, AreFronts, output_at, IsAgreed}
+use Rattle.csplit_core.proofs.TurnedLemmas.{search_within, search_at_start, matching_line, none_comes, matching_comes, Turned, too_low, turns, turned}
 use Rattle.csplit_core.specs.laws.PlanLaws.{goes_on, plan_runs, plan_once}
 use Rattle.csplit_core.specs.laws.SectionLaws.{between_still, ends_as, are_within, closed_still, plan_grows, whole_covers}
 use Rattle.csplit_core.specs.inner.SectionLaws.{EndsAs, Grow}
@@ -75,6 +75,7 @@ at_last (first ∷ front) rest one = at_last front rest one
 -- A continuation after which the open section has no more than what is settled
 pub record Decides (suppress : Bool) (operands : List Operand) (x : List Line) : Type 0 where
   pub y : List Line
+  pub comes : CanCome y
   pub next : Section
   pub more : List Section
   pub are : whole_sections (x ++ y) (plan suppress operands (x ++ y)) ≡ map (section_of x) (plan suppress operands x).steps ++ next ∷ more
@@ -96,11 +97,13 @@ short_by false front one other more place short less =
     let none : length (front ++ []) ≡ length front = ap length (append-nil front) in
     let e : length (output_at (front ++ more) place) ≡ length (output_at (front ++ []) place) = ap length (at_front front more [] place (omega (arith, less, none))) in omega (arith, e)
 
-longest : (suppress : Bool) (operands : List Operand) (x : List Line) → Decides suppress operands x → (place : ℕ) → place < length (settled_outputs suppress operands x) → (y : List Line) × (z : List Line)
+longest : (suppress : Bool) (operands : List Operand) (x : List Line) → Decides suppress operands x → (place : ℕ) → place < length (settled_outputs suppress operands x) → (y : List Line) × (z : List Line) × CanCome y × CanCome z
     × ((front : List Line) → IsFront front (output_at (whole_outputs suppress operands (x ++ y)) place) → IsFront front (output_at (whole_outputs suppress operands (x ++ z)) place) → length front ≤ length (output_at (settled_outputs suppress operands x) place))
 longest suppress operands x decides place less = (
   decides.y,
   decides.y,
+  decides.comes,
+  decides.comes,
   λ front is are.
       let low_is = kept-append (map (section_of x) (plan suppress operands x).steps) (section (is_last_kept (plan suppress operands x).ending) false (lines_between (plan suppress operands x).last.current (settled_end (length x) (plan suppress operands x).ending) x) ∷ []) in
       let high_is = ap kept_lines decides.are ∙ kept-append (map (section_of x) (plan suppress operands x).steps) (decides.next ∷ decides.more) in
@@ -115,13 +118,14 @@ longest suppress operands x decides place less = (
 
 -- Such a continuation is there: none at all, or under an offset back one line that the operand finds
 
-decides_by : (suppress : Bool) (operands : List Operand) (x y : List Line) (more : List Step) (end : State) (how : Ending) → Runs suppress (x ++ y) (plan suppress operands x).last more end how
+decides_by : (suppress : Bool) (operands : List Operand) (x y : List Line) (more : List Step) (end : State) (how : Ending) → CanCome y → Runs suppress (x ++ y) (plan suppress operands x).last more end how
     → (next : Section) (rest' : List Section) → sections_by true whole_end (x ++ y) (record { steps = more; last = end; ending = how }) ≡ next ∷ rest' → is_last_kept (plan suppress operands x).ending ≡ next.is_kept
     → length next.lines ≤ length (lines_between (plan suppress operands x).last.current (settled_end (length x) (plan suppress operands x).ending) x) → Decides suppress operands x
-decides_by suppress operands x y more end how rest next rest' are kept short =
+decides_by suppress operands x y more end how comes rest next rest' are kept short =
     let here = plan_runs suppress operands x in
     let within = are_within suppress x (start operands) _ _ _ here (omega arith) in record {
       y = y;
+      comes = comes;
       next = next;
       more = rest';
       are = ap (whole_sections (x ++ y)) (plan_once suppress operands (x ++ y) _ _ _ (goes_on suppress x y (start operands) _ _ _ _ _ _ here rest))
@@ -136,6 +140,7 @@ decides_by suppress operands x y more end how rest next rest' are kept short =
 decides_now : (suppress : Bool) (operands : List Operand) (x : List Line) → whole_end (length x) (plan suppress operands x).ending ≡ settled_end (length x) (plan suppress operands x).ending → Decides suppress operands x
 decides_now suppress operands x same = record {
   y = [];
+  comes = none_comes;
   next = section (is_last_kept (plan suppress operands x).ending) true (lines_between (plan suppress operands x).last.current (whole_end (length x) (plan suppress operands x).ending) x);
   more = [];
   are = ap (λ those. whole_sections those (plan suppress operands those)) (append-nil x);
@@ -150,10 +155,10 @@ none_taken first lines = ap (λ n. length (take n (drop (first - 1) lines))) (le
 decides_back : (suppress : Bool) (operands : List Operand) (x : List Line) (operand : Operand) (k : ℕ) → 1 ≤ (plan suppress operands x).last.current → is_last_kept (plan suppress operands x).ending ≡ is_kept operand.target
     → settled_end (length x) (plan suppress operands x).ending ≡ suc (length x) - k → Turned suppress x (plan suppress operands x).last operand (suc (length x) - k) → Decides suppress operands x
 decides_back suppress operands x operand k some kept past (too_low low rest) =
-    decides_by suppress operands x (matching_line ∷ []) _ _ _ rest _ [] refl kept
+    decides_by suppress operands x (matching_line ∷ []) _ _ _ matching_comes rest _ [] refl kept
     (let e : length (lines_between (plan suppress operands x).last.current 0 (x ++ matching_line ∷ [])) ≡ 0 = none_taken (plan suppress operands x).last.current (x ++ matching_line ∷ []) in omega (arith, e))
 decides_back suppress operands x operand k some kept past (turns from steps end how rest) =
-    decides_by suppress operands x (matching_line ∷ []) _ _ _ rest (section_of (x ++ matching_line ∷ []) (step_of (plan suppress operands x).last operand (suc (length x)) (suc (length x) - k))) _ refl kept
+    decides_by suppress operands x (matching_line ∷ []) _ _ _ matching_comes rest (section_of (x ++ matching_line ∷ []) (step_of (plan suppress operands x).last operand (suc (length x)) (suc (length x) - k))) _ refl kept
     (let e : length (lines_between (plan suppress operands x).last.current (suc (length x) - k) (x ++ matching_line ∷ [])) ≡ length (lines_between (plan suppress operands x).last.current (settled_end (length x) (plan suppress operands x).ending) x)
     = ap length (between_still (plan suppress operands x).last.current (suc (length x) - k) x (matching_line ∷ []) some (omega arith) ∙ ap (λ p. lines_between (plan suppress operands x).last.current p x) (sym past)) in omega (arith, e))
 
@@ -183,7 +188,7 @@ decides suppress operands x =
 -- What is settled is what all continuations agree on
 pub settled_is_agreed : (suppress : Bool) (operands : List Operand) (x : List Line) → IsAgreed (whole_outputs suppress operands) x (settled_outputs suppress operands x)
 settled_is_agreed suppress operands x = record {
-  common = common suppress operands x;
-  fewest = ([], fewest suppress operands x);
+  common = λ y comes. common suppress operands x y;
+  fewest = ([], none_comes, fewest suppress operands x);
   longest = longest suppress operands x (decides suppress operands x);
 }

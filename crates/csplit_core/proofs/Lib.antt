@@ -1,5 +1,6 @@
 pub mod TurnedLemmas
 pub mod PlaceLemmas
+pub mod PlacedLemmas
 pub mod AgreedLemmas
 pub mod WaitLemmas
 pub mod StayLemmas

@@ -1,31 +1,32 @@
 -- The lines that wait are those that two continuations put into different places.
-use Rattle.std.proofs.Common.{◌≡◌, inl, inr, ℕ, suc, ◌+◌, ◌-◌, ◌<◌, ◌≤◌, Bool, true, false, cond, ◌&&◌, nat_lt, nat_le, List, [], ◌∷◌, ◌++◌, length, refl, sym, ◌∙◌, ap, subst, arith, length-append}
+use Rattle.std.proofs.Common.{◌≡◌, inl, inr, ℕ, suc, ◌+◌, ◌-◌, ◌<◌, ◌≤◌, Bool, true, false, cond, ◌&&◌, nat_lt, nat_le, List, [], ◌∷◌, ◌++◌, length, min, take, drop, refl, sym, ◌∙◌, ap, subst, arith, length-append, length-take}
 use Rattle.std.specs.Prelude.{◌≢◌}
 use Rattle.std.proofs.lemmas.Bool.{false≢true, cases_lt}
 use Rattle.std.proofs.lemmas.Bool.Decides.{nat_tests}
-use Rattle.std.proofs.lemmas.List.{append-nil}
+use Rattle.std.proofs.lemmas.List.{append-nil, take-append-drop, drop-drop}
 use Rattle.csplit_core.specs.Operand.{Plus, Minus, Target, Number, Search, Operand, Line, most_held}
 use Rattle.csplit_core.specs.Plan.{State, start, Step, Ending, used_up, missed, above, below, search_line, CutsAt, Misses, line_after, state_after, step_of, Runs, is_used_up, misses, is_above, is_below, cuts}
 use Rattle.csplit_core.specs.Planned.{Plan, plan}
-use Rattle.csplit_core.specs.Section.{whole_end, settled_end, is_final}
-use Rattle.csplit_core.specs.Place.{Place, in_section, left_out, nowhere, place_from, place_of, WaitsAt, IsUndecided}
+use Rattle.csplit_core.specs.Section.{whole_end, settled_end, is_final, waiting_lines}
+use Rattle.csplit_core.specs.Agreed.{CanCome}
+use Rattle.csplit_core.specs.Place.{Place, in_section, left_out, nowhere, place_from, place_of, IsUndecided}
 use Rattle.csplit_core.specs.laws.PlanLaws.{line_some, cuts_still, plan_runs, plan_once, goes_on, from_not_less, less_test, not_less_test}
 use Rattle.csplit_core.specs.inner.SectionLaws.{EndsAs}
 use Rattle.csplit_core.specs.laws.SectionLaws.{ends_as, are_within, plan_goes_on, missed_cut, front_of, none_there, cut_once, cuts_or_misses}
-use Rattle.csplit_core.proofs.TurnedLemmas.{search_within, search_at_start, matching_line, Turned, too_low, turns, turned}
+use Rattle.csplit_core.proofs.TurnedLemmas.{search_within, search_at_start, matching_line, none_comes, matching_comes, Turned, too_low, turns, turned}
 
 le_false : (a b : ℕ) → b < a → nat_le a b ≡ false
 le_false a b less = grind (arith, nat_tests, less)
 
-from_le_false : (a b : ℕ) → nat_le a b ≡ false → b < a
+pub from_le_false : (a b : ℕ) → nat_le a b ≡ false → b < a
 from_le_false a b is = grind (arith, nat_tests, is)
 
 -- a line after a cut is after the one that is left out there
-left_by : (suppress : Bool) (line cut : ℕ) → nat_lt line cut ≡ false → (suppress && nat_le line cut) ≡ false → line_after suppress cut ≤ line
+pub left_by : (suppress : Bool) (line cut : ℕ) → nat_lt line cut ≡ false → (suppress && nat_le line cut) ≡ false → line_after suppress cut ≤ line
 left_by true line cut is are = omega (arith, from_le_false line cut are)
 left_by false line cut is are = from_not_less line cut is
 
-not_left : (suppress : Bool) (line cut : ℕ) → line_after suppress cut ≤ line → (suppress && nat_le line cut) ≡ false
+pub not_left : (suppress : Bool) (line cut : ℕ) → line_after suppress cut ≤ line → (suppress && nat_le line cut) ≡ false
 not_left true line cut rest' = le_false line cut rest'
 not_left false line cut rest' = refl
 
@@ -133,6 +134,10 @@ nowhere_by suppress lines first operand operands matched cut is at within low mo
 
 -- One place for each line that doesn't wait
 
+-- the line of this number came in, and stands after what is settled of the last section
+abbrev WaitsAt : (total : ℕ) → Plan → ℕ → Type 0
+WaitsAt total plan line = (is_final plan.ending ≡ false) × (plan.last.current ≤ line) × (settled_end total plan.ending ≤ line) × (line ≤ total)
+
 decided_by : (suppress : Bool) (a b : List Line) (last : State) (ending : Ending) → EndsAs suppress a last ending → (line : ℕ) → last.current ≤ line → line ≤ length a → ((is_final ending ≡ false) → settled_end (length a) ending ≤ line → ⊥)
     → (index : ℕ) (more : List Step) (end : State) (how : Ending) → Runs suppress (a ++ b) last more end how → place_from suppress (length (a ++ b)) index more how line ≡ cond (is_final ending) nowhere (in_section index)
 decided_by suppress a b last used_up is line from within not index more end how rest = settled_place suppress a b last used_up is more end how rest index line from within (omega (arith, within))
@@ -185,7 +190,7 @@ step_later index other rest' less later false true same = no_kind index (ap kind
 step_later index other rest' less later false false same = later same
 
 -- what comes after a section isn't in it
-in_later : (suppress : Bool) (total index other line : ℕ) (steps : List Step) (how : Ending) → index < other → place_from suppress total other steps how line ≡ in_section index → ⊥
+pub in_later : (suppress : Bool) (total index other line : ℕ) (steps : List Step) (how : Ending) → index < other → place_from suppress total other steps how line ≡ in_section index → ⊥
 in_later suppress total index other line [] how less is = rest_later index other less (nat_lt line (whole_end total how)) is
 in_later suppress total index other line (step ∷ steps) how less is =
     step_later index other (place_from suppress total (other + 1) steps how line) less (λ same. in_later suppress total index (other + 1) line steps how (omega (arith, less)) same) (nat_lt line step.cut) (suppress && nat_le line step.cut) is
@@ -228,12 +233,13 @@ missed_here suppress operands x operand repetition line ending from within =
 differ_missed : (suppress : Bool) (operands : List Operand) (x : List Line) (operand : Operand) (repetition : ℕ) (left : List Operand) → (plan suppress operands x).ending ≡ missed operand repetition → (plan suppress operands x).last.operands ≡ operand ∷ left
     → 1 ≤ (plan suppress operands x).last.current → search_line suppress (plan suppress operands x).last ≤ suc (length x)
     → (target : Target) → operand.target ≡ target → Misses suppress x (plan suppress operands x).last operand target → (line : ℕ) → (plan suppress operands x).last.current ≤ line → suc (length x) - most_held target ≤ line → line ≤ length x
-    → (z : List Line) × (place_of suppress operands (x ++ []) line ≢ place_of suppress operands (x ++ z) line)
+    → (z : List Line) × CanCome z × (place_of suppress operands (x ++ []) line ≢ place_of suppress operands (x ++ z) line)
 differ_missed suppress operands x operand repetition left ending is some within (Number n) target none line from past most = absurd none
 differ_missed suppress operands x operand repetition left ending is some within (Search pattern kept (Plus k)) target none line from past most = absurd (omega (arith, past, most))
 differ_missed suppress operands x operand repetition left ending is some within (Search pattern kept (Minus k)) target none line from past most =
     let away = turned_away suppress x (plan suppress operands x).last operand k line (turned suppress x (plan suppress operands x).last operand left pattern kept k some is target none within) past in (
       matching_line ∷ [],
+      matching_comes,
       λ same. away.4 (0 + length (plan suppress operands x).steps)
           (sym (ap (λ (p : Plan). place_from suppress (length (x ++ matching_line ∷ [])) 0 p.steps p.ending line)
           (plan_once suppress operands (x ++ matching_line ∷ []) _ _ _ (goes_on suppress x (matching_line ∷ []) (start operands) _ _ _ _ _ _ (plan_runs suppress operands x) away.3))
@@ -243,19 +249,46 @@ differ_missed suppress operands x operand repetition left ending is some within 
 
 differ_at : (suppress : Bool) (operands : List Operand) (x : List Line) (ending : Ending) → (plan suppress operands x).ending ≡ ending → EndsAs suppress x (plan suppress operands x).last ending
     → 1 ≤ (plan suppress operands x).last.current → search_line suppress (plan suppress operands x).last ≤ suc (length x) → (line : ℕ) → is_final ending ≡ false → (plan suppress operands x).last.current ≤ line → settled_end (length x) ending ≤ line → line ≤ length x
-    → (z : List Line) × (place_of suppress operands (x ++ []) line ≢ place_of suppress operands (x ++ z) line)
+    → (z : List Line) × CanCome z × (place_of suppress operands (x ++ []) line ≢ place_of suppress operands (x ++ z) line)
 differ_at suppress operands x used_up is ends some within line live from past most = absurd (omega (arith, past, most))
 differ_at suppress operands x (missed operand repetition) is (left, are, none) some within line live from past most =
     differ_missed suppress operands x operand repetition left is are some within operand.target refl none line from past most
 differ_at suppress operands x (above operand repetition matched cut) is ends some within line live from past most = absurd (omega (arith, past, most))
 differ_at suppress operands x (below operand repetition) is ends some within line live from past most = absurd (false≢true (sym live))
 
-pub waiting_is_undecided : (suppress : Bool) (operands : List Operand) (x : List Line) → IsUndecided suppress operands x (WaitsAt (length x) (plan suppress operands x))
-waiting_is_undecided suppress operands x = record {
-  differ = λ line waits.
-      let here = plan_runs suppress operands x in
-      let two = differ_at suppress operands x (plan suppress operands x).ending refl (ends_as suppress x (start operands) _ _ _ here) (are_within suppress x (start operands) _ _ _ here (omega arith)).1
-      (search_within suppress x (start operands) _ _ _ here (omega arith) (search_at_start suppress operands (length x))) line waits.0 waits.1 waits.2 waits.3 in
-      ([], two.0, two.1);
-  decided = λ line some within not y z. place_here suppress operands x y line some within not ∙ sym (place_here suppress operands x z line some within not);
+differ_line : (suppress : Bool) (operands : List Operand) (x : List Line) (line : ℕ) → WaitsAt (length x) (plan suppress operands x) line
+    → (y : List Line) × (z : List Line) × CanCome y × CanCome z × (place_of suppress operands (x ++ y) line ≢ place_of suppress operands (x ++ z) line)
+differ_line suppress operands x line waits =
+    let here = plan_runs suppress operands x in
+    let two = differ_at suppress operands x (plan suppress operands x).ending refl (ends_as suppress x (start operands) _ _ _ here) (are_within suppress x (start operands) _ _ _ here (omega arith)).1
+    (search_within suppress x (start operands) _ _ _ here (omega arith) (search_at_start suppress operands (length x))) line waits.0 waits.1 waits.2 waits.3 in
+    ([], two.0, none_comes, two.1, two.2)
+
+same_line : (suppress : Bool) (operands : List Operand) (x y z : List Line) (line : ℕ) → 1 ≤ line → line ≤ length x → (WaitsAt (length x) (plan suppress operands x) line → ⊥)
+    → place_of suppress operands (x ++ y) line ≡ place_of suppress operands (x ++ z) line
+same_line suppress operands x y z line some within not = place_here suppress operands x y line some within not ∙ sym (place_here suppress operands x z line some within not)
+
+-- how many of the lines don't wait, where more may follow
+abbrev gone : ℕ → Plan → ℕ
+gone total plan = plan.last.current - 1 + (settled_end total plan.ending - plan.last.current)
+
+undecided_by : (suppress : Bool) (operands : List Operand) (x : List Line) → 1 ≤ (plan suppress operands x).last.current → (final : Bool) → is_final (plan suppress operands x).ending ≡ final
+    → IsUndecided (place_of suppress operands) x (cond final [] (drop (settled_end (length x) (plan suppress operands x).ending - (plan suppress operands x).last.current) (drop ((plan suppress operands x).last.current - 1) x)))
+undecided_by suppress operands x some true final = record {
+  before = x;
+  are_last = sym (append-nil x);
+  differ = λ line past within. absurd (omega (arith, past, within));
+  decided = λ line one within y z y_comes z_comes. same_line suppress operands x y z line one within (λ waits. false≢true (sym waits.0 ∙ final));
 }
+undecided_by suppress operands x some false live =
+    let n = gone (length x) (plan suppress operands x) in
+    let count : length (take n x) ≡ min n (length x) = length-take n x in record {
+      before = take n x;
+      are_last = sym (take-append-drop n x) ∙ ap (λ rest. take n x ++ rest) (sym (drop-drop (settled_end (length x) (plan suppress operands x).ending - (plan suppress operands x).last.current) ((plan suppress operands x).last.current - 1) x));
+      differ = λ line past within. differ_line suppress operands x line (live, omega (arith, past, within, count, some), omega (arith, past, within, count, some), within);
+      decided = λ line one within y z y_comes z_comes. same_line suppress operands x y z line one (omega (arith, within, count)) (λ waits. let current = waits.1 in let end = waits.2 in omega (arith, within, count, current, end, some, one));
+    }
+
+pub waiting_is_undecided : (suppress : Bool) (operands : List Operand) (x : List Line) → IsUndecided (place_of suppress operands) x (waiting_lines x (plan suppress operands x))
+waiting_is_undecided suppress operands x =
+    undecided_by suppress operands x (are_within suppress x (start operands) _ _ _ (plan_runs suppress operands x) (omega arith)).1 (is_final (plan suppress operands x).ending) refl

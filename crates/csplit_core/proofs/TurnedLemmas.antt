@@ -1,5 +1,9 @@
 -- One more line that every operand finds.
-use Rattle.std.proofs.Common.{◌≡◌, inl, inr, ℕ, suc, ◌+◌, ◌-◌, ◌<◌, ◌≤◌, max, eqb, ◌&&◌, Bool, true, false, cond, List, [], ◌∷◌, ◌++◌, length, get_or, refl, sym, ◌∙◌, ap, subst, arith, length-append}
+use Rattle.std.proofs.Common.{◌≡◌, inl, inr, ℕ, suc, ◌+◌, ◌-◌, ◌<◌, ◌≤◌, max, eqb, ◌&&◌, Bool, true, false, cond, List, [], ◌∷◌, ◌++◌, All, length, get_or, refl, sym, ◌∙◌, ap, subst, arith, length-append, lit<}
+use Rattle.std.proofs.lemmas.List.Elements.{All-nil, All-cons}
+use Rattle.seg_core.specs.Line.{IsComplete}
+use Rattle.csplit_core.specs.Agreed.{CanCome}
+use Rattle.csplit_core.specs.Input.{newline}
 use Rattle.std.proofs.lemmas.Bool.{cases_lt}
 use Rattle.std.proofs.Math.Nat.{max-le}
 use Rattle.std.proofs.Math.Seq.{get_or-append_seam}
@@ -41,6 +45,13 @@ search_at_start false operands total = omega arith
 -- a line that each operand finds
 abbrev pub matching_line : Line
 matching_line = record { text = 10 ∷ []; marks = λ operand. true }
+
+pub none_comes : CanCome []
+none_comes = All-nil (λ (line : Line). All (λ byte. byte < 256) line.text × IsComplete newline line.text)
+
+pub matching_comes : CanCome (matching_line ∷ [])
+matching_comes = All-cons (λ (line : Line). All (λ byte. byte < 256) line.text × IsComplete newline line.text) matching_line []
+    (All-cons (λ byte. byte < 256) 10 [] (lit< tt) (All-nil (λ byte. byte < 256)), ([], refl, tt)) none_comes
 
 matches_first : (suppress : Bool) (x : List Line) (state : State) (operand : Operand) → MatchesNone operand x (search_line suppress state) → search_line suppress state ≤ suc (length x)
     → IsFirst operand (x ++ matching_line ∷ []) (search_line suppress state) (suc (length x))

@@ -1,9 +1,15 @@
--- What all continuations agree on. Lines bear marks, one for each operand: those of the lines that came in are given,
--- and the lines that follow may have any.
-use Rattle.std.specs.Prelude.{◌≡◌, ◌<◌, ◌≤◌, ℕ, Bool, List, [], ◌∷◌, ◌++◌, length, get_or, if◌then◌else◌}
+-- What all continuations agree on. A continuation is what may still come: complete lines, perhaps none. Lines bear
+-- marks, one for each operand: those of the lines that came in are given, and the lines that follow may have any.
+use Rattle.std.specs.Prelude.{◌≡◌, ◌<◌, ◌≤◌, ℕ, Bool, List, [], ◌∷◌, ◌++◌, All, length, get_or, if◌then◌else◌}
+use Rattle.seg_core.specs.Line.{IsComplete}
+use Rattle.csplit_core.specs.Input.{newline}
 use Rattle.csplit_core.specs.Operand.{Operand, Line}
 use Rattle.csplit_core.specs.Planned.{plan}
 use Rattle.csplit_core.specs.Section.{Section, whole_sections, settled_sections}
+
+-- lines that may still come: each is of bytes, ends with a newline and has no other
+abbrev pub CanCome : List Line → Type 0
+CanCome y = All (λ line. All (λ byte. byte < 256) line.text × IsComplete newline line.text) y
 
 -- the lines of each section that is kept, of the empty ones too
 abbrev pub kept_lines : List Section → List (List Line)
@@ -33,10 +39,10 @@ output_at outputs place = get_or outputs place []
 -- the most that the outputs of all continuations of x have in common
 pub record IsAgreed (outputs : List Line → List (List Line)) (x : List Line) (agreed : List (List Line)) : Type 0 where
   -- every continuation has it
-  pub common : (y : List Line) → AreFronts agreed (outputs (x ++ y))
+  pub common : (y : List Line) → CanCome y → AreFronts agreed (outputs (x ++ y))
   -- some continuation has no further output
-  pub fewest : (y : List Line) × (length (outputs (x ++ y)) ≡ length agreed)
+  pub fewest : (y : List Line) × CanCome y × (length (outputs (x ++ y)) ≡ length agreed)
   -- at each place two continuations have no more in common
-  pub longest : (place : ℕ) → place < length agreed → (y : List Line) × (z : List Line)
+  pub longest : (place : ℕ) → place < length agreed → (y : List Line) × (z : List Line) × CanCome y × CanCome z
       × ((front : List Line) → IsFront front (output_at (outputs (x ++ y)) place)
       → IsFront front (output_at (outputs (x ++ z)) place) → length front ≤ length (output_at agreed place))

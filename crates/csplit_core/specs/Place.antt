@@ -1,9 +1,10 @@
 -- Where a line goes, and which lines continuations put into different places.
-use Rattle.std.specs.Prelude.{◌≡◌, ◌≢◌, ℕ, ◌+◌, ◌≤◌, nat_lt, nat_le, ◌&&◌, Bool, false, List, [], ◌∷◌, ◌++◌, length, if◌then◌else◌}
+use Rattle.std.specs.Prelude.{◌≡◌, ◌≢◌, eqb, ℕ, ◌+◌, ◌<◌, ◌≤◌, nat_lt, nat_le, ◌&&◌, Bool, true, false, List, [], ◌∷◌, ◌++◌, get_or, length, map, if◌then◌else◌}
+use Rattle.csplit_core.specs.Agreed.{CanCome}
 use Rattle.csplit_core.specs.Operand.{Operand, Line}
 use Rattle.csplit_core.specs.Plan.{Step, Ending}
 use Rattle.csplit_core.specs.Planned.{Plan, plan}
-use Rattle.csplit_core.specs.Section.{whole_end, settled_end, is_final}
+use Rattle.csplit_core.specs.Section.{Section, whole_end, whole_sections, is_final}
 
 -- A line goes into a section, one that is skipped too; or it is left out at a cut; or it goes nowhere, where a run ends
 -- before it. Sections and cuts are counted from 0.
@@ -26,14 +27,38 @@ abbrev pub place_of : Bool → List Operand → List Line → ℕ → Place
 place_of suppress operands lines line =
     place_from suppress (length lines) 0 (plan suppress operands lines).steps (plan suppress operands lines).ending line
 
--- the line of this number waits: it came in, and stands after what is settled of the last section
-abbrev pub WaitsAt : (total : ℕ) → Plan → ℕ → Type 0
-WaitsAt total plan line = (is_final plan.ending ≡ false) × (plan.last.current ≤ line)
-    × (settled_end total plan.ending ≤ line) × (line ≤ total)
+-- The lines that wait are the last of x, and exactly those on which continuations differ. `places x line` says where
+-- the line of a number goes where the input is x.
+pub record IsUndecided (places : List Line → ℕ → Place) (x waiting : List Line) : Type 0 where
+  pub before : List Line
+  pub are_last : x ≡ before ++ waiting
+  -- two continuations put a line that waits into different places, or one of them puts it nowhere
+  pub differ : (line : ℕ) → length before < line → line ≤ length x → (y : List Line) × (z : List Line)
+      × CanCome y × CanCome z × (places (x ++ y) line ≢ places (x ++ z) line)
+  -- any other line goes to the same place, or nowhere, in all of them
+  pub decided : (line : ℕ) → 1 ≤ line → line ≤ length before → (y z : List Line) → CanCome y → CanCome z
+      → places (x ++ y) line ≡ places (x ++ z) line
 
--- exactly the lines that wait are put into different places by two continuations
-pub record IsUndecided (suppress : Bool) (operands : List Operand) (x : List Line) (waits : ℕ → Type 0) : Type 0 where
-  pub differ : (line : ℕ) → waits line → (y : List Line) × (z : List Line)
-      × (place_of suppress operands (x ++ y) line ≢ place_of suppress operands (x ++ z) line)
-  pub decided : (line : ℕ) → 1 ≤ line → line ≤ length x → (waits line → ⊥) → (y z : List Line)
-      → place_of suppress operands (x ++ y) line ≡ place_of suppress operands (x ++ z) line
+abbrev pub is_in : ℕ → Place → Bool
+is_in section (in_section other) = eqb section other
+is_in section (left_out cut) = false
+is_in section nowhere = false
+
+-- those of the lines that go into a section, where the first of them has this number
+abbrev pub lines_into : ℕ → (ℕ → Place) → (number : ℕ) → List Line → List Line
+lines_into section places number [] = []
+lines_into section places number (line ∷ lines) = if is_in section (places number)
+    then line ∷ lines_into section places (number + 1) lines else lines_into section places (number + 1) lines
+
+-- Places are right, where the input ends after these lines.
+pub record ArePlaced (places : ℕ → Place) (suppress : Bool) (plan : Plan) (lines : List Line) : Type 0 where
+  -- each section has just the lines that go into it, in their order; none goes into a section that isn't there
+  pub sections : (section : ℕ)
+      → get_or (map (λ (one : Section). one.lines) (whole_sections lines plan)) section []
+      ≡ lines_into section places 1 lines
+  -- a line that is left out is that of a cut, where those are left out
+  pub cuts : (line cut : ℕ) → 1 ≤ line → places line ≡ left_out cut → (suppress ≡ true)
+      × (get_or (map (λ (step : Step). step.cut) plan.steps) cut 0 ≡ line)
+  -- a line that goes nowhere stands from the current line on, after a cut below that
+  pub rest : (line : ℕ) → 1 ≤ line → line ≤ length lines → places line ≡ nowhere → (is_final plan.ending ≡ true)
+      × (plan.last.current ≤ line)

@@ -4,7 +4,7 @@ ghost use Rattle.csplit_core.specs.Agreed.{IsAgreed, settled_outputs, whole_outp
 ghost use Rattle.csplit_core.specs.Csplit.{settled_by, whole_by};
 ghost use Rattle.csplit_core.specs.Operand.{Line};
 ghost use Rattle.csplit_core.specs.Output.{Style};
-ghost use Rattle.csplit_core.specs.Place.{IsUndecided, WaitsAt};
+ghost use Rattle.csplit_core.specs.Place.{ArePlaced, IsUndecided, place_of};
 ghost use Rattle.csplit_core.specs.Plan.{Ending, Runs, State, Step, start};
 ghost use Rattle.csplit_core.specs.Planned.{plan};
 ghost use Rattle.csplit_core.specs.Section.{is_final, lines_in, most_waiting, settled_sections, waiting_lines, whole_sections};
@@ -41,10 +41,12 @@ pub fn few_lines_wait()
     ensures { (suppress : Bool) (operands : List Operand) (x : List Line) → length (waiting_lines x (plan suppress operands x)) ≤ most_waiting (plan suppress operands x).ending }
 {}
 
-/// What is settled is what all continuations agree on, and a line waits exactly where two continuations put it into
-/// different places. This is said over complete lines, each with a mark for each operand; the line at a cut may be left
-/// out or not.
+/// What is settled is what all continuations agree on, and the lines that wait are those that two continuations put into
+/// different places, or one of them nowhere. This is said over complete lines, each with a mark for each operand; the line
+/// at a cut may be left out or not. Places are right: each section, a skipped one too, has in their order the lines that
+/// go into it, and no others.
 pub fn agreed_is_settled()
     ensures outputs { (suppress : Bool) (operands : List Operand) (x : List Line) → IsAgreed (whole_outputs suppress operands) x (settled_outputs suppress operands x) }
-    ensures waits { (suppress : Bool) (operands : List Operand) (x : List Line) → IsUndecided suppress operands x (WaitsAt (length x) (plan suppress operands x)) }
+    ensures waits { (suppress : Bool) (operands : List Operand) (x : List Line) → IsUndecided (place_of suppress operands) x (waiting_lines x (plan suppress operands x)) }
+    ensures placed { (suppress : Bool) (operands : List Operand) (x : List Line) → ArePlaced (place_of suppress operands x) suppress (plan suppress operands x) x }
 {}
