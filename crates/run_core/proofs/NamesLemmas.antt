@@ -479,7 +479,7 @@ none_touched told_in laid sources names fresh =
 pub no_memory_first : (told_in told : Bool) (laid : ℕ → List ℕ → Option Content) (sources : List Source) (names : List (List ℕ)) (task : Task) (old : List Slot) → IsFresh sources → old ≡ streams
     → RunsOver told_in (world_of laid sources) names (λ found. TookAll told_in told task found sources old (Err Memory))
 no_memory_first told_in told laid sources names task old fresh are =
-    let untouched = none_touched told_in laid sources names fresh in (untouched.0, untouched.1, not_begun are untouched.2)
+    let untouched = none_touched told_in laid sources names fresh in (untouched.0, untouched.1, not_begun are untouched.2 (ap length fresh.only))
 
 pub fresh_counts : (sources : List Source) (names : List (List ℕ)) → IsFresh sources → length sources ≤ count_after 1 names
 fresh_counts sources names fresh = let more : 1 ≤ count_after 1 names = count_more 1 names in omega (arith, ap length fresh.only, more)

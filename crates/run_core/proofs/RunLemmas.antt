@@ -34,7 +34,7 @@ swept_open true reached new opened swept = ap (λ (slot : Slot). is_open slot.st
 pub stop_open : (told_in told : Bool) (task : Task) (found : List Input) (sources : List Source) (new : List Slot) (fault : Fault) → TookAll told_in told task found sources new (Err fault) → is_open (slot_at new 1).state ≡ true
 stop_open told_in told task found sources new fault (stopped_at _ before input after error step reached among done untouched is_step stops says stop swept) =
     swept_open task.work.clears reached new (error_open reached (stop_error told standard_output error step.low step.high fault reached (ap is_open (all_said_state told task.tool (made_by task before).messages standard_error error says)) stop)) swept
-stop_open told_in told task found sources new _ (not_begun is untouched) = ap (λ slots. is_open (slot_at slots 1).state) is
+stop_open told_in told task found sources new _ (not_begun is untouched none) = ap (λ slots. is_open (slot_at slots 1).state) is
 
 -- the run that a fault stopped
 pub ran_into : (told_in told : Bool) (task : Task) (found : List Input) (sources : List Source) (mid new : List Slot) (fault : Fault) → TookAll told_in told task found sources mid (Err fault) → SaysOn told task.tool (message_of task.tool fault (output_named mid fault)) mid new
@@ -47,9 +47,9 @@ ran_into told_in told task found sources mid new fault (stopped_at _ before inpu
     (subst (λ name. SaysAll told task.tool ((made_by task before).messages ++ message_of task.tool fault name ∷ []) standard_error said_so.after) (sym said_so.named)
     (says_more told task.tool (made_by task before).messages text standard_error error said_so.after said said_so.says))
     refl
-ran_into told_in told task found sources mid new _ (not_begun at_first untouched) says =
+ran_into told_in told task found sources mid new _ (not_begun at_first untouched none) says =
     let said = says standard_output standard_error [] at_first in
-    no_room said.0 (said.0, said.1, refl) said.2 untouched refl
+    no_room said.0 (said.0, said.1, refl) said.2 untouched none refl
 
 -- what was said by the name that a tool gives itself
 pub ran_into_as : (told_in told : Bool) (task : Task) (tool : Tool) (found : List Input) (sources : List Source) (mid new : List Slot) (fault : Fault) → tool ≡ task.tool → TookAll told_in told task found sources mid (Err fault) → SaysOn told tool (message_of tool fault (output_named mid fault)) mid new

@@ -64,7 +64,7 @@ pub data RunStep (told : Bool) (task : Task) (most : ℕ) (so_far : Part) (heade
 -- stopped it within one step at an input, when those before it were done and told, and those after it were not touched:
 -- then the outputs lie between what was written before that step and what with it, the files were removed if the work
 -- clears them, the fault was told after the messages for those inputs, and the status is 1; or there was no memory for
--- the run at all, and no input was touched.
+-- the run at all, and no input was opened or touched.
 pub data EndsAs (told_in told : Bool) (task : Task) (inputs : List Input) (sources : List Source) (new : List Slot)
     (status : ℕ) : Type 0 where
   as_defined : (error : Slot) (reached : List Slot)
@@ -85,7 +85,7 @@ pub data EndsAs (told_in told : Bool) (task : Task) (inputs : List Input) (sourc
       ++ message_of task.tool fault (output_named new fault) ∷ []) standard_error error → status ≡ 1
       → EndsAs told_in told task inputs sources new status
   no_room : (error : Slot) → SaysAll told task.tool (message_of task.tool Memory [] ∷ []) standard_error error
-      → new ≡ streams_with error → AreUntouched inputs sources → status ≡ 1
+      → new ≡ streams_with error → AreUntouched inputs sources → length sources ≡ 1 → status ≡ 1
       → EndsAs told_in told task inputs sources new status
 
 -- the inputs that a run found, and how it ended with them

@@ -29,7 +29,7 @@ pub program_runs : (told_in told_watched told : Bool) (words : List (List ℕ)) 
     → RunsOver told_in (world_of laid sources) (names_of settings) (λ found. DoesAsked told_in told settings found sources_new new status) → ProgramEnds told_in told_watched told words laid sources sources_new shows seen watched new status
 program_runs told_in told_watched told words settings laid sources sources_new shows seen watched new status is asked unseen unwatched does =
     subst (λ (which : Option ℕ). ProgramEndsAt told_in told_watched told words laid sources sources_new shows seen watched new status which) (sym (ap looks_at is ∙ ap (λ b. if b then Some (looks settings) else None) asked))
-    (unseen, unwatched, tool_runs told_in told (world_of laid sources) words settings sources_new new status is does)
+    (unseen, unwatched, tool_runs told_in told (world_of laid sources) words settings sources sources_new new status is does)
 
 -- what words leave that are refused, whichever run they ask for
 pub program_refuses : (told_in told_watched told : Bool) (words : List (List ℕ)) (laid : ℕ → List ℕ → Option Content) (sources : List Source) (shows : ℕ → Snapshot) (seen : List Snapshot) (watched : List Watched) (fault : Fault) (new : List Slot) (status : ℕ) → IsFresh sources → seen ≡ [] → watched ≡ [] → IsRefused HasBadOperands (settings_of words) fault → RefusesFor told words fault new status

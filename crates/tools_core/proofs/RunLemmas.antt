@@ -25,22 +25,24 @@ use Rattle.tee_core.specs.Run as copies
 use Rattle.words_core.specs.EndsAsked.{EndsAsked}
 use Rattle.words_core.specs.Spelling.{IsRefused}
 use Rattle.words_core.specs.CsplitAsked.{CsplitAsked}
+use Rattle.words_core.specs.CsplitWords.{HasBadOperand}
 use Rattle.words_core.specs.TeeAsked.{TeeAsked}
-use Rattle.operand_core.specs.Reading.{Asks}
+use Rattle.operand_core.specs.Reading.{Asks, no_memory}
+use Rattle.operand_core.specs.declared.operand_fault.OperandFaultKind.TheVariants as kind
 use Rattle.operand_core.specs.declared.operand.Operand.{Operand}
 use Rattle.words_core.specs.declared.settings.Headers.{Headers}
 use Rattle.words_core.specs.declared.settings.Settings.{Settings}
 use Rattle.words_core.specs.declared.settings.Settings.TheVariants.{Head, Tail, Split, Csplit, Tee}
 use Rattle.words_core.specs.Words.{HasBadOperands, settings_of}
-use Rattle.tools_core.specs.Outcome.{CsplitEndsAs, DoesAsked, RefusesFor, cut, unread, RunEnds, RunEndsAt, TeeEndsAs, names_at, names_read, speaker}
+use Rattle.tools_core.specs.Outcome.{CsplitEndsAs, DoesAsked, RefusesFor, RunEnds, RunEndsAt, TeeEndsAs, names_at, names_read, speaker}
 use Rattle.tools_core.specs.Tasks.{csplit_task, head_task, tail_task, split_task, names_of}
 use Rattle.tools_core.proofs.SpeakerLemmas.{runs_as_named, tool_of}
 
-pub tool_runs : (told_in told : Bool) (world : World) (words : List (List ℕ)) (settings : Settings) (sources : List Source) (new : List Slot) (status : ℕ) → settings_of words ≡ Ok settings
+pub tool_runs : (told_in told : Bool) (world : World) (words : List (List ℕ)) (settings : Settings) (old sources : List Source) (new : List Slot) (status : ℕ) → settings_of words ≡ Ok settings
     → RunsOver told_in world (names_of settings) (λ found. DoesAsked told_in told settings found sources new status)
-    → RunsOver told_in world (names_read words) (λ found. RunEnds told_in told words found sources new status)
-tool_runs told_in told world words settings sources new status is (found, finds, does) =
-    subst (λ (meant : Result Settings Fault). RunsOver told_in world (names_at meant) (λ found. RunEndsAt told_in told words found sources new status meant)) (sym is) (found, finds, inl does)
+    → RunsOver told_in world (names_read words) (λ found. RunEnds told_in told words found old sources new status)
+tool_runs told_in told world words settings old sources new status is (found, finds, does) =
+    subst (λ (meant : Result Settings Fault). RunsOver told_in world (names_at meant) (λ found. RunEndsAt told_in told words found old sources new status meant)) (sym is) (found, finds, inl does)
 
 pub for_settings : (told_in told : Bool) (world : World) (settings same : Settings) (sources : List Source) (new : List Slot) (status : ℕ) → settings ≡ same
     → RunsOver told_in world (names_of same) (λ found. DoesAsked told_in told same found sources new status)
@@ -101,7 +103,7 @@ unread_task : (told_in told : Bool) (laid : ℕ → List ℕ → Option Content)
     → Says told task.tool (message_of task.tool Memory []) standard_error error → new ≡ streams_with error
     → RunsOver told_in (world_of laid sources) names (λ found. EndsAs told_in told task found sources new 1)
 unread_task told_in told laid sources task names new error fresh says slots =
-    let untouched = none_touched told_in laid sources names fresh in (untouched.0, untouched.1, no_room error (error, says, refl) slots untouched.2 refl)
+    let untouched = none_touched told_in laid sources names fresh in (untouched.0, untouched.1, no_room error (error, says, refl) slots untouched.2 (ap length fresh.only) refl)
 
 unread_tee : (told_in told : Bool) (laid : ℕ → List ℕ → Option Content) (sources : List Source) (asked : TeeAsked) (new : List Slot) (error : Slot)
     → Says told tool.Tee (message_of tool.Tee Memory []) standard_error error → new ≡ streams_with error
@@ -113,29 +115,36 @@ unread_tee told_in told laid sources asked new error says slots =
       record { content = content; input = refl; ends = copies.no_room error (error, says, refl) leaves slots refl; breaks = breaks; whole = λ t well. absurd (cc) },
     )
 
-unread_settings : (told_in told : Bool) (laid : ℕ → List ℕ → Option Content) (sources : List Source) (settings : Settings) (new : List Slot) (error : Slot) → IsFresh sources
+-- want of memory is one of the faults of operands
+pub lacks_memory : (asked : CsplitAsked) → HasBadOperand asked Memory
+lacks_memory asked = (record { kind = kind.Memory; index = 0 }, no_memory 0, refl)
+
+unread_settings : (told_in told : Bool) (laid : ℕ → List ℕ → Option Content) (sources : List Source) (words : List (List ℕ)) (settings : Settings) (new : List Slot) (error : Slot) → IsFresh sources → RefusesFor told words Memory new 1
     → Says told (tool_of settings) (message_of (tool_of settings) Memory []) standard_error error → new ≡ streams_with error
-    → RunsOver told_in (world_of laid sources) (names_of settings) (λ found. DoesAsked told_in told settings found sources new 1)
-unread_settings told_in told laid sources (Head asked) new error fresh says slots = unread_task told_in told laid sources (head_task asked) asked.names new error fresh says slots
-unread_settings told_in told laid sources (Tail asked) new error fresh says slots = unread_task told_in told laid sources (tail_task asked.ends) asked.ends.names new error fresh says slots
-unread_settings told_in told laid sources (Split asked) new error fresh says slots = unread_task told_in told laid sources (split_task asked) (asked.input ∷ []) new error fresh says slots
-unread_settings told_in told laid sources (Csplit asked) new error fresh says slots =
-    let untouched = none_touched told_in laid sources (asked.input ∷ []) fresh in
-    (untouched.0, untouched.1, unread untouched.2 (record { error = error; says = says; slots = slots; failed = refl }))
-unread_settings told_in told laid sources (Tee asked) new error fresh says slots = unread_tee told_in told laid sources asked new error says slots
+    → RunsOver told_in (world_of laid sources) (names_of settings) (λ found. RunEndsAt told_in told words found sources sources new 1 (Ok settings))
+unread_settings told_in told laid sources words (Head asked) new error fresh refuses says slots =
+    let (found, finds, does) = unread_task told_in told laid sources (head_task asked) asked.names new error fresh says slots in (found, finds, inl does)
+unread_settings told_in told laid sources words (Tail asked) new error fresh refuses says slots =
+    let (found, finds, does) = unread_task told_in told laid sources (tail_task asked.ends) asked.ends.names new error fresh says slots in (found, finds, inl does)
+unread_settings told_in told laid sources words (Split asked) new error fresh refuses says slots =
+    let (found, finds, does) = unread_task told_in told laid sources (split_task asked) (asked.input ∷ []) new error fresh says slots in (found, finds, inl does)
+unread_settings told_in told laid sources words (Csplit asked) new error fresh refuses says slots =
+    let untouched = none_touched told_in laid sources (asked.input ∷ []) fresh in (untouched.0, untouched.1, inr (refl, (Memory, lacks_memory asked, refuses)))
+unread_settings told_in told laid sources words (Tee asked) new error fresh refuses says slots =
+    let (found, finds, does) = unread_tee told_in told laid sources asked new error says slots in (found, finds, inl does)
 
 -- words that are refused, or weren't read for want of memory
 
 unread_for : (told_in told : Bool) (laid : ℕ → List ℕ → Option Content) (sources : List Source) (words : List (List ℕ)) (meant : Result Settings Fault) (new : List Slot) (error : Slot) → IsFresh sources → settings_of words ≡ meant
     → Says told (speaker words) (message_of (speaker words) Memory []) standard_error error → new ≡ streams_with error
-    → RunsOver told_in (world_of laid sources) (names_at meant) (λ found. RunEndsAt told_in told words found sources new 1 meant)
+    → RunsOver told_in (world_of laid sources) (names_at meant) (λ found. RunEndsAt told_in told words found sources sources new 1 meant)
 unread_for told_in told laid sources words (Ok settings) new error fresh is says slots =
-    let (found, finds, does) = unread_settings told_in told laid sources settings new error fresh (subst (λ (which : Tool). Says told which (message_of which Memory []) standard_error error) (runs_as_named words settings is) says) slots in
-    (found, finds, inl does)
+    unread_settings told_in told laid sources words settings new error fresh (record { error = error; says = says; slots = slots; failed = refl })
+    (subst (λ (which : Tool). Says told which (message_of which Memory []) standard_error error) (runs_as_named words settings is) says) slots
 unread_for told_in told laid sources words (Err fault) new error fresh is says slots = (
   [],
   record { are = refl; there = λ t. refl },
-  record { error = error; says = record { said = says.said; is = inr (by_either says.is); printed = says.printed }; slots = slots; failed = refl },
+  (refl, record { error = error; says = record { said = says.said; is = inr (by_either says.is); printed = says.printed }; slots = slots; failed = refl }),
 ) where
   by_either : {text : List ℕ} → (says.said ≡ text) ⊎ (says.said ≡ text) → says.said ≡ text
   by_either (inl is) = is
@@ -143,24 +152,24 @@ unread_for told_in told laid sources words (Err fault) new error fresh is says s
 
 -- the words ask for something whose operands can't be read
 operands_refused : (told_in told : Bool) (laid : ℕ → List ℕ → Option Content) (sources : List Source) (words : List (List ℕ)) (settings : Settings) (fault : Fault) (new : List Slot) (status : ℕ) → IsFresh sources → HasBadOperands settings fault
-    → RefusesFor told words fault new status → RunsOver told_in (world_of laid sources) (names_of settings) (λ found. RunEndsAt told_in told words found sources new status (Ok settings))
+    → RefusesFor told words fault new status → RunsOver told_in (world_of laid sources) (names_of settings) (λ found. RunEndsAt told_in told words found sources sources new status (Ok settings))
 operands_refused told_in told laid sources words settings fault new status fresh bad refuses =
-    let untouched = none_touched told_in laid sources (names_of settings) fresh in (untouched.0, untouched.1, inr (fault, bad, refuses))
+    let untouched = none_touched told_in laid sources (names_of settings) fresh in (untouched.0, untouched.1, inr (refl, (fault, bad, refuses)))
 
 pub refused_or_memory : (told_in told : Bool) (laid : ℕ → List ℕ → Option Content) (sources : List Source) (words : List (List ℕ)) (fault : Fault) (new : List Slot) (status : ℕ) → IsFresh sources → IsRefused HasBadOperands (settings_of words) fault
-    → RefusesFor told words fault new status → RunsOver told_in (world_of laid sources) (names_read words) (λ found. RunEnds told_in told words found sources new status)
+    → RefusesFor told words fault new status → RunsOver told_in (world_of laid sources) (names_read words) (λ found. RunEnds told_in told words found sources sources new status)
 refused_or_memory told_in told laid sources words fault new status fresh (inr (inl is)) refuses =
-    subst (λ (meant : Result Settings Fault). RunsOver told_in (world_of laid sources) (names_at meant) (λ found. RunEndsAt told_in told words found sources new status meant)) (sym is) (
+    subst (λ (meant : Result Settings Fault). RunsOver told_in (world_of laid sources) (names_at meant) (λ found. RunEndsAt told_in told words found sources sources new status meant)) (sym is) (
       [],
       record { are = refl; there = λ t. refl },
-      refuses,
+      (refl, refuses),
     )
 refused_or_memory told_in told laid sources words fault new status fresh (inr (inr (settings, is, bad))) refuses =
-    subst (λ (meant : Result Settings Fault). RunsOver told_in (world_of laid sources) (names_at meant) (λ found. RunEndsAt told_in told words found sources new status meant)) (sym is)
+    subst (λ (meant : Result Settings Fault). RunsOver told_in (world_of laid sources) (names_at meant) (λ found. RunEndsAt told_in told words found sources sources new status meant)) (sym is)
     (operands_refused told_in told laid sources words settings fault new status fresh bad refuses)
 refused_or_memory told_in told laid sources words fault new status fresh (inl is) refuses =
     let said : RefusesFor told words Memory new status = subst (λ why. RefusesFor told words why new status) is refuses in
-    subst (λ those. RunsOver told_in (world_of laid sources) (names_read words) (λ found. RunEnds told_in told words found sources new those)) (sym said.failed)
+    subst (λ those. RunsOver told_in (world_of laid sources) (names_read words) (λ found. RunEnds told_in told words found sources sources new those)) (sym said.failed)
     (unread_for told_in told laid sources words (settings_of words) new said.error fresh refl said.says said.slots)
 
 -- `csplit` cuts at the operands that were read
@@ -168,7 +177,7 @@ pub csplit_runs : (told_in told : Bool) (world : World) (asked : CsplitAsked) (i
     → RunsOver told_in world (input ∷ []) (λ found. EndsAs told_in told (csplit_task asked operands) found sources new status)
     → RunsOver told_in world (asked.input ∷ []) (λ found. CsplitEndsAs told_in told asked found sources new status)
 csplit_runs told_in told world asked input operands sources new status is asks (found, finds, ends) =
-    (found, subst (λ name. Finds told_in world (name ∷ []) found) is finds, cut operands asks ends)
+    (found, subst (λ name. Finds told_in world (name ∷ []) found) is finds, record { operands = operands; asks = asks; ends = ends })
 
 pub asked_or_none : (words : List (List ℕ)) (settings : Settings) (fault : Fault) → settings_of words ≡ Ok settings → settings_of words ≡ Err fault → ⊥
 asked_or_none words settings fault asks refuses = both (sym asks ∙ refuses) where

@@ -7,12 +7,11 @@ use Rattle.ports_core.specs.Message.{Says}
 use Rattle.ports_core.specs.declared.tool.Tool.{Tool}
 use Rattle.ports_core.specs.declared.tool.Tool.TheVariants as tool
 use Rattle.ports_core.specs.declared.fault.Fault.{Fault}
-use Rattle.ports_core.specs.declared.fault.Fault.TheVariants.{Memory, Usage}
+use Rattle.ports_core.specs.declared.fault.Fault.TheVariants.{Usage}
 use Rattle.operand_core.specs.declared.operand.Operand.{Operand}
 use Rattle.operand_core.specs.Reading.{Asks}
 use Rattle.ports_core.specs.Inputs.{BreaksOnly}
 use Rattle.run_core.specs.Input.{Input, standard_input}
-use Rattle.run_core.specs.Reading.{AreUntouched}
 use Rattle.run_core.specs.RunEnds.{EndsAs}
 use Rattle.ports_core.specs.Streams.{standard_error, streams_with}
 use Rattle.tee_core.specs.Run.{all_copied, EndsAs as TeeCopies}
@@ -44,15 +43,12 @@ pub record Refuses (told : Bool) (tool : Tool) (text : List ℕ) (new : List Slo
   pub slots : new ≡ streams_with error
   pub failed : status ≡ 1
 
--- `csplit` over its input: it was cut at the operands that its words ask for; or there was no memory for them, and
--- nothing was read.
-pub data CsplitEndsAs (told_in told : Bool) (asked : CsplitAsked) (inputs : List Input) (sources : List Source)
+-- `csplit` over its input, which was cut at the operands that its words ask for
+pub record CsplitEndsAs (told_in told : Bool) (asked : CsplitAsked) (inputs : List Input) (sources : List Source)
     (new : List Slot) (status : ℕ) : Type 0 where
-  cut : (operands : List Operand) → Asks asked.operands operands
-      → EndsAs told_in told (csplit_task asked operands) inputs sources new status
-      → CsplitEndsAs told_in told asked inputs sources new status
-  unread : AreUntouched inputs sources → Refuses told tool.Csplit (message_of tool.Csplit Memory []) new status
-      → CsplitEndsAs told_in told asked inputs sources new status
+  pub operands : List Operand
+  pub asks : Asks asked.operands operands
+  pub ends : EndsAs told_in told (csplit_task asked operands) inputs sources new status
 
 -- `tee` over its inputs, which are standard input alone
 pub record TeeEndsAs (told_in told : Bool) (asked : TeeAsked) (inputs : List Input) (sources : List Source)
@@ -81,23 +77,26 @@ abbrev pub RefusesFor : Bool → List (List ℕ) → Fault → List Slot → ℕ
 RefusesFor told words fault new status =
     Refuses told (speaker words) (message_of (speaker words) fault (word_of words fault)) new status
 
--- what is asked for has operands that can't be read, and the words are refused for that
+-- what is asked for has operands that can't be read, or there was no memory for them, and the words are refused for
+-- that
 abbrev pub RefusesOperands : Bool → List (List ℕ) → Settings → List Slot → ℕ → Type 0
 RefusesOperands told words settings new status = (fault : Fault) × HasBadOperands settings fault
     × RefusesFor told words fault new status
 
--- a run did what was asked for, or refused its operands; or it refused the words
-abbrev pub RunEndsAt : Bool → Bool → List (List ℕ) → List Input → List Source → List Slot → ℕ → Result Settings Fault
-    → Type 0
-RunEndsAt told_in told words inputs sources new status (Ok settings) =
-    DoesAsked told_in told settings inputs sources new status ⊎ RefusesOperands told words settings new status
-RunEndsAt told_in told words inputs sources new status (Err fault) = RefusesFor told words fault new status
+-- A run did what was asked for; or it refused its operands, or the words: then no input was opened or read, and all are
+-- as they were.
+abbrev pub RunEndsAt : Bool → Bool → List (List ℕ) → List Input → (old sources : List Source) → List Slot → ℕ
+    → Result Settings Fault → Type 0
+RunEndsAt told_in told words inputs old sources new status (Ok settings) =
+    DoesAsked told_in told settings inputs sources new status
+    ⊎ ((sources ≡ old) × RefusesOperands told words settings new status)
+RunEndsAt told_in told words inputs old sources new status (Err fault) = (sources ≡ old)
+    × RefusesFor told words fault new status
 
--- a run of these words on these inputs left inputs and outputs so, and returned this status; words that are refused
--- leave the inputs as they were, which stands on `run`
-abbrev pub RunEnds : Bool → Bool → List (List ℕ) → List Input → List Source → List Slot → ℕ → Type 0
-RunEnds told_in told words inputs sources new status =
-    RunEndsAt told_in told words inputs sources new status (settings_of words)
+-- a run of these words on these inputs left inputs and outputs so, and returned this status
+abbrev pub RunEnds : Bool → Bool → List (List ℕ) → List Input → (old sources : List Source) → List Slot → ℕ → Type 0
+RunEnds told_in told words inputs old sources new status =
+    RunEndsAt told_in told words inputs old sources new status (settings_of words)
 
 -- the names that these words read
 abbrev pub names_at : Result Settings Fault → List (List ℕ)

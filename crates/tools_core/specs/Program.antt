@@ -25,7 +25,7 @@ ProgramEndsAt told_in told_watched told words laid sources sources_new shows see
     (sources_new ≡ sources) × FollowingEnds told_watched told words looks shows seen watched new status
 ProgramEndsAt told_in told_watched told words laid sources sources_new shows seen watched new status None = (seen ≡ [])
     × (watched ≡ []) × RunsOver told_in (world_of laid sources) (names_read words)
-    (λ found. RunEnds told_in told words found sources_new new status)
+    (λ found. RunEnds told_in told words found sources sources_new new status)
 
 -- by what the words ask for
 abbrev pub ProgramEnds : (told_in told_watched told : Bool) → List (List ℕ) → (ℕ → List ℕ → Option Content)

@@ -1,5 +1,5 @@
 -- What private calls say: what each step of a run over its inputs leaves.
-use Rattle.std.specs.Prelude.{◌≡◌, ℕ, Bool, true, false, ◌&&◌, ◌||◌, List, ◌∷◌, ◌++◌, Option, Some, None, Result, Ok, Err, if◌then◌else◌}
+use Rattle.std.specs.Prelude.{◌≡◌, ℕ, Bool, true, false, ◌&&◌, ◌||◌, List, ◌∷◌, ◌++◌, length, Option, Some, None, Result, Ok, Err, if◌then◌else◌}
 use Rattle.ports_core.specs.Slot.{Slot, is_open, streams}
 use Rattle.ports_core.specs.Source.{Content, Source, source_at}
 use Rattle.ports_core.specs.Part.{Part, OutputsAt, StoppedBetween}
@@ -88,7 +88,8 @@ pub data TookAll (told_in told : Bool) (task : Task) (inputs : List Input) (sour
       → Stops step reached fault → SaysAll told task.tool (made_by task before).messages standard_error error
       → StoppedBetween told (streams_with error) step.low step.high fault reached → Swept task.work.clears 2 reached new
       → TookAll told_in told task inputs sources new (Err fault)
-  not_begun : new ≡ streams → AreUntouched inputs sources → TookAll told_in told task inputs sources new (Err Memory)
+  not_begun : new ≡ streams → AreUntouched inputs sources → length sources ≡ 1
+      → TookAll told_in told task inputs sources new (Err Memory)
 
 -- the input that a source gives: standard input or a file by its number, or one that is empty
 abbrev pub OfSource : Bool → Option ℕ → List Source → (Content → Type 0) → Type 0

@@ -12,7 +12,7 @@ pub returns-in-Ok : goal.returns-in-Ok
 returns-in-Ok g c = record {
   untouched = λ none. c.run_tool.ensures.untouched (sym (ap (λ (meant : Result Settings Fault). has_dash (names_at meant)) c.in-Ok.ensures.ok) ∙ none);
   unopened = λ none. absurd (asked_or_none (map (λ word. word.now) c.args.words.now) c.in-Ok.settings none.0 c.in-Ok.ensures.ok none.1);
-  ends = tool_runs _ _ _ _ _ _ _ _ c.in-Ok.ensures.ok c.run_tool.ensures.ends;
+  ends = tool_runs _ _ _ _ _ _ _ _ _ c.in-Ok.ensures.ok c.run_tool.ensures.ends;
   opened = counts_by _ (map (λ word. word.now) c.args.words.now) c.in-Ok.settings c.in-Ok.ensures.ok c.run_tool.ensures.opened;
   asked = c.run_tool.ensures.asked;
 }
