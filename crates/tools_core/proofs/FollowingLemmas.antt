@@ -16,7 +16,6 @@ use Rattle.follow_core.specs.Ending.{FollowEndsAs, no_room}
 use Rattle.follow_core.specs.Look.{ways_of}
 use Rattle.words_core.specs.declared.settings.Settings.{Settings}
 use Rattle.words_core.specs.declared.settings.Settings.TheVariants.{Head, Tail, Split, Csplit, Tee}
-use Rattle.words_core.specs.declared.settings.TailSettings.{TailSettings}
 use Rattle.words_core.specs.declared.value.Followed.{Followed}
 use Rattle.words_core.specs.EndsAsked.{EndsAsked}
 use Rattle.words_core.specs.Spelling.{IsRefused}
@@ -24,6 +23,7 @@ use Rattle.words_core.specs.Words.{HasBadOperands, settings_of}
 use Rattle.tools_core.specs.Following.{FollowingEnds, FollowingEndsAt, FollowsAs, FollowsTail, is_name, start_of}
 use Rattle.tools_core.specs.Outcome.{RefusesFor, speaker}
 use Rattle.tools_core.specs.Tasks.{has_headers}
+use Rattle.tools_core.proofs.RunLemmas.{lacks_memory}
 use Rattle.tools_core.proofs.SpeakerLemmas.{runs_as_named}
 
 -- what is followed is what the settings ask for
@@ -66,10 +66,10 @@ unread told_in told words asked None looks shows seen watched new status speaks 
 
 unread_for : (told_in told : Bool) (words : List (List ℕ)) (meant : Result Settings Fault) (looks : ℕ) (shows : ℕ → Snapshot) (seen : List Snapshot) (watched : List Watched) (new : List Slot) (status : ℕ) → settings_of words ≡ meant → seen ≡ [] → watched ≡ [] → RefusesFor told words Memory new status → FollowingEndsAt told_in told words looks shows seen watched new status meant
 unread_for told_in told words (Ok (Tail asked)) looks shows seen watched new status is unseen unwatched refuses = unread told_in told words asked.ends asked.followed looks shows seen watched new status (runs_as_named words (Tail asked) is) unseen unwatched refuses
-unread_for told_in told words (Ok (Head asked)) looks shows seen watched new status is unseen unwatched refuses = inl (unseen, unwatched, refused_memory told words (Usage BadFollow 0) new status refuses)
-unread_for told_in told words (Ok (Split asked)) looks shows seen watched new status is unseen unwatched refuses = inl (unseen, unwatched, refused_memory told words (Usage BadFollow 0) new status refuses)
-unread_for told_in told words (Ok (Csplit asked)) looks shows seen watched new status is unseen unwatched refuses = inl (unseen, unwatched, refused_memory told words (Usage BadFollow 0) new status refuses)
-unread_for told_in told words (Ok (Tee asked)) looks shows seen watched new status is unseen unwatched refuses = inl (unseen, unwatched, refused_memory told words (Usage BadFollow 0) new status refuses)
+unread_for told_in told words (Ok (Head asked)) looks shows seen watched new status is unseen unwatched refuses = inl (tt, (unseen, unwatched, refused_memory told words (Usage BadFollow 0) new status refuses))
+unread_for told_in told words (Ok (Split asked)) looks shows seen watched new status is unseen unwatched refuses = inl (tt, (unseen, unwatched, refused_memory told words (Usage BadFollow 0) new status refuses))
+unread_for told_in told words (Ok (Csplit asked)) looks shows seen watched new status is unseen unwatched refuses = inr (unseen, unwatched, (Memory, lacks_memory asked, refuses))
+unread_for told_in told words (Ok (Tee asked)) looks shows seen watched new status is unseen unwatched refuses = inl (tt, (unseen, unwatched, refused_memory told words (Usage BadFollow 0) new status refuses))
 unread_for told_in told words (Err fault) looks shows seen watched new status is unseen unwatched refuses = (unseen, unwatched, refused_memory told words fault new status refuses)
 
 -- operands that can't be read

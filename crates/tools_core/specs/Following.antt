@@ -15,7 +15,7 @@ use Rattle.words_core.specs.declared.settings.Settings.TheVariants.{Tail}
 use Rattle.words_core.specs.declared.value.Followed.{Followed}
 use Rattle.words_core.specs.declared.value.Followed.TheVariants.{Descriptor, Name}
 use Rattle.words_core.specs.EndsAsked.{EndsAsked}
-use Rattle.words_core.specs.Words.{settings_of}
+use Rattle.words_core.specs.Words.{HasOperands, settings_of}
 use Rattle.tools_core.specs.Outcome.{RefusesFor, RefusesOperands}
 use Rattle.tools_core.specs.Tasks.{has_headers, is_plus}
 
@@ -56,13 +56,14 @@ FollowsTail told_in told words asked (Some followed) looks shows seen watched ne
 FollowsTail told_in told words asked None looks shows seen watched new status =
     RefusesToFollow told words seen watched new status
 
--- what was asked for was followed, or the words were refused
+-- What was asked for was followed; or the words were refused: for operands that can't be read, where they have such
+-- ones, and else since they follow nothing.
 abbrev pub FollowingEndsAt : (told_in told : Bool) → List (List ℕ) → ℕ → (ℕ → Snapshot) → List Snapshot → List Watched
     → List Slot → ℕ → Result Settings Fault → Type 0
 FollowingEndsAt told_in told words looks shows seen watched new status (Ok (Tail asked)) =
     FollowsTail told_in told words asked.ends asked.followed looks shows seen watched new status
 FollowingEndsAt told_in told words looks shows seen watched new status (Ok settings) =
-    RefusesToFollow told words seen watched new status
+    (HasOperands settings × RefusesToFollow told words seen watched new status)
     ⊎ ((seen ≡ []) × (watched ≡ []) × RefusesOperands told words settings new status)
 FollowingEndsAt told_in told words looks shows seen watched new status (Err fault) =
     RefusesUnseen told words fault seen watched new status

@@ -1,6 +1,7 @@
 //! One whole run of `tail` that follows files (POSIX.1-2017, XCU tail, `-f`; names that are followed are GNU's).
 ghost use Rattle.std.specs.Prelude.{◌≡◌, [], Ok, map};
 ghost use Rattle.ports_core.specs.Slot.{streams};
+ghost use Rattle.words_core.specs.Words.{HasOperands};
 ghost use Rattle.tools_core.specs.Following.{FollowingEnds, FollowingEndsAt, FollowsAs, is_name, start_of};
 
 use crate::ends::{has_headers, is_plus};
@@ -48,6 +49,7 @@ pub(crate) fn follow_asked<W: Watch, O: Outs>(
     requires unseen { W.seen watch.old ≡ [] }
     requires unwatched { W.watched watch.old ≡ [] }
     requires outputs { O.slots outs.old ≡ streams }
+    requires operands { HasOperands settings.now }
     ensures { FollowingEndsAt W.told O.told (map (λ word. word.now) words.now) looks (W.shows watch.old) (W.seen watch.new)
         (W.watched watch.new) (O.slots outs.new) result (Ok settings.now) }
 {

@@ -1,9 +1,10 @@
 -- What options and operands ask of `csplit`, or what is wrong with them.
-use Rattle.std.specs.Prelude.{◌≡◌, ℕ, false, true, List, [], ◌∷◌, fold, codes, slice_index_or, Option, Some, None, Result, Ok, Err}
+use Rattle.std.specs.Prelude.{◌≡◌, ℕ, false, true, List, [], ◌∷◌, codes, slice_index_or, Option, Some, None, Result, Ok, Err}
 use Rattle.bre_core.specs.Fault.{number_of, offset_of}
 use Rattle.operand_core.specs.Fault.{number_of_kind}
 use Rattle.operand_core.specs.Style.{Style}
-use Rattle.operand_core.specs.Reading.{IsFault}
+use Rattle.operand_core.specs.Reading.{Asks, IsFault}
+use Rattle.operand_core.specs.declared.operand.Operand.{Operand}
 use Rattle.operand_core.specs.declared.operand_fault.OperandFault.{OperandFault}
 use Rattle.operand_core.specs.declared.operand_fault.OperandFaultKind.{OperandFaultKind}
 use Rattle.operand_core.specs.declared.operand_fault.OperandFaultKind.TheVariants as kind
@@ -63,6 +64,10 @@ fault_in word kind = Usage (BadOperand (number_of_kind kind)) word
 -- a fault of operands whose words stand at these places
 abbrev pub operand_fault : List ℕ → OperandFault → Fault
 operand_fault places fault = fault_in (slice_index_or places fault.index 0) fault.kind
+
+-- the operands can be read
+abbrev pub HasRead : CsplitAsked → Type 0
+HasRead asked = (operands : List Operand) × Asks asked.operands operands
 
 -- The operands can't be read, and this fault tells the first that is wrong. It may also be want of memory.
 abbrev pub HasBadOperand : CsplitAsked → Fault → Type 0

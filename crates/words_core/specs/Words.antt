@@ -10,7 +10,7 @@ use Rattle.words_core.specs.declared.settings.Settings.TheVariants.{Head, Tail, 
 use Rattle.words_core.specs.Table.{ToolRow, row_named, tools}
 use Rattle.words_core.specs.Given.{Given}
 use Rattle.words_core.specs.Spelling.{given_by}
-use Rattle.words_core.specs.CsplitWords.{HasBadOperand, csplit_asked}
+use Rattle.words_core.specs.CsplitWords.{HasBadOperand, HasRead, csplit_asked}
 use Rattle.words_core.specs.EndsWords.{ends_asked}
 use Rattle.words_core.specs.SplitWords.{CanSplit, split_asked}
 use Rattle.words_core.specs.Value.{then_check}
@@ -61,6 +61,14 @@ HasBadOperands (Tail asked) fault = ⊥
 HasBadOperands (Split asked) fault = ⊥
 HasBadOperands (Csplit asked) fault = HasBadOperand asked fault
 HasBadOperands (Tee asked) fault = ⊥
+
+-- what is asked for has no operands that can't be read
+abbrev pub HasOperands : Settings → Type 0
+HasOperands (Head asked) = Unit {0}
+HasOperands (Tail asked) = Unit {0}
+HasOperands (Split asked) = Unit {0}
+HasOperands (Csplit asked) = HasRead asked
+HasOperands (Tee asked) = Unit {0}
 
 -- what is asked for can be done
 abbrev pub CanRun : Settings → Type 0

@@ -1,7 +1,7 @@
 //! What `csplit` is to do, with the operands that its words spell.
 ghost use Rattle.std.specs.Prelude.{◌≡◌, ◌⊎◌, [], map, slice_index_or, IfOk, IfErr};
 ghost use Rattle.operand_core.specs.Reading.{Asks};
-ghost use Rattle.words_core.specs.CsplitWords.{HasBadOperand, asked_with, operand_fault, pattern_kind};
+ghost use Rattle.words_core.specs.CsplitWords.{HasBadOperand, HasRead, asked_with, operand_fault, pattern_kind};
 ghost use Rattle.words_core.specs.Given.{operand_seen};
 
 use crate::spelled::{Operand, places_of, texts_of};
@@ -63,6 +63,7 @@ pub fn read_settings<'a>(
     operands: &[Operand<'a>],
 ) -> Result<CsplitSettings<'a>, Fault>
     ensures ok { IfOk result (λ settings. settings ≡ asked_with style input.now (map operand_seen operands.now)) }
+    ensures operands { IfOk result HasRead }
     ensures err { IfErr result (λ fault. (fault ≡ Fault.Memory) ⊎ HasBadOperand (asked_with style input.now (map operand_seen operands.now)) fault) }
 {
     let words = texts_of(alloc, operands)?;

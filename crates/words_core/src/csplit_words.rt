@@ -1,7 +1,7 @@
 //! What `csplit` is asked for: POSIX.1-2017, XCU csplit; `-z` and `--suppress-matched` are GNU's.
 ghost use Rattle.std.specs.Prelude.{◌≡◌, map, IfOk, IfErr};
 ghost use Rattle.operand_core.specs.Style.{Style as Asked};
-ghost use Rattle.words_core.specs.CsplitWords.{HasBadOperand, csplit_by, csplit_asked, plain, style_of};
+ghost use Rattle.words_core.specs.CsplitWords.{HasBadOperand, HasRead, csplit_by, csplit_asked, plain, style_of};
 ghost use Rattle.words_core.specs.Given.{option_seen};
 ghost use Rattle.words_core.specs.Spelling.{IsRefused};
 ghost use Rattle.words_core.specs.Value.{seen};
@@ -93,6 +93,7 @@ impl<'a> CsplitOptions<'a> {
 pub fn settle_csplit<'a>(alloc: Global, spelled: &Spelled<'a>) -> Result<CsplitSettings<'a>, Fault>
     ensures ok { IfOk result (λ settings. csplit_asked spelled.now ≡ Ok settings) }
     ensures err { IfErr result (IsRefused HasBadOperand (csplit_asked spelled.now)) }
+    ensures operands { IfOk result HasRead }
 {
     let [file, operands @ ..] = spelled.operands.as_slice() else {
         return Err(Fault::Usage(UsageKind::MissingOperand, 0));

@@ -1,7 +1,7 @@
 //! The words of the command line, from the tool's name on (POSIX.1-2017, XBD 12.2).
 ghost use Rattle.std.specs.Prelude.{◌≡◌, map, IfOk, IfErr};
 ghost use Rattle.words_core.specs.Spelling.{IsRefused};
-ghost use Rattle.words_core.specs.Words.{CanRun, HasBadOperands, follows, looks, settings_for, settings_of, tool_named};
+ghost use Rattle.words_core.specs.Words.{CanRun, HasBadOperands, HasOperands, follows, looks, settings_for, settings_of, tool_named};
 
 use crate::csplit_words::settle_csplit;
 use crate::ends_words::settle_ends;
@@ -27,6 +27,7 @@ pub fn read_words<'a>(alloc: Global, words: &[&'a str]) -> Result<Settings<'a>, 
     ensures ok { IfOk result (λ settings. settings_of (map (λ word. word.now) words.now) ≡ Ok settings) }
     ensures err { IfErr result (IsRefused HasBadOperands (settings_of (map (λ word. word.now) words.now))) }
     ensures can { IfOk result CanRun }
+    ensures operands { IfOk result HasOperands }
 {
     let [name, words @ ..] = words else {
         return Err(Fault::Usage(UsageKind::MissingTool, 0));
@@ -74,6 +75,7 @@ pub fn find_tool(name: &str) -> Option<Tool>
 fn settle<'a>(alloc: Global, tool: Tool, spelled: &Spelled<'a>) -> Result<Settings<'a>, Fault>
     ensures ok { IfOk result (λ settings. settings_for tool spelled.now ≡ Ok settings) }
     ensures err { IfErr result (IsRefused HasBadOperands (settings_for tool spelled.now)) }
+    ensures operands { IfOk result HasOperands }
 {
     match tool {
         Tool::Head => Ok(Settings::Head(settle_ends(alloc, spelled)?)),
