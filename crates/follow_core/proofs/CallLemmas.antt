@@ -11,9 +11,9 @@ use Rattle.follow_core.specs.declared.notice.Notice.TheVariants.{Truncated, Repl
 use Rattle.follow_core.specs.Notice.{notice_of, notices_later}
 use Rattle.follow_core.specs.Printing.{PrinterState, Short, no_room, broke as short_broke}
 use Rattle.follow_core.specs.inner.Giving.{text_under, Gives, Halts, Ends, whole, broke, over}
-use Rattle.follow_core.specs.Sharing.{WroteShort, CanPrint, HasError}
+use Rattle.follow_core.specs.Sharing.{WroteShort, CanPrint}
 use Rattle.follow_core.specs.Share.{IsFront}
-use Rattle.follow_core.specs.inner.Calls.{CanGoOn, Keeps, bytes_past, lines_past, held_at, Follows, bytes_led, change_between, lines_led, entry_open, bytes_again, bytes_open, lines_again, lines_open, Catches, Leads}
+use Rattle.follow_core.specs.inner.Calls.{CanGoOn, HasStopped, Keeps, bytes_past, lines_past, held_at, Follows, bytes_led, change_between, lines_led, entry_open, bytes_again, bytes_open, lines_again, lines_open, Catches, Leads}
 use Rattle.follow_core.proofs.GiveLemmas.{tells_state, no_memory, gives_nothing, gives_line, halts_short, front_nil, stops_early, goes_after}
 use Rattle.ports_core.specs.declared.fault.Fault.{Fault}
 use Rattle.watch_core.specs.Watched.{Watched, breaks, Finds, Reopens, file_seen, is_readable, is_watchable, open_contents, opens, watched_at}
@@ -39,24 +39,24 @@ gives_can told printer after name bytes lines (output ∷ error ∷ others) new 
   by : (last : Slot) × TellsAll told lines error last × (new ≡ adds (told_of told (text_under printer name bytes)) output ∷ last ∷ others) → CanPrint new
   by (last, said, is) = subst CanPrint (sym is) (can.0, ap is_open (tells_state told lines error last said) ∙ can.1)
 
-short_error : (told : Bool) (text : List ℕ) (output error : Slot) (others new : List Slot) (why : Fault) → Short told text (output ∷ error ∷ others) new why → is_open error.state ≡ true → HasError new
-short_error told text output error others new _ (short_broke n part) can = subst HasError (sym part.slots) can
-short_error told text output error others new _ (no_room n within is) can = subst HasError (sym is) can
+short_error : (told : Bool) (text : List ℕ) (output error : Slot) (others new : List Slot) (why : Fault) → Short told text (output ∷ error ∷ others) new why → is_open error.state ≡ true → HasStopped why new
+short_error told text output error others new _ (short_broke n part) can = subst (HasStopped (fault.Write 0)) (sym part.slots) (inr (refl, refl), can)
+short_error told text output error others new _ (no_room n within is) can = subst (HasStopped fault.Memory) (sym is) (inl refl, can)
 
-pub short_can : (told : Bool) (text : List ℕ) (old new : List Slot) (why : Fault) → Short told text old new why → CanPrint old → HasError new
+pub short_can : (told : Bool) (text : List ℕ) (old new : List Slot) (why : Fault) → Short told text old new why → CanPrint old → HasStopped why new
 short_can told text [] new why short can = absurd (false≢true can.0)
 short_can told text (output ∷ []) new why short can = absurd (false≢true can.1)
 short_can told text (output ∷ error ∷ others) new why short can = short_error told text output error others new why short can.1
 
--- standard error is open where a beginning was written
-pub wrote_error : (told : Bool) (text : List ℕ) (lines : List (List ℕ)) (old new : List Slot) (why : Fault) → WroteShort told text lines old new why → CanPrint old → HasError new
+-- why a beginning was written, and standard error is open
+pub wrote_error : (told : Bool) (text : List ℕ) (lines : List (List ℕ)) (old new : List Slot) (why : Fault) → WroteShort told text lines old new why → CanPrint old → HasStopped why new
 wrote_error told text lines [] new why short can = absurd (false≢true can.0)
 wrote_error told text lines (output ∷ []) new why short can = absurd (false≢true can.1)
 wrote_error told text lines (output ∷ error ∷ others) new why short can = by (short output error others refl) where
-  by : (last : Slot) × TellsAll told lines error last × Short told text (output ∷ last ∷ others) new why → HasError new
+  by : (last : Slot) × TellsAll told lines error last × Short told text (output ∷ last ∷ others) new why → HasStopped why new
   by (last, said, part) = short_error told text output last others new why part (ap is_open (tells_state told lines error last said) ∙ can.1)
 
-halts_error : (told : Bool) (printer : PrinterState) (name bytes : List ℕ) (lines : List (List ℕ)) (old new : List Slot) (why : Fault) → Halts told printer name bytes lines old new why → CanPrint old → HasError new
+halts_error : (told : Bool) (printer : PrinterState) (name bytes : List ℕ) (lines : List (List ℕ)) (old new : List Slot) (why : Fault) → Halts told printer name bytes lines old new why → CanPrint old → HasStopped why new
 halts_error told printer name bytes lines old new why halts can = wrote_error told (text_under printer name bytes) lines old new why halts.slots can
 
 pub ends_can : {T : Type 0} (told_in told : Bool) (printer after : PrinterState) (name due : List ℕ) (lines : List (List ℕ)) (old new : List Slot) (result : Result T Stop) → Ends {T = T} told_in told printer name due lines old after new result → CanPrint old → CanGoOn result new

@@ -1,26 +1,28 @@
 -- A look at all names more, and one that was stopped.
 use Rattle.std.proofs.Math.Bool.{or-false as or_none, and-false as and_none}
-use Rattle.std.proofs.Common.{Err, ◌≡◌, ℕ, zero, suc, ◌<◌, ◌+◌, Bool, true, false, not, ◌||◌, ◌&&◌, List, [], ◌∷◌, ◌++◌, length, map, slice_index_or, refl, sym, ◌∙◌, ap, subst, arith, inl, inr}
+use Rattle.std.proofs.Common.{Err, ◌≡◌, ℕ, zero, suc, ◌<◌, ◌+◌, Bool, true, false, not, ◌||◌, ◌&&◌, List, [], ◌∷◌, ◌++◌, length, map, slice_index_or, refl, sym, ◌∙◌, ap, subst, arith, inl, inr, IsTrue}
 use Rattle.std.proofs.lemmas.Bool.{false≢true}
 use Rattle.std.proofs.lemmas.List.{length-map}
 use Rattle.std.proofs.Math.Seq.{take-length}
-use Rattle.ports_core.specs.Slot.{Slot, adds, told_of}
+use Rattle.ports_core.specs.Slot.{Slot, adds, can_write, is_open, is_writable, slot_at, told_of}
 use Rattle.follow_core.specs.Telling.{TellsAll}
 use Rattle.follow_core.specs.declared.name.Standing.{Standing}
 use Rattle.follow_core.specs.declared.name.Standing.TheVariants.{New, Followed, Left}
 use Rattle.follow_core.specs.declared.follow.Stage.{Stage}
 use Rattle.follow_core.specs.declared.follow.Stage.TheVariants.{Fresh, Looking, Over}
 use Rattle.follow_core.specs.Followed.{any_failed, last_header_from, messages_of, text_from}
-use Rattle.follow_core.specs.FollowState.{AllReady, FollowState, Holds, LooksOn, StandsIn, StopsOn, goes_on_at, is_alive, is_alive_from, new_state, nothing, up_to}
+use Rattle.follow_core.specs.FollowState.{AllReady, CanLook, FollowState, Holds, IsCause, LooksOn, StandsIn, StopsOn, goes_on_at, is_alive, is_alive_from, new_state, nothing, up_to, lacks_memory, output_broke}
+use Rattle.follow_core.specs.inner.Calls.{HasStopped}
 use Rattle.follow_core.specs.inner.Looks.{Begins, MakesLook}
 use Rattle.follow_core.specs.Look.{Look, Ways, is_dropped, snapshots, ways_of}
 use Rattle.follow_core.specs.Printing.{PrinterState, Short, fresh_printer, no_room}
 use Rattle.follow_core.specs.Share.{Share, shares_at_look, shares_of}
-use Rattle.follow_core.specs.Sharing.{AllShared, AllShort, Wrote, WroteShort}
+use Rattle.follow_core.specs.Sharing.{AllShared, AllShort, CanPrint, Wrote, WroteShort}
 use Rattle.follow_core.specs.Standing.{AllStand, AreBroken, CanVisit, IsFollowed, NameState, Stands, state_at, texts}
 use Rattle.follow_core.specs.inner.Visits.{any_goes_on, goes_on_as, StoppedAt, VisitedAll}
 use Rattle.follow_core.specs.Version.{open_after}
 use Rattle.ports_core.specs.declared.fault.Fault.{Fault}
+use Rattle.ports_core.specs.declared.slot.State.{State}
 use Rattle.ports_core.specs.declared.fault.Fault.TheVariants as fault
 use Rattle.watch_core.specs.Snapshot.{Snapshot}
 use Rattle.watch_core.specs.Watched.{Watched, added, watched_at}
@@ -299,6 +301,30 @@ alive_is told ways headers names looks first slots follow watched holds =
       stage Fresh stand = fresh_alive ways looks follow.names stand.0 stand.1
       stage Looking stand = λ place within. goes_on_there ways looks place (state_at follow.names place).text (watched_at watched place) (state_at follow.names place).standing (stand.0 place within)
       stage Over stand = absurd stand
+
+-- why a look was stopped
+
+not_broken : (old : List Slot) → IsTrue (is_writable old 0) → (slot_at old 0).is_broken ≡ false
+not_broken [] can = absurd (false≢true can)
+not_broken (output ∷ others) can = by output.state output.is_broken can where
+  by : (state : State) (is_broken : Bool) → IsTrue (can_write (record output { state = state; is_broken = is_broken })) → is_broken ≡ false
+  by state false can = refl
+  by state true can = absurd (false≢true (sym (and_none (is_open state)) ∙ can))
+
+-- following isn't over
+can_print : (old : FollowState) (watched : List Watched) (slots : List Slot) → (old.stage ≡ Over → ⊥) → CanLook old watched slots → CanPrint slots
+can_print old watched slots live can = by old.stage live can where
+  by : (stage : Stage) → (stage ≡ Over → ⊥) → CanLook (record old { stage = stage }) watched slots → CanPrint slots
+  by Fresh live can = can.1
+  by Looking live can = can.1
+  by Over live can = absurd (live refl)
+
+pub cause_is : {old : FollowState} {slots slots_new : List Slot} {why : Fault} (watched : List Watched) → (old.stage ≡ Over → ⊥) → CanLook old watched slots → HasStopped why slots_new → IsCause old slots slots_new why
+cause_is {old} {slots} {slots_new} {why} watched live can (inl memory, error) = subst (IsCause old slots slots_new) (sym memory) lacks_memory
+cause_is {old} {slots} {slots_new} {why} watched live can (inr (is, broken), error) = subst (IsCause old slots slots_new) (sym is) (output_broke (not_broken slots (can_print old watched slots live can).0, broken))
+
+pub no_memory_is : {old : FollowState} {slots slots_new : List Slot} {why : Fault} → why ≡ fault.Memory → IsCause old slots slots_new why
+no_memory_is {old} {slots} {slots_new} {why} is = subst (IsCause old slots slots_new) (sym is) lacks_memory
 
 -- by what the names broke
 

@@ -1,7 +1,8 @@
 -- Following: its names and how they stand, from one look to the next.
 use Rattle.std.specs.Prelude.{◌≡◌, ◌⊎◌, ◌<◌, ◌∷◌, ◌++◌, ◌+◌, ℕ, Bool, true, false, not, ◌&&◌, ◌||◌, List, [], length, map, take, slice_index_or, is_some}
-use Rattle.ports_core.specs.Slot.{Slot}
+use Rattle.ports_core.specs.Slot.{Slot, Rose}
 use Rattle.ports_core.specs.declared.fault.Fault.{Fault}
+use Rattle.ports_core.specs.declared.fault.Fault.TheVariants.{Failed, Memory, Write}
 use Rattle.watch_core.specs.Snapshot.{Snapshot}
 use Rattle.watch_core.specs.Watched.{Watched, watched_at}
 use Rattle.follow_core.specs.declared.follow.Stage.{Stage}
@@ -98,6 +99,12 @@ pub record Halted (told_in told : Bool) (ways : Ways) (headers : Bool) (names : 
   pub more : List Share
   pub begun : Begun told_in ways names looks snapshot watched more
   pub short : AllShort told printer more reached slots why
+
+-- why a look was stopped: there was no memory, or standard output broke in it, or a fault had ended following before
+pub data IsCause (old : FollowState) (slots slots_new : List Slot) : Fault → Type 0 where
+  lacks_memory : IsCause old slots slots_new Memory
+  output_broke : Rose 0 slots slots_new → IsCause old slots slots_new (Write 0)
+  was_over : old.stage ≡ Over → IsCause old slots slots_new Failed
 
 -- a look that was stopped saw the files, or didn't come to that
 abbrev pub SawOrNot : List Snapshot → Snapshot → List Snapshot → Type 0

@@ -29,7 +29,8 @@ gain ways name before look =
 -- what it gained in all looks
 abbrev pub gains_from : Ways → List ℕ → List Look → List Look → List ℕ
 gains_from ways name before [] = []
-gains_from ways name before (look ∷ looks) = gain ways name before look ++ gains_from ways name (before ++ look ∷ []) looks
+gains_from ways name before (look ∷ looks) =
+    gain ways name before look ++ gains_from ways name (before ++ look ∷ []) looks
 
 -- what is told of the name at that look
 abbrev pub said_at_look : Ways → List ℕ → List Look → Look → List (List ℕ)

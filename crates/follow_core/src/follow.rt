@@ -4,7 +4,7 @@ ghost use Rattle.ports_core.specs.Slot.{Slot};
 ghost use Rattle.watch_core.specs.Watched.{Watched};
 ghost use Rattle.follow_core.specs.Sharing.{HasError};
 ghost use Rattle.follow_core.specs.inner.Looks.{Begins, CanBegin, MakesLook};
-ghost use Rattle.follow_core.specs.FollowState.{CanLook, FollowState, Holds, LooksOn, SawOrNot, StopsOn, is_alive, opened_follow};
+ghost use Rattle.follow_core.specs.FollowState.{CanLook, FollowState, Holds, IsCause, LooksOn, SawOrNot, StopsOn, is_alive, opened_follow};
 ghost use Rattle.follow_core.specs.Look.{Look, Ways};
 
 use crate::name::{Name, add_all, any_goes_on, new_names, visit_all};
@@ -94,6 +94,7 @@ impl Follow {
         ensures stage { OnOk result (self.new.stage ≡ Stage.Looking) }
         ensures error { HasError (O.slots outs.old) → HasError (O.slots outs.new) }
         ensures can { OnOk result (CanLook self.new (W.watched watch.new) (O.slots outs.new)) }
+        ensures cause { IfErr result (IsCause self.old (O.slots outs.old) (O.slots outs.new)) }
         ensures err { IfErr result (λ _. self.new.stage ≡ Stage.Over) }
         ensures over { self.old.stage ≡ Stage.Over → (result ≡ Err Fault.Failed) × (O.slots outs.new ≡ O.slots outs.old) × (W.watched watch.new ≡ W.watched watch.old) × (W.seen watch.new ≡ W.seen watch.old) × (self.new ≡ self.old) }
         ensures failed { (self.old.stage ≡ Stage.Over → ⊥) → IfErr result (λ _. self.new.has_failed ≡ true) }
@@ -136,6 +137,7 @@ impl Follow {
         requires live { self.old.stage ≡ Stage.Over → ⊥ }
         requires can { CanLook self.old (W.watched watch.old) (O.slots outs.old) }
         ensures makes { MakesLook W.told O.told (W.shows watch.old (length (W.seen watch.old))) (W.seen watch.old) self.old (W.watched watch.old) (O.slots outs.old) (W.seen watch.new) self.new (W.watched watch.new) (O.slots outs.new) result }
+        ensures cause { IfErr result (IsCause self.old (O.slots outs.old) (O.slots outs.new)) }
         ensures error { HasError (O.slots outs.new) }
         ensures shows { W.shows watch.new ≡ W.shows watch.old }
     {

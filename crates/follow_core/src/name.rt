@@ -2,7 +2,8 @@
 ghost use Rattle.std.specs.Prelude.{◌≡◌, ◌<◌, [], ℕ, List, length, map, string_bytes, IfOk, IfErr, OnOk};
 ghost use Rattle.watch_core.specs.Snapshot.{latest};
 ghost use Rattle.watch_core.specs.Watched.{added, watched_at};
-ghost use Rattle.follow_core.specs.Sharing.{CanPrint, HasError};
+ghost use Rattle.follow_core.specs.Sharing.{CanPrint};
+ghost use Rattle.follow_core.specs.inner.Calls.{HasStopped};
 ghost use Rattle.follow_core.specs.FollowState.{new_state};
 ghost use Rattle.follow_core.specs.Look.{Look, ways_of};
 ghost use Rattle.follow_core.specs.inner.Visits.{has_failed, any_goes_on, goes_on_as, standing_after, StoppedAt, VisitedAll, Visits};
@@ -91,7 +92,7 @@ impl Name {
         requires can { CanPrint (O.slots outs.old) }
         ensures visits { Visits W.told O.told (ways_of by_name start) (latest (W.seen watch.old)) place self.old (W.watched watch.old) visitor.old (O.slots outs.old) self.new (W.watched watch.new) visitor.new (O.slots outs.new) result }
         ensures can { OnOk result (CanPrint (O.slots outs.new)) }
-        ensures error { IfErr result (λ _. HasError (O.slots outs.new)) }
+        ensures error { IfErr result (λ why. HasStopped why (O.slots outs.new)) }
         ensures seen { W.seen watch.new ≡ W.seen watch.old }
         ensures shows { W.shows watch.new ≡ W.shows watch.old }
     {
@@ -198,7 +199,7 @@ pub(crate) fn visit_all<W: Watch, O: Outs>(
     ensures ready { OnOk result ((place : ℕ) → place < length names.new → CanVisit (state_at names.new place) (watched_at (W.watched watch.new) place)) }
     ensures count { length (W.watched watch.new) ≡ length (W.watched watch.old) }
     ensures can { OnOk result (CanPrint (O.slots outs.new)) }
-    ensures error { IfErr result (λ _. HasError (O.slots outs.new)) }
+    ensures error { IfErr result (λ why. HasStopped why (O.slots outs.new)) }
     ensures seen { W.seen watch.new ≡ W.seen watch.old }
     ensures shows { W.shows watch.new ≡ W.shows watch.old }
 {

@@ -7,8 +7,8 @@ ghost use Rattle.watch_core.specs.Watched.{is_readable, is_watchable, open_conte
 ghost use Rattle.follow_core.specs.declared.name.Standing.TheVariants.{New, Followed};
 ghost use Rattle.follow_core.specs.Notice.{notice_of};
 ghost use Rattle.follow_core.specs.Printing.{PrinterState, fresh_printer};
-ghost use Rattle.follow_core.specs.inner.Calls.{CanGoOn, Keeps, as_stop, change_between, lines_past, Catches, Leads};
-ghost use Rattle.follow_core.specs.Sharing.{CanPrint, HasError};
+ghost use Rattle.follow_core.specs.inner.Calls.{CanGoOn, HasStopped, Keeps, as_stop, change_between, lines_past, Catches, Leads};
+ghost use Rattle.follow_core.specs.Sharing.{CanPrint};
 ghost use Rattle.follow_core.specs.inner.Giving.{Ends};
 ghost use Rattle.follow_core.specs.inner.Visits.{TellsStop, Looks};
 ghost use Rattle.follow_core.specs.Look.{ways_of};
@@ -95,7 +95,7 @@ impl Visitor {
         requires can { CanPrint (O.slots outs.old) }
         ensures looks { (by_name : Bool) → Looks W.told O.told (ways_of by_name start) (latest (W.seen watch.old)) place name.now New (W.watched watch.old) self.old (O.slots outs.old) (W.watched watch.new) self.new (O.slots outs.new) result }
         ensures can { OnOk result (CanPrint (O.slots outs.new)) }
-        ensures error { IfErr result (λ _. HasError (O.slots outs.new)) }
+        ensures error { IfErr result (λ why. HasStopped why (O.slots outs.new)) }
         ensures seen { W.seen watch.new ≡ W.seen watch.old }
         ensures shows { W.shows watch.new ≡ W.shows watch.old }
     {
@@ -179,7 +179,7 @@ impl Visitor {
         requires can { CanPrint (O.slots outs.old) }
         ensures looks { (start : List ℕ → List ℕ) → Looks W.told O.told (record { by_name = by_name; start = start }) (latest (W.seen watch.old)) place name.now (Followed position) (W.watched watch.old) self.old (O.slots outs.old) (W.watched watch.new) self.new (O.slots outs.new) result }
         ensures can { OnOk result (CanPrint (O.slots outs.new)) }
-        ensures error { IfErr result (λ _. HasError (O.slots outs.new)) }
+        ensures error { IfErr result (λ why. HasStopped why (O.slots outs.new)) }
         ensures seen { W.seen watch.new ≡ W.seen watch.old }
         ensures shows { W.shows watch.new ≡ W.shows watch.old }
     {
@@ -291,7 +291,7 @@ impl Visitor {
         requires can { CanGoOn {T = ℕ} (Err stop) (O.slots outs.old) }
         ensures tells { TellsStop O.told name.now (O.slots outs.old) (O.slots outs.new) stop result }
         ensures can { OnOk result (CanPrint (O.slots outs.new)) }
-        ensures error { IfErr result (λ _. HasError (O.slots outs.new)) }
+        ensures error { IfErr result (λ why. HasStopped why (O.slots outs.new)) }
     {
         match stop {
             Stop::Broke(fault) => {
@@ -363,7 +363,7 @@ fn begin_at<O: Outs>(
     ensures ends { (told_in : Bool) (printer : PrinterState) → Ends told_in O.told printer name.now [] (lines_past name.now position len) (O.slots outs.old) printer (O.slots outs.new) (as_stop result) }
     ensures from { IfOk result (λ from. from ≡ (if nat_lt len position then 0 else position)) }
     ensures can { OnOk result (CanPrint (O.slots outs.new)) }
-    ensures error { IfErr result (λ _. HasError (O.slots outs.new)) }
+    ensures error { IfErr result (λ why. HasStopped why (O.slots outs.new)) }
 {
     if len >= position {
         return Ok(position);
@@ -383,7 +383,7 @@ fn tell<O: Outs>(alloc: Global, found: Notice, name: &str, outs: &mut O) -> Resu
     requires can { CanPrint (O.slots outs.old) }
     ensures ends { (told_in : Bool) (printer : PrinterState) → Ends told_in O.told printer name.now [] (notice_of found name.now ∷ []) (O.slots outs.old) printer (O.slots outs.new) (as_stop result) }
     ensures can { OnOk result (CanPrint (O.slots outs.new)) }
-    ensures error { IfErr result (λ _. HasError (O.slots outs.new)) }
+    ensures error { IfErr result (λ why. HasStopped why (O.slots outs.new)) }
 {
     match notice_line(alloc, found, name) {
         Ok(line) => {

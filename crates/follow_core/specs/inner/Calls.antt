@@ -1,6 +1,6 @@
 -- What one call on a name owes, and what is due of it.
 use Rattle.std.specs.Prelude.{◌≡◌, ◌⊎◌, ℕ, nat_lt, Bool, true, List, [], ◌∷◌, length, drop, map, Option, Some, None, Result, Ok, Err, if◌then◌else◌, IfOk, is_some}
-use Rattle.ports_core.specs.Slot.{Slot, changed_at}
+use Rattle.ports_core.specs.Slot.{Slot, changed_at, slot_at}
 use Rattle.ports_core.specs.declared.fault.Fault.{Fault}
 use Rattle.watch_core.specs.Snapshot.{Snapshot}
 use Rattle.watch_core.specs.Watched.{Watched, breaks, opens, watched_at}
@@ -24,11 +24,16 @@ abbrev pub as_stop : {T : Type 0} → Result T Fault → Result T Stop
 as_stop (Ok value) = Ok value
 as_stop (Err why) = Err (Over why)
 
--- how the outputs can be used after a call; where following is over, a message can still be said
+-- following is over: there was no memory, or standard output is broken; a message can still be said
+abbrev pub HasStopped : Fault → List Slot → Type 0
+HasStopped why slots =
+    ((why ≡ fault.Memory) ⊎ ((why ≡ fault.Write 0) × ((slot_at slots 0).is_broken ≡ true))) × HasError slots
+
+-- how the outputs can be used after a call
 abbrev pub CanGoOn : {T : Type 0} → Result T Stop → List Slot → Type 0
 CanGoOn (Ok value) slots = CanPrint slots
 CanGoOn (Err (Broke why)) slots = CanPrint slots
-CanGoOn (Err (Over why)) slots = HasError slots
+CanGoOn (Err (Over why)) slots = HasStopped why slots
 
 -- the call changed no name, but that this one broke where the call failed
 abbrev pub Keeps : {T : Type 0} → ℕ → List Watched → List Watched → Result T Stop → Type 0

@@ -5,7 +5,7 @@ use Rattle.watch_core.specs.Snapshot.{latest}
 use Rattle.watch_core.proofs.MemWatchLemmas.{latest-last}
 use Rattle.follow_core.specs.FollowState.{AllReady, FollowState, LooksOn, StopsOn}
 use Rattle.follow_core.specs.Standing.{NameState}
-use Rattle.follow_core.proofs.FollowLemmas.{begun_looked, begun_stopped, begun_unbroken, fresh_unbroken, halts_at, look_made, look_stopped, makes_none, shown, visits_at}
+use Rattle.follow_core.proofs.FollowLemmas.{begun_looked, begun_stopped, begun_unbroken, cause_is, fresh_unbroken, halts_at, look_made, look_stopped, makes_none, no_memory_is, shown, visits_at}
 use Rattle.follow_core.proofs.follow.Follow.make_look.Goals as goal
 
 pub returns-in-Err-clause-makes : goal.returns-in-Err-clause-makes
@@ -71,3 +71,12 @@ returns-in-Err-visit_all-clause-makes g c =
       ready = tt;
       can = tt;
     }
+
+pub returns-in-Err-clause-cause : goal.returns-in-Err-clause-cause
+returns-in-Err-clause-cause g c = no_memory_is c.in-Err.ensures.err.0
+
+pub returns-in-Err-turn-clause-cause : goal.returns-in-Err-turn-clause-cause
+returns-in-Err-turn-clause-cause g c = no_memory_is c.in-Err-turn.ensures.err.0
+
+pub returns-in-Err-visit_all-clause-cause : goal.returns-in-Err-visit_all-clause-cause
+returns-in-Err-visit_all-clause-cause g c = cause_is (g.W.Watch.watched c.args.watch.now) c.requires.live c.requires.can c.in-Err-visit_all.ensures.error
