@@ -53,6 +53,8 @@ missing_share name = record {
   has_failed = true;
 }
 
+-- What the look gives for a name that has this fate. At the first look nothing is written of it before its file is
+-- opened, and no call opens or asks where it leads after that.
 abbrev pub share_by : Ways → List ℕ → List Look → Look → Fate → Share
 share_by ways name before look sound =
     if is_first before && is_missing (entries_in ways name (before ++ look ∷ [])) then missing_share name
@@ -66,7 +68,7 @@ share_by ways name before look sound =
 share_by ways name before look (unopened notices bytes) = record {
   name = name;
   is_opened = false;
-  bytes = take bytes (gain ways name before look);
+  bytes = if is_first before then [] else take bytes (gain ways name before look);
   messages = take notices (said_at_look ways name before look) ++ message_of Tail (Open 0) name ∷ [];
   has_failed = true;
 }

@@ -186,6 +186,42 @@ const ROWS: &[Row<'static>] = &[
         ],
         status: 1,
     },
+    // That a name leads nowhere any more is told before it is opened again, which can fail too.
+    Row {
+        words: &["tail", "-F", "-c", "+1", "f"],
+        looks: &[&[Edit::Replace("f", b"a\n")], &[Edit::Remove("f")]],
+        ends: &[
+            (b"", NO_F),
+            (b"", BAD_F),
+            (b"", BAD_F),
+            (b"a\n", BAD_F),
+            (b"a\n", NO_F),
+            (
+                b"a\n",
+                b"tail: 'f': file inaccessible\ntail: cannot open 'f'\n",
+            ),
+            (b"a\n", b"tail: 'f': file inaccessible\n"),
+        ],
+        status: 0,
+    },
+    // By descriptor no later look asks where the name leads: of these calls only the first, which opens the file, can fail as an opening.
+    Row {
+        words: &["tail", "-f", "-c", "+1", "f"],
+        looks: &[
+            &[Edit::Replace("f", b"a\n")],
+            &[Edit::Remove("f")],
+            &[Edit::Replace("f", b"b\n")],
+        ],
+        ends: &[
+            (b"", NO_F),
+            (b"", BAD_F),
+            (b"", BAD_F),
+            (b"a\n", BAD_F),
+            (b"a\n", BAD_F),
+            (b"a\n", b""),
+        ],
+        status: 0,
+    },
 ];
 
 /// Looks that see two appends together write what two looks at them write.
