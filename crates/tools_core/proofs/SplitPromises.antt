@@ -10,8 +10,11 @@ use Rattle.std.proofs.lemmas.List.{length-map, length-take, length-take-le, leng
 use Rattle.std.proofs.lemmas.List.FromFn.{get_or-map-range_with_len, length-map-range_with_len}
 use Rattle.std.proofs.lemmas.Nat.{div-add-mod', mod_below}
 use Rattle.std.proofs.lemmas.List.Elements.{All-nil, All-cons}
-use Rattle.seg_core.specs.Line.{joined, lines_of, line_count, delimiters, ends_with, first_lines}
+use Rattle.seg_core.specs.Line.{joined, lines_of, line_count, delimiters, ends_with, first_lines, after_lines}
+use Rattle.seg_core.proofs.Carried.{lines_of-after_lines}
 use Rattle.seg_core.proofs.Delimiters.{delimiters-le-length}
+use Rattle.seg_core.proofs.EndLines.{line_count_near}
+use Rattle.seg_core.proofs.LinesOf.{joined-lines_of}
 use Rattle.seg_core.proofs.FirstLines.{delimiters-first_lines, lines_of-first_lines}
 use Rattle.seg_core.proofs.LineCounts.{line_count-open}
 use Rattle.seg_core.specs.declared.cut.Cut.{Cut}
@@ -37,7 +40,7 @@ use Rattle.words_core.specs.declared.settings.Settings.TheVariants.{Split}
 use Rattle.words_core.specs.SplitAsked.{SplitAsked}
 use Rattle.words_core.specs.SplitWords.{CanSplit, IsInLimits}
 use Rattle.tools_core.specs.Tasks.{naming_of, split_task}
-use Rattle.tools_core.specs.Promises.{Run, Does, HasInput, AreInOrder, AreListed, ArePieces, AreLinePieces, AreDealt, EndsLine, IsSound, contents_of, files_of, text_at}
+use Rattle.tools_core.specs.Promises.{Run, Does, HasInput, AreInOrder, AreListed, ArePieces, AreLinePieces, AreUncut, AreDealt, EndsLine, IsSound, contents_of, files_of, text_at}
 use Rattle.tools_core.proofs.CanLemmas.{can_run}
 use Rattle.tools_core.proofs.PromiseLemmas.{did_one, one_done, slot_of}
 
@@ -161,6 +164,35 @@ line_pieces delim n x some =
       full = λ i next. ap length (part_lines delim n i x some) ∙ run_full n (length pieces) i (lines_of delim x) few next;
     }
 
+-- as many lines as there are delimiters end with one
+lines_end : (delim k : ℕ) (bytes : List ℕ) (ends : Bool) → 0 < k → k ≤ delimiters delim bytes → ends_with delim (first_lines delim k bytes) ≡ ends → ends ≡ true
+lines_end delim k bytes true some enough is = refl
+lines_end delim k bytes false some enough is =
+    let all : delimiters delim (first_lines delim k bytes) ≡ k = delimiters-first_lines delim k bytes enough in
+    let count : line_count delim (first_lines delim k bytes) ≡ min k (line_count delim bytes) = ap length (lines_of-first_lines delim k bytes) ∙ length-take k (lines_of delim bytes) in
+    let long : delimiters delim (first_lines delim k bytes) ≤ length (first_lines delim k bytes) = delimiters-le-length delim (first_lines delim k bytes) in
+    let one_more : line_count delim (first_lines delim k bytes) ≡ delimiters delim (first_lines delim k bytes) + 1 = line_count-open delim (first_lines delim k bytes) (omega (arith, all, long, some)) is in
+    absurd (omega (arith, all, count, one_more))
+
+-- the lines from this place on hold a run of n lines and more
+more_lines : (n i count all : ℕ) → count * n < all + n → i + 1 < count → n < all - i * n
+more_lines n i count all few next =
+    let there = up_to (suc i) count n (omega (arith, next)) in
+    let step : suc i * n ≡ i * n + n = suc-mul i n in omega (arith, there, step, few)
+
+line_part : (delim n i : ℕ) (x : List ℕ) → 0 < n → text_at (parts (limit.Lines n delim) x) i ≡ first_lines delim n (after_lines delim (i * n) x)
+line_part delim n i x some =
+    sym (joined-lines_of delim (text_at (parts (limit.Lines n delim) x) i))
+    ∙ ap joined (part_lines delim n i x some ∙ ap (take n) (sym (lines_of-after_lines delim (i * n) x)))
+
+pub line_ends : (delim n : ℕ) (x : List ℕ) → 0 < n → AreUncut delim (parts (limit.Lines n delim) x)
+line_ends delim n x some i next =
+    let rest = after_lines delim (i * n) x in
+    let left : line_count delim rest ≡ line_count delim x - i * n = ap length (lines_of-after_lines delim (i * n) x) ∙ length-drop (i * n) (lines_of delim x) in
+    let near : line_count delim rest ≤ delimiters delim rest + 1 = (line_count_near delim rest).1 in
+    let more = more_lines n i (length (parts (limit.Lines n delim) x)) (line_count delim x) (lines_count delim n x some).1 next in
+    ap (ends_with delim) (line_part delim n i x some) ∙ lines_end delim n rest _ some (omega (arith, left, near, more)) refl
+
 pub byte_pieces : (n : ℕ) (x : List ℕ) → 0 < n → ArePieces length n x (parts (limit.Bytes n) x)
 byte_pieces n x some =
     let few = bytes_count n x some in
@@ -173,20 +205,9 @@ byte_pieces n x some =
 
 -- Pieces of whole lines within n bytes
 
--- complete lines end with a delimiter
-lines_end : (delim : ℕ) (bytes : List ℕ) (ends : Bool) → 0 < delimiters delim bytes → ends_with delim (first_lines delim (delimiters delim bytes) bytes) ≡ ends → ends ≡ true
-lines_end delim bytes true lines is = refl
-lines_end delim bytes false lines is =
-    let k = delimiters delim bytes in
-    let all : delimiters delim (first_lines delim k bytes) ≡ k = delimiters-first_lines delim k bytes (omega arith) in
-    let count : line_count delim (first_lines delim k bytes) ≡ min k (line_count delim bytes) = ap length (lines_of-first_lines delim k bytes) ∙ length-take k (lines_of delim bytes) in
-    let long : delimiters delim (first_lines delim k bytes) ≤ length (first_lines delim k bytes) = delimiters-le-length delim (first_lines delim k bytes) in
-    let one_more : line_count delim (first_lines delim k bytes) ≡ delimiters delim (first_lines delim k bytes) + 1 = line_count-open delim (first_lines delim k bytes) (omega (arith, all, long, lines)) is in
-    absurd (omega (arith, all, count, one_more))
-
 ends_line : (delim n : ℕ) (bytes : List ℕ) → length bytes ≡ n → EndsLine delim n (whole_lines delim bytes)
 ends_line delim n bytes long = elim (cases_lt 0 (delimiters delim bytes)) [
-  | inl lines ↦ inl (ap (ends_with delim) (whole_of_lines delim bytes lines) ∙ lines_end delim bytes _ lines refl)
+  | inl lines ↦ inl (ap (ends_with delim) (whole_of_lines delim bytes lines) ∙ lines_end delim (delimiters delim bytes) bytes _ lines (omega arith) refl)
   | inr few ↦ let none : delimiters delim bytes ≡ 0 = omega (arith, few) in
       inr (subst (λ piece. (length piece ≡ n) × (delimiters delim piece ≡ 0)) (sym (whole_of_none delim bytes none)) (long, none))
 ]
@@ -255,6 +276,11 @@ pub by_lines : (run : Run) (asked : SplitAsked) (n : ℕ) (input : List ℕ) →
 by_lines run asked n input does has is =
     let split = is_split run asked input does has in
     subst (ArePieces (line_count asked.delim) n input) (sym (cut_is run asked (Lines n) input is split)) (line_pieces asked.delim n input (subst IsInLimits is split.can.cut))
+
+pub by_whole_lines : (run : Run) (asked : SplitAsked) (n : ℕ) (input : List ℕ) → Does run (Split asked) → HasInput run input → asked.cut ≡ Lines n → AreUncut asked.delim (contents_of run)
+by_whole_lines run asked n input does has is =
+    let split = is_split run asked input does has in
+    subst (AreUncut asked.delim) (sym (cut_is run asked (Lines n) input is split)) (line_ends asked.delim n input (subst IsInLimits is split.can.cut))
 
 pub by_bytes : (run : Run) (asked : SplitAsked) (n : ℕ) (input : List ℕ) → Does run (Split asked) → HasInput run input → asked.cut ≡ Bytes n → ArePieces length n input (contents_of run)
 by_bytes run asked n input does has is =

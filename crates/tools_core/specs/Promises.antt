@@ -112,6 +112,10 @@ pub record ArePieces (size : List ℕ → ℕ) (n : ℕ) (input : List ℕ) (pie
   pub most : (place : ℕ) → place < length pieces → size (text_at pieces place) ≤ n
   pub full : (place : ℕ) → place + 1 < length pieces → size (text_at pieces place) ≡ n
 
+-- Each piece but the last ends with a line.
+abbrev pub AreUncut : ℕ → List (List ℕ) → Type 0
+AreUncut delim pieces = (place : ℕ) → place + 1 < length pieces → ends_with delim (text_at pieces place) ≡ true
+
 -- The piece ends with a line, or it is n bytes within one line.
 abbrev pub EndsLine : ℕ → ℕ → List ℕ → Type 0
 EndsLine delim n piece = (ends_with delim piece ≡ true) ⊎ ((length piece ≡ n) × (delimiters delim piece ≡ 0))
