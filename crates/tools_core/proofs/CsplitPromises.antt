@@ -9,6 +9,7 @@ use Rattle.seg_core.proofs.LinesOf.{joined-lines_of}
 use Rattle.ports_core.specs.Name.{numbered_name}
 use Rattle.ports_core.specs.Part.{File}
 use Rattle.ports_core.specs.Slot.{Slot}
+use Rattle.ports_core.specs.declared.slot.Mode.TheVariants.{Fresh}
 use Rattle.ports_core.specs.declared.slot.State.TheVariants.{Open, Closed}
 use Rattle.operand_core.specs.Style.{Style}
 use Rattle.operand_core.specs.Reading.{Asks}
@@ -128,13 +129,13 @@ closed_steps : (lines : List Line) (steps : List Step) (last : Section) → last
 closed_steps lines [] last is = (is, tt)
 closed_steps lines (step ∷ steps) last is = (refl, closed_steps lines steps last is)
 
-sound_step : (style : Style) (place : ℕ) (has : Bool) (contents : Contents) (made others : List File) → contents.is_closed ≡ true → All IsSound (map slot_of made) → All IsSound (map slot_of others)
-    → All IsSound (map slot_of (cond has (file_at style place contents ∷ made) others))
-sound_step style place true contents made others is are without = All-cons IsSound _ _ (ap (λ closed. cond closed Closed Open) is, refl) are
+sound_step : (style : Style) (place : ℕ) (has : Bool) (contents : Contents) (made others : List File) → contents.is_closed ≡ true → All (IsSound Fresh) (map slot_of made) → All (IsSound Fresh) (map slot_of others)
+    → All (IsSound Fresh) (map slot_of (cond has (file_at style place contents ∷ made) others))
+sound_step style place true contents made others is are without = All-cons (IsSound Fresh) _ _ (refl, ap (λ closed. cond closed Closed Open) is, refl) are
 sound_step style place false contents made others is are without = without
 
-all_sound : (style : Style) (place : ℕ) (sections : List Section) → AllClosed sections → All IsSound (map slot_of (files_by style place (map contents_in sections)))
-all_sound style place [] closed = All-nil IsSound
+all_sound : (style : Style) (place : ℕ) (sections : List Section) → AllClosed sections → All (IsSound Fresh) (map slot_of (files_by style place (map contents_in sections)))
+all_sound style place [] closed = All-nil (IsSound Fresh)
 all_sound style place (section ∷ sections) closed =
     sound_step style place (makes_file style (contents_in section)) (contents_in section) (files_by style (place + 1) (map contents_in sections)) (files_by style place (map contents_in sections)) closed.0
     (all_sound style (place + 1) sections closed.1) (all_sound style place sections closed.1)

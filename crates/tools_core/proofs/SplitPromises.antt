@@ -23,6 +23,7 @@ use Rattle.ports_core.specs.Name.{Naming}
 use Rattle.ports_core.specs.Part.{File}
 use Rattle.ports_core.specs.Slot.{Slot}
 use Rattle.ports_core.specs.declared.fault.Fault.TheVariants.{Suffixes}
+use Rattle.ports_core.specs.declared.slot.Mode.TheVariants.{Fresh}
 use Rattle.ports_core.specs.declared.slot.State.TheVariants.{Closed}
 use Rattle.ports_core.proofs.OrderLemmas.{in_order}
 use Rattle.split_core.specs.declared.limit.Limit.TheVariants as limit
@@ -95,12 +96,12 @@ names_in_order names place (one ∷ two ∷ shares) wide =
     (λ has. in_order names.prefix names.alphabet names.width names.auto names.ending place (place + 1) wide (omega arith) has)
     (names_in_order names (place + 1) (two ∷ shares) wide)
 
-sound_step : (names : Naming) (place : ℕ) (bytes : List ℕ) (files : List File) (has : Bool) → All IsSound (map slot_of files) → All IsSound (map slot_of (cond has (file_at names place (share Closed bytes) ∷ files) []))
-sound_step names place bytes files true are = All-cons IsSound _ _ (refl, refl) are
-sound_step names place bytes files false are = All-nil IsSound
+sound_step : (names : Naming) (place : ℕ) (bytes : List ℕ) (files : List File) (has : Bool) → All (IsSound Fresh) (map slot_of files) → All (IsSound Fresh) (map slot_of (cond has (file_at names place (share Closed bytes) ∷ files) []))
+sound_step names place bytes files true are = All-cons (IsSound Fresh) _ _ (refl, refl, refl) are
+sound_step names place bytes files false are = All-nil (IsSound Fresh)
 
-all_sound : (names : Naming) (place : ℕ) (pieces : List (List ℕ)) → All IsSound (map slot_of (named names place (map (share Closed) pieces)))
-all_sound names place [] = All-nil IsSound
+all_sound : (names : Naming) (place : ℕ) (pieces : List (List ℕ)) → All (IsSound Fresh) (map slot_of (named names place (map (share Closed) pieces)))
+all_sound names place [] = All-nil (IsSound Fresh)
 all_sound names place (bytes ∷ pieces) = sound_step names place bytes (named names (place + 1) (map (share Closed) pieces)) (is_named names place) (all_sound names (place + 1) pieces)
 
 -- What a run leaves

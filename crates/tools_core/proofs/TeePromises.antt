@@ -28,16 +28,16 @@ copies_named : (mode : Mode) (bytes : List ℕ) (names : List (List ℕ)) → ma
 copies_named mode bytes [] = refl
 copies_named mode bytes (name ∷ names) = ap (λ those. name ∷ those) (copies_named mode bytes names)
 
-abbrev IsCopy : List ℕ → Slot → Type 0
-IsCopy bytes file = IsSound file × (file.written ≡ bytes)
+abbrev IsCopy : Mode → List ℕ → Slot → Type 0
+IsCopy mode bytes file = IsSound mode file × (file.written ≡ bytes)
 
-copies_each : (mode : Mode) (bytes : List ℕ) (names : List (List ℕ)) → All (IsCopy bytes) (map (copy mode bytes) names)
-copies_each mode bytes [] = All-nil (IsCopy bytes)
-copies_each mode bytes (name ∷ names) = All-cons (IsCopy bytes) (copy mode bytes name) (map (copy mode bytes) names) ((refl, refl), refl) (copies_each mode bytes names)
+copies_each : (mode : Mode) (bytes : List ℕ) (names : List (List ℕ)) → All (IsCopy mode bytes) (map (copy mode bytes) names)
+copies_each mode bytes [] = All-nil (IsCopy mode bytes)
+copies_each mode bytes (name ∷ names) = All-cons (IsCopy mode bytes) (copy mode bytes name) (map (copy mode bytes) names) ((refl, refl, refl), refl) (copies_each mode bytes names)
 
 pub record IsCopied (tee : Run) (asked : TeeAsked) (input : List ℕ) : Type 0 where
   pub output : output_of tee ≡ input
-  pub files : AreCopies asked.names input (files_of tee)
+  pub files : AreCopies asked.mode asked.names input (files_of tee)
 
 pub is_copied : (tee : Run) (asked : TeeAsked) (input : List ℕ) → Does tee (Tee asked) → HasInput tee input → IsCopied tee asked input
 is_copied tee asked input does has =
@@ -47,6 +47,6 @@ is_copied tee asked input does has =
     let whole = ends.whole refl refl in
     record {
       output = ap (λ slots. (slot_at slots 0).written) whole ∙ same;
-      files = subst (AreCopies asked.names input) (sym (ap (drop 2) whole ∙ ap (λ bytes. map (copy asked.mode bytes) asked.names) same))
+      files = subst (AreCopies asked.mode asked.names input) (sym (ap (drop 2) whole ∙ ap (λ bytes. map (copy asked.mode bytes) asked.names) same))
           (record { named = copies_named asked.mode input asked.names; each = copies_each asked.mode input asked.names });
     }

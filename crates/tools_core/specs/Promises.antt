@@ -8,6 +8,8 @@ use Rattle.seg_core.specs.Line.{delimiters, ends_with, joined, lines_of}
 use Rattle.ports_core.specs.Name.{numbered_name}
 use Rattle.ports_core.specs.Slot.{Slot, slot_at}
 use Rattle.ports_core.specs.Source.{Content, Source}
+use Rattle.ports_core.specs.declared.slot.Mode.{Mode}
+use Rattle.ports_core.specs.declared.slot.Mode.TheVariants.{Fresh}
 use Rattle.ports_core.specs.declared.slot.State.TheVariants.{Closed}
 use Rattle.seg_core.specs.declared.count.Sign.{Sign}
 use Rattle.run_core.specs.Input.{World, is_dash}
@@ -77,16 +79,16 @@ IsBare options = has_headers options.headers options.names ≡ false
 abbrev pub files_of : Run → List Slot
 files_of run = drop 2 run.outputs
 
--- the file was closed, and never broke
-abbrev pub IsSound : Slot → Type 0
-IsSound file = (file.state ≡ Closed) × (file.is_broken ≡ false)
+-- The file was opened in this mode: it was empty then, or kept what it had. It was closed, and never broke.
+abbrev pub IsSound : Mode → Slot → Type 0
+IsSound mode file = (file.mode ≡ mode) × (file.state ≡ Closed) × (file.is_broken ≡ false)
 
--- there is a file for each name, in their order, and each has these bytes
-pub record AreCopies (names : List (List ℕ)) (bytes : List ℕ) (files : List Slot) : Type 0 where
+-- a file was opened in this mode for each name, in their order, and these bytes were written to each
+pub record AreCopies (mode : Mode) (names : List (List ℕ)) (bytes : List ℕ) (files : List Slot) : Type 0 where
   pub named : map (λ (file : Slot). file.name) files ≡ names
-  pub each : All (λ (file : Slot). IsSound file × (file.written ≡ bytes)) files
+  pub each : All (λ (file : Slot). IsSound mode file × (file.written ≡ bytes)) files
 
--- what each file has
+-- what was written to each file
 abbrev pub contents_of : Run → List (List ℕ)
 contents_of run = map (λ (file : Slot). file.written) (files_of run)
 
@@ -96,10 +98,10 @@ AreInOrder [] = Unit {0}
 AreInOrder (name ∷ []) = Unit {0}
 AreInOrder (name ∷ next ∷ names) = (slice_cmp nat_cmp name next ≡ Less) × AreInOrder (next ∷ names)
 
--- a shell's `*` gives the files in this order, and each is sound
+-- a shell's `*` gives the files in this order; each was made anew, and is sound
 pub record AreListed (files : List Slot) : Type 0 where
   pub in_order : AreInOrder (map (λ (file : Slot). file.name) files)
-  pub sound : All IsSound files
+  pub sound : All (IsSound Fresh) files
 
 -- the text at a place; there is an empty one at any other
 abbrev pub text_at : List (List ℕ) → ℕ → List ℕ
@@ -147,8 +149,8 @@ SkipNothing [] = Unit {0}
 SkipNothing (word ∷ words) = (skips word ≡ false) × SkipNothing words
 
 -- The files are numbered in their order: each name is the prefix and the file's number, from 0 on, filled with zeros to
--- this many digits. Each file is sound.
+-- this many digits. Each file was made anew, and is sound.
 pub record AreNumbered (prefix : List ℕ) (digits : ℕ) (files : List Slot) : Type 0 where
   pub named : (place : ℕ) → place < length files
       → text_at (map (λ (file : Slot). file.name) files) place ≡ numbered_name prefix digits place
-  pub sound : All IsSound files
+  pub sound : All (IsSound Fresh) files

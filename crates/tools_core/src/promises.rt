@@ -23,7 +23,7 @@ pub fn head_and_tail_meet()
 /// After `tee` standard output and each file have the input's bytes; with `-a` each file has them after those that it had.
 pub fn tee_copies()
     ensures output { (tee : Run) (asked : TeeAsked) (input : List ℕ) → Does tee (Tee asked) → HasInput tee input → output_of tee ≡ input }
-    ensures files { (tee : Run) (asked : TeeAsked) (input : List ℕ) → Does tee (Tee asked) → HasInput tee input → AreCopies asked.names input (files_of tee) }
+    ensures files { (tee : Run) (asked : TeeAsked) (input : List ℕ) → Does tee (Tee asked) → HasInput tee input → AreCopies asked.mode asked.names input (files_of tee) }
 {}
 
 /// How an input comes changes nothing: two runs that are asked for the same, over inputs of the same bytes, leave the same
