@@ -96,6 +96,20 @@ names_in_order names place (one ∷ two ∷ shares) wide =
     (λ has. in_order names.prefix names.alphabet names.width names.auto names.ending place (place + 1) wide (omega arith) has)
     (names_in_order names (place + 1) (two ∷ shares) wide)
 
+-- the files have the names from this place on
+abbrev HaveNames : Naming → ℕ → List File → Type 0
+HaveNames names start files = (k : ℕ) → k < length (map slot_of files) → text_at (map (λ (file : Slot). file.name) (map slot_of files)) k ≡ name_of names (start + k)
+
+have_step : (names : Naming) (start : ℕ) (share : Share) (files : List File) (has : Bool) → HaveNames names (start + 1) files → HaveNames names start (cond has (file_at names start share ∷ files) [])
+have_step names start share files false have k within = absurd (omega (arith, within))
+have_step names start share files true have zero within = ap (name_of names) (omega arith)
+have_step names start share files true have (suc k) within = have k (omega (arith, within)) ∙ ap (name_of names) (omega arith)
+
+have_names : (names : Naming) (start : ℕ) (shares : List Share) → HaveNames names start (named names start shares)
+have_names names start [] k within = absurd (omega (arith, within))
+have_names names start (share ∷ shares) k within =
+    have_step names start share (named names (start + 1) shares) (is_named names start) (have_names names (start + 1) shares) k within
+
 sound_step : (names : Naming) (place : ℕ) (bytes : List ℕ) (files : List File) (has : Bool) → All (IsSound Fresh) (map slot_of files) → All (IsSound Fresh) (map slot_of (cond has (file_at names place (share Closed bytes) ∷ files) []))
 sound_step names place bytes files true are = All-cons (IsSound Fresh) _ _ (refl, refl, refl) are
 sound_step names place bytes files false are = All-nil (IsSound Fresh)
@@ -108,7 +122,7 @@ all_sound names place (bytes ∷ pieces) = sound_step names place bytes (named n
 
 pub record IsSplit (run : Run) (asked : SplitAsked) (input : List ℕ) : Type 0 where
   pub can : CanSplit asked
-  pub listed : AreListed (files_of run)
+  pub listed : AreListed asked (files_of run)
   pub contents : contents_of run ≡ pieces_of asked.delim asked.cut asked.elide input
 
 pub is_split : (run : Run) (asked : SplitAsked) (input : List ℕ) → Does run (Split asked) → HasInput run input → IsSplit run asked input
@@ -124,7 +138,7 @@ is_split run asked input does has =
     ap (λ (those : List Share). are_named names (length those)) (sym shares) ∙ not_short _ made.unjudged in
     record {
       can = can;
-      listed = subst AreListed (sym files) (record { in_order = names_in_order names 0 (map (share Closed) pieces) can.width.0; sound = all_sound names 0 pieces });
+      listed = subst (AreListed asked) (sym files) (record { named = λ place within. have_names names 0 (map (share Closed) pieces) place within ∙ ap (name_of names) (omega arith); in_order = names_in_order names 0 (map (share Closed) pieces) can.width.0; sound = all_sound names 0 pieces });
       contents = ap (map (λ (file : Slot). file.written)) files ∙ all_named names pieces are;
     }
 

@@ -5,7 +5,7 @@ use Rattle.std.specs.declared.cmp.Ordering.TheVariants.{Less}
 use Rattle.std.specs.Ordering.{nat_cmp}
 use Rattle.std.specs.Cmp.Lexicographic.{slice_cmp}
 use Rattle.seg_core.specs.Line.{delimiters, ends_with, joined, lines_of}
-use Rattle.ports_core.specs.Name.{numbered_name}
+use Rattle.ports_core.specs.Name.{name_at, numbered_name}
 use Rattle.ports_core.specs.Slot.{Slot, slot_at}
 use Rattle.ports_core.specs.Source.{Content, Source}
 use Rattle.ports_core.specs.declared.slot.Mode.{Mode}
@@ -18,6 +18,7 @@ use Rattle.words_core.specs.declared.settings.Settings.{Settings}
 use Rattle.words_core.specs.declared.settings.Settings.TheVariants.{Head, Tail}
 use Rattle.words_core.specs.declared.value.Followed.{Followed}
 use Rattle.words_core.specs.EndsAsked.{EndsAsked}
+use Rattle.words_core.specs.SplitAsked.{SplitAsked}
 use Rattle.words_core.specs.Words.{settings_of}
 use Rattle.tools_core.specs.Outcome.{RunEnds, names_read}
 use Rattle.tools_core.specs.Tasks.{has_headers}
@@ -98,14 +99,17 @@ AreInOrder [] = Unit {0}
 AreInOrder (name ∷ []) = Unit {0}
 AreInOrder (name ∷ next ∷ names) = (slice_cmp nat_cmp name next ≡ Less) × AreInOrder (next ∷ names)
 
--- a shell's `*` gives the files in this order; each was made anew, and is sound
-pub record AreListed (files : List Slot) : Type 0 where
-  pub in_order : AreInOrder (map (λ (file : Slot). file.name) files)
-  pub sound : All (IsSound Fresh) files
-
 -- the text at a place; there is an empty one at any other
 abbrev pub text_at : List (List ℕ) → ℕ → List ℕ
 text_at texts place = slice_index_or texts place []
+
+-- The file at a place has the name of this place: the prefix, letters or digits, and the ending. A shell's `*` gives the
+-- files in this order. Each was made anew, and is sound.
+pub record AreListed (asked : SplitAsked) (files : List Slot) : Type 0 where
+  pub named : (place : ℕ) → place < length files → text_at (map (λ (file : Slot). file.name) files) place
+      ≡ name_at asked.prefix asked.alphabet asked.width asked.auto asked.ending place
+  pub in_order : AreInOrder (map (λ (file : Slot). file.name) files)
+  pub sound : All (IsSound Fresh) files
 
 -- The pieces are joined the input. Each has n of what is counted, but the last may have fewer; none has nothing.
 pub record ArePieces (size : List ℕ → ℕ) (n : ℕ) (input : List ℕ) (pieces : List (List ℕ)) : Type 0 where

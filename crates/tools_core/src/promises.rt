@@ -32,12 +32,12 @@ pub fn cutting_changes_nothing()
     ensures { (one other : Run) (asked : Settings) → Does one asked → Does other asked → one.world ≡ other.world → one.outputs ≡ other.outputs }
 {}
 
-/// `split` loses nothing. A shell's `*` gives its files in the order in which they follow one another. With `-l N` and
+/// `split` loses nothing. Its files have the names that were asked for, and a shell's `*` gives them in their order. With `-l N` and
 /// `-b N` they are joined the input, and each but the last has N lines or bytes; `-l` cuts no line. With `-C N` they are
 /// joined the input, none has more than N bytes, and no line is cut that is not longer. With `-n r/N` each line is in just
 /// one file, in turn.
 pub fn split_loses_nothing()
-    ensures listed { (split : Run) (asked : SplitAsked) (input : List ℕ) → Does split (Split asked) → HasInput split input → AreListed (files_of split) }
+    ensures listed { (split : Run) (asked : SplitAsked) (input : List ℕ) → Does split (Split asked) → HasInput split input → AreListed asked (files_of split) }
     ensures lines { (split : Run) (asked : SplitAsked) (n : ℕ) (input : List ℕ) → Does split (Split asked) → HasInput split input → asked.cut ≡ Lines n → ArePieces (line_count asked.delim) n input (contents_of split) }
     ensures uncut { (split : Run) (asked : SplitAsked) (n : ℕ) (input : List ℕ) → Does split (Split asked) → HasInput split input → asked.cut ≡ Lines n → AreUncut asked.delim (contents_of split) }
     ensures bytes { (split : Run) (asked : SplitAsked) (n : ℕ) (input : List ℕ) → Does split (Split asked) → HasInput split input → asked.cut ≡ Bytes n → ArePieces length n input (contents_of split) }
