@@ -1,12 +1,12 @@
 -- What `split` leaves of its input.
-use Rattle.std.proofs.Common.{◌≡◌, ℕ, ◌+◌, ◌-◌, ◌*◌, ◌/◌, ◌%◌, ◌<◌, ◌≤◌, zero, suc, min, Bool, true, false, not, cond, List, [], ◌∷◌, ◌++◌, length, map, take, drop, filter, get_or, Some, None, inl, inr, refl, sym, ◌∙◌, ap, subst, arith}
+use Rattle.std.proofs.Common.{◌≡◌, ℕ, ◌+◌, ◌-◌, ◌*◌, ◌/◌, ◌%◌, ◌<◌, ◌≤◌, zero, suc, min, Bool, true, false, not, cond, List, [], ◌∷◌, ◌++◌, append_assoc, length-append, length, map, take, drop, filter, get_or, Some, None, inl, inr, refl, sym, ◌∙◌, ap, subst, arith}
 use Rattle.std.specs.List.{All}
 use Rattle.std.specs.Ordering.{nat_cmp}
 use Rattle.std.specs.Cmp.Lexicographic.{slice_cmp}
 use Rattle.std.specs.declared.cmp.Ordering.TheVariants.{Less}
 use Rattle.std.proofs.Math.Nat.{mul-le-mul_right, suc-mul}
 use Rattle.std.proofs.lemmas.Bool.{cases_lt}
-use Rattle.std.proofs.lemmas.List.{length-map, length-take, length-take-le, length-drop, get_or-take, get_or_past}
+use Rattle.std.proofs.lemmas.List.{length-map, length-take, length-take-le, length-drop, get_or-take, get_or_past, take-append-drop}
 use Rattle.std.proofs.lemmas.List.FromFn.{get_or-map-range_with_len, length-map-range_with_len}
 use Rattle.std.proofs.lemmas.Nat.{div-add-mod', mod_below}
 use Rattle.std.proofs.lemmas.List.Elements.{All-nil, All-cons}
@@ -15,7 +15,7 @@ use Rattle.seg_core.proofs.Carried.{lines_of-after_lines}
 use Rattle.seg_core.proofs.Delimiters.{delimiters-le-length}
 use Rattle.seg_core.proofs.EndLines.{line_count_near}
 use Rattle.seg_core.proofs.LinesOf.{joined-lines_of}
-use Rattle.seg_core.proofs.FirstLines.{delimiters-first_lines, lines_of-first_lines}
+use Rattle.seg_core.proofs.FirstLines.{delimiters-first_lines, first_lines-append, first_lines-cons, first_lines-full, first_lines-more, first_lines-short, lines_of-first_lines}
 use Rattle.seg_core.proofs.LineCounts.{line_count-open}
 use Rattle.seg_core.specs.declared.cut.Cut.{Cut}
 use Rattle.seg_core.specs.declared.cut.Cut.TheVariants.{Lines, Bytes, LineBytes, Round}
@@ -34,6 +34,7 @@ use Rattle.split_core.specs.Split.{Share, share, name_of, is_named, file_at, nam
 use Rattle.split_core.specs.inner.DealLaws.{share_of}
 use Rattle.split_core.specs.laws.CutLaws.{whole_of_lines, whole_of_none}
 use Rattle.split_core.specs.laws.DealLaws.{share_none}
+use Rattle.split_core.proofs.CutLaws.{first_then_after}
 use Rattle.split_core.proofs.AgreedLemmas.{bytes_named, each_named, named_bytes}
 use Rattle.split_core.proofs.PlaceLemmas.{line_at, all_dealt, first_files}
 use Rattle.split_core.proofs.SectionLemmas.{bytes_of_shares, joined_parts, part_lines, part_bytes, lines_count, bytes_count, line_bytes_are_parts, line_bytes_within}
@@ -41,7 +42,7 @@ use Rattle.words_core.specs.declared.settings.Settings.TheVariants.{Split}
 use Rattle.words_core.specs.SplitAsked.{SplitAsked}
 use Rattle.words_core.specs.SplitWords.{CanSplit, IsInLimits}
 use Rattle.tools_core.specs.Tasks.{naming_of, split_task}
-use Rattle.tools_core.specs.Promises.{Run, Does, HasInput, AreInOrder, AreListed, ArePieces, AreLinePieces, AreUncut, AreDealt, EndsLine, IsSound, contents_of, files_of, text_at}
+use Rattle.tools_core.specs.Promises.{Run, Does, HasInput, AreInOrder, AreListed, ArePieces, AreLinePieces, AreUncut, AreDealt, EndsLine, IsFilled, IsSound, contents_of, files_of, text_at}
 use Rattle.tools_core.proofs.CanLemmas.{can_run}
 use Rattle.tools_core.proofs.PromiseLemmas.{did_one, one_done, slot_of}
 
@@ -233,6 +234,74 @@ uncut delim n _ _ (piece.one x has short) place next = absurd (omega (arith, nex
 uncut delim n _ _ (piece.more x pieces enough past) zero next = ends_line delim n (take n x) (length-take-le n x enough)
 uncut delim n _ _ (piece.more x pieces enough past) (suc place) next = uncut delim n _ pieces past place (omega (arith, next))
 
+-- each piece has as many lines as fit
+
+some_line : (delim : ℕ) (text : List ℕ) → 0 < length text → 0 < length (first_lines delim 1 text)
+some_line delim [] some = absurd (omega (arith, some))
+some_line delim (byte ∷ text) some = subst (λ line. 0 < length line) (sym (first_lines-cons delim byte 0 text)) (omega arith)
+
+-- the line after the complete ones of a front, which is completed
+line_after : (delim : ℕ) (front rest : List ℕ) (k : ℕ) → k ≡ delimiters delim front → length (first_lines delim (k + 1) ((front ++ rest) ++ delim ∷ [])) ≡ length front + length (first_lines delim 1 (rest ++ delim ∷ []))
+line_after delim front rest k count =
+    let one : k + 1 - delimiters delim front ≡ 1 = omega (arith, count) in
+    ap (λ text. length (first_lines delim (k + 1) text)) (append_assoc front rest (delim ∷ []))
+    ∙ ap length (first_lines-append delim (k + 1) front (rest ++ delim ∷ []))
+    ∙ length-append (first_lines delim (k + 1) front) (first_lines delim (k + 1 - delimiters delim front) (rest ++ delim ∷ []))
+    ∙ ap (λ text. length text + length (first_lines delim (k + 1 - delimiters delim front) (rest ++ delim ∷ []))) (first_lines-short delim (k + 1) front (omega (arith, count)))
+    ∙ ap (λ n. length front + length (first_lines delim n (rest ++ delim ∷ []))) one
+
+line_past : (delim n : ℕ) (x part rest : List ℕ) → n ≤ length x → x ≡ part ++ rest → delimiters delim part ≡ delimiters delim (take n x) → IsFilled delim n part rest
+line_past delim n x part rest enough is same =
+    let k = delimiters delim (take n x) in
+    let both : length part + length (first_lines delim 1 (rest ++ delim ∷ [])) ≡ length (take n x) + length (first_lines delim 1 (drop n x ++ delim ∷ [])) =
+    sym (line_after delim part rest k (sym same)) ∙ ap (λ text. length (first_lines delim (k + 1) (text ++ delim ∷ []))) (sym is ∙ sym (take-append-drop n x)) ∙ line_after delim (take n x) (drop n x) k refl in
+    let long : length (take n x) ≡ n = length-take-le n x enough in
+    let more : length (drop n x ++ delim ∷ []) ≡ length (drop n x) + 1 = length-append (drop n x) (delim ∷ []) in
+    let some = some_line delim (drop n x ++ delim ∷ []) (omega (arith, more)) in
+    omega (arith, both, long, some)
+
+whole_count : (delim : ℕ) (text : List ℕ) → delimiters delim (whole_lines delim text) ≡ delimiters delim text
+whole_count delim text = elim (cases_lt 0 (delimiters delim text)) [
+  | inl lines ↦ ap (delimiters delim) (whole_of_lines delim text lines) ∙ delimiters-first_lines delim (delimiters delim text) text (omega arith)
+  | inr few ↦ ap (delimiters delim) (whole_of_none delim text (omega (arith, few)))
+]
+
+same_line : (delim : ℕ) (next rest : List ℕ) → 0 < delimiters delim next → first_lines delim 1 ((next ++ rest) ++ delim ∷ []) ≡ first_lines delim 1 (next ++ delim ∷ [])
+same_line delim next rest some =
+    ap (first_lines delim 1) (append_assoc next rest (delim ∷ [])) ∙ first_lines-full delim 1 next (rest ++ delim ∷ []) (omega (arith, some))
+    ∙ sym (first_lines-full delim 1 next (delim ∷ []) (omega (arith, some)))
+
+open_next : (delim n : ℕ) (part next : List ℕ) → length next ≡ n → delimiters delim next ≡ 0 → IsFilled delim n part next
+open_next delim n part next long none =
+    let line : length (first_lines delim 1 (next ++ delim ∷ [])) ≡ length next + 1 = ap length (first_lines-more delim 1 next delim (omega (arith, none))) ∙ length-append next (delim ∷ []) in
+    omega (arith, line, long)
+
+-- the next piece has the next line, or n bytes of it
+filled_by : (delim n : ℕ) (part rest : List ℕ) → n ≤ length rest → IsFilled delim n part rest → IsFilled delim n part (whole_lines delim (take n rest))
+filled_by delim n part rest enough filled =
+    let next = whole_lines delim (take n rest) in
+    let count : delimiters delim next ≡ delimiters delim (take n rest) = whole_count delim (take n rest) in
+    let whole : next ++ drop (length next) rest ≡ rest = first_then_after (limit.LineBytes n delim) rest in
+    elim (cases_lt 0 (delimiters delim (take n rest))) [
+      | inl lines ↦ subst (λ line. n < length part + length line) (ap (λ text. first_lines delim 1 (text ++ delim ∷ [])) (sym whole) ∙ same_line delim next (drop (length next) rest) (omega (arith, lines, count))) filled
+      | inr few ↦
+          let none : delimiters delim (take n rest) ≡ 0 = omega (arith, few) in
+          open_next delim n part next (ap length (whole_of_none delim (take n rest) none) ∙ length-take-le n rest enough) (count ∙ none)
+    ]
+
+first_filled : (delim n : ℕ) (part rest : List ℕ) (pieces : List (List ℕ)) → AreLineByteParts delim n rest pieces → 0 < length pieces → IsFilled delim n part rest → IsFilled delim n part (text_at pieces 0)
+first_filled delim n part _ _ piece.none some filled = absurd (omega (arith, some))
+first_filled delim n part _ _ (piece.one rest has short) some filled = filled
+first_filled delim n part _ _ (piece.more rest pieces enough past) some filled = filled_by delim n part rest enough filled
+
+each_filled : (delim n : ℕ) (x : List ℕ) (pieces : List (List ℕ)) → AreLineByteParts delim n x pieces → (place : ℕ) → place + 1 < length pieces → IsFilled delim n (text_at pieces place) (text_at pieces (suc place))
+each_filled delim n _ _ piece.none place next = absurd (omega (arith, next))
+each_filled delim n _ _ (piece.one x has short) place next = absurd (omega (arith, next))
+each_filled delim n _ _ (piece.more x pieces enough past) zero next =
+    let first = whole_lines delim (take n x) in
+    first_filled delim n first (drop (length first) x) pieces past (omega (arith, next)) (line_past delim n x first (drop (length first) x) enough (sym (first_then_after (limit.LineBytes n delim) x)) (whole_count delim (take n x)))
+each_filled delim n _ _ (piece.more x pieces enough past) (suc place) next = each_filled delim n _ pieces past place (omega (arith, next))
+
 pub line_byte_pieces : (delim n : ℕ) (x : List ℕ) → 0 < n → AreLinePieces delim n x (parts (limit.LineBytes n delim) x)
 line_byte_pieces delim n x some =
     let are = line_bytes_are_parts delim n x some in
@@ -241,6 +310,7 @@ line_byte_pieces delim n x some =
       some = λ place less. (within place [] less).0;
       most = λ place less. (within place [] less).1;
       uncut = uncut delim n x (parts (limit.LineBytes n delim) x) are;
+      filled = each_filled delim n x (parts (limit.LineBytes n delim) x) are;
     }
 
 -- Lines dealt in turn

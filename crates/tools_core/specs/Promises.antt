@@ -1,10 +1,10 @@
 -- What people rest on, in a manual's words: what a run leaves that ends with status 0, over inputs and outputs that
 -- tell their bytes, as those in memory do.
-use Rattle.std.specs.Prelude.{◌≡◌, ℕ, ◌+◌, ◌/◌, ◌%◌, ◌<◌, ◌≤◌, ◌==◌, Bool, true, false, List, [], ◌∷◌, length, map, drop, All, slice_index_or, ◌⊎◌, Option, Some, Ok, if◌then◌else◌}
+use Rattle.std.specs.Prelude.{◌≡◌, ℕ, ◌+◌, ◌/◌, ◌%◌, ◌<◌, ◌≤◌, ◌==◌, suc, Bool, true, false, List, [], ◌∷◌, ◌++◌, length, map, drop, All, slice_index_or, ◌⊎◌, Option, Some, Ok, if◌then◌else◌}
 use Rattle.std.specs.declared.cmp.Ordering.TheVariants.{Less}
 use Rattle.std.specs.Ordering.{nat_cmp}
 use Rattle.std.specs.Cmp.Lexicographic.{slice_cmp}
-use Rattle.seg_core.specs.Line.{delimiters, ends_with, joined, lines_of}
+use Rattle.seg_core.specs.Line.{delimiters, ends_with, first_lines, joined, lines_of}
 use Rattle.ports_core.specs.Name.{name_at, numbered_name}
 use Rattle.ports_core.specs.Slot.{Slot, slot_at}
 use Rattle.ports_core.specs.Source.{Content, Source}
@@ -126,13 +126,20 @@ AreUncut delim pieces = (place : ℕ) → place + 1 < length pieces → ends_wit
 abbrev pub EndsLine : ℕ → ℕ → List ℕ → Type 0
 EndsLine delim n piece = (ends_with delim piece ≡ true) ⊎ ((length piece ≡ n) × (delimiters delim piece ≡ 0))
 
+-- With the first line of the next piece, to which a delimiter is added where it lacks it, the piece would have more
+-- than n bytes.
+abbrev pub IsFilled : (delim n : ℕ) (piece next : List ℕ) → Type 0
+IsFilled delim n piece next = n < length piece + length (first_lines delim 1 (next ++ delim ∷ []))
+
 -- The pieces are joined the input. None is empty, none has more than n bytes, and between two pieces a line is cut only
--- where it is longer than that.
+-- where it is longer than that. Each has as many lines as fit.
 pub record AreLinePieces (delim n : ℕ) (input : List ℕ) (pieces : List (List ℕ)) : Type 0 where
   pub all : joined pieces ≡ input
   pub some : (place : ℕ) → place < length pieces → 0 < length (text_at pieces place)
   pub most : (place : ℕ) → place < length pieces → length (text_at pieces place) ≤ n
   pub uncut : (place : ℕ) → place + 1 < length pieces → EndsLine delim n (text_at pieces place)
+  pub filled : (place : ℕ) → place + 1 < length pieces
+      → IsFilled delim n (text_at pieces place) (text_at pieces (suc place))
 
 -- Line i of the input, counted from 0, is line i / n of file i % n, and there is nothing else in the files. There are n,
 -- or those that have a line, where the others are left out.

@@ -34,8 +34,8 @@ pub fn cutting_changes_nothing()
 
 /// `split` loses nothing. Its files have the names that were asked for, and a shell's `*` gives them in their order. With `-l N` and
 /// `-b N` they are joined the input, and each but the last has N lines or bytes; `-l` cuts no line. With `-C N` they are
-/// joined the input, none has more than N bytes, and no line is cut that is not longer. With `-n r/N` each line is in just
-/// one file, in turn.
+/// joined the input, each has as many lines as fit into N bytes, and a line is cut only where it is longer than that. With
+/// `-n r/N` each line is in just one file, in turn.
 pub fn split_loses_nothing()
     ensures listed { (split : Run) (asked : SplitAsked) (input : List ℕ) → Does split (Split asked) → HasInput split input → AreListed asked (files_of split) }
     ensures lines { (split : Run) (asked : SplitAsked) (n : ℕ) (input : List ℕ) → Does split (Split asked) → HasInput split input → asked.cut ≡ Lines n → ArePieces (line_count asked.delim) n input (contents_of split) }
