@@ -1,6 +1,6 @@
 -- What people rest on, in a manual's words: what a run leaves that ends with status 0, over inputs and outputs that
 -- tell their bytes, as those in memory do.
-use Rattle.std.specs.Prelude.{◌≡◌, ℕ, ◌+◌, ◌/◌, ◌%◌, ◌<◌, ◌≤◌, ◌==◌, suc, Bool, true, false, List, [], ◌∷◌, ◌++◌, length, map, drop, All, slice_index_or, ◌⊎◌, Option, Some, Ok, if◌then◌else◌}
+use Rattle.std.specs.Prelude.{◌≡◌, ℕ, ◌+◌, ◌/◌, ◌%◌, ◌<◌, ◌≤◌, ◌==◌, suc, Bool, true, false, List, [], ◌∷◌, ◌++◌, length, map, drop, All, slice_index_or, ◌⊎◌, Option, Some, None, Ok, if◌then◌else◌}
 use Rattle.std.specs.declared.cmp.Ordering.TheVariants.{Less}
 use Rattle.std.specs.Ordering.{nat_cmp}
 use Rattle.std.specs.Cmp.Lexicographic.{slice_cmp}
@@ -16,15 +16,16 @@ use Rattle.run_core.specs.Input.{World, is_dash}
 use Rattle.run_core.specs.RunEnds.{RunsOver}
 use Rattle.words_core.specs.declared.settings.Settings.{Settings}
 use Rattle.words_core.specs.declared.settings.Settings.TheVariants.{Head, Tail}
-use Rattle.words_core.specs.declared.value.Followed.{Followed}
 use Rattle.words_core.specs.EndsAsked.{EndsAsked}
 use Rattle.words_core.specs.SplitAsked.{SplitAsked}
 use Rattle.words_core.specs.Words.{settings_of}
 use Rattle.tools_core.specs.Outcome.{RunEnds, names_read}
 use Rattle.tools_core.specs.Tasks.{has_headers}
 
--- one run: its words, what it found, and what it left
+-- One run: its words, what it found, and what it left. Where words ask `tail` to follow files, the program has another
+-- run, of which nothing is said here.
 pub record Run : Type 0 where
+  -- the first is the tool's name
   pub words : List (List ℕ)
   -- what standard input holds, and what lies at each name
   pub world : World
@@ -34,7 +35,7 @@ pub record Run : Type 0 where
   pub outputs : List Slot
   pub status : ℕ
 
--- its words are read as these settings, and it ended as `run` ensures, whatever its status
+-- its words are read as these settings, and it ended as `run` ensures, whether it met a fault or not
 pub record Ran (run : Run) (asked : Settings) : Type 0 where
   pub read : settings_of run.words ≡ Ok asked
   pub ends : RunsOver true run.world (names_read run.words)
@@ -45,7 +46,7 @@ pub record Does (run : Run) (asked : Settings) : Type 0 where
   pub ran : Ran run asked
   pub well : run.status ≡ 0
 
--- what lies at a name; that of standard input is `-`
+-- what lies at a name; that of standard input is `-`, and the first file that is opened has the number 1
 abbrev pub lying_at : World → List ℕ → Option Content
 lying_at world name = if is_dash name then Some world.standard else world.laid 1 name
 
@@ -67,16 +68,22 @@ counted options sign n = record options { count = record { sign = sign; amount =
 abbrev pub IsHead : Run → EndsAsked → Sign → ℕ → Type 0
 IsHead run options sign n = Does run (Head (counted options sign n))
 
--- `tail` with them, run once, whether files are to be followed or not
+-- `tail` with them, where no file is to be followed; so it makes no looks, whatever their count
 abbrev pub IsTail : Run → EndsAsked → Sign → ℕ → Type 0
-IsTail run options sign n = (followed : Option Followed) × (looks : ℕ)
-    × Does run (Tail (record { ends = counted options sign n; followed = followed; looks = looks }))
+IsTail run options sign n = (looks : ℕ)
+    × Does run (Tail (record { ends = counted options sign n; followed = None; looks = looks }))
 
 -- no header is asked for
 abbrev pub IsBare : EndsAsked → Type 0
 IsBare options = has_headers options.headers options.names ≡ false
 
--- the files
+-- both count lines, which end with the same byte, or both count bytes; neither asks for a header
+pub record CountAlike (one other : EndsAsked) : Type 0 where
+  pub unit : one.unit ≡ other.unit
+  pub delim : one.delim ≡ other.delim
+  pub bare : IsBare one × IsBare other
+
+-- The files that it opened. One that was opened twice, under the same name or another, stands here twice.
 abbrev pub files_of : Run → List Slot
 files_of run = drop 2 run.outputs
 
@@ -93,7 +100,7 @@ pub record AreCopies (mode : Mode) (names : List (List ℕ)) (bytes : List ℕ) 
 abbrev pub contents_of : Run → List (List ℕ)
 contents_of run = map (λ (file : Slot). file.written) (files_of run)
 
--- each name comes before the next, by the first byte in which they differ
+-- each name comes before the next, by the first byte in which they differ; a beginning of another comes before that
 abbrev pub AreInOrder : List (List ℕ) → Type 0
 AreInOrder [] = Unit {0}
 AreInOrder (name ∷ []) = Unit {0}
@@ -149,7 +156,7 @@ pub record AreDealt (delim n : ℕ) (elide : Bool) (input : List ℕ) (contents 
   pub count : elide ≡ false → length contents ≡ n
   pub left_out : elide ≡ true → All (λ bytes. 0 < length bytes) contents
 
--- the operand of `csplit` is a pattern between `%` and `%`, whose section is skipped
+-- An operand of `csplit` that begins with `%` (37) is a pattern whose section is skipped, since its words were read.
 abbrev pub skips : List ℕ → Bool
 skips [] = false
 skips (byte ∷ word) = byte == 37

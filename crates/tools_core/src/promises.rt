@@ -4,7 +4,7 @@ ghost use Rattle.std.specs.Prelude.{◌≡◌, ◌+◌, ◌++◌, ℕ, List, fal
 ghost use Rattle.seg_core.specs.Line.{joined, line_count};
 ghost use Rattle.seg_core.specs.declared.count.Sign.TheVariants.{Minus, Plain, Plus};
 ghost use Rattle.seg_core.specs.declared.cut.Cut.TheVariants.{Bytes, LineBytes, Lines, Round};
-ghost use Rattle.tools_core.specs.Promises.{AreCopies, AreDealt, AreLinePieces, AreListed, AreNumbered, ArePieces, AreUncut, Does, HasInput, IsBare, IsHead, IsTail, Run, SkipNothing, contents_of, files_of, output_of};
+ghost use Rattle.tools_core.specs.Promises.{AreCopies, AreDealt, AreLinePieces, AreListed, AreNumbered, ArePieces, AreUncut, CountAlike, Does, HasInput, IsHead, IsTail, Run, SkipNothing, contents_of, files_of, output_of};
 ghost use Rattle.words_core.specs.CsplitAsked.{CsplitAsked};
 ghost use Rattle.words_core.specs.EndsAsked.{EndsAsked};
 ghost use Rattle.words_core.specs.SplitAsked.{SplitAsked};
@@ -14,13 +14,15 @@ ghost use Rattle.words_core.specs.declared.settings.Settings.TheVariants.{Csplit
 
 /// Of one input, the first N lines and all from the line after them on, written one after another, are the input:
 /// `head -n N` and then `tail -n +M`, where M is N + 1. So are all but the last N and the last N: `head -n -N` and then
-/// `tail -n N`. The same holds of bytes (`-c`), and of lines that end with byte 0 (`-z`).
+/// `tail -n N`. The same holds of bytes (`-c`), and of lines that end with byte 0 (`-z`), where both runs have that option and
+/// neither writes a header.
 pub fn head_and_tail_meet()
-    ensures first { (head tail : Run) (options : EndsAsked) (n : ℕ) (input : List ℕ) → IsBare options → IsHead head options Plain n → IsTail tail options Plus (n + 1) → HasInput head input → HasInput tail input → output_of head ++ output_of tail ≡ input }
-    ensures last { (head tail : Run) (options : EndsAsked) (n : ℕ) (input : List ℕ) → IsBare options → IsHead head options Minus n → IsTail tail options Plain n → HasInput head input → HasInput tail input → output_of head ++ output_of tail ≡ input }
+    ensures first { (head tail : Run) (first rest : EndsAsked) (n : ℕ) (input : List ℕ) → CountAlike first rest → IsHead head first Plain n → IsTail tail rest Plus (n + 1) → HasInput head input → HasInput tail input → output_of head ++ output_of tail ≡ input }
+    ensures last { (head tail : Run) (first rest : EndsAsked) (n : ℕ) (input : List ℕ) → CountAlike first rest → IsHead head first Minus n → IsTail tail rest Plain n → HasInput head input → HasInput tail input → output_of head ++ output_of tail ≡ input }
 {}
 
-/// After `tee` standard output and each file have the input's bytes; with `-a` each file has them after those that it had.
+/// After `tee` standard output and each file that is named once have the input's bytes; with `-a` each file has them after
+/// those that it had.
 pub fn tee_copies()
     ensures output { (tee : Run) (asked : TeeAsked) (input : List ℕ) → Does tee (Tee asked) → HasInput tee input → output_of tee ≡ input }
     ensures files { (tee : Run) (asked : TeeAsked) (input : List ℕ) → Does tee (Tee asked) → HasInput tee input → AreCopies asked.mode asked.names input (files_of tee) }
@@ -32,7 +34,7 @@ pub fn cutting_changes_nothing()
     ensures { (one other : Run) (asked : Settings) → Does one asked → Does other asked → one.world ≡ other.world → one.outputs ≡ other.outputs }
 {}
 
-/// `split` loses nothing. Its files have the names that were asked for, and a shell's `*` gives them in their order. With `-l N` and
+/// `split` loses nothing. Its files have the names that were asked for, and a shell's `*` gives them in the order of the input. With `-l N` and
 /// `-b N` they are joined the input, and each but the last has N lines or bytes; `-l` cuts no line. With `-C N` they are
 /// joined the input, each has as many lines as fit into N bytes, and a line is cut only where it is longer than that. With
 /// `-n r/N` each line is in just one file, in turn.
