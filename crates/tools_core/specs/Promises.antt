@@ -12,7 +12,7 @@ use Rattle.ports_core.specs.declared.slot.Mode.{Mode}
 use Rattle.ports_core.specs.declared.slot.Mode.TheVariants.{Fresh}
 use Rattle.ports_core.specs.declared.slot.State.TheVariants.{Closed}
 use Rattle.seg_core.specs.declared.count.Sign.{Sign}
-use Rattle.run_core.specs.Input.{World, is_dash}
+use Rattle.run_core.specs.Input.{World, inputs_at, is_dash}
 use Rattle.run_core.specs.RunEnds.{RunsOver}
 use Rattle.words_core.specs.declared.settings.Settings.{Settings}
 use Rattle.words_core.specs.declared.settings.Settings.TheVariants.{Head, Tail}
@@ -55,6 +55,10 @@ pub record HasInput (run : Run) (bytes : List ℕ) : Type 0 where
   pub name : List ℕ
   pub only : names_read run.words ≡ name ∷ []
   pub holds : lying_at run.world name ≡ Some (record { bytes = bytes; breaks_off = false })
+
+-- At the names that they read two runs find the same bytes. In how many reads those come is no part of what lies there.
+abbrev pub FindAlike : Run → Run → Type 0
+FindAlike one other = inputs_at one.world (names_read one.words) ≡ inputs_at other.world (names_read other.words)
 
 -- what is on standard output
 abbrev pub output_of : Run → List ℕ

@@ -4,7 +4,7 @@ ghost use Rattle.std.specs.Prelude.{◌≡◌, ◌+◌, ◌++◌, ℕ, List, fal
 ghost use Rattle.seg_core.specs.Line.{joined, line_count};
 ghost use Rattle.seg_core.specs.declared.count.Sign.TheVariants.{Minus, Plain, Plus};
 ghost use Rattle.seg_core.specs.declared.cut.Cut.TheVariants.{Bytes, LineBytes, Lines, Round};
-ghost use Rattle.tools_core.specs.Promises.{AreCopies, AreDealt, AreLinePieces, AreListed, AreNumbered, ArePieces, AreUncut, CountAlike, Does, HasInput, IsHead, IsTail, Run, SkipNothing, contents_of, files_of, output_of};
+ghost use Rattle.tools_core.specs.Promises.{AreCopies, AreDealt, AreLinePieces, AreListed, AreNumbered, ArePieces, AreUncut, CountAlike, Does, FindAlike, HasInput, IsHead, IsTail, Run, SkipNothing, contents_of, files_of, output_of};
 ghost use Rattle.words_core.specs.CsplitAsked.{CsplitAsked};
 ghost use Rattle.words_core.specs.EndsAsked.{EndsAsked};
 ghost use Rattle.words_core.specs.SplitAsked.{SplitAsked};
@@ -29,9 +29,9 @@ pub fn tee_copies()
 {}
 
 /// How an input comes changes nothing: two runs that are asked for the same, over inputs of the same bytes, leave the same
-/// outputs, whether a read gives one byte or all of them. A run's end says nothing of reads but what they leave.
+/// outputs, whether a read gives one byte or all of them: a run's end doesn't say how large the reads were.
 pub fn cutting_changes_nothing()
-    ensures { (one other : Run) (asked : Settings) → Does one asked → Does other asked → one.world ≡ other.world → one.outputs ≡ other.outputs }
+    ensures { (one other : Run) (asked : Settings) → Does one asked → Does other asked → FindAlike one other → one.outputs ≡ other.outputs }
 {}
 
 /// `split` loses nothing. Its files have the names that were asked for, and a shell's `*` gives them in the order of the input. With `-l N` and
