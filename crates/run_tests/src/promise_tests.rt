@@ -2,7 +2,7 @@
 //! promised, with no bytes written down that are wanted.
 ghost use Rattle.std.specs.Prelude.{IfOk};
 
-use crate::left::inputs_of;
+use crate::left::{Plan, inputs_of, planned_outs};
 use ports_core::{Fault, MemOut, Outs};
 use std::alloc::Global;
 use std::process::Abort;
@@ -138,5 +138,36 @@ fn lose_nothing(rt: &impl Abort, alloc: Global, words: &[&str]) -> Result<(), Fa
         all.extend_from_slice(outs.bytes(slot))?;
     }
     assert_eq!(rt; all.as_slice(), TEXT, "of {words:?}");
+    Ok(())
+}
+
+#[test]
+fn faults_leave_a_beginning(rt: HostRuntime) -> Result<(), Fail> {
+    for words in CUT {
+        for call in 1..10 {
+            leave_a_beginning(&rt, rt.alloc(), words, Plan::FailAt(call))?;
+        }
+        leave_a_beginning(&rt, rt.alloc(), words, Plan::Limit(2, 3))?;
+    }
+    Ok(())
+}
+
+/// Each output has a beginning of what it has where no call fails, and a status that isn't 0 has its message.
+fn leave_a_beginning(
+    rt: &impl Abort,
+    alloc: Global,
+    words: &[&str],
+    plan: Plan,
+) -> Result<(), Fault> {
+    let well = left_by(rt, alloc, words, 4)?;
+    let mut inputs = inputs_of(alloc, &[], TEXT)?;
+    let mut outs = planned_outs(alloc, &[plan])?;
+    let status = run(alloc, words, &mut inputs, &mut outs);
+    let is_told = !outs.bytes(1).is_empty() || outs.broken(1);
+    assert_eq!(rt; status == 0 || is_told, true, "of {words:?}");
+    for slot in [0, 2, 3, 4, 5, 6, 7] {
+        let begins = well.bytes(slot).starts_with(outs.bytes(slot));
+        assert_eq!(rt; begins, true, "in {slot} of {words:?}");
+    }
     Ok(())
 }

@@ -13,3 +13,7 @@ pub mod SamePromises
 pub mod SplitPromises
 pub mod SkipLemmas
 pub mod CsplitPromises
+pub mod BeginLemmas
+pub mod TeeBegins
+pub mod BeginPromises
+pub mod ToldLemmas

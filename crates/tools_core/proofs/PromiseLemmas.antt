@@ -1,5 +1,5 @@
 -- What a run that met no fault leaves: just its part, as its definition says, and nothing on standard error.
-use Rattle.std.proofs.Common.{◌≡◌, ℕ, Bool, true, false, ◌||◌, ◌&&◌, is_some, cond, List, [], ◌∷◌, ◌++◌, map, Option, Some, None, inl, inr, ◌⊎◌, refl, sym, ◌∙◌, ap, subst, arith, append-nil}
+use Rattle.std.proofs.Common.{◌≡◌, ℕ, Bool, true, false, ◌||◌, ◌&&◌, is_some, cond, List, [], ◌∷◌, ◌++◌, map, Option, Some, None, Result, inl, inr, ◌⊎◌, refl, sym, ◌∙◌, ap, subst, arith, append-nil}
 use Rattle.ports_core.specs.Slot.{Slot, adds}
 use Rattle.ports_core.specs.Source.{Content, Source}
 use Rattle.ports_core.specs.Streams.{standard_output, standard_error, streams_with}
@@ -13,8 +13,10 @@ use Rattle.run_core.specs.Input.{Input, World, input_of, inputs_at, is_dash}
 use Rattle.run_core.specs.RunEnds.{EndsAs, as_defined, stopped, no_room}
 use Rattle.run_core.specs.Task.{Task, Outcome, after_part, header_text, joined, made_by, of_content, of_inputs, is_missing, verdict_messages}
 use Rattle.words_core.specs.declared.settings.Settings.{Settings}
-use Rattle.tools_core.specs.Outcome.{DoesAsked, RunEndsAt, RefusesOperands, names_read}
-use Rattle.tools_core.specs.Promises.{Run, Does, HasInput}
+use Rattle.words_core.specs.Words.{settings_of}
+use Rattle.tools_core.specs.Outcome.{DoesAsked, RunEndsAt, RefusesOperands, names_at}
+use Rattle.tools_core.specs.Tasks.{names_of}
+use Rattle.tools_core.specs.Promises.{Run, Ran, Does, HasInput}
 
 pub not_one : ◌≡◌ {A = ℕ} 0 1 → ⊥
 not_one is = omega (arith, is)
@@ -35,7 +37,7 @@ told_again : (files : List File) → map (told_file true) files ≡ files
 told_again [] = refl
 told_again (file ∷ files) = ap (λ those. file ∷ those) (told_again files)
 
-since_is : (since : List Slot) (files : List File) → map file_of since ≡ map (told_file true) files → since ≡ map slot_of files
+pub since_is : (since : List Slot) (files : List File) → map file_of since ≡ map (told_file true) files → since ≡ map slot_of files
 since_is since files same = sym (slots_again since) ∙ ap (map slot_of) (same ∙ told_again files)
 
 left_so : (tool : Tool) (outcome : Outcome) (error : Slot) (reached new : List Slot) → outcome.messages ≡ [] → outcome.sweeps ≡ false → SaysAll true tool outcome.messages standard_error error
@@ -113,6 +115,9 @@ not_judged (Some fault) sound = absurd (cc)
 abbrev pub part_of : Task → List ℕ → List ℕ → Part
 part_of task name bytes = after_part (only_out (header_text task.with_header true name)) (task.work.whole bytes)
 
+pub made_one : (task : Task) (input : Input) (bytes : List ℕ) → input.content ≡ Some (ending bytes) → (made_by task (input ∷ [])).part ≡ part_of task input.name bytes
+made_one task input bytes is = ap (λ content. after_part (of_content task true input.name content).part nothing) is ∙ after_nothing (part_of task input.name bytes)
+
 pub record IsMade (task : Task) (name bytes : List ℕ) (new : List Slot) : Type 0 where
   pub unjudged : task.work.verdict bytes ≡ None
   pub slots : new ≡ slots_of (part_of task name bytes)
@@ -121,35 +126,52 @@ pub one_done : (task : Task) (input : Input) (bytes : List ℕ) (sources : List 
 one_done task input bytes sources new is ends =
     let whole = well_done task (input ∷ []) sources new ends in record {
       unjudged = not_judged (task.work.verdict bytes) (subst (λ content. ((of_content task true input.name content).failed || false) ≡ false) is whole.sound);
-      slots = whole.slots ∙ ap (λ content. slots_of (after_part (of_content task true input.name content).part nothing)) is ∙ ap slots_of (after_nothing (part_of task input.name bytes));
+      slots = whole.slots ∙ ap slots_of (made_one task input bytes is);
     }
 
--- what the words of a run ask for was done, over what the run found
+-- what the words of a run ask for was done, over what the run found, or its operands were refused
+
+pub ran_over : (run : Run) (asked : Settings) → Ran run asked → DoesAsked true true asked (inputs_at run.world (names_of asked)) run.inputs run.outputs run.status ⊎ RefusesOperands true run.words asked run.outputs run.status
+ran_over run asked ran =
+    let (found, finds, ends) = ran.ends in
+    subst (λ (meant : Result Settings Fault). RunEndsAt true true run.words (inputs_at run.world (names_at meant)) run.inputs run.outputs run.status meant) ran.read
+    (subst (λ those. RunEndsAt true true run.words those run.inputs run.outputs run.status (settings_of run.words)) (finds.there refl) ends)
 
 by_either : (run : Run) (asked : Settings) (found : List Input) → run.status ≡ 0 → DoesAsked true true asked found run.inputs run.outputs run.status ⊎ RefusesOperands true run.words asked run.outputs run.status
     → DoesAsked true true asked found run.inputs run.outputs 0
 by_either run asked found well (inl does) = subst (DoesAsked true true asked found run.inputs run.outputs) well does
 by_either run asked found well (inr (fault, bad, refuses)) = absurd (not_one (sym well ∙ refuses.failed))
 
-pub did : (run : Run) (asked : Settings) → Does run asked → DoesAsked true true asked (inputs_at run.world (names_read run.words)) run.inputs run.outputs 0
-did run asked does =
-    let (found, finds, ends) = does.ran.ends in
-    subst (λ those. DoesAsked true true asked those run.inputs run.outputs 0) (finds.there refl)
-    (by_either run asked found does.well (subst (RunEndsAt true true run.words found run.inputs run.outputs run.status) does.ran.read ends))
+pub did : (run : Run) (asked : Settings) → Does run asked → DoesAsked true true asked (inputs_at run.world (names_of asked)) run.inputs run.outputs 0
+did run asked does = by_either run asked (inputs_at run.world (names_of asked)) does.well (ran_over run asked does.ran)
 
 content_by : (world : World) (name : List ℕ) (is_standard : Bool) → (input_of world false 1 name is_standard).content ≡ cond is_standard (Some world.standard) (world.laid 1 name)
 content_by world name true = refl
 content_by world name false = refl
 
--- over the one input that it has
+-- the one input that it has
+pub record HasOne (run : Run) (asked : Settings) (bytes : List ℕ) : Type 0 where
+  pub input : Input
+  pub content : input.content ≡ Some (ending bytes)
+  pub only : inputs_at run.world (names_of asked) ≡ input ∷ []
+
+pub has_one : (run : Run) (asked : Settings) (bytes : List ℕ) → Ran run asked → HasInput run bytes → HasOne run asked bytes
+has_one run asked bytes ran has = record {
+  input = input_of run.world false 1 has.name (is_dash has.name);
+  content = content_by run.world has.name (is_dash has.name) ∙ has.holds;
+  only = ap (inputs_at run.world) (sym (ap names_at ran.read) ∙ has.only);
+}
+
+-- what was done over it
 pub record DidOne (run : Run) (asked : Settings) (bytes : List ℕ) : Type 0 where
   pub input : Input
   pub content : input.content ≡ Some (ending bytes)
   pub does : DoesAsked true true asked (input ∷ []) run.inputs run.outputs 0
 
 pub did_one : (run : Run) (asked : Settings) (bytes : List ℕ) → Does run asked → HasInput run bytes → DidOne run asked bytes
-did_one run asked bytes does has = record {
-  input = input_of run.world false 1 has.name (is_dash has.name);
-  content = content_by run.world has.name (is_dash has.name) ∙ has.holds;
-  does = subst (λ names. DoesAsked true true asked (inputs_at run.world names) run.inputs run.outputs 0) has.only (did run asked does);
-}
+did_one run asked bytes does has =
+    let one = has_one run asked bytes does.ran has in record {
+      input = one.input;
+      content = one.content;
+      does = subst (λ found. DoesAsked true true asked found run.inputs run.outputs 0) one.only (did run asked does);
+    }

@@ -1,7 +1,8 @@
 -- Two runs that met no fault, with the same words over the same inputs, leave the same.
-use Rattle.std.proofs.Common.{◌≡◌, true, List, refl, sym, ◌∙◌, ap, subst}
+use Rattle.std.proofs.Common.{◌≡◌, true, List, Result, refl, sym, ◌∙◌, ap, subst}
 use Rattle.ports_core.specs.Slot.{Slot}
 use Rattle.ports_core.specs.Source.{Source}
+use Rattle.ports_core.specs.declared.fault.Fault.{Fault}
 use Rattle.run_core.specs.Input.{Input, inputs_at}
 use Rattle.run_core.specs.RunEnds.{EndsAs}
 use Rattle.run_core.specs.Task.{Task}
@@ -10,8 +11,8 @@ use Rattle.tee_core.specs.Run.{all_copied}
 use Rattle.words_core.specs.CsplitAsked.{CsplitAsked}
 use Rattle.words_core.specs.declared.settings.Settings.{Settings}
 use Rattle.words_core.specs.declared.settings.Settings.TheVariants.{Head, Tail, Split, Csplit, Tee}
-use Rattle.tools_core.specs.Outcome.{CsplitEndsAs, DoesAsked, cut, unread, names_read}
-use Rattle.tools_core.specs.Tasks.{csplit_task, head_task, split_task, tail_task}
+use Rattle.tools_core.specs.Outcome.{CsplitEndsAs, DoesAsked, cut, unread, names_at}
+use Rattle.tools_core.specs.Tasks.{csplit_task, head_task, split_task, tail_task, names_of}
 use Rattle.tools_core.specs.Promises.{Run, Does, FindAlike}
 use Rattle.tools_core.proofs.PromiseLemmas.{did, not_one, well_done}
 use Rattle.tools_core.proofs.TeePromises.{bytes_at}
@@ -37,6 +38,9 @@ does_same (Tee asked) inputs these those new other one two =
 
 pub leave_same : (one other : Run) (asked : Settings) → Does one asked → Does other asked → FindAlike one other → one.outputs ≡ other.outputs
 leave_same one other asked does does_too same =
-    does_same asked (inputs_at other.world (names_read other.words)) one.inputs other.inputs one.outputs other.outputs
-    (subst (λ (inputs : List Input). DoesAsked true true asked inputs one.inputs one.outputs 0) same (did one asked does))
+    let alike : inputs_at one.world (names_of asked) ≡ inputs_at other.world (names_of asked) =
+        sym (ap (λ (meant : Result Settings Fault). inputs_at one.world (names_at meant)) does.ran.read) ∙ same
+        ∙ ap (λ (meant : Result Settings Fault). inputs_at other.world (names_at meant)) does_too.ran.read in
+    does_same asked (inputs_at other.world (names_of asked)) one.inputs other.inputs one.outputs other.outputs
+    (subst (λ (inputs : List Input). DoesAsked true true asked inputs one.inputs one.outputs 0) alike (did one asked does))
     (did other asked does_too)

@@ -61,7 +61,7 @@ shares_are delim (LineBytes n) elide x = refl
 shares_are delim (Round n) elide x = refl
 
 -- a name for each
-not_short : (has : Bool) → cond (not has) (Some Suffixes) None ≡ None → has ≡ true
+pub not_short : (has : Bool) → cond (not has) (Some Suffixes) None ≡ None → has ≡ true
 not_short true well = refl
 not_short false well = absurd (cc)
 

@@ -1,11 +1,12 @@
--- What people rest on, in a manual's words: what a run leaves that ends with status 0, over inputs and outputs that
--- tell their bytes, as those in memory do.
+-- What people rest on, in a manual's words: what a run leaves, over inputs and outputs that tell their bytes, as those
+-- in memory do.
 use Rattle.std.specs.Prelude.{◌≡◌, ℕ, ◌+◌, ◌/◌, ◌%◌, ◌<◌, ◌≤◌, ◌==◌, suc, Bool, true, false, List, [], ◌∷◌, ◌++◌, length, map, drop, All, slice_index_or, ◌⊎◌, Option, Some, None, Ok, if◌then◌else◌}
 use Rattle.std.specs.declared.cmp.Ordering.TheVariants.{Less}
 use Rattle.std.specs.Ordering.{nat_cmp}
 use Rattle.std.specs.Cmp.Lexicographic.{slice_cmp}
 use Rattle.seg_core.specs.Line.{delimiters, ends_with, first_lines, joined, lines_of}
 use Rattle.ports_core.specs.Name.{name_at, numbered_name}
+use Rattle.ports_core.specs.Part.{IsBeginning}
 use Rattle.ports_core.specs.Slot.{Slot, slot_at}
 use Rattle.ports_core.specs.Source.{Content, Source}
 use Rattle.ports_core.specs.declared.slot.Mode.{Mode}
@@ -176,3 +177,18 @@ pub record AreNumbered (prefix : List ℕ) (digits : ℕ) (files : List Slot) : 
   pub named : (place : ℕ) → place < length files
       → text_at (map (λ (file : Slot). file.name) files) place ≡ numbered_name prefix digits place
   pub sound : All (IsSound Fresh) files
+
+-- an output has a beginning of what another has, under its name
+pub record BeginsAs (output other : Slot) : Type 0 where
+  pub bytes : IsBeginning output.written other.written
+  pub named : (output.name ≡ other.name) ⊎ (output.written ≡ [])
+
+-- Each output of a run but standard error has a beginning of what the same output of another run has. What was written
+-- to a file counts, also where it was removed.
+abbrev pub BeginsEach : Run → Run → Type 0
+BeginsEach run other =
+    (place : ℕ) → (place ≡ 1 → ⊥) → BeginsAs (slot_at run.outputs place) (slot_at other.outputs place)
+
+-- standard error has something, or broke itself
+abbrev pub IsTold : Run → Type 0
+IsTold run = (0 < length (slot_at run.outputs 1).written) ⊎ ((slot_at run.outputs 1).is_broken ≡ true)

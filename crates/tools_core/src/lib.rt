@@ -14,6 +14,6 @@ pub use args::{ArgsFault, read_args};
 pub use follow::run_follow;
 pub use program::run_words;
 pub use promises::{
-    csplit_loses_nothing, cutting_changes_nothing, head_and_tail_meet, split_loses_nothing,
-    tee_copies,
+    csplit_loses_nothing, cutting_changes_nothing, faults_leave_a_beginning, head_and_tail_meet,
+    split_loses_nothing, tee_copies,
 };

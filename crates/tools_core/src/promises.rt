@@ -4,7 +4,7 @@ ghost use Rattle.std.specs.Prelude.{◌≡◌, ◌+◌, ◌++◌, ℕ, List, fal
 ghost use Rattle.seg_core.specs.Line.{joined, line_count};
 ghost use Rattle.seg_core.specs.declared.count.Sign.TheVariants.{Minus, Plain, Plus};
 ghost use Rattle.seg_core.specs.declared.cut.Cut.TheVariants.{Bytes, LineBytes, Lines, Round};
-ghost use Rattle.tools_core.specs.Promises.{AreCopies, AreDealt, AreLinePieces, AreListed, AreNumbered, ArePieces, AreUncut, CountAlike, Does, FindAlike, HasInput, IsHead, IsTail, Run, SkipNothing, contents_of, files_of, output_of};
+ghost use Rattle.tools_core.specs.Promises.{AreCopies, AreDealt, AreLinePieces, AreListed, AreNumbered, ArePieces, AreUncut, BeginsEach, CountAlike, Does, FindAlike, HasInput, IsHead, IsTail, IsTold, Ran, Run, SkipNothing, contents_of, files_of, output_of};
 ghost use Rattle.words_core.specs.CsplitAsked.{CsplitAsked};
 ghost use Rattle.words_core.specs.EndsAsked.{EndsAsked};
 ghost use Rattle.words_core.specs.SplitAsked.{SplitAsked};
@@ -52,4 +52,12 @@ pub fn split_loses_nothing()
 pub fn csplit_loses_nothing()
     ensures numbered { (csplit : Run) (asked : CsplitAsked) (input : List ℕ) → Does csplit (Csplit asked) → HasInput csplit input → AreNumbered asked.style.prefix asked.style.digits (files_of csplit) }
     ensures joined { (csplit : Run) (asked : CsplitAsked) (input : List ℕ) → Does csplit (Csplit asked) → HasInput csplit input → asked.style.suppress ≡ false → SkipNothing asked.operands → joined (contents_of csplit) ≡ input }
+{}
+
+/// Nothing after a fault but a beginning. Whatever a run met, standard output and each file have a beginning of what they
+/// have after a run that met no fault, which is asked for the same, over the same input. A run whose status is 1 said why, as
+/// far as standard error takes lines.
+pub fn faults_leave_a_beginning()
+    ensures begins { (run well : Run) (asked : Settings) (input : List ℕ) → Ran run asked → Does well asked → run.world ≡ well.world → HasInput run input → BeginsEach run well }
+    ensures told { (run : Run) (asked : Settings) → Ran run asked → run.status ≡ 1 → IsTold run }
 {}
