@@ -1,30 +1,33 @@
 -- A file is made for the open section, and a section begins.
 use Rattle.std.proofs.Common.{◌≡◌, ℕ, ◌+◌, ◌≤◌, suc, Bool, true, false, not, ◌&&◌, List, [], ◌∷◌, ◌++◌, length, Result, Ok, Err, IsTrue, refl, sym, ◌∙◌, ap, subst, arith, length-append}
 use Rattle.ports_core.specs.Name.{numbered_name}
-use Rattle.ports_core.specs.Part.{Part, IsNext}
+use Rattle.ports_core.specs.Part.{Part, OutputsAt, IsNext}
+use Rattle.ports_core.specs.Swept.{is_among}
+use Rattle.std.proofs.lemmas.Bool.{false≢true}
 use Rattle.ports_core.specs.Slot.{Slot, opened, is_writable}
 use Rattle.ports_core.specs.declared.fault.Fault.{Fault}
 use Rattle.ports_core.specs.declared.slot.Mode.TheVariants.{Fresh}
 use Rattle.ports_core.specs.declared.slot.State.TheVariants as state
 use Rattle.csplit_core.specs.Output.{Style, Contents, is_empty, makes_file, file_at, files_of, size_lines, part_by}
 use Rattle.csplit_core.specs.Draft.{Draft, draft_part, last_contents, AreClosed}
-use Rattle.csplit_core.specs.inner.Draft.{with_bytes}
-use Rattle.csplit_core.specs.Writer.{WriterState, Writes, OwnsFiles, IsReady, IsOpenAt, size_of}
-use Rattle.csplit_core.specs.inner.Writer.{Pauses, Moves, Halts, Went, Stopped, Goes, Begun, BegunNot}
+use Rattle.csplit_core.specs.inner.Draft.{first_draft, with_bytes}
+use Rattle.csplit_core.specs.Writer.{WriterState, Writes, OwnsFiles, IsReady, IsLast, IsOpenAt, size_of}
+use Rattle.csplit_core.specs.inner.Writer.{KeepsFiles, Pauses, Went, Stopped, Goes, Begun, BegunNot, new_writer}
 use Rattle.csplit_core.specs.inner.WriterSteps.{MakesNone, Made, Makes, Appends, Started, StartedNot, next_name, begun_after}
 use Rattle.csplit_core.specs.declared.section_writer.Current.{Current}
 use Rattle.csplit_core.specs.declared.section_writer.Current.TheVariants.{Skipped, Unmade, File}
-use Rattle.csplit_core.proofs.WriterLemmas.{moves_again, moves_as, moves_same, halts_after, halts_as, breaks_later, owns_again}
-use Rattle.csplit_core.proofs.OutputSteps.{file_of, with_last, file_begins, open_moves, write_moves, open_halts, write_halts}
-use Rattle.ports_core.proofs.SlotSteps.{keeps_same, keeps_write, keeps_open, made_write, writable_before, opened_writable, none_past, made_short, keeps_again, made_same}
+use Rattle.csplit_core.proofs.WriterLemmas.{moves_as, halts_as, goes_by, stops_by, breaks_later, owns_again}
+use Rattle.csplit_core.proofs.OutputSteps.{Becomes, Falls, becomes_again, falls_after, file_of, with_last, file_begins, open_moves, write_moves, open_halts, write_halts}
+use Rattle.ports_core.proofs.SlotSteps.{keeps_same, keeps_write, keeps_open, made_write, writable_before, opened_writable, opened_last, none_past, made_short, keeps_again, made_same}
 use Rattle.csplit_core.proofs.DraftLemmas.{name_after, part_none, part_made, open_part, count_made, count_none, closed_files, more_begins}
-use Rattle.csplit_core.proofs.OwnLemmas.{ready_could, two_slots, at_file, owned_same, owned_opened, owned_unopened, make_breaks, write_breaks}
-use Rattle.csplit_core.proofs.PutLemmas.{now_unmade, skips_file, elides_file, ready_written}
+use Rattle.csplit_core.proofs.OwnLemmas.{at_file, owned_same, owned_opened, owned_unopened, make_breaks, write_breaks}
+use Rattle.csplit_core.proofs.MakeLemmas.{state_of}
+use Rattle.csplit_core.proofs.PutLemmas.{now_unmade, skips_file, elides_file, file_owned, ready_written}
 
 -- The next file
 
-made_moves : (told : Bool) (writer next : WriterState) (ended : List Contents) (slot : ℕ) (old new : List Slot) → writer.made ≡ length (files_of writer.style 0 ended) → Made writer old new next slot
-    → Moves told (part_by writer.style ended) (with_last (size_lines writer.style ended) (files_of writer.style 0 ended) (file_of (name_after writer.style ended) [] state.Open)) old new
+made_moves : (told : Bool) (writer next : WriterState) (ended : List Contents) (slot : ℕ) (old new : List Slot) → length writer.files ≡ length (files_of writer.style 0 ended) → Made writer old new next slot
+    → Becomes told (part_by writer.style ended) (with_last (size_lines writer.style ended) (files_of writer.style 0 ended) (file_of (name_after writer.style ended) [] state.Open)) old new
 made_moves told writer next ended slot old new count made =
     open_moves told (size_lines writer.style ended) (files_of writer.style 0 ended) (name_after writer.style ended) old new
     (made.added ∙ ap (λ n. old ++ opened (numbered_name writer.style.prefix writer.style.digits n) Fresh ∷ []) count)
@@ -39,8 +42,8 @@ next_file style ended one makes = record {
   name_is = refl;
 }
 
-made_halts : (told : Bool) (writer : WriterState) (ended : List Contents) (one : Contents) (old new : List Slot) (f : Fault) → makes_file writer.style one ≡ true → AreClosed ended → writer.made ≡ length (files_of writer.style 0 ended)
-    → MakesNone old (next_name writer) new f → Halts told (part_by writer.style ended) (part_by writer.style (ended ++ one ∷ [])) old new f
+made_halts : (told : Bool) (writer : WriterState) (ended : List Contents) (one : Contents) (old new : List Slot) (f : Fault) → makes_file writer.style one ≡ true → AreClosed ended → length writer.files ≡ length (files_of writer.style 0 ended)
+    → MakesNone old (next_name writer) new f → Falls told (part_by writer.style ended) (part_by writer.style (ended ++ one ∷ [])) old new f
 made_halts told writer ended one old new f makes closed count none =
     open_halts told (size_lines writer.style ended) (files_of writer.style 0 ended) (name_after writer.style ended) (part_by writer.style (ended ++ one ∷ [])) old new f
     (closed_files writer.style 0 ended closed) (more_begins writer.style ended one) (next_file writer.style ended one makes)
@@ -51,12 +54,11 @@ current_made writer next slot old new made = ap (λ (those : WriterState). those
 
 pub made_ready : (writer next : WriterState) (slot : ℕ) (old new : List Slot) → IsReady writer old → Made writer old new next slot → IsReady next new
 made_ready writer next slot old new ready made = record {
-  output = writable_before old new 0 (opened (next_name writer) Fresh) (let two : 2 ≤ length old = two_slots writer old ready in omega arith) made.added ready.output;
-  first = ready.first;
-  owns = owned_opened writer next slot old new (ready_could writer old ready) made ready.first ready.owns;
+  streams = (let two = ready.streams in let size : length new ≡ length old + 1 = ap length made.added ∙ length-append old (opened (next_name writer) Fresh ∷ []) in omega (arith, two, size));
+  output = writable_before old new 0 (opened (next_name writer) Fresh) (let two = ready.streams in omega (arith, two)) made.added ready.output;
+  files = (owned_opened writer next slot old new ready.streams made).there ready.files;
   current = subst (λ current. IsOpenAt current new) (sym (current_made writer next slot old new made)) (
-    (let two : 2 ≤ length old = two_slots writer old ready in let here : slot ≡ length old = made.place in omega arith),
-    (let size : length new ≡ length old + 1 = ap length made.added ∙ length-append old (opened (next_name writer) Fresh ∷ []) in let here : slot ≡ length old = made.place in omega arith),
+    (let two = ready.streams in let here : slot ≡ length old = made.place in omega (arith, two, here)),
     opened_writable old new slot (next_name writer) Fresh made.place made.added,
   );
 }
@@ -74,7 +76,7 @@ first_makes style draft bytes kept elide none some =
 record Unwritten (writer : WriterState) (bytes : List ℕ) (draft : Draft) : Type 0 where
   makes : makes_file writer.style (last_contents false (with_bytes bytes draft)) ≡ true
   none : makes_file writer.style (last_contents false draft) ≡ false
-  count : writer.made ≡ length (files_of writer.style 0 draft.ended)
+  count : length writer.files ≡ length (files_of writer.style 0 draft.ended)
   high : draft_part writer.style (with_bytes bytes draft) ≡ with_last (size_lines writer.style draft.ended) (files_of writer.style 0 draft.ended) (file_of (name_after writer.style draft.ended) bytes state.Open)
   size : 0 + length bytes ≡ length (draft.bytes ++ bytes)
 
@@ -104,40 +106,40 @@ put_first told writer made next slot bytes old mid new (Ok done) is some ready m
   style = ap (λ (those : WriterState). those.style) same ∙ ap (λ (those : WriterState). those.style) makes.same;
   writes = λ draft writes. subst (λ those. Writes those (with_bytes bytes draft)) (sym (same ∙ ap (λ (those : WriterState). record those { current = File slot (0 + length bytes) }) makes.same)) (record {
     closed = writes.closed;
-    made = ap (λ n. n + 1) (unwritten writer bytes draft is some writes).count ∙ sym (count_made writer.style draft.ended (last_contents false (with_bytes bytes draft)) (unwritten writer bytes draft is some writes).makes);
+    made = length-append writer.files (slot ∷ []) ∙ ap (λ n. n + 1) (unwritten writer bytes draft is some writes).count ∙ sym (count_made writer.style draft.ended (last_contents false (with_bytes bytes draft)) (unwritten writer bytes draft is some writes).makes);
     current = ((unwritten writer bytes draft is some writes).makes, (unwritten writer bytes draft is some writes).size);
   });
   moves = λ draft writes. moves_as told _ _ _ _ old new (part_none writer.style draft.ended (last_contents false draft) (unwritten writer bytes draft is some writes).none) (unwritten writer bytes draft is some writes).high
-      (moves_again told _ _ _ old mid new (made_moves told writer made draft.ended slot old mid (unwritten writer bytes draft is some writes).count makes)
-      (write_moves told (size_lines writer.style draft.ended) (files_of writer.style 0 draft.ended) (name_after writer.style draft.ended) [] bytes slot mid new at.1 wrote));
+      (goes_by told _ _ old new (owns_again writer made next old mid new (owned_opened writer made slot old mid ready.streams makes) (file_owned made next slot 0 _ mid new (current_made writer made slot old mid makes) same (made_write slot _ mid new wrote)))
+      (λ last. becomes_again told _ _ _ old mid new (made_moves told writer made draft.ended slot old mid (unwritten writer bytes draft is some writes).count makes)
+      (write_moves told (size_lines writer.style draft.ended) (files_of writer.style 0 draft.ended) (name_after writer.style draft.ended) [] bytes slot mid new (opened_last old mid slot (next_name writer) Fresh makes.place makes.added) wrote)));
   keeps = keeps_again old mid new (keeps_open _ old mid makes.added) (keeps_write slot _ mid new wrote);
-  owns = owns_again writer made next old mid new (owned_opened writer made slot old mid (ready_could writer old ready) makes)
-      (owned_same made next mid new (ap (λ (those : WriterState). those.made) same) (ap (λ (those : WriterState). those.first) same) (ready_could made mid (made_ready writer made slot old mid ready makes)) (made_write slot _ mid new wrote));
-  ready = ready_written told made next slot _ _ mid new at (made_ready writer made slot old mid ready makes) same wrote;
+  owns = owns_again writer made next old mid new (owned_opened writer made slot old mid ready.streams makes) (file_owned made next slot 0 _ mid new (current_made writer made slot old mid makes) same (made_write slot _ mid new wrote));
+  ready = ready_written made next slot _ _ mid new at (made_ready writer made slot old mid ready makes) same wrote;
 } where
-  at : (2 ≤ slot) × (suc slot ≡ length mid) × IsTrue (is_writable mid slot)
+  at : (2 ≤ slot) × IsTrue (is_writable mid slot)
   at = at_file made slot 0 mid (current_made writer made slot old mid makes) (made_ready writer made slot old mid ready makes)
 put_first told writer made next slot bytes old mid new (Err f) is some ready makes (same, cut) = record {
   style = ap (λ (those : WriterState). those.style) same ∙ ap (λ (those : WriterState). those.style) makes.same;
   halts = λ draft writes. halts_as told _ _ _ _ old new f (part_none writer.style draft.ended (last_contents false draft) (unwritten writer bytes draft is some writes).none) (unwritten writer bytes draft is some writes).high
-      (halts_after told _ (with_last (size_lines writer.style draft.ended) (files_of writer.style 0 draft.ended) (file_of (name_after writer.style draft.ended) [] state.Open)) _ old mid new f
+      (stops_by told _ _ old new f (λ last. falls_after told _ (with_last (size_lines writer.style draft.ended) (files_of writer.style 0 draft.ended) (file_of (name_after writer.style draft.ended) [] state.Open)) _ old mid new f
       (file_begins (size_lines writer.style draft.ended) (files_of writer.style 0 draft.ended) (file_of (name_after writer.style draft.ended) [] state.Open))
       (made_moves told writer made draft.ended slot old mid (unwritten writer bytes draft is some writes).count makes)
-      (write_halts told (size_lines writer.style draft.ended) (files_of writer.style 0 draft.ended) (name_after writer.style draft.ended) [] bytes slot mid new f (closed_files writer.style 0 draft.ended writes.closed) at.1 cut));
-  breaks = breaks_later writer.style old mid new f (keeps_open _ old mid makes.added) (write_breaks told writer.style slot bytes mid new f at.0 at.2 cut);
-  owns = owns_again writer made next old mid new (owned_opened writer made slot old mid (ready_could writer old ready) makes)
-      (owned_same made next mid new (ap (λ (those : WriterState). those.made) same) (ap (λ (those : WriterState). those.first) same) (ready_could made mid (made_ready writer made slot old mid ready makes)) (made_short told slot bytes mid new f cut));
+      (write_halts told (size_lines writer.style draft.ended) (files_of writer.style 0 draft.ended) (name_after writer.style draft.ended) [] bytes slot mid new f (closed_files writer.style 0 draft.ended writes.closed) (opened_last old mid slot (next_name writer) Fresh makes.place makes.added) cut)));
+  breaks = breaks_later writer.style old mid new f (keeps_open _ old mid makes.added) (write_breaks told writer.style slot bytes mid new f at.0 at.1 cut);
+  owns = owns_again writer made next old mid new (owned_opened writer made slot old mid ready.streams makes)
+      (subst (λ those. KeepsFiles made those mid new) (sym same) (owned_same made made mid new refl (λ last. subst (λ current. IsLast current new) (sym (current_made writer made slot old mid makes)) (opened_last old mid slot (next_name writer) Fresh makes.place makes.added ∙ sym (made_short told slot bytes mid new f cut).size)) (made_short told slot bytes mid new f cut)));
 } where
-  at : (2 ≤ slot) × (suc slot ≡ length mid) × IsTrue (is_writable mid slot)
+  at : (2 ≤ slot) × IsTrue (is_writable mid slot)
   at = at_file made slot 0 mid (current_made writer made slot old mid makes) (made_ready writer made slot old mid ready makes)
 
 pub put_unmade : (told : Bool) (writer next : WriterState) (bytes : List ℕ) (old new : List Slot) (f : Fault) → writer.current ≡ Unmade → is_empty bytes ≡ false → IsReady writer old → Makes writer old new next (Err f) → Stopped told writer (with_bytes bytes) old new next f
 put_unmade told writer next bytes old new f is some ready (same, none) = record {
   style = ap (λ (those : WriterState). those.style) same;
   halts = λ draft writes. halts_as told _ _ _ _ old new f (part_none writer.style draft.ended (last_contents false draft) (unwritten writer bytes draft is some writes).none) refl
-      (made_halts told writer draft.ended (last_contents false (with_bytes bytes draft)) old new f (unwritten writer bytes draft is some writes).makes writes.closed (unwritten writer bytes draft is some writes).count none);
+      (stops_by told _ _ old new f (λ last. made_halts told writer draft.ended (last_contents false (with_bytes bytes draft)) old new f (unwritten writer bytes draft is some writes).makes writes.closed (unwritten writer bytes draft is some writes).count none));
   breaks = make_breaks writer.style (next_name writer) old new f none;
-  owns = subst (λ those. Rattle.csplit_core.specs.inner.Writer.KeepsFiles writer those old new) (sym same) (owned_unopened writer (next_name writer) old new f (ready_could writer old ready) none);
+  owns = subst (λ those. KeepsFiles writer those old new) (sym same) (owned_unopened writer (next_name writer) old new f none);
 }
 
 -- A section begins
@@ -146,32 +148,28 @@ abbrev begun : Bool → Contents
 begun kept = record { is_kept = kept; is_closed = false; bytes = [] }
 
 -- one without a file
-begun_none : (told : Bool) (writer : WriterState) (kept : Bool) (current : Current) (slots : List Slot) → makes_file writer.style (begun kept) ≡ false → Rattle.csplit_core.specs.Writer.IsCurrent writer.style kept [] current → IsOpenAt current slots → size_of current ≡ 0
+begun_none : (told : Bool) (writer : WriterState) (kept : Bool) (current : Current) (slots : List Slot) → makes_file writer.style (begun kept) ≡ false → Rattle.csplit_core.specs.Writer.IsCurrent writer.style kept [] current → IsOpenAt current slots → IsLast current slots → size_of current ≡ 0
     → IsReady writer slots → Started told writer.style writer kept slots slots (record writer { current = current })
-begun_none told writer kept current slots none is at size ready = record {
+begun_none told writer kept current slots none is at last size ready = record {
   asked = refl;
   writes = λ ended pauses. record {
     closed = pauses.closed;
     made = pauses.made ∙ sym (count_none writer.style ended (begun kept) none);
     current = is;
   };
-  moves = λ ended pauses. moves_same told _ _ slots (sym (part_none writer.style ended (begun kept) none));
+  moves = λ ended pauses. goes_by told _ _ slots slots (owned_same writer (record writer { current = current }) slots slots refl (λ before. last) (made_same slots))
+      (λ before these outputs. subst (λ part. OutputsAt told these part slots) (sym (part_none writer.style ended (begun kept) none)) outputs);
   size = size;
   keeps = keeps_same slots slots refl;
-  owns = owned_same writer (record writer { current = current }) slots slots refl refl (ready_could writer slots ready) (made_same slots);
-  ready = record {
-    output = ready.output;
-    first = ready.first;
-    owns = owned_same writer (record writer { current = current }) slots slots refl refl (ready_could writer slots ready) (made_same slots) ready.first ready.owns;
-    current = at;
-  };
+  owns = owned_same writer (record writer { current = current }) slots slots refl (λ before. last) (made_same slots);
+  ready = record { streams = ready.streams; output = ready.output; files = ready.files; current = at };
 }
 
 pub begin_skipped : (told : Bool) (writer : WriterState) (kept : Bool) (slots : List Slot) → kept ≡ false → IsReady writer slots → Started told writer.style writer kept slots slots (record writer { current = Skipped })
-begin_skipped told writer kept slots is ready = begun_none told writer kept Skipped slots (skips_file writer.style (begun kept) is) is tt refl ready
+begin_skipped told writer kept slots is ready = begun_none told writer kept Skipped slots (skips_file writer.style (begun kept) is) is tt tt refl ready
 
 pub begin_unmade : (told : Bool) (writer : WriterState) (kept : Bool) (slots : List Slot) → kept ≡ true → writer.style.elide ≡ true → IsReady writer slots → Started told writer.style writer kept slots slots (record writer { current = Unmade })
-begin_unmade told writer kept slots is elide ready = begun_none told writer kept Unmade slots (elides_file writer.style (begun kept) elide refl) (is, elide, refl) tt refl ready
+begin_unmade told writer kept slots is elide ready = begun_none told writer kept Unmade slots (elides_file writer.style (begun kept) elide refl) (is, elide, refl) tt tt refl ready
 
 -- one with a file
 begun_makes : (style : Style) (kept : Bool) → kept ≡ true → style.elide ≡ false → makes_file style (begun kept) ≡ true
@@ -182,62 +180,74 @@ begin_made told writer next kept slot old new is elide ready made = record {
   asked = ap (λ (those : WriterState). those.style) made.same;
   writes = λ ended pauses. subst (λ those. Writes those (begun_after ended kept)) (sym made.same) (record {
     closed = pauses.closed;
-    made = ap (λ n. n + 1) pauses.made ∙ sym (count_made writer.style ended (begun kept) (begun_makes writer.style kept is elide));
+    made = length-append writer.files (slot ∷ []) ∙ ap (λ n. n + 1) pauses.made ∙ sym (count_made writer.style ended (begun kept) (begun_makes writer.style kept is elide));
     current = (begun_makes writer.style kept is elide, refl);
   });
-  moves = λ ended pauses. moves_as told _ _ _ _ old new refl (open_part writer.style (begun_after ended kept) (begun_makes writer.style kept is elide)) (made_moves told writer next ended slot old new pauses.made made);
+  moves = λ ended pauses. moves_as told _ _ _ _ old new refl (open_part writer.style (begun_after ended kept) (begun_makes writer.style kept is elide))
+      (goes_by told _ _ old new (owned_opened writer next slot old new ready.streams made) (λ last. made_moves told writer next ended slot old new pauses.made made));
   size = ap size_of (current_made writer next slot old new made);
   keeps = keeps_open _ old new made.added;
-  owns = owned_opened writer next slot old new (ready_could writer old ready) made;
+  owns = owned_opened writer next slot old new ready.streams made;
   ready = made_ready writer next slot old new ready made;
 }
 
 pub begin_not : (told : Bool) (writer next : WriterState) (kept : Bool) (old new : List Slot) (f : Fault) → kept ≡ true → writer.style.elide ≡ false → IsReady writer old → Makes writer old new next (Err f) → StartedNot told writer.style writer kept old new next f
 begin_not told writer next kept old new f is elide ready (same, none) = record {
   asked = ap (λ (those : WriterState). those.style) same;
-  halts = λ ended pauses. made_halts told writer ended (begun kept) old new f (begun_makes writer.style kept is elide) pauses.closed pauses.made none;
-  none_made = ap (λ (those : WriterState). those.made) same;
+  halts = λ ended pauses. stops_by told _ _ old new f (λ last. made_halts told writer ended (begun kept) old new f (begun_makes writer.style kept is elide) pauses.closed pauses.made none);
+  none_made = ap (λ (those : WriterState). those.files) same;
   breaks = make_breaks writer.style (next_name writer) old new f none;
-  owns = subst (λ those. Rattle.csplit_core.specs.inner.Writer.KeepsFiles writer those old new) (sym same) (owned_unopened writer (next_name writer) old new f (ready_could writer old ready) none);
+  owns = subst (λ those. KeepsFiles writer those old new) (sym same) (owned_unopened writer (next_name writer) old new f none);
 }
 
 -- The first section
 
-abbrev pub new_writer : Style → WriterState
-new_writer style = record { style = style; first = 0; made = 0; current = Skipped }
-
 pub new_owns : (style : Style) (slots : List Slot) → 2 ≤ length slots → OwnsFiles (new_writer style) (length slots) slots
 new_owns style slots two = record {
   streams = two;
-  place = λ some. absurd (omega (arith, some));
-  files = record { files = λ place above within. absurd (omega (arith, above, within)); none_after = λ place past. none_past slots place (omega (arith, past)) };
-  last = λ still. omega arith;
+  within = omega arith;
+  from = λ place among. absurd (false≢true among);
+  own = λ place past. none_past slots place past;
+  there = tt;
+  last = tt;
 }
 
-pub new_ready : (style : Style) (slots : List Slot) → 2 ≤ length slots → IsTrue (is_writable slots 0) → IsReady (new_writer style) slots
-new_ready style slots two can = record { output = can; first = length slots; owns = new_owns style slots two; current = tt }
+new_ready : (style : Style) (slots : List Slot) → 2 ≤ length slots → IsTrue (is_writable slots 0) → IsReady (new_writer style) slots
+new_ready style slots two can = record { streams = two; output = can; files = tt; current = tt }
 
 new_pauses : (style : Style) → Pauses (new_writer style) []
 new_pauses style = record { closed = tt; made = refl }
 
-pub first_begun : (told : Bool) (style : Style) (kept : Bool) (old new : List Slot) (next : WriterState) → 2 ≤ length old → Started told style (new_writer style) kept old new next → Begun told style kept old new next
+first_begun : (told : Bool) (style : Style) (kept : Bool) (old new : List Slot) (next : WriterState) → 2 ≤ length old → Started told style (new_writer style) kept old new next → Begun told style kept old new next
 first_begun told style kept old new next two started = record {
   asked = started.asked;
   writes = started.writes [] (new_pauses style);
   moves = started.moves [] (new_pauses style);
   size = started.size;
-  owns = started.owns (length old) (new_owns style old two);
+  owns = started.owns.owns (length old) (new_owns style old two);
   ready = started.ready;
 }
 
-pub first_not : (told : Bool) (style : Style) (kept : Bool) (old new : List Slot) (next : WriterState) (f : Fault) → 2 ≤ length old → StartedNot told style (new_writer style) kept old new next f → BegunNot told style kept old new f
+none_made : (files : List ℕ) (place : ℕ) → files ≡ [] → is_among place files ≡ false
+none_made files place none = ap (is_among place) none
+
+first_not : (told : Bool) (style : Style) (kept : Bool) (old new : List Slot) (next : WriterState) (f : Fault) → 2 ≤ length old → StartedNot told style (new_writer style) kept old new next f → BegunNot told style (draft_part style (first_draft kept)) old new f
 first_not told style kept old new next f two started = record {
   halts = started.halts [] (new_pauses style);
   breaks = started.breaks;
-  none = λ place past. record {
-    files = λ at above within. absurd (omega (arith, above, within));
-    none_after = λ at beyond. own.files.none_after at (let made : next.made ≡ 0 = started.none_made in omega (arith, past, beyond));
-  };
+  none = λ place past. own.own place past ∙ none_made next.files place started.none_made;
 } where
   own : OwnsFiles next (length old) new
-  own = started.owns (length old) (new_owns style old two)
+  own = started.owns.owns (length old) (new_owns style old two)
+
+-- The same of a writer whose list of files is empty
+
+pub empty_ready : (style : Style) (files : List ℕ) (slots : List Slot) → files ≡ [] → 2 ≤ length slots → IsTrue (is_writable slots 0) → IsReady (state_of style files Skipped) slots
+empty_ready style files slots none two can = subst (λ those. IsReady (state_of style those Skipped) slots) (sym none) (new_ready style slots two can)
+
+pub opens_begun : (told : Bool) (style : Style) (files : List ℕ) (kept : Bool) (old new : List Slot) (next : WriterState) → files ≡ [] → 2 ≤ length old → Started told style (state_of style files Skipped) kept old new next → Begun told style kept old new next
+opens_begun told style files kept old new next none two started = first_begun told style kept old new next two (subst (λ those. Started told style (state_of style those Skipped) kept old new next) none started)
+
+pub opens_not : (told : Bool) (style : Style) (files : List ℕ) (kept : Bool) (old new : List Slot) (next : WriterState) (f : Fault) → files ≡ [] → 2 ≤ length old → StartedNot told style (state_of style files Skipped) kept old new next f
+    → BegunNot told style (draft_part style (first_draft kept)) old new f
+opens_not told style files kept old new next f none two started = first_not told style kept old new next f two (subst (λ those. StartedNot told style (state_of style those Skipped) kept old new next f) none started)

@@ -17,7 +17,7 @@ use Rattle.csplit_core.specs.inner.Cutter.{settled_part, CutsNow, CutAllNot, Cut
 use Rattle.csplit_core.proofs.CutLemmas.{before_begins}
 use Rattle.csplit_core.proofs.HoldLemmas.{memory_halts}
 use Rattle.csplit_core.proofs.SpreadLemmas.{alike, at_alike}
-use Rattle.csplit_core.proofs.WriterLemmas.{halts_wider, bytes_begin}
+use Rattle.csplit_core.proofs.WriterLemmas.{halts_wider, bytes_begin, owns_still}
 
 -- where none waits
 
@@ -78,7 +78,7 @@ cut_lacks told cutter start window cut line slots fault same fit will lacks =
           (part_trans (draft_part cutter.writer.style draft) (draft_part cutter.writer.style (with_bytes before draft)) (settled_part cutter x) (bytes_begin cutter.writer.style before draft)
           (before_begins cutter x (cutter.window.held ++ line) line before at cut (cutter.lines - delimiters newline cutter.window.held) now fit will refl));
       breaks = tt;
-      owns = subst (λ w. Rattle.csplit_core.specs.inner.Writer.KeepsFiles cutter.writer w slots slots) (sym (ap (λ (c : CutterState). c.writer) same)) (λ first owns. owns);
+      owns = subst (λ w. Rattle.csplit_core.specs.inner.Writer.KeepsFiles cutter.writer w slots slots) (sym (ap (λ (c : CutterState). c.writer) same)) (owns_still cutter.writer slots);
     })
 
 -- how many lines wait

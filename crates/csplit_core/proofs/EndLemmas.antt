@@ -1,10 +1,11 @@
 -- A section ends, and the next begins.
-use Rattle.std.proofs.Common.{◌≡◌, ℕ, ◌≤◌, Bool, true, false, List, [], ◌∷◌, ◌++◌, length, decimal, Result, Ok, Err, OnOk, IfErr, refl, sym, ◌∙◌, ap, subst, arith}
+use Rattle.std.proofs.Common.{◌≡◌, ℕ, suc, ◌≤◌, Bool, true, false, List, [], ◌∷◌, ◌++◌, length, decimal, Result, Ok, Err, OnOk, IfErr, refl, sym, ◌∙◌, ap, subst, arith}
 use Rattle.std.proofs.lemmas.List.{append-nil}
 use Rattle.ports_core.specs.Part.{File, Begins}
 use Rattle.ports_core.specs.inner.Part.{AllClosed}
 use Rattle.ports_core.specs.Slot.{Slot, changed_at, closes, told_of, with_written, with_broken}
-use Rattle.ports_core.specs.Swept.{AreMade, SweptFrom}
+use Rattle.ports_core.specs.Swept.{SweptFrom, Removes, is_among}
+use Rattle.std.proofs.lemmas.Bool.{false≢true}
 use Rattle.ports_core.specs.declared.fault.Fault.{Fault}
 use Rattle.ports_core.specs.declared.fault.Fault.TheVariants as fault
 use Rattle.ports_core.specs.declared.slot.State.TheVariants as state
@@ -12,16 +13,18 @@ use Rattle.csplit_core.specs.Input.{newline}
 use Rattle.csplit_core.specs.Output.{Style, makes_file, files_of, size_line, size_lines}
 use Rattle.csplit_core.specs.Draft.{Draft, draft_part, last_contents}
 use Rattle.csplit_core.specs.inner.Draft.{ended_part, with_section}
-use Rattle.csplit_core.specs.Writer.{WriterState, Writes, IsReady}
-use Rattle.csplit_core.specs.inner.Writer.{Pauses, Went, Stopped, Goes, Ended, EndedNot, Ends}
+use Rattle.csplit_core.specs.Writer.{WriterState, Writes, OwnsFiles, IsLast, IsReady}
+use Rattle.csplit_core.specs.inner.Writer.{KeepsFiles, Pauses, Went, Stopped, Goes, Ended, EndedNot, Ends}
 use Rattle.csplit_core.specs.inner.WriterSteps.{Started, StartedNot, Starts}
-use Rattle.csplit_core.specs.declared.section_writer.Current.TheVariants.{Skipped, Unmade, File as Filed}
-use Rattle.csplit_core.proofs.WriterLemmas.{moves_again, moves_as, moves_same, halts_after, halts_as, halts_wider, end_begins, breaks_later, owns_again}
-use Rattle.csplit_core.proofs.OutputSteps.{file_of, with_last, line_begins, close_begins, close_moves, line_moves, close_halts, line_halts}
-use Rattle.ports_core.proofs.SlotSteps.{made_again, made_write, made_close, made_break, keeps_same, keeps_write, keeps_close, written_writable, writable_elsewhere, made_short, keeps_again, swept_none}
+use Rattle.csplit_core.specs.declared.section_writer.Current.{Current}
+use Rattle.csplit_core.specs.declared.section_writer.Current.TheVariants.{Skipped, Unmade, File as Filed, Unopened}
+use Rattle.csplit_core.proofs.WriterLemmas.{moves_again, moves_as, moves_same, halts_after, halts_as, halts_wider, goes_by, stops_by, end_begins, breaks_later, owns_again, owns_still}
+use Rattle.csplit_core.proofs.OutputSteps.{becomes_again, falls_after, falls_wider, file_of, with_last, line_begins, close_begins, close_moves, line_moves, close_halts, line_halts}
+use Rattle.ports_core.proofs.SlotSteps.{KeepsMade, made_again, made_write, made_close, made_break, keeps_same, keeps_write, keeps_close, written_writable, writable_elsewhere, made_short, keeps_again}
+use Rattle.ports_core.proofs.SweepLemmas.{all_cleared, left_apart, left_has, left_there, same_size}
 use Rattle.ports_core.specs.inner.Write.{WritesShort}
 use Rattle.csplit_core.proofs.DraftLemmas.{name_after, part_none, open_part, closed_part, line_told, line_untold, count_made, count_none, closed_files, all_closed, more_begins}
-use Rattle.csplit_core.proofs.OwnLemmas.{ready_could, two_slots, at_file, owned_same, line_breaks, close_breaks}
+use Rattle.csplit_core.proofs.OwnLemmas.{at_file, last_file, there_same, owned_same, line_breaks, close_breaks}
 use Rattle.csplit_core.proofs.PutLemmas.{now_file, now_skipped, now_unmade, skips_file, elides_file}
 
 -- A section without a file
@@ -31,7 +34,7 @@ end_none told writer slots none ready = record {
   style = refl;
   moves = λ draft writes. moves_same told _ _ slots (part_none writer.style draft.ended (last_contents false draft) (none draft writes false) ∙ sym (part_none writer.style draft.ended (last_contents true draft) (none draft writes true)));
   keeps = keeps_same slots slots refl;
-  owns = λ first own. own;
+  owns = owns_still writer slots;
   ready = ready;
   pauses = λ draft writes. record {
     closed = all_closed draft.ended (last_contents true draft) writes.closed refl;
@@ -56,21 +59,26 @@ file_pauses writer draft slot size is writes = record {
   made = writes.made ∙ count_made writer.style draft.ended (last_contents false draft) (now_file writer draft slot size is writes).0 ∙ sym (count_made writer.style draft.ended (last_contents true draft) (now_file writer draft slot size is writes).0);
 }
 
+file_closed : (writer : WriterState) (old new : List Slot) → KeepsMade old new → KeepsFiles writer (ended_writer writer) old new
+file_closed writer old new keeps = owned_same writer (ended_writer writer) old new refl (λ last. tt) keeps
+
 closed_ready : (writer : WriterState) (slot size : ℕ) (old new : List Slot) → writer.current ≡ Filed slot size → IsReady writer old → new ≡ changed_at slot closes old → IsReady (ended_writer writer) new
-closed_ready writer slot size old new is ready closed = record {
-  output = writable_elsewhere old new 0 slot closes (λ same. (let at = (at_file writer slot size old is ready).0 in omega (arith, same, at))) closed ready.output;
-  first = ready.first;
-  owns = owned_same writer (ended_writer writer) old new refl refl (ready_could writer old ready) (made_close slot old new (at_file writer slot size old is ready).2 closed) ready.first ready.owns;
-  current = tt;
-}
+closed_ready writer slot size old new is ready closed =
+    let keeps = made_close slot old new (at_file writer slot size old is ready).1 closed in record {
+      streams = (let size = keeps.size in let two = ready.streams in omega (arith, size, two));
+      output = writable_elsewhere old new 0 slot closes (λ same. (let at = (at_file writer slot size old is ready).0 in omega (arith, same, at))) closed ready.output;
+      files = there_same writer.files old new keeps ready.files;
+      current = tt;
+    }
 
 line_ready : (writer : WriterState) (line : List ℕ) (old new : List Slot) → IsReady (ended_writer writer) old → new ≡ with_written 0 line old → IsReady (ended_writer writer) new
-line_ready writer line old new ready wrote = record {
-  output = written_writable old new 0 0 line ready.output wrote;
-  first = ready.first;
-  owns = owned_same (ended_writer writer) (ended_writer writer) old new refl refl refl (made_write 0 line old new wrote) ready.first ready.owns;
-  current = tt;
-}
+line_ready writer line old new ready wrote =
+    let keeps = made_write 0 line old new wrote in record {
+      streams = (let size = keeps.size in let two = ready.streams in omega (arith, size, two));
+      output = written_writable old new 0 0 line ready.output wrote;
+      files = there_same writer.files old new keeps ready.files;
+      current = tt;
+    }
 
 -- the part of the ended section, with its size line
 size_part : (writer : WriterState) (draft : Draft) (slot size : ℕ) → writer.current ≡ Filed slot size → writer.style.quiet ≡ false → Writes writer draft
@@ -89,9 +97,10 @@ pub end_quiet : (told : Bool) (writer : WriterState) (slot size : ℕ) (old new 
 end_quiet told writer slot size old new is ready quiet closed = record {
   style = refl;
   moves = λ draft writes. moves_as told _ _ _ _ old new (open_part writer.style draft (now_file writer draft slot size is writes).0) (quiet_part writer draft slot size is quiet writes)
-      (close_moves told (size_lines writer.style draft.ended) (files_of writer.style 0 draft.ended) (name_after writer.style draft.ended) draft.bytes slot old new (at_file writer slot size old is ready).1 closed);
+      (goes_by told _ _ old new (file_closed writer old new (made_close slot old new (at_file writer slot size old is ready).1 closed))
+      (λ last. close_moves told (size_lines writer.style draft.ended) (files_of writer.style 0 draft.ended) (name_after writer.style draft.ended) draft.bytes slot old new (last_file writer slot size old is last) closed));
   keeps = keeps_close slot old new closed;
-  owns = owned_same writer (ended_writer writer) old new refl refl (ready_could writer old ready) (made_close slot old new (at_file writer slot size old is ready).2 closed);
+  owns = file_closed writer old new (made_close slot old new (at_file writer slot size old is ready).1 closed);
   ready = closed_ready writer slot size old new is ready closed;
   pauses = λ draft writes. file_pauses writer draft slot size is writes;
 }
@@ -101,11 +110,12 @@ pub end_told : (told : Bool) (writer : WriterState) (slot size : ℕ) (old mid n
 end_told told writer slot size old mid new is ready said_so closed wrote = record {
   style = refl;
   moves = λ draft writes. moves_as told _ _ _ _ old new (open_part writer.style draft (now_file writer draft slot size is writes).0) (size_part writer draft slot size is said_so writes)
-      (moves_again told _ _ _ old mid new
-      (close_moves told (size_lines writer.style draft.ended) (files_of writer.style 0 draft.ended) (name_after writer.style draft.ended) draft.bytes slot old mid (at_file writer slot size old is ready).1 closed)
-      (line_moves told (size_lines writer.style draft.ended) (decimal size ++ newline ∷ []) _ mid new wrote));
+      (goes_by told _ _ old new (file_closed writer old new (made_again old mid new (made_close slot old mid (at_file writer slot size old is ready).1 closed) (made_write 0 _ mid new wrote)))
+      (λ last. becomes_again told _ _ _ old mid new
+      (close_moves told (size_lines writer.style draft.ended) (files_of writer.style 0 draft.ended) (name_after writer.style draft.ended) draft.bytes slot old mid (last_file writer slot size old is last) closed)
+      (line_moves told (size_lines writer.style draft.ended) (decimal size ++ newline ∷ []) _ mid new wrote)));
   keeps = keeps_again old mid new (keeps_close slot old mid closed) (keeps_write 0 _ mid new wrote);
-  owns = owned_same writer (ended_writer writer) old new refl refl (ready_could writer old ready) (made_again old mid new (made_close slot old mid (at_file writer slot size old is ready).2 closed) (made_write 0 _ mid new wrote));
+  owns = file_closed writer old new (made_again old mid new (made_close slot old mid (at_file writer slot size old is ready).1 closed) (made_write 0 _ mid new wrote));
   ready = line_ready writer _ mid new (closed_ready writer slot size old mid is ready closed) wrote;
   pauses = λ draft writes. file_pauses writer draft slot size is writes;
 }
@@ -118,12 +128,11 @@ close_not told writer slot size old new f is ready which broken = subst (EndedNo
   style = refl;
   halts = λ draft writes. halts_as told _ _ _ _ old new (fault.Write slot) (open_part writer.style draft (now_file writer draft slot size is writes).0)
       (closed_part writer.style draft (size_line writer.style (last_contents true draft)) (now_file writer draft slot size is writes).0 refl)
-      (halts_wider told _ _ _ old new (fault.Write slot)
-      (close_halts told (size_lines writer.style draft.ended) (files_of writer.style 0 draft.ended) (name_after writer.style draft.ended) draft.bytes slot old new (closed_files writer.style 0 draft.ended writes.closed) (at_file writer slot size old is ready).1 broken)
-      (line_begins (size_lines writer.style draft.ended) (size_line writer.style (last_contents true draft)) _));
-  breaks = close_breaks writer.style slot old new (at_file writer slot size old is ready).0 (at_file writer slot size old is ready).1 (at_file writer slot size old is ready).2 broken;
-  owns = owned_same writer (ended_writer writer) old new refl refl (ready_could writer old ready)
-      (made_again old (changed_at slot closes old) new (made_close slot old _ (at_file writer slot size old is ready).2 refl) (made_break slot _ new broken));
+      (stops_by told _ _ old new (fault.Write slot) (λ last. falls_wider told _ _ _ old new (fault.Write slot)
+      (close_halts told (size_lines writer.style draft.ended) (files_of writer.style 0 draft.ended) (name_after writer.style draft.ended) draft.bytes slot old new (closed_files writer.style 0 draft.ended writes.closed) (last_file writer slot size old is last) broken)
+      (line_begins (size_lines writer.style draft.ended) (size_line writer.style (last_contents true draft)) _)));
+  breaks = close_breaks writer.style slot old new (at_file writer slot size old is ready).0 (at_file writer slot size old is ready).1 broken;
+  owns = file_closed writer old new (made_again old (changed_at slot closes old) new (made_close slot old _ (at_file writer slot size old is ready).1 refl) (made_break slot _ new broken));
 })
 
 last_closed : (files : List File) (file : File) → AllClosed files → file.state ≡ state.Closed → AllClosed (files ++ file ∷ [])
@@ -135,14 +144,14 @@ pub line_not : (told : Bool) (writer : WriterState) (slot size : ℕ) (old mid n
 line_not told writer slot size old mid new f is ready said_so closed cut = record {
   style = refl;
   halts = λ draft writes. halts_as told _ _ _ _ old new f (open_part writer.style draft (now_file writer draft slot size is writes).0) (size_part writer draft slot size is said_so writes)
-      (halts_after told _ (with_last (size_lines writer.style draft.ended) (files_of writer.style 0 draft.ended) (file_of (name_after writer.style draft.ended) draft.bytes state.Closed)) _ old mid new f
+      (stops_by told _ _ old new f (λ last. falls_after told _ (with_last (size_lines writer.style draft.ended) (files_of writer.style 0 draft.ended) (file_of (name_after writer.style draft.ended) draft.bytes state.Closed)) _ old mid new f
       (close_begins (size_lines writer.style draft.ended) (files_of writer.style 0 draft.ended) (name_after writer.style draft.ended) draft.bytes)
-      (close_moves told (size_lines writer.style draft.ended) (files_of writer.style 0 draft.ended) (name_after writer.style draft.ended) draft.bytes slot old mid (at_file writer slot size old is ready).1 closed)
+      (close_moves told (size_lines writer.style draft.ended) (files_of writer.style 0 draft.ended) (name_after writer.style draft.ended) draft.bytes slot old mid (last_file writer slot size old is last) closed)
       (line_halts told (size_lines writer.style draft.ended) (decimal size ++ newline ∷ []) _ mid new f
       (last_closed (files_of writer.style 0 draft.ended) (file_of (name_after writer.style draft.ended) draft.bytes state.Closed) (closed_files writer.style 0 draft.ended writes.closed) refl)
-      (let two : 2 ≤ length mid = two_slots (ended_writer writer) mid (closed_ready writer slot size old mid is ready closed) in omega arith) cut));
+      (let two = (closed_ready writer slot size old mid is ready closed).streams in omega (arith, two)) cut)));
   breaks = breaks_later writer.style old mid new f (keeps_close slot old mid closed) (line_breaks told writer.style (decimal size ++ newline ∷ []) mid new f said_so (closed_ready writer slot size old mid is ready closed).output cut);
-  owns = owned_same writer (ended_writer writer) old new refl refl (ready_could writer old ready) (made_again old mid new (made_close slot old mid (at_file writer slot size old is ready).2 closed) (made_short told 0 _ mid new f cut));
+  owns = file_closed writer old new (made_again old mid new (made_close slot old mid (at_file writer slot size old is ready).1 closed) (made_short told 0 _ mid new f cut));
 }
 
 -- the size was written, or standard output broke
@@ -191,6 +200,31 @@ pub next_begun : (told : Bool) (writer mid next : WriterState) (kept : Bool) (ol
 next_begun told writer mid next kept old between new (Ok done) ended start = next_ok told writer mid next kept old between new ended start
 next_begun told writer mid next kept old between new (Err f) ended start = next_not_begun told writer mid next kept old between new f ended start
 
--- where no file was made, none is removed
-pub none_to_clear : (first made : ℕ) (slots : List Slot) → made ≡ 0 → AreMade first made slots → SweptFrom first slots slots
-none_to_clear first made slots none are = swept_none true first slots (λ place past. are.none_after place (omega (arith, past, none)))
+-- The files are removed.
+
+pub files_cleared : (writer : WriterState) (left : List ℕ) (old new : List Slot) → Removes writer.files old left new → (first : ℕ) → OwnsFiles writer first old → SweptFrom first old new
+files_cleared writer left old new removes first own = all_cleared first writer.files left old new removes own.there own.from own.own
+
+pub files_left : (writer next : WriterState) (old new : List Slot) → next.current ≡ writer.current → Removes writer.files old next.files new → KeepsFiles writer next old new
+files_left writer next old new same removes = record {
+  owns = λ first own. record {
+    streams = own.streams;
+    within = (let size = same_size writer.files next.files old new removes in let within = own.within in omega (arith, size, within));
+    from = λ place among. own.from place (left_among writer.files next.files old new place removes among);
+    own = λ place above. left_has writer.files next.files old new place removes own.there (own.own place above);
+    there = left_there writer.files next.files old new removes own.there;
+    last = subst (λ current. IsLast current new) (sym same) (last_still writer.current old new (same_size writer.files next.files old new removes) own.last);
+  };
+  there = left_there writer.files next.files old new removes;
+} where
+  last_still : (current : Current) (old new : List Slot) → length new ≡ length old → IsLast current old → IsLast current new
+  last_still Skipped old new size last = tt
+  last_still Unmade old new size last = tt
+  last_still (Filed slot size) old new same last = last ∙ sym same
+  last_still Unopened old new size last = tt
+
+  left_among : (files left : List ℕ) (old new : List Slot) (place : ℕ) → Removes files old left new → is_among place left ≡ true → is_among place files ≡ true
+  left_among files left old new place removes among = by (is_among place files) refl where
+    by : (has : Bool) → is_among place files ≡ has → is_among place files ≡ true
+    by true is = is
+    by false is = absurd (false≢true (sym (left_apart files left old new place removes is) ∙ among))

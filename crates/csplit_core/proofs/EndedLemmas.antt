@@ -150,7 +150,7 @@ end_ended told cutter between next window old mid new fit went ended = record {
       moves_as told _ _ _ _ old new (sym last.settled) (sym last.whole)
       (moves_again told (draft_part cutter.writer.style last.draft) (draft_part cutter.writer.style (with_bytes cutter.window.held last.draft)) (ended_part cutter.writer.style (with_bytes cutter.window.held last.draft)) old mid new
       (went.moves last.draft last.writes)
-      (subst (λ (style : Style). Moves told (draft_part style (with_bytes cutter.window.held last.draft)) (ended_part style (with_bytes cutter.window.held last.draft)) mid new) went.style
+      (subst (λ (style : Style). Moves told between next (draft_part style (with_bytes cutter.window.held last.draft)) (ended_part style (with_bytes cutter.window.held last.draft)) mid new) went.style
       (ended.moves (with_bytes cutter.window.held last.draft) (went.writes last.draft last.writes))));
   judged = λ x stands. judged_later cutter next window x (ended.style ∙ went.style) stands;
   keeps = keeps_again old mid new went.keeps ended.keeps;
@@ -166,7 +166,7 @@ end_stopped told cutter between next window old mid new fault fit went stopped =
       halts_as told _ _ _ _ old new fault (sym last.settled) (sym last.whole)
       (halts_after told (draft_part cutter.writer.style last.draft) (draft_part cutter.writer.style (with_bytes cutter.window.held last.draft)) (ended_part cutter.writer.style (with_bytes cutter.window.held last.draft)) old mid new fault
       (bytes_begin cutter.writer.style cutter.window.held last.draft) (went.moves last.draft last.writes)
-      (subst (λ (style : Style). Halts told (draft_part style (with_bytes cutter.window.held last.draft)) (ended_part style (with_bytes cutter.window.held last.draft)) mid new fault) went.style
+      (subst (λ (style : Style). Halts told between (draft_part style (with_bytes cutter.window.held last.draft)) (ended_part style (with_bytes cutter.window.held last.draft)) mid new fault) went.style
       (stopped.halts (with_bytes cutter.window.held last.draft) (went.writes last.draft last.writes))));
   breaks = breaks_later cutter.writer.style old mid new fault went.keeps (subst (λ (style : Style). Breaks style mid new fault) went.style stopped.breaks);
   owns = owns_again cutter.writer between next old mid new went.owns stopped.owns;

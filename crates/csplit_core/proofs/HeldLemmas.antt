@@ -23,7 +23,7 @@ use Rattle.csplit_core.specs.inner.Cutter.{settled_part, Arrives, Held, HeldNot,
 use Rattle.csplit_core.proofs.LineLemmas.{count_from, first_further}
 use Rattle.csplit_core.proofs.SettledLemmas.{settled_draft_is, settled_part_is, settled_count, final_count, most_is, aims_live, aims_past}
 use Rattle.csplit_core.proofs.CutterLemmas.{runs_to, at_held, taken_all}
-use Rattle.csplit_core.proofs.WriterLemmas.{moves_as, moves_same, halts_as}
+use Rattle.csplit_core.proofs.WriterLemmas.{moves_as, moves_same, halts_as, owns_still}
 
 -- the cutter once `hold` has written and kept what it was to
 abbrev pub holding : CutterState → WriterState → List ℕ → CutterState
@@ -147,7 +147,7 @@ hold_past told cutter window left slots n aim ready all less dropped =
           let past = aims_past arrives.ends.ending (subst (λ a. AimsAt a arrives.ends.ending) aim arrives.ends.aims) in
           moves_same told _ _ slots (ap (draft_part cutter.writer.style) (past_draft cutter x left at arrives past) ∙ settled_part_is cutter.writer.style cutter.operands (all_lines x));
       keeps = λ place sound. sound;
-      owns = λ first owns. owns;
+      owns = owns_still _ _;
       ready = ready;
       size = (let e : length window.held ≡ 0 = ap length none in omega (arith, e));
     }

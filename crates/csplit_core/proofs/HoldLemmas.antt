@@ -20,12 +20,12 @@ use Rattle.csplit_core.specs.Draft.{Draft, draft_part, last_contents, AreClosed}
 use Rattle.csplit_core.specs.inner.Draft.{with_bytes}
 use Rattle.csplit_core.specs.Writer.{WriterState, Writes, IsReady, size_of}
 use Rattle.csplit_core.specs.inner.Writer.{Halts, Went, Stopped, Goes}
-use Rattle.csplit_core.proofs.WriterLemmas.{moves_again, halts_after, halts_wider, bytes_begin, breaks_later, owns_again, moves_same, moves_as, halts_as}
+use Rattle.csplit_core.proofs.WriterLemmas.{moves_again, halts_after, halts_wider, bytes_begin, breaks_later, owns_again, moves_same, moves_as, halts_as, owns_still}
 use Rattle.csplit_core.proofs.DraftLemmas.{open_part, part_none, closed_files}
 
 -- want of memory leaves the outputs as they are
 
-in_turn : (told : Bool) (part : Part) (place : ℕ) (slots : List Slot) → InTurn part.files place → Halts told part part slots slots Memory
+in_turn : (told : Bool) (part : Part) (place : ℕ) (slots : List Slot) {writer : WriterState} → InTurn part.files place → Halts told writer part part slots slots Memory
 in_turn told part place slots turn before at = record {
   part = part;
   above = part_begins_itself part;
@@ -33,7 +33,7 @@ in_turn told part place slots turn before at = record {
   place = place;
   turn = turn;
   reached = slots;
-  outputs = at;
+  outputs = at.outputs;
   marks = refl;
   from = tt;
 }
@@ -48,7 +48,7 @@ draft_turn style draft closed false is = (
   subst (λ (part : Part). InTurn part.files (length (files_of style 0 draft.ended))) (sym (part_none style draft.ended (last_contents false draft) is)) (turn_next (files_of style 0 draft.ended) (closed_files style 0 draft.ended closed)),
 )
 
-pub memory_halts : (told : Bool) (style : Style) (draft : Draft) (slots : List Slot) → AreClosed draft.ended → Halts told (draft_part style draft) (draft_part style draft) slots slots Memory
+pub memory_halts : (told : Bool) (style : Style) (draft : Draft) (slots : List Slot) {writer : WriterState} → AreClosed draft.ended → Halts told writer (draft_part style draft) (draft_part style draft) slots slots Memory
 memory_halts told style draft slots closed = let turn = draft_turn style draft closed (makes_file style (last_contents false draft)) refl in in_turn told (draft_part style draft) turn.0 slots turn.1
 
 -- bytes that are written after others
@@ -65,7 +65,7 @@ went_none told writer slots ready = record {
   writes = λ draft writes. subst (Writes writer) (none_more draft) writes;
   moves = λ draft writes. moves_same told (draft_part writer.style draft) (draft_part writer.style (with_bytes [] draft)) slots (ap (draft_part writer.style) (none_more draft));
   keeps = λ place sound. sound;
-  owns = λ first owns. owns;
+  owns = owns_still _ _;
   ready = ready;
 }
 

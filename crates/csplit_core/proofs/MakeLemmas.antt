@@ -1,5 +1,5 @@
 -- Why a file wasn't made.
-use Rattle.std.proofs.Common.{◌≡◌, ℕ, List, refl, sym, subst}
+use Rattle.std.proofs.Common.{◌≡◌, ℕ, List, refl, sym, ◌∙◌, ap, subst}
 use Rattle.ports_core.specs.Slot.{Slot, FailsToOpen}
 use Rattle.ports_core.specs.declared.fault.Fault.{Fault}
 use Rattle.ports_core.specs.declared.fault.Fault.TheVariants.{Memory}
@@ -14,5 +14,9 @@ not_named slots name fault is = subst (MakesNone slots name slots) (sym is) (unn
 pub not_opened : (old : List Slot) (given name : List ℕ) (new : List Slot) (fault : Fault) → given ≡ name → FailsToOpen old given new fault → MakesNone old name new fault
 not_opened old given name new fault is fails = failed fault (subst (λ those. FailsToOpen old those new fault) is fails)
 
-abbrev pub state_of : Style → ℕ → ℕ → Current → WriterState
-state_of style first made current = record { style = style; first = first; made = made; current = current }
+abbrev pub state_of : Style → List ℕ → Current → WriterState
+state_of style files current = record { style = style; files = files; current = current }
+
+-- where there is room for one more
+pub with_room : (style : Style) (files now : List ℕ) (current : Current) (writer : WriterState) → now ≡ files → state_of style files current ≡ writer → state_of style now current ≡ writer
+with_room style files now current writer same is = ap (λ those. state_of style those current) same ∙ is

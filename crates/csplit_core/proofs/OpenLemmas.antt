@@ -26,13 +26,13 @@ use Rattle.csplit_core.specs.declared.progress.Turn.TheVariants.{UsedUp, Missed,
 use Rattle.csplit_core.specs.Writer.{WriterState, Writes, size_of}
 use Rattle.csplit_core.specs.inner.Writer.{Halts, Begun, BegunNot}
 use Rattle.csplit_core.specs.Cutter.{CutterState, most_next, pattern_next, kept_next, next_of, most_by, pattern_by, kept_by, settled_draft, IsFit, Stands}
-use Rattle.csplit_core.specs.inner.Cutter.{IsNoCut, Opened, OpenedNot}
+use Rattle.csplit_core.specs.inner.Cutter.{IsNoCut, Opened}
 use Rattle.csplit_core.proofs.AdvanceLemmas.{advances}
 use Rattle.csplit_core.proofs.MoveLemmas.{repeated_anew}
 use Rattle.csplit_core.proofs.SettledLemmas.{settled_draft_is, settled_part_is}
 use Rattle.ports_core.proofs.SlotSteps.{none_past}
 use Rattle.csplit_core.proofs.TryLemmas.{advance_ends, no_cut_aims}
-use Rattle.csplit_core.proofs.WriterLemmas.{moves_as, halts_as, halts_wider}
+use Rattle.csplit_core.proofs.WriterLemmas.{moves_as, halts_wider}
 
 -- Over no line a plan has no step.
 
@@ -182,17 +182,14 @@ opened_at told style suppress operands next kept old new writer progress aim win
     (subst (λ s. Opened told style operands old new (opened operands writer first_progress aim (first_window operands) s)) sought_first
     (first_opened told style operands old new writer aim (subst (λ k. Begun told style k old new writer) kept_first begun) says_first moves_first)))
 
-pub opened_not : (told : Bool) (style : Style) (operands : List Operand) (next : Option Operand) (kept : Bool) (old new : List Slot) (fault : Fault) → next ≡ slice_get operands 0 → kept ≡ kept_next next → BegunNot told style kept old new fault
-    → OpenedNot told style operands old new fault
+pub opened_not : (told : Bool) (style : Style) (operands : List Operand) (next : Option Operand) (kept : Bool) (old new : List Slot) (fault : Fault) → next ≡ slice_get operands 0 → kept ≡ kept_next next → BegunNot told style (draft_part style (first_draft kept)) old new fault
+    → BegunNot told style (settled_of style operands []) old new fault
 opened_not told style operands next kept old new fault next_is kept_is begun =
-    let first = subst (λ k. BegunNot told style k old new fault) (kept_is ∙ ap kept_next (next_is ∙ next_seen operands)) begun in record {
-      halts = halts_as told nothing nothing _ _ old new fault refl (sym (first_part style operands)) first.halts;
-      breaks = first.breaks;
-      none = first.none;
-    }
+    subst (λ part. BegunNot told style part old new fault) (first_part style operands)
+    (subst (λ k. BegunNot told style (draft_part style (first_draft k)) old new fault) (kept_is ∙ ap kept_next (next_is ∙ next_seen operands)) begun)
 
 -- where there is no memory, nothing was done
-nothing_halts : (told : Bool) (slots : List Slot) → Halts told nothing nothing slots slots Memory
+nothing_halts : (told : Bool) (slots : List Slot) {writer : WriterState} → Halts told writer nothing nothing slots slots Memory
 nothing_halts told slots before at = record {
   part = nothing;
   above = part_begins_itself nothing;
@@ -200,17 +197,17 @@ nothing_halts told slots before at = record {
   place = 0;
   turn = record { closed = tt; within = omega arith; last = omega arith };
   reached = slots;
-  outputs = at;
+  outputs = at.outputs;
   marks = refl;
   from = tt;
 }
 
-opened_none : (told : Bool) (style : Style) (operands : List Operand) (slots : List Slot) → OpenedNot told style operands slots slots Memory
+opened_none : (told : Bool) (style : Style) (operands : List Operand) (slots : List Slot) → BegunNot told style (settled_of style operands []) slots slots Memory
 opened_none told style operands slots = record {
   halts = halts_wider told nothing nothing (settled_of style operands []) slots slots Memory (nothing_halts told slots) (nothing_begins_part (settled_of style operands []));
   breaks = tt;
-  none = λ place past. record { files = λ at above within. absurd (omega (arith, above, within)); none_after = λ at beyond. none_past slots at (omega (arith, past, beyond)) };
+  none = none_past slots;
 }
 
-pub opened_lacks : (told : Bool) (style : Style) (operands : List Operand) (slots : List Slot) (fault : Fault) → fault ≡ Memory → OpenedNot told style operands slots slots fault
-opened_lacks told style operands slots fault lacks = subst (OpenedNot told style operands slots slots) (sym lacks) (opened_none told style operands slots)
+pub opened_lacks : (told : Bool) (style : Style) (operands : List Operand) (slots : List Slot) (fault : Fault) → fault ≡ Memory → BegunNot told style (settled_of style operands []) slots slots fault
+opened_lacks told style operands slots fault lacks = subst (BegunNot told style (settled_of style operands []) slots slots) (sym lacks) (opened_none told style operands slots)

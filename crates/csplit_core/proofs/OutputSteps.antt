@@ -11,12 +11,28 @@ use Rattle.ports_core.specs.declared.slot.State.{State}
 use Rattle.ports_core.specs.declared.slot.State.TheVariants as state
 use Rattle.ports_core.proofs.SlotLemmas.{length-changed_at}
 use Rattle.ports_core.proofs.FileLemmas.{gets, ended, file_more, last_changes, write_makes, close_makes}
-use Rattle.ports_core.proofs.PartLemmas.{begins_itself, begins_more, take_begins_after, files_begin_themselves, part_begins_itself, out_more, outputs_count, turn_last, turn_next}
+use Rattle.ports_core.proofs.PartLemmas.{begins_itself, begins_more, take_begins_after, files_begin_themselves, part_begins_itself, out_more, outputs_count, turn_between, turn_last, turn_next}
 use Rattle.ports_core.specs.inner.Write.{WritesShort}
-use Rattle.csplit_core.specs.inner.Writer.{Moves, Halts}
+use Rattle.ports_core.specs.inner.Part.{StoppedInTurn}
 use Rattle.csplit_core.specs.inner.WriterSteps.{MakesNone, unnamed, failed}
 use Rattle.ports_core.specs.inner.Write as short
-use Rattle.csplit_core.proofs.WriterLemmas.{halts_after}
+
+-- outputs that had one part have another, or a fault stopped them between the two
+abbrev pub Becomes : Bool → Part → Part → List Slot → List Slot → Type 0
+Becomes told low high old new = (before : List Slot) → OutputsAt told before low old → OutputsAt told before high new
+
+abbrev pub Falls : Bool → Part → Part → List Slot → List Slot → Fault → Type 0
+Falls told low high old new fault = (before : List Slot) → OutputsAt told before low old → StoppedInTurn told before low high fault new
+
+pub becomes_again : (told : Bool) (low middle high : Part) (old mid new : List Slot) → Becomes told low middle old mid → Becomes told middle high mid new → Becomes told low high old new
+becomes_again told low middle high old mid new first second before at = second before (first before at)
+
+pub falls_after : (told : Bool) (low middle high : Part) (old mid new : List Slot) (fault : Fault) → Begins low middle → Becomes told low middle old mid → Falls told middle high mid new fault → Falls told low high old new fault
+falls_after told low middle high old mid new fault begins moves falls before at =
+    turn_between told before low middle high high fault new begins (falls before (moves before at)) (part_begins_itself high)
+
+pub falls_wider : (told : Bool) (low middle high : Part) (old new : List Slot) (fault : Fault) → Falls told low middle old new fault → Begins middle high → Falls told low high old new fault
+falls_wider told low middle high old new fault falls begins before at = turn_between told before low low middle high fault new (part_begins_itself low) (falls before at) begins
 
 -- a file with this name
 abbrev pub file_of : List ℕ → List ℕ → State → File
@@ -53,27 +69,27 @@ close_begins out front name bytes = record { out = begins_itself out; files = fr
 
 -- Moves
 
-pub open_moves : (told : Bool) (out : List ℕ) (front : List File) (name : List ℕ) (old new : List Slot) → new ≡ old ++ opened name Fresh ∷ [] → Moves told (record { out = out; files = front }) (with_last out front (file_of name [] state.Open)) old new
+pub open_moves : (told : Bool) (out : List ℕ) (front : List File) (name : List ℕ) (old new : List Slot) → new ≡ old ++ opened name Fresh ∷ [] → Becomes told (record { out = out; files = front }) (with_last out front (file_of name [] state.Open)) old new
 open_moves told out front name old new is before at = file_more told before (record { out = out; files = front }) old new name Fresh at is
 
 pub write_moves : (told : Bool) (out : List ℕ) (front : List File) (name bytes more : List ℕ) (slot : ℕ) (old new : List Slot) → suc slot ≡ length old → new ≡ with_written slot (told_of told more) old
-    → Moves told (with_last out front (file_of name bytes state.Open)) (with_last out front (file_of name (bytes ++ more) state.Open)) old new
+    → Becomes told (with_last out front (file_of name bytes state.Open)) (with_last out front (file_of name (bytes ++ more) state.Open)) old new
 write_moves told out front name bytes more slot old new last wrote before at =
     last_changes told (adds (told_of told more)) (gets more) (write_makes told more) before (with_last out front (file_of name bytes state.Open)) front (file_of name bytes state.Open) old new slot refl last at wrote
 
 pub close_moves : (told : Bool) (out : List ℕ) (front : List File) (name bytes : List ℕ) (slot : ℕ) (old new : List Slot) → suc slot ≡ length old → new ≡ changed_at slot closes old
-    → Moves told (with_last out front (file_of name bytes state.Open)) (with_last out front (file_of name bytes state.Closed)) old new
+    → Becomes told (with_last out front (file_of name bytes state.Open)) (with_last out front (file_of name bytes state.Closed)) old new
 close_moves told out front name bytes slot old new last closed before at =
     last_changes told closes ended (close_makes told) before (with_last out front (file_of name bytes state.Open)) front (file_of name bytes state.Open) old new slot refl last at closed
 
-pub line_moves : (told : Bool) (out line : List ℕ) (files : List File) (old new : List Slot) → new ≡ with_written 0 (told_of told line) old → Moves told (record { out = out; files = files }) (record { out = out ++ line; files = files }) old new
+pub line_moves : (told : Bool) (out line : List ℕ) (files : List File) (old new : List Slot) → new ≡ with_written 0 (told_of told line) old → Becomes told (record { out = out; files = files }) (record { out = out ++ line; files = files }) old new
 line_moves told out line files old new wrote before at = out_more told before (record { out = out; files = files }) old new line at wrote
 
 -- Faults
 
 -- one that comes while the outputs have the lower part still
 pub halts_here : (told : Bool) (low high : Part) (old new : List Slot) (fault : Fault) (place : ℕ) → Begins low high → InTurn low.files place → Marks (IsNext low high) fault old new
-    → ((before : List Slot) → OutputsAt told before low old → IsAt fault (length before) place (length low.files)) → Halts told low high old new fault
+    → ((before : List Slot) → OutputsAt told before low old → IsAt fault (length before) place (length low.files)) → Falls told low high old new fault
 halts_here told low high old new fault place begins turn marks from before at = record {
   part = low;
   above = part_begins_itself low;
@@ -93,7 +109,7 @@ last_place told out front file before old slot last at =
     let files : length (front ++ file ∷ []) ≡ length front + 1 = length-append front (file ∷ []) in omega (arith, last)
 
 pub open_halts : (told : Bool) (out : List ℕ) (front : List File) (name : List ℕ) (high : Part) (old new : List Slot) (fault : Fault) → AllClosed front → Begins (record { out = out; files = front }) high → IsNext (record { out = out; files = front }) high name
-    → MakesNone old name new fault → Halts told (record { out = out; files = front }) high old new fault
+    → MakesNone old name new fault → Falls told (record { out = out; files = front }) high old new fault
 open_halts told out front name high old new _ closed begins next (unnamed same) =
     halts_here told (record { out = out; files = front }) high old new fault.Memory (length front) begins (turn_next front closed) same (λ before at. tt)
 open_halts told out front name high old new _ closed begins next (failed _ (broke slot kept number is added)) =
@@ -102,9 +118,9 @@ open_halts told out front name high old new _ closed begins next (failed _ (numb
     halts_here told (record { out = out; files = front }) high old new fault.Memory (length front) begins (turn_next front closed) same (λ before at. tt)
 
 pub write_halts : (told : Bool) (out : List ℕ) (front : List File) (name bytes more : List ℕ) (slot : ℕ) (old new : List Slot) (fault : Fault) → AllClosed front → suc slot ≡ length old → WritesShort told slot more old new fault
-    → Halts told (with_last out front (file_of name bytes state.Open)) (with_last out front (file_of name (bytes ++ more) state.Open)) old new fault
+    → Falls told (with_last out front (file_of name bytes state.Open)) (with_last out front (file_of name (bytes ++ more) state.Open)) old new fault
 write_halts told out front name bytes more slot old new _ closed last (short.broke n cut) =
-    halts_after told _ (with_last out front (file_of name (bytes ++ take n more) state.Open)) _ old (with_written slot (told_of told (take n more)) old) new (fault.Write slot)
+    falls_after told _ (with_last out front (file_of name (bytes ++ take n more) state.Open)) _ old (with_written slot (told_of told (take n more)) old) new (fault.Write slot)
     (bytes_more out front name bytes (take n more))
     (write_moves told out front name bytes (take n more) slot old _ last refl)
     (halts_here told _ _ _ new (fault.Write slot) (length front) (taken_more out front name bytes more n)
@@ -113,9 +129,9 @@ write_halts told out front name bytes more slot old new _ closed last (short.bro
     (λ before at. inr (last_place told out front (file_of name (bytes ++ take n more) state.Open) before _ slot (last ∙ sym (length-changed_at slot _ old)) at)))
 
 pub close_halts : (told : Bool) (out : List ℕ) (front : List File) (name bytes : List ℕ) (slot : ℕ) (old new : List Slot) → AllClosed front → suc slot ≡ length old → new ≡ with_broken slot (changed_at slot closes old)
-    → Halts told (with_last out front (file_of name bytes state.Open)) (with_last out front (file_of name bytes state.Closed)) old new (fault.Write slot)
+    → Falls told (with_last out front (file_of name bytes state.Open)) (with_last out front (file_of name bytes state.Closed)) old new (fault.Write slot)
 close_halts told out front name bytes slot old new closed last is =
-    halts_after told _ (with_last out front (file_of name bytes state.Closed)) _ old (changed_at slot closes old) new (fault.Write slot)
+    falls_after told _ (with_last out front (file_of name bytes state.Closed)) _ old (changed_at slot closes old) new (fault.Write slot)
     (close_begins out front name bytes)
     (close_moves told out front name bytes slot old _ last refl)
     (halts_here told _ _ _ new (fault.Write slot) (length front) (part_begins_itself _)
@@ -124,9 +140,9 @@ close_halts told out front name bytes slot old new closed last is =
     (λ before at. inr (last_place told out front (file_of name bytes state.Closed) before _ slot (last ∙ sym (length-changed_at slot closes old)) at)))
 
 pub line_halts : (told : Bool) (out line : List ℕ) (files : List File) (old new : List Slot) (fault : Fault) → AllClosed files → 0 < length old → WritesShort told 0 line old new fault
-    → Halts told (record { out = out; files = files }) (record { out = out ++ line; files = files }) old new fault
+    → Falls told (record { out = out; files = files }) (record { out = out ++ line; files = files }) old new fault
 line_halts told out line files old new _ closed some (short.broke n cut) =
-    halts_after told _ (record { out = out ++ take n line; files = files }) _ old (with_written 0 (told_of told (take n line)) old) new (fault.Write 0)
+    falls_after told _ (record { out = out ++ take n line; files = files }) _ old (with_written 0 (told_of told (take n line)) old) new (fault.Write 0)
     (line_begins out (take n line) files)
     (line_moves told out (take n line) files old _ refl)
     (halts_here told _ _ _ new (fault.Write 0) (length files) (record { out = take_begins_after n out line; files = files_begin_themselves files })

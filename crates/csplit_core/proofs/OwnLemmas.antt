@@ -1,94 +1,153 @@
 -- The files that the writer made stay its own, its outputs can be written, and which faults come.
-use Rattle.std.proofs.Common.{◌≡◌, ◌⊎◌, inl, inr, ℕ, ◌+◌, ◌<◌, ◌≤◌, suc, Bool, true, false, List, [], ◌∷◌, ◌++◌, length, IsTrue, refl, sym, ◌∙◌, ap, subst, arith, length-append}
+use Rattle.std.proofs.Common.{◌≡◌, ◌⊎◌, inl, inr, ℕ, ◌+◌, ◌<◌, ◌≤◌, suc, eqb, eq-eqb, ne_eqb, Bool, true, false, ◌||◌, List, [], ◌∷◌, ◌++◌, length, IsTrue, refl, sym, ◌∙◌, ap, subst, arith, length-append}
 use Rattle.std.proofs.lemmas.Bool.{false≢true, cases_lt}
-use Rattle.ports_core.specs.Slot.{Slot, has_file, slot_at, changed_at, opened, unopened, closes, with_broken, is_writable, broke, numberless}
-use Rattle.ports_core.specs.Swept.{AreMade}
+use Rattle.ports_core.specs.Slot.{Slot, has_file, slot_at, changed_at, opened, unopened, closes, with_broken, is_writable, is_removable, broke, numberless}
+use Rattle.ports_core.specs.Swept.{AreThere, is_among}
 use Rattle.ports_core.specs.declared.fault.Fault.{Fault}
 use Rattle.ports_core.specs.declared.fault.Fault.TheVariants as fault
 use Rattle.ports_core.specs.declared.slot.Mode.TheVariants.{Fresh}
 use Rattle.csplit_core.specs.Output.{Style}
-use Rattle.csplit_core.specs.Writer.{WriterState, IsReady, IsOpenAt, Breaks, could_open}
+use Rattle.csplit_core.specs.Writer.{WriterState, IsReady, IsOpenAt, IsLast, OwnsFiles, Breaks}
 use Rattle.csplit_core.specs.inner.Writer.{KeepsFiles}
 use Rattle.csplit_core.specs.inner.WriterSteps.{MakesNone, unnamed, failed, Made, next_name}
 use Rattle.ports_core.specs.inner.Write as short
-use Rattle.csplit_core.specs.declared.section_writer.Current.{Current}
-use Rattle.csplit_core.specs.declared.section_writer.Current.TheVariants.{Skipped, Unmade, File, Unopened}
-use Rattle.ports_core.proofs.SlotSteps.{KeepsMade, none_past, none_opened, file_before, at_end, open_rose, write_rose, close_rose}
+use Rattle.csplit_core.specs.declared.section_writer.Current.TheVariants.{File, Unopened}
+use Rattle.ports_core.proofs.SlotSteps.{KeepsMade, none_past, none_opened, file_before, at_end, opened_last, writable_within, open_rose, write_rose, close_rose}
+use Rattle.ports_core.proofs.SweepLemmas.{by_place}
 use Rattle.ports_core.specs.inner.Write.{WritesShort}
 
-pub could_so : (current : Current) (slots : List Slot) → IsOpenAt current slots → could_open current ≡ true
-could_so Skipped slots at = refl
-could_so Unmade slots at = refl
-could_so (File slot size) slots at = refl
-could_so Unopened slots at = absurd at
-
-pub ready_could : (writer : WriterState) (slots : List Slot) → IsReady writer slots → could_open writer.current ≡ true
-ready_could writer slots ready = could_so writer.current slots ready.current
-
--- the streams are there
-pub two_slots : (writer : WriterState) (slots : List Slot) → IsReady writer slots → 2 ≤ length slots
-two_slots writer slots ready =
-    let last : ready.first + writer.made ≡ length slots = ready.owns.last (ready_could writer slots ready) in let streams : 2 ≤ ready.first = ready.owns.streams in omega arith
-
--- the file of the open section is the last output
-pub at_file : (writer : WriterState) (slot size : ℕ) (slots : List Slot) → writer.current ≡ File slot size → IsReady writer slots → (2 ≤ slot) × (suc slot ≡ length slots) × IsTrue (is_writable slots slot)
+-- the file of the open section can be written
+pub at_file : (writer : WriterState) (slot size : ℕ) (slots : List Slot) → writer.current ≡ File slot size → IsReady writer slots → (2 ≤ slot) × IsTrue (is_writable slots slot)
 at_file writer slot size slots is ready = subst (λ current. IsOpenAt current slots) is ready.current
 
--- The files stay the writer's own.
+-- and is the last output, where that is known of the open section
+pub last_file : (writer : WriterState) (slot size : ℕ) (slots : List Slot) → writer.current ≡ File slot size → IsLast writer.current slots → suc slot ≡ length slots
+last_file writer slot size slots is last = subst (λ current. IsLast current slots) is last
 
-pub owned_same : (writer next : WriterState) (old new : List Slot) → next.made ≡ writer.made → next.first ≡ writer.first → could_open writer.current ≡ true → KeepsMade old new → KeepsFiles writer next old new
-owned_same writer next old new made first_same could keeps first own = record {
-  streams = own.streams;
-  place = λ some. first_same ∙ own.place (subst (λ n. 0 < n) made some);
-  files = subst (λ count. AreMade first count new) (sym made) (record {
-    files = λ place above within. keeps.same place ∙ own.files.files place above within;
-    none_after = λ place past. keeps.same place ∙ own.files.none_after place past;
-  });
-  last = λ still. (let all : first + writer.made ≡ length old = own.last could in let size : length new ≡ length old = keeps.size in omega (arith, made));
+-- The files are there, and stay the writer's own.
+
+there_still : (files : List ℕ) (old new : List Slot) → ((place : ℕ) → has_file (slot_at new place).state ≡ has_file (slot_at old place).state) → AreThere files old → AreThere files new
+there_still [] old new keeps are = tt
+there_still (place ∷ files) old new keeps are = ((are.0.0, subst IsTrue (sym (keeps place)) are.0.1), are.1, there_still files old new keeps are.2)
+
+pub there_same : (files : List ℕ) (old new : List Slot) → KeepsMade old new → AreThere files old → AreThere files new
+there_same files old new keeps are = there_still files old new keeps.same are
+
+pub owned_same : (writer next : WriterState) (old new : List Slot) → next.files ≡ writer.files → (IsLast writer.current old → IsLast next.current new) → KeepsMade old new → KeepsFiles writer next old new
+owned_same writer next old new same last keeps = record {
+  owns = λ first own. record {
+    streams = own.streams;
+    within = (let size : length new ≡ length old = keeps.size in let within = own.within in omega (arith, size, within));
+    from = λ place among. own.from place (subst (λ files. is_among place files ≡ true) same among);
+    own = λ place above. keeps.same place ∙ own.own place above ∙ sym (ap (is_among place) same);
+    there = subst (λ files. AreThere files new) (sym same) (there_same writer.files old new keeps own.there);
+    last = last own.last;
+  };
+  there = λ are. subst (λ files. AreThere files new) (sym same) (there_same writer.files old new keeps are);
 }
 
-made_more : (first count : ℕ) (name : List ℕ) (old : List Slot) → first + count ≡ length old → AreMade first count old → AreMade first (count + 1) (old ++ opened name Fresh ∷ [])
-made_more first count name old last made = record {
-  files = λ place above within. by place above within (cases_lt place (length old));
-  none_after = λ place past. none_past (old ++ opened name Fresh ∷ []) place (let size : length (old ++ opened name Fresh ∷ []) ≡ length old + 1 = length-append old (opened name Fresh ∷ []) in omega (arith, past, last));
+-- one file more
+
+with_none : (b : Bool) → (b || false) ≡ b
+with_none true = refl
+with_none false = refl
+
+among_more : (place slot : ℕ) (files : List ℕ) → is_among place (files ++ slot ∷ []) ≡ (is_among place files || eqb place slot)
+among_more place slot [] = with_none (eqb place slot)
+among_more place slot (one ∷ files) = ap (λ b. eqb place one || b) (among_more place slot files) ∙ regroup (eqb place one) (is_among place files) (eqb place slot) where
+  regroup : (a b c : Bool) → (a || (b || c)) ≡ ((a || b) || c)
+  regroup true b c = refl
+  regroup false b c = refl
+
+-- a file that is there stands before the end
+there_within : (place : ℕ) (slots : List Slot) → is_removable slots place → place < length slots
+there_within place slots can = by (cases_lt place (length slots)) where
+  by : (place < length slots) ⊎ (length slots ≤ place) → place < length slots
+  by (inl less) = less
+  by (inr past) = absurd (false≢true (sym (none_past slots place past) ∙ can.1))
+
+there_more : (files : List ℕ) (slots : List Slot) (name : List ℕ) (slot : ℕ) → slot ≡ length slots → 2 ≤ length slots → AreThere files slots → AreThere (files ++ slot ∷ []) (slots ++ opened name Fresh ∷ [])
+there_more [] slots name slot at two are =
+    ((omega (arith, at, two), subst (λ (one : Slot). IsTrue (has_file one.state)) (sym (ap (slot_at (slots ++ opened name Fresh ∷ [])) at ∙ at_end slots (opened name Fresh))) refl), refl, tt)
+there_more (place ∷ files) slots name slot at two are =
+    let within : place < length slots = there_within place slots are.0 in (
+      (are.0.0, subst IsTrue (sym (file_before slots (opened name Fresh) place within)) are.0.1),
+      among_more place slot files ∙ ap (λ b. b || eqb place slot) are.1 ∙ ne_eqb place slot (λ same. omega (arith, within, at, same)),
+      there_more files slots name slot at two are.2,
+    )
+
+own_more : (files : List ℕ) (slots : List Slot) (name : List ℕ) (slot place : ℕ) → slot ≡ length slots → has_file (slot_at slots place).state ≡ is_among place files
+    → has_file (slot_at (slots ++ opened name Fresh ∷ []) place).state ≡ is_among place (files ++ slot ∷ [])
+own_more files slots name slot place at own = by (cases_lt place (length slots)) where
+  none_among : length slots ≤ place → is_among place files ≡ false
+  none_among past = sym own ∙ none_past slots place past
+
+  by : (place < length slots) ⊎ (length slots ≤ place) → has_file (slot_at (slots ++ opened name Fresh ∷ []) place).state ≡ is_among place (files ++ slot ∷ [])
+  by (inl less) =
+      file_before slots (opened name Fresh) place less ∙ own
+      ∙ sym (among_more place slot files ∙ ap (λ b. is_among place files || b) (ne_eqb place slot (λ same. omega (arith, less, at, same))) ∙ with_none (is_among place files))
+  by (inr past) = by_place place slot
+      (λ same. ap (λ n. has_file (slot_at (slots ++ opened name Fresh ∷ []) n).state) (same ∙ at) ∙ ap (λ (one : Slot). has_file one.state) (at_end slots (opened name Fresh))
+      ∙ sym (among_more place slot files ∙ ap (λ b. b || eqb place slot) (none_among past) ∙ eq-eqb place slot same))
+      (λ other. none_past (slots ++ opened name Fresh ∷ []) place
+      (let size : length (slots ++ opened name Fresh ∷ []) ≡ length slots + 1 = length-append slots (opened name Fresh ∷ []) in
+      let differs : place ≡ slot → ⊥ = (λ same. false≢true (sym other ∙ eq-eqb place slot same)) in
+      elim (cases_lt (length slots) place) [ inl less ↦ omega (arith, size, less) | inr few ↦ absurd (differs (omega (arith, few, past, at))) ])
+      ∙ sym (among_more place slot files ∙ ap (λ b. b || eqb place slot) (none_among past) ∙ other))
+
+pub owned_opened : (writer next : WriterState) (slot : ℕ) (old new : List Slot) → 2 ≤ length old → Made writer old new next slot → KeepsFiles writer next old new
+owned_opened writer next slot old new two made = record {
+  owns = λ first own. record {
+    streams = own.streams;
+    within = (let within = own.within in omega (arith, size, within));
+    from = λ place among. by_place place slot
+        (λ same. let within = own.within in omega (arith, same, at, within))
+        (λ other. own.from place (sym (ap (λ b. is_among place writer.files || b) other ∙ with_none (is_among place writer.files)) ∙ sym (among_more place slot writer.files) ∙ subst (λ files. is_among place files ≡ true) files among));
+    own = λ place above. ap (λ slots. has_file (slot_at slots place).state) made.added ∙ own_more writer.files old (next_name writer) slot place at (own.own place above) ∙ sym (ap (is_among place) files);
+    there = there own.there;
+    last = subst (λ current. IsLast current new) (sym (ap (λ (those : WriterState). those.current) made.same)) (opened_last old new slot (next_name writer) Fresh at made.added);
+  };
+  there = there;
 } where
-  by : (place : ℕ) → first ≤ place → place < first + (count + 1) → (place < length old) ⊎ (length old ≤ place) → has_file (slot_at (old ++ opened name Fresh ∷ []) place).state ≡ true
-  by place above within (inl less) = file_before old (opened name Fresh) place less ∙ made.files place above (omega (arith, less, last))
-  by place above within (inr past) =
-      let here : place ≡ length old = omega (arith, within, past, last) in
-      ap (λ n. has_file (slot_at (old ++ opened name Fresh ∷ []) n).state) here ∙ ap (λ (one : Slot). has_file one.state) (at_end old (opened name Fresh))
+  at : slot ≡ length old
+  at = made.place
 
-pub owned_opened : (writer next : WriterState) (slot : ℕ) (old new : List Slot) → could_open writer.current ≡ true → Made writer old new next slot → KeepsFiles writer next old new
-owned_opened writer next slot old new could made first own = record {
-  streams = own.streams;
-  place = λ some. place (cases_lt 0 writer.made);
-  files = subst (λ count. AreMade first count new) (sym count) (subst (λ slots. AreMade first (writer.made + 1) slots) (sym made.added) (made_more first writer.made (next_name writer) old (own.last could) own.files));
-  last = λ still. (let all : first + writer.made ≡ length old = own.last could in let size : length new ≡ length old + 1 = ap length made.added ∙ length-append old (opened (next_name writer) Fresh ∷ []) in omega (arith, count));
-} where
-  count : next.made ≡ writer.made + 1
-  count = ap (λ (those : WriterState). those.made) made.same
+  size : length new ≡ length old + 1
+  size = ap length made.added ∙ length-append old (opened (next_name writer) Fresh ∷ [])
 
-  place : (0 < writer.made) ⊎ (writer.made ≤ 0) → next.first ≡ first
-  place (inl some) = made.follows some ∙ own.place some
-  place (inr none) = let all : first + writer.made ≡ length old = own.last could in let here : length old ≡ first = omega (arith, none) in made.is_first (omega (arith, none)) ∙ made.place ∙ here
+  files : next.files ≡ writer.files ++ slot ∷ []
+  files = ap (λ (those : WriterState). those.files) made.same
 
-none_more : (first count : ℕ) (kept : List ℕ) (old : List Slot) → first + count ≡ length old → AreMade first count old → AreMade first count (old ++ unopened kept ∷ [])
-none_more first count kept old last made = record {
-  files = λ place above within. file_before old (unopened kept) place (omega (arith, within, last)) ∙ made.files place above within;
-  none_after = λ place past. none_opened old kept place (omega (arith, past, last));
-}
+  there : AreThere writer.files old → AreThere next.files new
+  there are = subst (λ those. AreThere those new) (sym files) (subst (AreThere (writer.files ++ slot ∷ [])) (sym made.added) (there_more writer.files old (next_name writer) slot at two are))
 
-made_still : (first count : ℕ) (name : List ℕ) (old new : List Slot) (f : Fault) → first + count ≡ length old → MakesNone old name new f → AreMade first count old → AreMade first count new
-made_still first count name old new _ last (unnamed same) made = subst (AreMade first count) (sym same) made
-made_still first count name old new _ last (failed _ (broke slot kept number is added)) made = subst (AreMade first count) (sym added) (none_more first count kept old last made)
-made_still first count name old new _ last (failed _ (numberless full same)) made = subst (AreMade first count) (sym same) made
+unopened_keeps : (kept : List ℕ) (old : List Slot) (place : ℕ) → has_file (slot_at (old ++ unopened kept ∷ []) place).state ≡ has_file (slot_at old place).state
+unopened_keeps kept old place = by (cases_lt place (length old)) where
+  by : (place < length old) ⊎ (length old ≤ place) → has_file (slot_at (old ++ unopened kept ∷ []) place).state ≡ has_file (slot_at old place).state
+  by (inl less) = file_before old (unopened kept) place less
+  by (inr past) = none_opened old kept place past ∙ sym (none_past old place past)
 
-pub owned_unopened : (writer : WriterState) (name : List ℕ) (old new : List Slot) (f : Fault) → could_open writer.current ≡ true → MakesNone old name new f → KeepsFiles writer (record writer { current = Unopened }) old new
-owned_unopened writer name old new f could none first own = record {
-  streams = own.streams;
-  place = own.place;
-  files = made_still first writer.made name old new f (own.last could) none own.files;
-  last = λ still. absurd (false≢true still);
+unmade_keeps : (name : List ℕ) (old new : List Slot) (f : Fault) → MakesNone old name new f → (place : ℕ) → has_file (slot_at new place).state ≡ has_file (slot_at old place).state
+unmade_keeps name old new _ (unnamed same) place = ap (λ slots. has_file (slot_at slots place).state) same
+unmade_keeps name old new _ (failed _ (broke slot kept number is added)) place = ap (λ slots. has_file (slot_at slots place).state) added ∙ unopened_keeps kept old place
+unmade_keeps name old new _ (failed _ (numberless full same)) place = ap (λ slots. has_file (slot_at slots place).state) same
+
+unmade_size : (name : List ℕ) (old new : List Slot) (f : Fault) → MakesNone old name new f → length old ≤ length new
+unmade_size name old new _ (unnamed same) = (let size : length new ≡ length old = ap length same in omega (arith, size))
+unmade_size name old new _ (failed _ (broke slot kept number is added)) = (let size : length new ≡ length old + 1 = ap length added ∙ length-append old (unopened kept ∷ []) in omega (arith, size))
+unmade_size name old new _ (failed _ (numberless full same)) = (let size : length new ≡ length old = ap length same in omega (arith, size))
+
+pub owned_unopened : (writer : WriterState) (name : List ℕ) (old new : List Slot) (f : Fault) → MakesNone old name new f → KeepsFiles writer (record writer { current = Unopened }) old new
+owned_unopened writer name old new f none = record {
+  owns = λ first own. record {
+    streams = own.streams;
+    within = (let within = own.within in let size = unmade_size name old new f none in omega (arith, size, within));
+    from = own.from;
+    own = λ place above. unmade_keeps name old new f none place ∙ own.own place above;
+    there = there_still writer.files old new (unmade_keeps name old new f none) own.there;
+    last = tt;
+  };
+  there = there_still writer.files old new (unmade_keeps name old new f none);
 }
 
 -- Which faults come
@@ -104,5 +163,5 @@ write_breaks told style slot bytes old new _ streams can (short.broke n cut) = (
 pub line_breaks : (told : Bool) (style : Style) (line : List ℕ) (old new : List Slot) (f : Fault) → style.quiet ≡ false → IsTrue (is_writable old 0) → WritesShort told 0 line old new f → Breaks style old new f
 line_breaks told style line old new _ said_so can (short.broke n cut) = (λ here. said_so, write_rose told 0 line n old new can cut)
 
-pub close_breaks : (style : Style) (slot : ℕ) (old new : List Slot) → 2 ≤ slot → suc slot ≡ length old → IsTrue (is_writable old slot) → new ≡ with_broken slot (changed_at slot closes old) → Breaks style old new (fault.Write slot)
-close_breaks style slot old new streams last can is = (λ none. absurd (omega (arith, streams, none)), close_rose slot old new can (omega (arith, last)) is)
+pub close_breaks : (style : Style) (slot : ℕ) (old new : List Slot) → 2 ≤ slot → IsTrue (is_writable old slot) → new ≡ with_broken slot (changed_at slot closes old) → Breaks style old new (fault.Write slot)
+close_breaks style slot old new streams can is = (λ none. absurd (omega (arith, streams, none)), close_rose slot old new can (writable_within slot old can) is)

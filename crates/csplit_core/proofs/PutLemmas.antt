@@ -1,22 +1,22 @@
 -- More bytes of the open section
-use Rattle.std.proofs.Common.{◌≡◌, eqb, ℕ, ◌+◌, ◌≤◌, suc, Bool, true, false, not, ◌&&◌, List, [], ◌∷◌, ◌++◌, length, Result, Ok, Err, IsTrue, refl, sym, ◌∙◌, ap, subst, length-append}
+use Rattle.std.proofs.Common.{◌≡◌, eqb, ℕ, ◌+◌, ◌≤◌, suc, Bool, true, false, not, ◌&&◌, List, [], ◌∷◌, ◌++◌, length, Result, Ok, Err, IsTrue, refl, sym, ◌∙◌, ap, subst, arith, length-append}
 use Rattle.std.proofs.lemmas.Bool.{false≢true, eq-eqb}
 use Rattle.ports_core.specs.Part.{Part}
-use Rattle.ports_core.specs.Slot.{Slot, opened, is_writable}
+use Rattle.ports_core.specs.Slot.{Slot, is_writable, with_written}
 use Rattle.ports_core.specs.declared.fault.Fault.{Fault}
 use Rattle.csplit_core.specs.Output.{Style, Contents, is_empty, makes_file, files_of, size_lines}
 use Rattle.csplit_core.specs.Draft.{Draft, draft_part, last_contents}
 use Rattle.csplit_core.specs.inner.Draft.{with_bytes}
 use Rattle.csplit_core.specs.laws.SectionLaws.{made_more}
-use Rattle.csplit_core.specs.Writer.{WriterState, Writes, IsCurrent, IsReady}
-use Rattle.csplit_core.specs.inner.Writer.{Went, Goes}
+use Rattle.csplit_core.specs.Writer.{WriterState, Writes, IsCurrent, IsLast, IsReady}
+use Rattle.csplit_core.specs.inner.Writer.{KeepsFiles, Went, Goes}
 use Rattle.csplit_core.specs.inner.WriterSteps.{Appends}
 use Rattle.csplit_core.specs.declared.section_writer.Current.TheVariants.{Skipped, Unmade, File}
-use Rattle.csplit_core.proofs.WriterLemmas.{moves_as, moves_same, halts_as}
+use Rattle.csplit_core.proofs.WriterLemmas.{moves_as, moves_same, halts_as, goes_by, stops_by, owns_still}
 use Rattle.csplit_core.proofs.OutputSteps.{write_moves, write_halts}
-use Rattle.ports_core.proofs.SlotSteps.{keeps_same, keeps_write, made_write, written_writable, made_short}
+use Rattle.ports_core.proofs.SlotSteps.{KeepsMade, keeps_same, keeps_write, made_write, written_writable, made_short}
 use Rattle.csplit_core.proofs.DraftLemmas.{name_after, part_none, open_part, count_made, closed_files}
-use Rattle.csplit_core.proofs.OwnLemmas.{ready_could, at_file, owned_same, write_breaks}
+use Rattle.csplit_core.proofs.OwnLemmas.{at_file, last_file, there_same, owned_same, write_breaks}
 
 -- What the open section is
 
@@ -56,7 +56,7 @@ put_skipped told writer bytes slots is ready = record {
   };
   moves = λ draft writes. moves_same told _ _ slots (skipped_part writer bytes draft (now_skipped writer draft is writes));
   keeps = keeps_same slots slots refl;
-  owns = λ first own. own;
+  owns = owns_still writer slots;
   ready = ready;
 }
 
@@ -65,14 +65,21 @@ put_skipped told writer bytes slots is ready = record {
 still_makes : (style : Style) (draft : Draft) (bytes : List ℕ) → makes_file style (last_contents false draft) ≡ true → makes_file style (last_contents false (with_bytes bytes draft)) ≡ true
 still_makes style draft bytes makes = made_more style.elide draft.is_kept draft.bytes bytes makes
 
-pub ready_written : (told : Bool) (writer next : WriterState) (slot size : ℕ) (bytes : List ℕ) (old new : List Slot) → (2 ≤ slot) × (suc slot ≡ length old) × IsTrue (is_writable old slot) → IsReady writer old
-    → next ≡ record writer { current = File slot size } → new ≡ Rattle.ports_core.specs.Slot.with_written slot bytes old → IsReady next new
-ready_written told writer next slot size bytes old new at ready is wrote = subst (λ those. IsReady those new) (sym is) (record {
+file_written : (writer next : WriterState) (slot size : ℕ) (old : List Slot) (new : List Slot) → next ≡ record writer { current = File slot size } → (IsLast writer.current old → suc slot ≡ length old) → KeepsMade old new → KeepsFiles writer next old new
+file_written writer next slot size old new same last keeps =
+    owned_same writer next old new (ap (λ (those : WriterState). those.files) same) (λ before. subst (λ current. IsLast current new) (sym (ap (λ (those : WriterState). those.current) same)) (last before ∙ sym keeps.size)) keeps
+
+pub ready_written : (writer next : WriterState) (slot size : ℕ) (bytes : List ℕ) (old new : List Slot) → (2 ≤ slot) × IsTrue (is_writable old slot) → IsReady writer old
+    → next ≡ record writer { current = File slot size } → new ≡ with_written slot bytes old → IsReady next new
+ready_written writer next slot size bytes old new at ready is wrote = subst (λ those. IsReady those new) (sym is) (record {
+  streams = (let keeps = made_write slot bytes old new wrote in let size = keeps.size in let two = ready.streams in omega (arith, size, two));
   output = written_writable old new 0 slot bytes ready.output wrote;
-  first = ready.first;
-  owns = owned_same writer (record writer { current = File slot size }) old new refl refl (ready_could writer old ready) (made_write slot bytes old new wrote) ready.first ready.owns;
-  current = (at.0, at.1 ∙ sym (made_write slot bytes old new wrote).size, written_writable old new slot slot bytes at.2 wrote);
+  files = there_same writer.files old new (made_write slot bytes old new wrote) ready.files;
+  current = (at.0, written_writable old new slot slot bytes at.1 wrote);
 })
+
+pub file_owned : (writer next : WriterState) (slot size more : ℕ) (old new : List Slot) → writer.current ≡ File slot size → next ≡ record writer { current = File slot more } → KeepsMade old new → KeepsFiles writer next old new
+file_owned writer next slot size more old new is same keeps = file_written writer next slot more old new same (last_file writer slot size old is) keeps
 
 pub put_file : (told : Bool) (writer next : WriterState) (slot size : ℕ) (bytes : List ℕ) (old new : List Slot) (result : Result (Unit {0}) Fault) → writer.current ≡ File slot size → IsReady writer old → Appends told writer slot size bytes old new next result
     → Goes told writer (with_bytes bytes) old new next result
@@ -89,18 +96,20 @@ put_file told writer next slot size bytes old new (Ok done) is ready (same, wrot
   });
   moves = λ draft writes. moves_as told _ _ _ _ old new (open_part writer.style draft (now_file writer draft slot size is writes).0)
       (open_part writer.style (with_bytes bytes draft) (still_makes writer.style draft bytes (now_file writer draft slot size is writes).0))
-      (write_moves told (size_lines writer.style draft.ended) (files_of writer.style 0 draft.ended) (name_after writer.style draft.ended) draft.bytes bytes slot old new (at_file writer slot size old is ready).1 wrote);
+      (goes_by told _ _ old new (file_owned writer next slot size _ old new is same (made_write slot _ old new wrote))
+      (λ last. write_moves told (size_lines writer.style draft.ended) (files_of writer.style 0 draft.ended) (name_after writer.style draft.ended) draft.bytes bytes slot old new (last_file writer slot size old is last) wrote));
   keeps = keeps_write slot _ old new wrote;
-  owns = owned_same writer next old new (ap (λ (those : WriterState). those.made) same) (ap (λ (those : WriterState). those.first) same) (ready_could writer old ready) (made_write slot _ old new wrote);
-  ready = ready_written told writer next slot _ _ old new (at_file writer slot size old is ready) ready same wrote;
+  owns = file_owned writer next slot size _ old new is same (made_write slot _ old new wrote);
+  ready = ready_written writer next slot _ _ old new (at_file writer slot size old is ready) ready same wrote;
 }
 put_file told writer next slot size bytes old new (Err f) is ready (same, cut) = record {
   style = ap (λ (those : WriterState). those.style) same;
   halts = λ draft writes. halts_as told _ _ _ _ old new f (open_part writer.style draft (now_file writer draft slot size is writes).0)
       (open_part writer.style (with_bytes bytes draft) (still_makes writer.style draft bytes (now_file writer draft slot size is writes).0))
-      (write_halts told (size_lines writer.style draft.ended) (files_of writer.style 0 draft.ended) (name_after writer.style draft.ended) draft.bytes bytes slot old new f (closed_files writer.style 0 draft.ended writes.closed) (at_file writer slot size old is ready).1 cut);
-  breaks = write_breaks told writer.style slot bytes old new f (at_file writer slot size old is ready).0 (at_file writer slot size old is ready).2 cut;
-  owns = owned_same writer next old new (ap (λ (those : WriterState). those.made) same) (ap (λ (those : WriterState). those.first) same) (ready_could writer old ready) (made_short told slot bytes old new f cut);
+      (stops_by told _ _ old new f
+      (λ last. write_halts told (size_lines writer.style draft.ended) (files_of writer.style 0 draft.ended) (name_after writer.style draft.ended) draft.bytes bytes slot old new f (closed_files writer.style 0 draft.ended writes.closed) (last_file writer slot size old is last) cut));
+  breaks = write_breaks told writer.style slot bytes old new f (at_file writer slot size old is ready).0 (at_file writer slot size old is ready).1 cut;
+  owns = subst (λ those. KeepsFiles writer those old new) (sym same) (owned_same writer writer old new refl (λ last. subst (λ current. IsLast current new) (sym is) (last_file writer slot size old is last ∙ sym (made_short told slot bytes old new f cut).size)) (made_short told slot bytes old new f cut));
 }
 
 pub some_bytes : (bytes : List ℕ) → false ≡ eqb (length bytes) 0 → is_empty bytes ≡ false

@@ -1,40 +1,31 @@
 -- What the stage that takes in bytes owes.
-use Rattle.std.proofs.Common.{◌≡◌, ◌⊎◌, inl, inr, ℕ, Bool, true, false, not, List, [], ◌++◌, length, Option, Some, None, Result, Ok, Err, OnOk, IfErr, refl, sym, ◌∙◌, ap, subst}
+use Rattle.std.proofs.Common.{◌≡◌, ◌⊎◌, inl, inr, ℕ, ◌+◌, ◌^◌, ◌<◌, ◌≤◌, Bool, true, false, not, List, [], ◌++◌, length, Option, Some, None, Result, Ok, Err, OnOk, IfErr, IsTrue, refl, sym, ◌∙◌, ap, subst, arith}
 use Rattle.std.proofs.lemmas.Bool.{false≢true}
-use Rattle.ports_core.specs.Swept.{Swept}
-use Rattle.ports_core.specs.Slot.{Slot}
-use Rattle.ports_core.specs.Part.{OutputsAt, StoppedBetween, nothing}
+use Rattle.ports_core.specs.Swept.{AreThere, Swept}
+use Rattle.ports_core.specs.Slot.{Slot, is_writable}
+use Rattle.ports_core.specs.Part.{Part, OutputsAt, StoppedBetween, nothing}
 use Rattle.ports_core.specs.Engine.{TakesIn, PutsOut, CutsOff, EndsShort, EndsWith, EndsThere, Finishes, StandsAt, IsMet, KeepsOwn, is_verdict}
 use Rattle.ports_core.specs.Engine as engine
 use Rattle.ports_core.specs.declared.fault.Fault.{Fault}
 use Rattle.ports_core.specs.declared.fault.Fault.TheVariants.{Memory, Write, Read, Open, Suffixes, NoMatch, Range, Usage, Failed, TooLong}
-use Rattle.ports_core.proofs.PartLemmas.{stopped_in_turn}
-use Rattle.csplit_core.specs.Csplit.{settled_of, settled_by, verdict_of, verdict_by}
+use Rattle.ports_core.proofs.PartLemmas.{outputs_count, stopped_in_turn}
+use Rattle.csplit_core.specs.Csplit.{csplit_means, csplit_work, settled_of, settled_by, verdict_of, verdict_by}
 use Rattle.csplit_core.specs.Input.{open_line, all_lines}
 use Rattle.csplit_core.specs.Output.{Style}
 use Rattle.csplit_core.specs.Operand.{Operand}
 use Rattle.csplit_core.specs.Planned.{plan}
 use Rattle.csplit_core.specs.Cutter.{CutterState, Stands, suppress_in}
-use Rattle.csplit_core.specs.inner.Cutter.{IsSame, settled_part, whole_part}
-use Rattle.csplit_core.specs.Writer.{Breaks}
+use Rattle.csplit_core.specs.inner.Cutter.{Clears, IsSame, settled_part, whole_part}
+use Rattle.csplit_core.specs.Writer.{Breaks, OwnsFiles, WriterState}
 use Rattle.csplit_core.specs.declared.progress.Turn.TheVariants.{Below}
-use Rattle.csplit_core.specs.inner.CsplitState.{BegunNot, Closed, ClosedNot, Judges, Passed, Passes}
-use Rattle.csplit_core.specs.CsplitState.{CsplitState, Holds, Owns, whole_lines, work}
+use Rattle.csplit_core.specs.inner.CsplitState.{Closed, ClosedNot, Closes, ended_well, ended_short, ended_so, Judges, Passed, Passes, Sweeps}
+use Rattle.csplit_core.specs.inner.Writer.{At, BegunNot, KeepsFiles, Moves, new_writer}
+use Rattle.csplit_core.proofs.BeginLemmas.{new_owns}
+use Rattle.csplit_core.proofs.EndLemmas.{files_cleared, files_left}
+use Rattle.csplit_core.specs.CsplitState.{CsplitState, Holds, IsReady, Owns, files, whole_lines, work}
 use Rattle.csplit_core.proofs.ByteLemmas.{all_complete, lines_whole, lines_more, lines_then_open, open_more}
 use Rattle.csplit_core.proofs.StageLemmas.{is_past, past_end, past_settled, past_verdict, past_whole}
 use Rattle.csplit_core.proofs.StageSteps.{below_or_not}
-
--- the same of a stage that counted the bytes first
-pub passes_at : (told : Bool) (view stage : CsplitState) (taken : ℕ) (piece : List ℕ) (old new : List Slot) (next : CsplitState) (result : Result (Unit {0}) Fault) → view ≡ stage → Passes told (record view { taken = taken }) piece old new next result → Passes told stage piece old new next result
-passes_at told view stage taken piece old new next (Ok done) is passed = subst (λ (s : CsplitState). Passed told s piece old new next) is (record {
-  took = passed.took;
-  live = passed.live;
-  past = passed.past;
-  still = passed.still;
-  unbroken = passed.unbroken;
-  size = passed.size;
-})
-passes_at told view stage taken piece old new next (Err fault) is stopped = subst (λ (s : CsplitState). Passes told s piece old new next (Err fault)) is stopped
 
 -- what is settled of the bytes
 
@@ -53,6 +44,10 @@ settled_by_cases stage x piece holds (inr differs) = ap (settled_part stage.cutt
 
 settled_then : (stage : CsplitState) (x piece : List ℕ) → Holds stage x → settled_part stage.cutter (whole_lines x ++ whole_lines (stage.rest ++ piece)) ≡ (work stage).settled (x ++ piece)
 settled_then stage x piece holds = settled_by_cases stage x piece holds (below_or_not stage.cutter.aim)
+
+-- the outputs at it, which are the writer's own
+stands_so : (told : Bool) (before : List Slot) (stage : CsplitState) (x : List ℕ) (now : List Slot) → StandsAt Holds Owns stage told before x ((work stage).settled x) now → At told stage.cutter.writer before (settled_part stage.cutter (whole_lines x)) now
+stands_so told before stage x now at = record { owns = at.owns; outputs = subst (λ part. OutputsAt told before part now) (sym (settled_is stage x)) at.outputs }
 
 -- faults
 
@@ -91,7 +86,7 @@ module _ (told : Bool) (stage next : CsplitState) (piece : List ℕ) (old new : 
   pub puts_out : (result : Result (Unit {0}) Fault) → Passes told stage piece old new next result → OnOk result (PutsOut Holds Owns work stage piece told old new)
   puts_out (Ok done) passed = λ before x at.
       subst (λ part. OutputsAt told before part new) (settled_then stage x piece at.holds)
-      (passed.took.moves (whole_lines x) (lines_whole x) at.holds.stands before (subst (λ part. OutputsAt told before part old) (sym (settled_is stage x)) at.outputs))
+      (passed.took.moves (whole_lines x) (lines_whole x) at.holds.stands before (stands_so told before stage x old at)).outputs
   puts_out (Err fault) stopped = tt
 
   pub cuts_off : (result : Result (Unit {0}) Fault) → Passes told stage piece old new next result → IfErr result (CutsOff Holds Owns work stage piece told old new)
@@ -99,7 +94,51 @@ module _ (told : Bool) (stage next : CsplitState) (piece : List ℕ) (old new : 
   cuts_off (Err fault) stopped = λ before x at. engine.cut (not_verdict stage.cutter.writer.style old new fault stopped.breaks)
       (subst (λ low. StoppedBetween told before low ((work stage).settled (x ++ piece)) fault new) (settled_is stage x)
       (subst (λ high. StoppedBetween told before (settled_part stage.cutter (whole_lines x)) high fault new) (settled_then stage x piece at.holds)
-      (stopped_in_turn told before _ _ fault new (stopped.halts (whole_lines x) (lines_whole x) at.holds.stands before (subst (λ part. OutputsAt told before part old) (sym (settled_is stage x)) at.outputs)))))
+      (stopped_in_turn told before _ _ fault new (stopped.halts (whole_lines x) (lines_whole x) at.holds.stands before (stands_so told before stage x old at)))))
+
+-- why a fault came
+met_by : (style : Style) (Lacks : Type 0) (Ends : Fault → Type 0) (old new : List Slot) (fault : Fault) → Lacks → Breaks style old new fault → IsMet (csplit_means style) (record { memory = true; files = true }) Lacks Ends old new fault
+met_by style Lacks Ends old new Memory lacks breaks = (refl, lacks)
+met_by style Lacks Ends old new (Write slot) lacks breaks = (λ none. ap not (breaks.0 none), λ none. absurd (false≢true (sym none)), breaks.1)
+met_by style Lacks Ends old new (Open slot) lacks breaks = (refl, refl, breaks)
+met_by style Lacks Ends old new Suffixes lacks breaks = absurd breaks
+met_by style Lacks Ends old new (Read slot) lacks breaks = absurd breaks
+met_by style Lacks Ends old new (NoMatch operand repetition) lacks breaks = absurd breaks
+met_by style Lacks Ends old new (Range operand repetition) lacks breaks = absurd breaks
+met_by style Lacks Ends old new (Usage kind word) lacks breaks = absurd breaks
+met_by style Lacks Ends old new Failed lacks breaks = absurd breaks
+met_by style Lacks Ends old new TooLong lacks breaks = absurd breaks
+
+same_work : (stage next : CsplitState) → IsSame stage.cutter next.cutter → work next ≡ work stage
+same_work stage next same = ap (λ (style : Style). csplit_work style next.cutter.operands) same.style ∙ ap (csplit_work stage.cutter.writer.style) same.operands
+
+module _ (told : Bool) (stage next : CsplitState) (piece : List ℕ) (old new : List Slot) where
+  pub pass_same : (result : Result (Unit {0}) Fault) → Passes told stage piece old new next result → work next ≡ work stage
+  pass_same (Ok done) passed = same_work stage next passed.took.same
+  pass_same (Err fault) stopped = same_work stage next stopped.same
+
+  pub pass_own : (result : Result (Unit {0}) Fault) → Passes told stage piece old new next result → KeepsOwn Owns stage next old new
+  pass_own (Ok done) passed first own = passed.took.owns.owns first own
+  pass_own (Err fault) stopped first own = stopped.owns.owns first own
+
+  pub pass_there : (result : Result (Unit {0}) Fault) → Passes told stage piece old new next result → AreThere (files stage) old → AreThere (files next) new
+  pass_there (Ok done) passed are = passed.took.owns.there are
+  pass_there (Err fault) stopped are = stopped.owns.there are
+
+  pub pass_ready : (result : Result (Unit {0}) Fault) → Passes told stage piece old new next result → IsReady stage old → next.taken ≡ stage.taken + length piece → stage.taken + length piece < 2 ^ 63 → OnOk result (IsReady next new)
+  pass_ready (Ok done) passed ready taken fits =
+      let size = passed.size in let room = ready.room in record {
+        writer = passed.took.ready;
+        sound = passed.took.sound;
+        unbroken = passed.unbroken;
+        room = omega (arith, size, room, taken);
+        few = omega (arith, taken, fits);
+      }
+  pass_ready (Err fault) stopped ready taken fits = tt
+
+  pub pass_met : (result : Result (Unit {0}) Fault) → Passes told stage piece old new next result → IfErr result (IsMet (work stage).means (work stage).means.feeding (true ≡ true) (EndsWith Holds work stage piece) old new)
+  pass_met (Ok done) passed = tt
+  pass_met (Err fault) stopped = met_by stage.cutter.writer.style (true ≡ true) (EndsWith Holds work stage piece) old new fault refl stopped.breaks
 
 -- the end
 
@@ -131,13 +170,12 @@ module _ (told : Bool) (stage next : CsplitState) (old new : List Slot) where
   pub judged_then : Closed told stage old new next → (verdict : Option Fault) → Judges next.cutter verdict → (x : List ℕ) → Holds stage x → verdict ≡ (work stage).verdict x
   judged_then closed verdict judges x holds = judges (whole_lines x ++ stage.rest) (closed.judged (whole_lines x) (lines_whole x) holds.stands) ∙ verdict_then stage x holds next.cutter closed.same
 
-  pub whole_out : Closed told stage old new next → (before : List Slot) (x : List ℕ) → Holds stage x → OutputsAt told before ((work stage).settled x) old → OutputsAt told before ((work stage).whole x) new
-  whole_out closed before x holds at =
-      subst (λ part. OutputsAt told before part new) (whole_then stage x holds)
-      (closed.moves (whole_lines x) (lines_whole x) holds.stands before (subst (λ part. OutputsAt told before part old) (sym (settled_is stage x)) at))
+  pub whole_out : Closed told stage old new next → (before : List Slot) (x : List ℕ) → StandsAt Holds Owns stage told before x ((work stage).settled x) old → OutputsAt told before ((work stage).whole x) new
+  whole_out closed before x at =
+      subst (λ part. OutputsAt told before part new) (whole_then stage x at.holds) (closed.moves (whole_lines x) (lines_whole x) at.holds.stands before (stands_so told before stage x old at)).outputs
 
   pub finishes : Closed told stage old new next → (verdict : Option Fault) → Judges next.cutter verdict → verdict ≡ None → Finishes Holds Owns work stage told old new
-  finishes closed verdict judges none before x at = (sym (judged_then closed verdict judges x at.holds) ∙ none, whole_out closed before x at.holds at.outputs)
+  finishes closed verdict judges none before x at = (sym (judged_then closed verdict judges x at.holds) ∙ none, whole_out closed before x at)
 
   pub ends_there : Closed told stage old new next → (verdict : Option Fault) → Judges next.cutter verdict → (fault : Fault) → verdict ≡ Some fault → EndsThere Holds work stage fault
   ends_there closed verdict judges fault is x holds = sym (judged_then closed verdict judges x holds) ∙ is
@@ -146,14 +184,14 @@ module _ (told : Bool) (stage next : CsplitState) (old new : List Slot) where
   ends_short fault stopped before x at = engine.cut (not_verdict stage.cutter.writer.style old new fault stopped.breaks)
       (subst (λ low. StoppedBetween told before low ((work stage).whole x) fault new) (settled_is stage x)
       (subst (λ high. StoppedBetween told before (settled_part stage.cutter (whole_lines x)) high fault new) (whole_then stage x at.holds)
-      (stopped_in_turn told before _ _ fault new (stopped.halts (whole_lines x) (lines_whole x) at.holds.stands before (subst (λ part. OutputsAt told before part old) (sym (settled_is stage x)) at.outputs)))))
+      (stopped_in_turn told before _ _ fault new (stopped.halts (whole_lines x) (lines_whole x) at.holds.stands before (stands_so told before stage x old at)))))
 
   -- the fault is the work's own, and the files were cleared away after it
   pub ends_judged : Closed told stage old new next → (verdict : Option Fault) → Judges next.cutter verdict → (fault : Fault) → verdict ≡ Some fault → is_verdict fault ≡ true → (cleared : List Slot) → ((first : ℕ) → Owns next first new → Swept (work next).clears first new cleared)
       → EndsShort Holds Owns work stage told old cleared fault
   ends_judged closed verdict judges fault is kind cleared swept before x at =
-      engine.judged kind new (whole_out closed before x at.holds at.outputs)
-      (subst (λ (style : Style). Swept (not style.keep) (length before) new cleared) closed.same.style (swept (length before) (closed.owns (length before) at.owns)))
+      engine.judged kind new (whole_out closed before x at)
+      (subst (λ (style : Style). Swept (not style.keep) (length before) new cleared) closed.same.style (swept (length before) (closed.owns.owns (length before) at.owns)))
 
   met_there : (fault : Fault) → is_verdict fault ≡ true → (slots : List Slot) → EndsThere Holds work stage fault → IsMet (work stage).means (work stage).means.closing (Unit {0}) (EndsThere Holds work stage) old slots fault
   met_there Memory kind slots ends = absurd (false≢true kind)
@@ -171,15 +209,75 @@ module _ (told : Bool) (stage next : CsplitState) (old new : List Slot) where
       → IsMet (work stage).means (work stage).means.closing (Unit {0}) (EndsThere Holds work stage) old slots fault
   judged_met closed verdict judges fault is kind slots = met_there fault kind slots (ends_there closed verdict judges fault is)
 
-pub never_unjudged : {P : Type 0} (fault : Fault) → is_verdict fault ≡ true → is_verdict fault ≡ false → P
-never_unjudged fault kind other = absurd (false≢true (sym other ∙ kind))
+-- what the end owes, however it went
+module _ (told : Bool) (stage next : CsplitState) (old new : List Slot) where
+  pub end_same : (result : Result (Unit {0}) Fault) → Closes told stage old new next result → work next ≡ work stage
+  end_same _ (ended_well closed none) = same_work stage next closed.same
+  end_same _ (ended_short fault stopped) = same_work stage next stopped.same
+  end_same _ (ended_so fault mid reached closed some kind swept) = swept.same ∙ same_work stage mid closed.same
 
--- the first section could not begin
-pub cannot_begin : (told : Bool) (style : Style) (operands : List Operand) (old new : List Slot) (fault : Fault) → BegunNot told style operands old new fault
-    → (before : List Slot) → OutputsAt told before nothing old → StoppedBetween told before nothing (settled_by style operands []) fault new
-cannot_begin told style operands old new fault stopped before at = stopped_in_turn told before nothing (settled_by style operands []) fault new (stopped.halts before at)
+  pub end_outputs : (result : Result (Unit {0}) Fault) → Closes told stage old new next result → OnOk result (Finishes Holds Owns work stage told old new)
+  end_outputs _ (ended_well closed none) = finishes told stage next old new closed None none refl
+  end_outputs _ (ended_short fault stopped) = tt
+  end_outputs _ (ended_so fault mid reached closed some kind swept) = tt
 
--- the same with the operands as they are handed over
-pub cannot_begin_at : (told : Bool) (style : Style) (given operands : List Operand) (old new : List Slot) (fault : Fault) → given ≡ operands → BegunNot told style given old new fault
+  pub end_writable : (result : Result (Unit {0}) Fault) → Closes told stage old new next result → OnOk result ((work stage).means.output ≡ true → IsTrue (is_writable new 0))
+  end_writable _ (ended_well closed none) = λ output. closed.ready.output
+  end_writable _ (ended_short fault stopped) = tt
+  end_writable _ (ended_so fault mid reached closed some kind swept) = tt
+
+  pub end_own : (result : Result (Unit {0}) Fault) → Closes told stage old new next result → KeepsOwn Owns stage next old new
+  end_own _ (ended_well closed none) first own = closed.owns.owns first own
+  end_own _ (ended_short fault stopped) first own = stopped.owns.owns first own
+  end_own _ (ended_so fault mid reached closed some kind swept) first own = swept.owns first (closed.owns.owns first own)
+
+  pub end_there : (result : Result (Unit {0}) Fault) → Closes told stage old new next result → AreThere (files stage) old → AreThere (files next) new
+  end_there _ (ended_well closed none) are = closed.owns.there are
+  end_there _ (ended_short fault stopped) are = stopped.owns.there are
+  end_there _ (ended_so fault mid reached closed some kind swept) are = swept.there
+
+  pub end_cut : (result : Result (Unit {0}) Fault) → Closes told stage old new next result → IfErr result (EndsShort Holds Owns work stage told old new)
+  end_cut _ (ended_well closed none) = tt
+  end_cut _ (ended_short fault stopped) = ends_short told stage next old new fault stopped
+  end_cut _ (ended_so fault mid reached closed some kind swept) = ends_judged told stage mid old reached closed (Some fault) some fault refl kind new swept.swept
+
+  pub end_met : (result : Result (Unit {0}) Fault) → Closes told stage old new next result → IfErr result (IsMet (work stage).means (work stage).means.closing (Unit {0}) (EndsThere Holds work stage) old new)
+  end_met _ (ended_well closed none) = tt
+  end_met _ (ended_short fault stopped) = met_by stage.cutter.writer.style (Unit {0}) (EndsThere Holds work stage) old new fault tt stopped.breaks
+  end_met _ (ended_so fault mid reached closed some kind swept) = judged_met told stage mid old reached closed (Some fault) some fault refl kind new
+
+-- where nothing was written yet, the outputs are a new writer's
+none_stands : (told : Bool) (style : Style) (before slots : List Slot) → 2 ≤ length slots → OutputsAt told before nothing slots → At told (new_writer style) before nothing slots
+none_stands told style before slots two at =
+    let size : length slots ≡ length before + 0 = outputs_count told before nothing slots at in
+    record { owns = subst (λ n. OwnsFiles (new_writer style) n slots) (let e : length slots ≡ length before = omega (arith, size) in e) (new_owns style slots two); outputs = at }
+
+-- the first section began, or could not; the operands are as they are handed over
+pub begins_at : (told : Bool) (style : Style) (given operands : List Operand) (writer : WriterState) (old new : List Slot) → given ≡ operands → 2 ≤ length old → Moves told (new_writer style) writer nothing (settled_of style given []) old new
+    → (before : List Slot) → OutputsAt told before nothing old → OutputsAt told before (settled_by style operands []) new
+begins_at told style given operands writer old new same two moves before at =
+    subst (λ those. OutputsAt told before (settled_of style those []) new) same (moves before (none_stands told style before old two at)).outputs
+
+pub cannot_begin : (told : Bool) (style : Style) (given operands : List Operand) (old new : List Slot) (fault : Fault) → given ≡ operands → 2 ≤ length old → BegunNot told style (settled_of style given []) old new fault
     → (before : List Slot) → OutputsAt told before nothing old → StoppedBetween told before nothing (settled_by style operands []) fault new
-cannot_begin_at told style given operands old new fault same stopped = cannot_begin told style operands old new fault (subst (λ those. BegunNot told style those old new fault) same stopped)
+cannot_begin told style given operands old new fault same two stopped before at =
+    subst (λ those. StoppedBetween told before nothing (settled_of style those []) fault new) same
+    (stopped_in_turn told before nothing (settled_of style given []) fault new (stopped.halts before (none_stands told style before old two at)))
+
+-- The files are removed.
+
+module _ (view : CutterState) (stage : CsplitState) (next : CutterState) (old new : List Slot) (is : view ≡ stage.cutter) (clears_view : Clears view old new next) where
+  clears : Clears stage.cutter old new next
+  clears = subst (λ (cutter : CutterState). Clears cutter old new next) is clears_view
+
+  files_kept : KeepsFiles stage.cutter.writer next.writer old new
+  files_kept = files_left stage.cutter.writer next.writer old new (ap (λ (c : CutterState). c.writer.current) clears.same) clears.removes
+
+  pub cleared_own : (first : ℕ) → Owns stage first old → OwnsFiles next.writer first new
+  cleared_own first own = files_kept.owns first own
+
+  pub cleared_there : AreThere (files stage) old → AreThere next.writer.files new
+  cleared_there are = files_kept.there are
+
+  pub cleared_swept : (keep : Bool) → keep ≡ false → (first : ℕ) → Owns stage first old → Swept (not keep) first old new
+  cleared_swept keep none first own = subst (λ k. Swept (not k) first old new) (sym none) (files_cleared stage.cutter.writer next.writer.files old new clears.removes first own)

@@ -19,7 +19,7 @@ use Rattle.csplit_core.specs.laws.PlanLaws.{plan_runs}
 use Rattle.csplit_core.specs.Section.{section, section_of, lines_between, is_last_kept, whole_end, is_final, whole_sections}
 use Rattle.csplit_core.specs.inner.SectionLaws.{AreWithin}
 use Rattle.csplit_core.specs.laws.SectionLaws.{are_within, closed_still, ends_with}
-use Rattle.csplit_core.specs.Writer.{IsReady}
+use Rattle.csplit_core.specs.Writer.{IsReady, WriterState}
 use Rattle.csplit_core.specs.inner.Writer.{Moves, Halts}
 use Rattle.csplit_core.specs.declared.progress.Turn.TheVariants.{Below}
 use Rattle.csplit_core.specs.Cutter.{CutterState, IsPast, IsSound, Stands, kept_by, settled_draft, suppress_in, draft_by}
@@ -30,7 +30,7 @@ use Rattle.csplit_core.proofs.HoldLemmas.{memory_halts}
 use Rattle.csplit_core.proofs.LineLemmas.{all_lines-append}
 use Rattle.csplit_core.proofs.SettledLemmas.{settled_draft_is, settled_part_is, final_count, ended_still, aims_past}
 use Rattle.csplit_core.proofs.StayLemmas.{stays}
-use Rattle.csplit_core.proofs.WriterLemmas.{moves_again, moves_same, moves_as, halts_after, halts_as, halts_wider, breaks_later, owns_again}
+use Rattle.csplit_core.proofs.WriterLemmas.{moves_again, moves_same, moves_as, halts_after, halts_as, halts_wider, breaks_later, owns_again, owns_still}
 use Rattle.csplit_core.proofs.SpreadLemmas.{settled_same, same_again}
 use Rattle.csplit_core.proofs.TakeLemmas.{final_stays, still_past}
 use Rattle.csplit_core.proofs.StretchLemmas.{more_settled}
@@ -70,7 +70,7 @@ took_past told cutter t slots aim ready sound = record {
   stands = λ x whole stands. inr (still_past cutter x t whole (is_past cutter x aim stands));
   moves = λ x whole stands. moves_same told _ _ slots (past_part cutter x t whole (is_past cutter x aim stands));
   keeps = λ place sound. sound;
-  owns = λ first owns. owns;
+  owns = owns_still _ _;
   ready = ready;
   sound = sound;
   size = omega arith;
@@ -91,7 +91,7 @@ took_none told cutter slots ready sound = record {
   stands = λ x whole stands. subst (Stands cutter) (sym (append-nil x)) stands;
   moves = λ x whole stands. moves_same told _ _ slots (ap (settled_part cutter) (sym (append-nil x)));
   keeps = λ place sound. sound;
-  owns = λ first owns. owns;
+  owns = owns_still _ _;
   ready = ready;
   sound = sound;
   size = omega arith;
@@ -107,7 +107,7 @@ closed_steps : (lines : List Line) (steps : List Step) → AreClosed (map conten
 closed_steps lines [] = tt
 closed_steps lines (step ∷ steps) = (refl, closed_steps lines steps)
 
-settled_lacks : (told : Bool) (cutter : CutterState) (x : List ℕ) (slots : List Slot) → Halts told (settled_part cutter x) (settled_part cutter x) slots slots Memory
+settled_lacks : (told : Bool) (cutter : CutterState) (x : List ℕ) (slots : List Slot) {writer : WriterState} → Halts told writer (settled_part cutter x) (settled_part cutter x) slots slots Memory
 settled_lacks told cutter x slots =
     let is = sym (settled_part_is cutter.writer.style cutter.operands (all_lines x)) in
     halts_as told _ _ _ _ slots slots Memory is is (memory_halts told cutter.writer.style (settled_draft (suppress_in cutter) cutter.operands (all_lines x)) slots (closed_steps (all_lines x) (plan (suppress_in cutter) cutter.operands (all_lines x)).steps))
@@ -118,7 +118,7 @@ lacks_first told cutter t slots = record {
   same = record { operands = refl; style = refl };
   halts = λ x whole stands. halts_wider told _ _ _ slots slots Memory (settled_lacks told cutter x slots) (more_settled cutter x t whole);
   breaks = tt;
-  owns = λ first owns. owns;
+  owns = owns_still _ _;
 }
 
 pub lacks_then : (told : Bool) (cutter next : CutterState) (t : List ℕ) (old new : List Slot) → Took told cutter t old new next → TookNot told cutter t old new next Memory
@@ -138,13 +138,13 @@ same_whole : (cutter next : CutterState) (x : List ℕ) → IsSame cutter next �
 same_whole cutter next x same = ap (λ (style : Style). whole_of style next.operands (all_lines x)) same.style ∙ ap (λ operands. whole_of cutter.writer.style operands (all_lines x)) same.operands
 
 pub closes_after : (told : Bool) (one two three : CutterState) (t : List ℕ) (old mid new : List Slot) → Took told one t old mid two → EndedAll told two mid new three
-    → ((x : List ℕ) → IsWhole x → Stands one x → Moves told (settled_part one x) (whole_part one (x ++ t)) old new)
+    → ((x : List ℕ) → IsWhole x → Stands one x → Moves told one.writer three.writer (settled_part one x) (whole_part one (x ++ t)) old new)
 closes_after told one two three t old mid new first second x front stands =
     moves_again told _ _ _ old mid new (first.moves x front stands)
     (moves_as told _ _ _ _ mid new (sym (settled_same one two (x ++ t) first.same)) (sym (same_whole one two (x ++ t) first.same)) (second.moves (x ++ t) (first.stands x front stands)))
 
 pub ends_later : (told : Bool) (one two three : CutterState) (t : List ℕ) (old mid new : List Slot) (fault : Fault) → Took told one t old mid two → EndedNone told two mid new three fault
-    → ((x : List ℕ) → IsWhole x → Stands one x → Halts told (settled_part one x) (whole_part one (x ++ t)) old new fault)
+    → ((x : List ℕ) → IsWhole x → Stands one x → Halts told one.writer (settled_part one x) (whole_part one (x ++ t)) old new fault)
 ends_later told one two three t old mid new fault first second x front stands =
     halts_after told _ _ _ old mid new fault (more_settled one x t front) (first.moves x front stands)
     (halts_as told _ _ _ _ mid new fault (sym (settled_same one two (x ++ t) first.same)) (sym (same_whole one two (x ++ t) first.same)) (second.halts (x ++ t) (first.stands x front stands)))

@@ -1,5 +1,5 @@
 -- The steps of the stage that takes in bytes. A stage is known by its fields and by its value.
-use Rattle.std.proofs.Common.{◌≡◌, ◌⊎◌, inl, inr, ℕ, suc, eqb, ◌+◌, ◌<◌, ◌≤◌, Bool, true, false, List, [], ◌∷◌, ◌++◌, length, Result, Ok, Err, OnOk, IfErr, take, drop, append_assoc, refl, sym, ◌∙◌, ap, subst, arith, length-append}
+use Rattle.std.proofs.Common.{◌≡◌, ◌⊎◌, inl, inr, ℕ, suc, eqb, ◌+◌, ◌<◌, ◌≤◌, Bool, true, false, List, [], ◌∷◌, ◌++◌, length, Option, Some, Result, Ok, Err, OnOk, IfErr, take, drop, append_assoc, refl, sym, ◌∙◌, ap, subst, arith, length-append}
 use Rattle.std.proofs.lemmas.Bool.{false≢true, eqb-true}
 use Rattle.std.proofs.lemmas.List.{take-append-drop}
 use Rattle.seg_core.specs.Line.{delimiters, ends_with, LastEndsAt}
@@ -8,9 +8,10 @@ use Rattle.ports_core.specs.declared.fault.Fault.{Fault}
 use Rattle.ports_core.specs.declared.fault.Fault.TheVariants.{Memory}
 use Rattle.csplit_core.specs.Input.{newline}
 use Rattle.csplit_core.specs.Cutter.{CutterState, IsSound, load}
-use Rattle.csplit_core.specs.inner.Cutter.{EndsAll, IsLine, IsWhole, Took, TookNot, Takes}
+use Rattle.csplit_core.specs.inner.Cutter.{EndedAll, EndedNone, IsLine, IsWhole, Took, TookNot, Takes}
 use Rattle.csplit_core.specs.CsplitState.{CsplitState, whole_lines}
-use Rattle.csplit_core.specs.inner.CsplitState.{Closes, Passed, Passes}
+use Rattle.csplit_core.specs.inner.CsplitState.{Closed, ClosedNot, Closes, ended_so, Judges, Passed, Passes, Sweeps}
+use Rattle.ports_core.specs.Engine.{is_verdict}
 use Rattle.csplit_core.specs.Writer.{IsReady}
 use Rattle.csplit_core.specs.declared.progress.Turn.{Turn}
 use Rattle.csplit_core.specs.declared.progress.Turn.TheVariants.{UsedUp, Missed, Above, Below, Cuts}
@@ -50,20 +51,33 @@ lines_after told one three before mid rest lines end others old between new resu
 
 -- A piece
 
-pub past_passes : (told : Bool) (before stage : CsplitState) (piece : List ℕ) (slots : List Slot) → before ≡ stage → before.cutter.aim ≡ Below → IsReady stage.cutter.writer slots → IsSound stage.cutter → delimiters newline stage.rest ≡ 0 → Passed told stage piece slots slots stage
-past_passes told before stage piece slots is aim ready sound unbroken =
-    let aimed : stage.cutter.aim ≡ Below = ap (λ (s : CsplitState). s.cutter.aim) (sym is) ∙ aim in record {
-      took = took_past told stage.cutter (whole_lines (stage.rest ++ piece)) slots aimed ready sound;
-      live = λ differs. absurd (differs aimed);
-      past = λ below was. was below;
-      still = λ below. refl;
-      unbroken = unbroken;
-      size = omega arith;
-    }
+-- the same of a stage that counted the bytes first
+passes_at : (told : Bool) (view stage : CsplitState) (taken : ℕ) (piece : List ℕ) (old new : List Slot) (next : CsplitState) (result : Result (Unit {0}) Fault) → view ≡ stage → Passes told (record view { taken = taken }) piece old new next result → Passes told stage piece old new next result
+passes_at told view stage taken piece old new next (Ok done) is passed = subst (λ (s : CsplitState). Passed told s piece old new next) is (record {
+  took = passed.took;
+  live = passed.live;
+  past = passed.past;
+  still = passed.still;
+  unbroken = passed.unbroken;
+  size = passed.size;
+})
+passes_at told view stage taken piece old new next (Err fault) is stopped = subst (λ (s : CsplitState). Passes told s piece old new next (Err fault)) is stopped
 
--- the cutter's aim, known by the fields
-pub aims_other : (before stage : CsplitState) → before ≡ stage → (before.cutter.aim ≡ Below → ⊥) → stage.cutter.aim ≡ Below → ⊥
-aims_other before stage is differs below = differs (ap (λ (s : CsplitState). s.cutter.aim) is ∙ below)
+past_here : (told : Bool) (stage : CsplitState) (taken : ℕ) (piece : List ℕ) (slots : List Slot) → stage.cutter.aim ≡ Below → IsReady stage.cutter.writer slots → IsSound stage.cutter → delimiters newline stage.rest ≡ 0 → Passed told stage piece slots slots (record stage { taken = taken })
+past_here told stage taken piece slots aimed ready sound unbroken = record {
+  took = took_past told stage.cutter (whole_lines (stage.rest ++ piece)) slots aimed ready sound;
+  live = λ differs. absurd (differs aimed);
+  past = λ below was. was below;
+  still = λ below. refl;
+  unbroken = unbroken;
+  size = omega arith;
+}
+
+pub past_passes : (told : Bool) (view stage : CsplitState) (taken : ℕ) (piece : List ℕ) (slots : List Slot) → view ≡ stage → view.cutter.aim ≡ Below → IsReady stage.cutter.writer slots → IsSound stage.cutter → delimiters newline stage.rest ≡ 0
+    → Passed told stage piece slots slots (record view { taken = taken })
+past_passes told view stage taken piece slots is aim ready sound unbroken =
+    subst (λ (s : CsplitState). Passed told stage piece slots slots (record s { taken = taken })) (sym is)
+    (past_here told stage taken piece slots (ap (λ (s : CsplitState). s.cutter.aim) (sym is) ∙ aim) ready sound unbroken)
 
 abbrev is_below : Turn → Bool
 is_below UsedUp = false
@@ -84,7 +98,7 @@ below_or_not (Cuts matched line) = inr (other_aim (Cuts matched line) refl)
 
 -- no newline came: the piece is more of the open line
 
-pub none_passes : (told : Bool) (stage next : CsplitState) (piece : List ℕ) (slots : List Slot) (result : Result (Unit {0}) Fault) → (stage.cutter.aim ≡ Below → ⊥) → delimiters newline piece ≡ 0 → IsReady stage.cutter.writer slots → IsSound stage.cutter → delimiters newline stage.rest ≡ 0
+none_passes : (told : Bool) (stage next : CsplitState) (piece : List ℕ) (slots : List Slot) (result : Result (Unit {0}) Fault) → (stage.cutter.aim ≡ Below → ⊥) → delimiters newline piece ≡ 0 → IsReady stage.cutter.writer slots → IsSound stage.cutter → delimiters newline stage.rest ≡ 0
     → next.cutter ≡ stage.cutter → OnOk result ((stage.cutter.aim ≡ Below → ⊥) → next.rest ≡ stage.rest ++ piece) → IfErr result (λ fault. fault ≡ Memory) → Passes told stage piece slots slots next result
 none_passes told stage next piece slots (Ok done) differs none ready sound unbroken cutter rest lacks = record {
   took = subst (λ (c : CutterState). Took told stage.cutter (whole_lines (stage.rest ++ piece)) slots slots c) (sym cutter) (subst (λ text. Took told stage.cutter text slots slots stage.cutter) (sym (none_lines stage.rest piece unbroken none)) (took_none told stage.cutter slots ready sound));
@@ -98,6 +112,13 @@ none_passes told stage next piece slots (Err fault) differs none ready sound unb
     subst (λ (c : CutterState). TookNot told stage.cutter (whole_lines (stage.rest ++ piece)) slots slots c fault) (sym cutter)
     (subst (λ why. TookNot told stage.cutter (whole_lines (stage.rest ++ piece)) slots slots stage.cutter why) (sym lacks) (lacks_first told stage.cutter (whole_lines (stage.rest ++ piece)) slots))
 
+pub none_counted : (told : Bool) (view stage next : CsplitState) (taken : ℕ) (piece : List ℕ) (slots : List Slot) (result : Result (Unit {0}) Fault) → view ≡ stage → (view.cutter.aim ≡ Below → ⊥) → delimiters newline piece ≡ 0 → IsReady stage.cutter.writer slots → IsSound stage.cutter → delimiters newline stage.rest ≡ 0
+    → next.cutter ≡ view.cutter → OnOk result ((view.cutter.aim ≡ Below → ⊥) → next.rest ≡ view.rest ++ piece) → IfErr result (λ fault. fault ≡ Memory) → Passes told stage piece slots slots next result
+none_counted told view stage next taken piece slots result is differs none ready sound unbroken cutter rest lacks =
+    passes_at told view stage taken piece slots slots next result is
+    (none_passes told (record view { taken = taken }) next piece slots result differs none (subst (λ (s : CsplitState). IsReady s.cutter.writer slots) (sym is) ready) (subst (λ (s : CsplitState). IsSound s.cutter) (sym is) sound) (subst (λ (s : CsplitState). delimiters newline s.rest ≡ 0) (sym is) unbroken)
+    cutter rest lacks)
+
 -- the lines of the piece were taken in, and what follows them is the open line
 
 drop_size : (n : ℕ) (x : List ℕ) → n ≤ length x → length (take n x) + length (drop n x) ≡ length x
@@ -109,7 +130,7 @@ some_unbroken aim mid next text empty none (inl below) past live = (ap (delimite
 some_unbroken aim mid next text empty none (inr differs) past live =
     let is : next.rest ≡ text = live differs ∙ ap (λ those. those ++ text) empty in (ap (delimiters newline) is ∙ none, (let e : length next.rest ≡ length text = ap length is in omega (arith, e)))
 
-pub some_passes : (told : Bool) (stage mid next : CsplitState) (piece lines text : List ℕ) (end : ℕ) (old new : List Slot) (result : Result (Unit {0}) Fault) → (stage.cutter.aim ≡ Below → ⊥) → LastEndsAt newline piece end → lines ≡ take end piece → text ≡ drop end piece → delimiters newline stage.rest ≡ 0
+some_passes : (told : Bool) (stage mid next : CsplitState) (piece lines text : List ℕ) (end : ℕ) (old new : List Slot) (result : Result (Unit {0}) Fault) → (stage.cutter.aim ≡ Below → ⊥) → LastEndsAt newline piece end → lines ≡ take end piece → text ≡ drop end piece → delimiters newline stage.rest ≡ 0
     → Took told stage.cutter (stage.rest ++ lines) old new mid.cutter → mid.rest ≡ [] → next.cutter ≡ mid.cutter
     → OnOk result (mid.cutter.aim ≡ Below → next.rest ≡ mid.rest) → OnOk result ((mid.cutter.aim ≡ Below → ⊥) → next.rest ≡ mid.rest ++ text) → IfErr result (λ fault. fault ≡ Memory) → Passes told stage piece old new next result
 some_passes told stage mid next piece lines text end old new (Ok done) differs last lines_is text_is unbroken took empty cutter past live lacks =
@@ -134,9 +155,21 @@ some_passes told stage mid next piece lines text end old new (Err fault) differs
     (lacks_then told stage.cutter mid.cutter (whole_lines (stage.rest ++ piece)) old new
     (subst (λ those. Took told stage.cutter those old new mid.cutter) (ap (λ those. stage.rest ++ those) lines_is ∙ sym (piece_lines stage.rest piece end last)) took)))
 
-pub some_stop : (told : Bool) (stage : CsplitState) (two : CutterState) (piece lines : List ℕ) (end : ℕ) (old new : List Slot) (fault : Fault) → LastEndsAt newline piece end → lines ≡ take end piece → TookNot told stage.cutter (stage.rest ++ lines) old new two fault
+pub some_counted : (told : Bool) (view stage mid next : CsplitState) (taken : ℕ) (piece lines text : List ℕ) (end : ℕ) (old new : List Slot) (result : Result (Unit {0}) Fault) → view ≡ stage → (view.cutter.aim ≡ Below → ⊥) → LastEndsAt newline piece end → lines ≡ take end piece → text ≡ drop end piece → delimiters newline stage.rest ≡ 0
+    → Took told view.cutter (view.rest ++ lines) old new mid.cutter → mid.rest ≡ [] → next.cutter ≡ mid.cutter
+    → OnOk result (mid.cutter.aim ≡ Below → next.rest ≡ mid.rest) → OnOk result ((mid.cutter.aim ≡ Below → ⊥) → next.rest ≡ mid.rest ++ text) → IfErr result (λ fault. fault ≡ Memory) → Passes told stage piece old new next result
+some_counted told view stage mid next taken piece lines text end old new result is differs last lines_is text_is unbroken took empty cutter past live lacks =
+    passes_at told view stage taken piece old new next result is
+    (some_passes told (record view { taken = taken }) mid next piece lines text end old new result differs last lines_is text_is (subst (λ (s : CsplitState). delimiters newline s.rest ≡ 0) (sym is) unbroken) took empty cutter past live lacks)
+
+some_stop : (told : Bool) (stage : CsplitState) (two : CutterState) (piece lines : List ℕ) (end : ℕ) (old new : List Slot) (fault : Fault) → LastEndsAt newline piece end → lines ≡ take end piece → TookNot told stage.cutter (stage.rest ++ lines) old new two fault
     → TookNot told stage.cutter (whole_lines (stage.rest ++ piece)) old new two fault
 some_stop told stage two piece lines end old new fault last lines_is stopped = subst (λ those. TookNot told stage.cutter those old new two fault) (ap (λ those. stage.rest ++ those) lines_is ∙ sym (piece_lines stage.rest piece end last)) stopped
+
+pub stop_counted : (told : Bool) (view stage : CsplitState) (two : CutterState) (piece lines : List ℕ) (end : ℕ) (old new : List Slot) (fault : Fault) → view ≡ stage → LastEndsAt newline piece end → lines ≡ take end piece → TookNot told view.cutter (view.rest ++ lines) old new two fault
+    → TookNot told stage.cutter (whole_lines (stage.rest ++ piece)) old new two fault
+stop_counted told view stage two piece lines end old new fault is last lines_is stopped =
+    subst (λ (s : CsplitState). TookNot told s.cutter (whole_lines (s.rest ++ piece)) old new two fault) is (some_stop told view two piece lines end old new fault last lines_is stopped)
 
 -- The last line
 
@@ -155,7 +188,14 @@ last_none told before stage n slots is size empty ready sound =
 pub last_line : (before stage : CsplitState) (n : ℕ) (text : List ℕ) → before ≡ stage → text ≡ before.rest → n ≡ length before.rest → eqb n 0 ≡ false → delimiters newline stage.rest ≡ 0 → IsLine text
 last_line before stage n text is text_is size some unbroken = subst IsLine (sym text_is) (open_is_line before.rest (some_by before.rest (ap (λ k. eqb k 0) (sym size) ∙ some)) (ap (λ (s : CsplitState). delimiters newline s.rest) is ∙ unbroken))
 
--- and the end after it
-pub closes_by : (told : Bool) (stage view mid next : CsplitState) (old between new : List Slot) (result : Result (Unit {0}) Fault) → view ≡ mid → Took told stage.cutter stage.rest old between mid.cutter → EndsAll told view.cutter between new next.cutter result → Closes told stage old new next result
-closes_by told stage view mid next old between new (Ok done) is first second = closed_by told stage next view.cutter old between new (subst (λ (s : CsplitState). Took told stage.cutter stage.rest old between s.cutter) (sym is) first) second
-closes_by told stage view mid next old between new (Err fault) is first second = closed_not told stage next view.cutter old between new fault (subst (λ (s : CsplitState). Took told stage.cutter stage.rest old between s.cutter) (sym is) first) second
+-- and the end after it, which came or not
+pub ends_by : (told : Bool) (stage mid next : CsplitState) (view : CutterState) (old between new : List Slot) → view ≡ mid.cutter → Took told stage.cutter stage.rest old between mid.cutter → EndedAll told view between new next.cutter → Closed told stage old new next
+ends_by told stage mid next view old between new is first second = closed_by told stage next view old between new (subst (Took told stage.cutter stage.rest old between) (sym is) first) second
+
+pub ends_not : (told : Bool) (stage mid next : CsplitState) (view : CutterState) (old between new : List Slot) (fault : Fault) → view ≡ mid.cutter → Took told stage.cutter stage.rest old between mid.cutter → EndedNone told view between new next.cutter fault → ClosedNot told stage old new next fault
+ends_not told stage mid next view old between new fault is first second = closed_not told stage next view old between new fault (subst (Took told stage.cutter stage.rest old between) (sym is) first) second
+
+-- the work ends with a fault of its own, and the files are removed then
+pub judged_by : (told : Bool) (stage mid next : CsplitState) (reached new old : List Slot) (verdict : Option Fault) (fault : Fault) → Closed told stage old reached mid → verdict ≡ Some fault → Judges mid.cutter verdict → is_verdict fault ≡ true → Sweeps mid reached new next
+    → Closes told stage old new next (Err fault)
+judged_by told stage mid next reached new old verdict fault closed is verdict_is kind swept = ended_so fault mid reached closed (subst (Judges mid.cutter) is verdict_is) kind swept

@@ -17,7 +17,7 @@ use Rattle.csplit_core.specs.Cutter.{CutterState, load, state_in, IsFit, IsSound
 use Rattle.csplit_core.specs.inner.Cutter.{settled_part, IsNextFound, IsWhole, IsLine, Held, HeldNot, PassesOver, Took, TookNot}
 use Rattle.csplit_core.proofs.LineLemmas.{all_lines-append, whole-append, whole_drop}
 use Rattle.csplit_core.proofs.TakeLemmas.{took_held, took_not_held}
-use Rattle.csplit_core.proofs.WriterLemmas.{moves_again, moves_as, moves_same, halts_after, halts_wider, halts_as, breaks_later, owns_again}
+use Rattle.csplit_core.proofs.WriterLemmas.{moves_again, moves_as, moves_same, halts_after, halts_wider, halts_as, breaks_later, owns_again, owns_still}
 use Rattle.csplit_core.proofs.ByteLemmas.{first_line}
 use Rattle.csplit_core.proofs.SpreadLemmas.{settled_same}
 
@@ -173,7 +173,7 @@ took_nothing told cutter slots sound ready = record {
   stands = λ x whole stands. subst (Rattle.csplit_core.specs.Cutter.Stands cutter) (sym (append-nil x)) stands;
   moves = λ x whole stands. moves_same told (settled_part cutter x) (settled_part cutter (x ++ [])) slots (ap (settled_part cutter) (sym (append-nil x)));
   keeps = λ place sound. sound;
-  owns = λ first owns. owns;
+  owns = owns_still _ _;
   ready = ready;
   sound = sound;
   size = omega arith;

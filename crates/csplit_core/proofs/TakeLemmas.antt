@@ -30,7 +30,7 @@ use Rattle.csplit_core.specs.inner.Cutter.{settled_part, IsWhole, IsLine, Arrive
 use Rattle.csplit_core.proofs.CutterLemmas.{runs_to, at_more, part_more, live_part}
 use Rattle.csplit_core.proofs.LineLemmas.{all_lines-append, all_lines-line, length-all_lines, count-line, count_from, whole_count, whole_from}
 use Rattle.csplit_core.proofs.SettledLemmas.{settled_count, settled_part_is, most_is, aims_past}
-use Rattle.csplit_core.proofs.WriterLemmas.{moves_as, moves_same, halts_as}
+use Rattle.csplit_core.proofs.WriterLemmas.{moves_as, moves_same, halts_as, owns_still}
 use Rattle.csplit_core.proofs.StayLemmas.{StaysFor, stays}
 
 -- What is settled stands before each cut of the next operand.
@@ -319,7 +319,7 @@ took_past told cutter t slots aim sound ready = record {
         (sym (settled_part_is cutter.writer.style cutter.operands (all_lines x)) ∙ ap (draft_part cutter.writer.style) (sym (past_draft_still cutter x t whole past)) ∙ settled_part_is cutter.writer.style cutter.operands (all_lines (x ++ t)))
   ];
   keeps = λ place sound. sound;
-  owns = λ first owns. owns;
+  owns = owns_still _ _;
   ready = ready;
   sound = sound;
   size = omega arith;

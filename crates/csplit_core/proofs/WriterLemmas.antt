@@ -1,9 +1,9 @@
 -- Lemmas on the writer of sections.
-use Rattle.std.proofs.Common.{◌≡◌, ℕ, Bool, true, false, List, [], ◌∷◌, refl, sym, subst, append_assoc}
+use Rattle.std.proofs.Common.{◌≡◌, ℕ, Bool, true, false, List, [], ◌∷◌, length, refl, sym, subst, append_assoc}
 use Rattle.std.proofs.lemmas.List.{append-nil}
 use Rattle.ports_core.specs.Slot.{Slot}
 use Rattle.ports_core.specs.inner.Slot.{KeepsBroken}
-use Rattle.ports_core.specs.Part.{Part, OutputsAt, Begins}
+use Rattle.ports_core.specs.Part.{Part, Begins}
 use Rattle.ports_core.specs.inner.Part.{StoppedInTurn}
 use Rattle.ports_core.specs.declared.fault.Fault.{Fault}
 use Rattle.ports_core.specs.declared.fault.Fault.TheVariants.{Memory, Write, Read, Open, Suffixes, NoMatch, Range, Usage, Failed, TooLong}
@@ -13,21 +13,29 @@ use Rattle.csplit_core.specs.Output.{Style, part_by}
 use Rattle.csplit_core.specs.Draft.{Draft, draft_part, last_contents}
 use Rattle.csplit_core.specs.inner.Draft.{ended_part, with_bytes, with_section}
 use Rattle.csplit_core.specs.laws.SectionLaws.{part_grows}
-use Rattle.csplit_core.specs.Writer.{WriterState, Breaks}
-use Rattle.csplit_core.specs.inner.Writer.{Moves, Halts, KeepsFiles}
+use Rattle.csplit_core.specs.Writer.{WriterState, Breaks, IsLast}
+use Rattle.csplit_core.specs.inner.Writer.{At, Moves, Halts, KeepsFiles}
+use Rattle.csplit_core.proofs.OutputSteps.{Becomes, Falls}
 
--- From one state of the outputs to another
+-- From one state of the outputs to another. The writers follow from the steps.
 
-pub moves_again : (told : Bool) (low middle high : Part) (old mid new : List Slot) → Moves told low middle old mid → Moves told middle high mid new → Moves told low high old new
+pub moves_again : (told : Bool) (low middle high : Part) (old mid new : List Slot) {one two three : WriterState} → Moves told one two low middle old mid → Moves told two three middle high mid new → Moves told one three low high old new
 moves_again told low middle high old mid new first second before at = second before (first before at)
 
-pub halts_after : (told : Bool) (low middle high : Part) (old mid new : List Slot) (fault : Fault) → Begins low middle → Moves told low middle old mid → Halts told middle high mid new fault → Halts told low high old new fault
+pub halts_after : (told : Bool) (low middle high : Part) (old mid new : List Slot) (fault : Fault) {one two : WriterState} → Begins low middle → Moves told one two low middle old mid → Halts told two middle high mid new fault → Halts told one low high old new fault
 halts_after told low middle high old mid new fault begins moves halts before at =
     turn_between told before low middle high high fault new begins (halts before (moves before at)) (part_begins_itself high)
 
-pub halts_wider : (told : Bool) (low middle high : Part) (old new : List Slot) (fault : Fault) → Halts told low middle old new fault → Begins middle high → Halts told low high old new fault
+pub halts_wider : (told : Bool) (low middle high : Part) (old new : List Slot) (fault : Fault) {writer : WriterState} → Halts told writer low middle old new fault → Begins middle high → Halts told writer low high old new fault
 halts_wider told low middle high old new fault halts begins before at =
     turn_between told before low low middle high fault new (part_begins_itself low) (halts before at) begins
+
+-- a step that is known of the outputs alone, as long as the file of the open section is the last
+pub goes_by : (told : Bool) (low high : Part) (old new : List Slot) {writer next : WriterState} → KeepsFiles writer next old new → (IsLast writer.current old → Becomes told low high old new) → Moves told writer next low high old new
+goes_by told low high old new keeps becomes before at = record { owns = keeps.owns (length before) at.owns; outputs = becomes at.owns.last before at.outputs }
+
+pub stops_by : (told : Bool) (low high : Part) (old new : List Slot) (fault : Fault) {writer : WriterState} → (IsLast writer.current old → Falls told low high old new fault) → Halts told writer low high old new fault
+stops_by told low high old new fault falls before at = falls at.owns.last before at.outputs
 
 -- What is written of a draft only grows: the open section isn't closed.
 
@@ -57,16 +65,19 @@ breaks_later style old mid new Failed keeps breaks = absurd breaks
 breaks_later style old mid new TooLong keeps breaks = absurd breaks
 
 pub owns_again : (one two three : WriterState) (old mid new : List Slot) → KeepsFiles one two old mid → KeepsFiles two three mid new → KeepsFiles one three old new
-owns_again one two three old mid new before after first owns = after first (before first owns)
+owns_again one two three old mid new before after = record { owns = λ first own. after.owns first (before.owns first own); there = λ are. after.there (before.there are) }
+
+pub owns_still : (writer : WriterState) (slots : List Slot) → KeepsFiles writer writer slots slots
+owns_still writer slots = record { owns = λ first own. own; there = λ are. are }
 
 -- The same of parts that are written otherwise
 
-pub moves_as : (told : Bool) (low low' high high' : Part) (old new : List Slot) → low ≡ low' → high ≡ high' → Moves told low' high' old new → Moves told low high old new
-moves_as told low low' high high' old new is_low is_high moves before at = subst (λ part. OutputsAt told before part new) (sym is_high) (moves before (subst (λ part. OutputsAt told before part old) is_low at))
+pub moves_as : (told : Bool) (low low' high high' : Part) (old new : List Slot) {writer next : WriterState} → low ≡ low' → high ≡ high' → Moves told writer next low' high' old new → Moves told writer next low high old new
+moves_as told low low' high high' old new {writer = writer} {next = next} is_low is_high moves before at = subst (λ part. At told next before part new) (sym is_high) (moves before (subst (λ part. At told writer before part old) is_low at))
 
-pub moves_same : (told : Bool) (low high : Part) (slots : List Slot) → low ≡ high → Moves told low high slots slots
-moves_same told low high slots is before at = subst (λ part. OutputsAt told before part slots) is at
+pub moves_same : (told : Bool) (low high : Part) (slots : List Slot) {writer : WriterState} → low ≡ high → Moves told writer writer low high slots slots
+moves_same told low high slots {writer = writer} is before at = subst (λ part. At told writer before part slots) is at
 
-pub halts_as : (told : Bool) (low low' high high' : Part) (old new : List Slot) (fault : Fault) → low ≡ low' → high ≡ high' → Halts told low' high' old new fault → Halts told low high old new fault
-halts_as told low low' high high' old new fault is_low is_high halts before at =
-    subst (λ part. StoppedInTurn told before part high fault new) (sym is_low) (subst (λ part. StoppedInTurn told before low' part fault new) (sym is_high) (halts before (subst (λ part. OutputsAt told before part old) is_low at)))
+pub halts_as : (told : Bool) (low low' high high' : Part) (old new : List Slot) (fault : Fault) {writer : WriterState} → low ≡ low' → high ≡ high' → Halts told writer low' high' old new fault → Halts told writer low high old new fault
+halts_as told low low' high high' old new fault {writer = writer} is_low is_high halts before at =
+    subst (λ part. StoppedInTurn told before part high fault new) (sym is_low) (subst (λ part. StoppedInTurn told before low' part fault new) (sym is_high) (halts before (subst (λ part. At told writer before part old) is_low at)))

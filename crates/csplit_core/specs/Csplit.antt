@@ -48,21 +48,22 @@ csplit_means style = record {
   closing = record { memory = true; files = true };
 }
 
--- What `csplit` makes of an input. It is never complete before the end, where the last size is written.
-abbrev pub csplit_work : Style → List Operand → Work
-csplit_work style operands = record {
-  settled = settled_by style operands;
-  whole = whole_by style operands;
-  is_complete = λ x. false;
-  verdict = verdict_by style.suppress operands;
-  clears = not style.keep;
-  means = csplit_means style;
-  ahead = 0;
-}
-
 -- the bytes that wait: the lines that do, and the line that lacks its newline; none once later input goes nowhere
 abbrev pub waiting_of : List Line → Plan → List ℕ → List ℕ
 waiting_of lines plan rest = if is_final plan.ending then [] else bytes_of (waiting_lines lines plan) ++ rest
 
 abbrev pub waiting : Style → List Operand → List ℕ → List ℕ
 waiting style operands x = waiting_of (complete_lines x) (plan style.suppress operands (complete_lines x)) (open_line x)
+
+-- What `csplit` makes of an input. It is never complete before the end, where the last size is written.
+abbrev pub csplit_work : Style → List Operand → Work
+csplit_work style operands = record {
+  settled = settled_by style operands;
+  whole = whole_by style operands;
+  waiting = waiting style operands;
+  is_complete = λ x. false;
+  verdict = verdict_by style.suppress operands;
+  clears = not style.keep;
+  means = csplit_means style;
+  ahead = 0;
+}

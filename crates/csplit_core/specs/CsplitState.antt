@@ -40,3 +40,7 @@ pub record IsReady (stage : CsplitState) (slots : List Slot) : Type 0 where
 
 abbrev pub Owns : CsplitState → ℕ → List Slot → Type 0
 Owns stage first slots = OwnsFiles stage.cutter.writer first slots
+
+-- the outputs of the files that it made and didn't remove
+abbrev pub files : CsplitState → List ℕ
+files stage = stage.cutter.writer.files

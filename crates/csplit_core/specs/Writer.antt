@@ -1,7 +1,7 @@
 -- What contracts see of the writer of sections, and what its calls do.
-use Rattle.std.specs.Prelude.{◌≡◌, ℕ, ◌+◌, ◌<◌, ◌≤◌, suc, Bool, true, false, List, [], length, IsTrue}
-use Rattle.ports_core.specs.Slot.{Slot, Rose, is_writable}
-use Rattle.ports_core.specs.Swept.{AreMade}
+use Rattle.std.specs.Prelude.{◌≡◌, ℕ, ◌≤◌, suc, Bool, true, false, List, [], length, IsTrue}
+use Rattle.ports_core.specs.Slot.{Slot, Rose, has_file, is_writable, slot_at}
+use Rattle.ports_core.specs.Swept.{AreThere, is_among}
 use Rattle.ports_core.specs.declared.fault.Fault.{Fault}
 use Rattle.ports_core.specs.declared.fault.Fault.TheVariants.{Memory, Write, Read, Open, Suffixes, NoMatch, Range, Usage, Failed, TooLong}
 use Rattle.csplit_core.specs.Draft.{Draft, draft_part, AreClosed}
@@ -11,10 +11,8 @@ use Rattle.csplit_core.specs.declared.section_writer.Current.TheVariants.{Skippe
 
 pub record WriterState : Type 0 where
   pub style : Style
-  -- the output of the first file, once one was made
-  pub first : ℕ
-  -- how many files were made
-  pub made : ℕ
+  -- the outputs of the files that it made and didn't remove, in order
+  pub files : List ℕ
   -- the section that is open
   pub current : Current
 
@@ -36,36 +34,38 @@ IsCurrent style kept bytes Unopened = ⊥
 -- the writer can have been given these sections
 pub record Writes (writer : WriterState) (draft : Draft) : Type 0 where
   pub closed : AreClosed draft.ended
-  pub made : writer.made ≡ length (draft_part writer.style draft).files
+  pub made : length writer.files ≡ length (draft_part writer.style draft).files
   pub current : IsCurrent writer.style draft.is_kept draft.bytes writer.current
 
-abbrev pub could_open : Current → Bool
-could_open Skipped = true
-could_open Unmade = true
-could_open (File slot size) = true
-could_open Unopened = false
+-- the file of the open section is the last output
+abbrev pub IsLast : Current → List Slot → Type 0
+IsLast Skipped slots = Unit {0}
+IsLast Unmade slots = Unit {0}
+IsLast (File slot size) slots = suc slot ≡ length slots
+IsLast Unopened slots = Unit {0}
 
--- the files of the slots from a place on are those that it made, and they are the last outputs as long as each file
--- could be opened
+-- from this place on its files are just the outputs that have one, and that of the open section is the last
 pub record OwnsFiles (writer : WriterState) (first : ℕ) (slots : List Slot) : Type 0 where
   pub streams : 2 ≤ first
-  pub place : 0 < writer.made → writer.first ≡ first
-  pub files : AreMade first writer.made slots
-  pub last : could_open writer.current ≡ true → first + writer.made ≡ length slots
+  pub within : first ≤ length slots
+  pub from : (place : ℕ) → is_among place writer.files ≡ true → first ≤ place
+  pub own : (place : ℕ) → first ≤ place → has_file (slot_at slots place).state ≡ is_among place writer.files
+  pub there : AreThere writer.files slots
+  pub last : IsLast writer.current slots
 
--- the file of the open section is the last output, and can be written
+-- the file of the open section can be written
 abbrev pub IsOpenAt : Current → List Slot → Type 0
 IsOpenAt Skipped slots = Unit {0}
 IsOpenAt Unmade slots = Unit {0}
-IsOpenAt (File slot size) slots = (2 ≤ slot) × (suc slot ≡ length slots) × IsTrue (is_writable slots slot)
+IsOpenAt (File slot size) slots = (2 ≤ slot) × IsTrue (is_writable slots slot)
 IsOpenAt Unopened slots = ⊥
 
 -- the outputs that it goes on with can be written: standard output, and the file of the open section; and its files are
--- there
+-- there. Others may have opened outputs too.
 pub record IsReady (writer : WriterState) (slots : List Slot) : Type 0 where
+  pub streams : 2 ≤ length slots
   pub output : IsTrue (is_writable slots 0)
-  pub first : ℕ
-  pub owns : OwnsFiles writer first slots
+  pub files : AreThere writer.files slots
   pub current : IsOpenAt writer.current slots
 
 -- The faults of a call that writes: a slot broke in the call where the fault names one. Standard output is written only

@@ -1,15 +1,13 @@
 //! The stage of `csplit`: from bytes, in pieces of any length, to the lines that are cut.
-ghost use Rattle.std.specs.Prelude.{◌≡◌, ◌≢◌, ◌+◌, ◌-◌, ◌^◌, ◌<◌, ◌≤◌, ◌++◌, ℕ, List, [], length, min, true, IsTrue, IfErr, IfOk, IfSome, OnOk};
+ghost use Rattle.std.specs.Prelude.{◌≡◌, ◌≢◌, ◌+◌, ◌-◌, ◌^◌, ◌<◌, ◌≤◌, ◌++◌, ℕ, List, [], length, min, true, IsTrue, IfErr, IfOk, OnOk};
 ghost use Rattle.seg_core.specs.Line.{delimiters, ends_with};
-ghost use Rattle.ports_core.specs.Engine.{is_verdict};
 ghost use Rattle.ports_core.specs.Guard.{HoldsIn};
 ghost use Rattle.ports_core.specs.Part.{OutputsAt, StoppedBetween, nothing};
 ghost use Rattle.ports_core.specs.Slot.{Slot, is_writable};
-ghost use Rattle.ports_core.specs.Swept.{AreMade};
+ghost use Rattle.ports_core.specs.Swept.{AreThere, HasNoFiles};
 ghost use Rattle.csplit_core.specs.Csplit.{csplit_work, settled_by};
-ghost use Rattle.csplit_core.specs.Csplit.{waiting};
-ghost use Rattle.csplit_core.specs.inner.CsplitState.{Begins, Closes, Judges, Passes};
-ghost use Rattle.csplit_core.specs.CsplitState.{Holds, IsReady, Owns, work};
+ghost use Rattle.csplit_core.specs.inner.CsplitState.{Closes, Passes};
+ghost use Rattle.csplit_core.specs.CsplitState.{Holds, IsReady, Owns, files, work};
 ghost use Rattle.csplit_core.specs.inner.Cutter.{IsLine, Takes};
 ghost use Rattle.csplit_core.specs.Cutter.{IsSound, load};
 ghost use Rattle.csplit_core.specs.Input.{newline};
@@ -69,57 +67,18 @@ impl<'o> Csplitter<'o> {
         ensures does { IfOk result (λ engine. work engine.stage ≡ csplit_work style operands.now) }
         ensures ready { IfOk result (λ engine. IsReady engine.stage (O.slots outs.new)) }
         ensures owns { IfOk result (λ engine. Owns engine.stage (length (O.slots outs.old)) (O.slots outs.new)) }
+        ensures there { IfOk result (λ engine. AreThere (files engine.stage) (O.slots outs.new)) }
         ensures outputs { OnOk result ((before : List Slot) → OutputsAt O.told before nothing (O.slots outs.old) → OutputsAt O.told before (settled_by style operands.now []) (O.slots outs.new)) }
         ensures cut { IfErr result (λ fault. (before : List Slot) → OutputsAt O.told before nothing (O.slots outs.old) → StoppedBetween O.told before nothing (settled_by style operands.now []) fault (O.slots outs.new)) }
         ensures refused { IfErr result (Breaks style (O.slots outs.old) (O.slots outs.new)) }
-        ensures none { IfErr result (λ fault. (place : ℕ) → length (O.slots outs.old) ≤ place → AreMade place 0 (O.slots outs.new)) }
+        ensures none { IfErr result (λ fault. HasNoFiles (length (O.slots outs.old)) (O.slots outs.new)) }
     {
-        let stage = Csplitter::begin(alloc, operands.as_slice(), style, outs)?;
-        Ok(Guarded::new(stage))
-    }
-
-    /// A stage to which nothing came, and which has begun the first section.
-    ///
-    /// # Errors
-    ///
-    /// `Memory` where there is no room for what the first operand needs, or for a name; `Open` where the first section's
-    /// file can't be opened.
-    fn begin<O: Outs>(
-        alloc: Global,
-        operands: &'o [Operand],
-        style: Style,
-        outs: &mut O,
-    ) -> Result<Csplitter<'o>, Fault>
-        requires streams { 2 ≤ length (O.slots outs.old) }
-        requires output { IsTrue (is_writable (O.slots outs.old) 0) }
-        ensures { Begins O.told style operands.now (O.slots outs.old) (O.slots outs.new) result }
-    {
-        Ok(Csplitter {
-            cutter: LineCutter::open(alloc, operands, style, outs)?,
+        let cutter = LineCutter::open(alloc, operands.as_slice(), style, outs)?;
+        Ok(Guarded::new(Csplitter {
+            cutter,
             rest: Vec::new(alloc),
             taken: 0,
-        })
-    }
-
-    /// Takes in a piece: its lines, of which the first may complete the open line, and what follows them.
-    fn take_piece<O: Outs>(&mut self, piece: &[u8], outs: &mut O) -> Result<(), Fault>
-        requires fits { load self.old.cutter + length self.old.rest + length piece.now < 2 ^ 63 }
-        requires sound { IsSound self.old.cutter }
-        requires open { delimiters newline self.old.rest ≡ 0 }
-        requires ready { CanWrite self.old.cutter.writer (O.slots outs.old) }
-        ensures taken { self.new.taken ≡ self.old.taken }
-        ensures passes { Passes O.told self.old piece.now (O.slots outs.old) (O.slots outs.new) self.new result }
-    {
-        if self.cutter.is_past() {
-            return Ok(());
-        }
-        match last_delimiter_end(piece, NEWLINE) {
-            None => self.wait(piece),
-            Some(end) => {
-                self.take_lines(&piece[..end], outs)?;
-                self.wait(&piece[end..])
-            }
-        }
+        }))
     }
 
     /// Takes in complete lines, of which there is one at least. The open line is the beginning of the first.
@@ -172,27 +131,6 @@ impl<'o> Csplitter<'o> {
         Ok(self.rest.extend_from_slice(bytes)?)
     }
 
-    /// Takes in the open line, if there is one, and ends the last section.
-    fn end<O: Outs>(&mut self, outs: &mut O) -> Result<(), Fault>
-        requires fits { load self.old.cutter + length self.old.rest < 2 ^ 63 }
-        requires sound { IsSound self.old.cutter }
-        requires open { delimiters newline self.old.rest ≡ 0 }
-        requires ready { CanWrite self.old.cutter.writer (O.slots outs.old) }
-        ensures taken { self.new.taken ≡ self.old.taken }
-        ensures closes { Closes O.told self.old (O.slots outs.old) (O.slots outs.new) self.new result }
-    {
-        self.take_last(outs)?;
-        self.cutter.end(outs)
-    }
-
-    /// The fault with which the work itself ends, if it ends with one.
-    fn verdict(&self) -> Option<Fault>
-        ensures judges { Judges self.now.cutter result }
-        ensures kind { IfSome result (λ fault. is_verdict fault ≡ true) }
-    {
-        self.cutter.verdict()
-    }
-
     /// Takes in the open line as it is, if there is one: it is the last.
     fn take_last<O: Outs>(&mut self, outs: &mut O) -> Result<(), Fault>
         requires fits { load self.old.cutter + length self.old.rest < 2 ^ 63 }
@@ -214,10 +152,6 @@ impl<'o> Stage for Csplitter<'o> {
 
     ghost work = { work };
 
-    ghost held = { λ stage. min (length stage.cutter.window.held + length stage.rest) (2 ^ 64 - 1) };
-
-    ghost waiting = { λ stage. waiting stage.cutter.writer.style stage.cutter.operands };
-
     ghost size = { λ stage. stage.taken };
 
     ghost may_lack = { λ stage piece. true };
@@ -226,14 +160,38 @@ impl<'o> Stage for Csplitter<'o> {
 
     ghost Owns = { Owns };
 
-    fn pass<O: Outs>(&mut self, piece: &[u8], outs: &mut O) -> Result<(), Fault> {
+    ghost files = { files };
+
+    /// Takes in a piece: its lines, of which the first may complete the open line, and what follows them.
+    fn pass<O: Outs>(&mut self, piece: &[u8], outs: &mut O) -> Result<(), Fault>
+        requires fits { self.old.taken + length piece.now < 2 ^ 63 }
+        requires ready { IsReady self.old (O.slots outs.old) }
+        ensures taken { self.new.taken ≡ self.old.taken + length piece.now }
+        ensures passes { Passes O.told self.old piece.now (O.slots outs.old) (O.slots outs.new) self.new result }
+    {
         self.taken += piece.len() as u64;
-        self.take_piece(piece, outs)
+        if self.cutter.is_past() {
+            return Ok(());
+        }
+        match last_delimiter_end(piece, NEWLINE) {
+            None => self.wait(piece),
+            Some(end) => {
+                self.take_lines(&piece[..end], outs)?;
+                self.wait(&piece[end..])
+            }
+        }
     }
 
-    fn finish<O: Outs>(&mut self, outs: &mut O) -> Result<(), Fault> {
-        self.end(outs)?;
-        match self.verdict() {
+    /// Takes in the open line, if there is one, and ends the last section. Where the work ends with a fault of its own,
+    /// the files are removed then.
+    fn finish<O: Outs>(&mut self, outs: &mut O) -> Result<(), Fault>
+        requires { IsReady self.old (O.slots outs.old) }
+        ensures bound { self.new.taken ≤ self.old.taken }
+        ensures closes { Closes O.told self.old (O.slots outs.old) (O.slots outs.new) self.new result }
+    {
+        self.take_last(outs)?;
+        self.cutter.end(outs)?;
+        match self.cutter.verdict() {
             None => Ok(()),
             Some(fault) => {
                 self.clear(outs);
@@ -269,4 +227,6 @@ impl<'o> Stage for Csplitter<'o> {
     }
 
     ghost lawful = { λ stage. lawful stage.cutter.writer.style stage.cutter.operands };
+
+    ghost there = { λ stage first slots owns. owns.there };
 }

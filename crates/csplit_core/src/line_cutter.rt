@@ -7,15 +7,15 @@ ghost use Rattle.ports_core.specs.Slot.{is_writable};
 ghost use Rattle.csplit_core.specs.Csplit.{verdict_of};
 ghost use Rattle.csplit_core.specs.Plan.{above, missed};
 ghost use Rattle.csplit_core.specs.Planned.{plan};
-ghost use Rattle.ports_core.specs.Swept.{SweptFrom};
+ghost use Rattle.ports_core.specs.Swept.{AreThere};
 ghost use Rattle.csplit_core.specs.Cutter.{AimHolds, IsFit, IsSound, load, most_by, pattern_by, state_in, suppress_in};
-ghost use Rattle.csplit_core.specs.inner.Cutter.{AreClear, CutAt, CutNot, CutsAll, EndsAll, IsJudged, Opens, Holds, IsFound, IsLine, IsNoCut, IsWhole, PassesClear, PassesOn, PassesOver, StopsAt, Stretches, Takes, Tries, TriesNext, WillCut};
+ghost use Rattle.csplit_core.specs.inner.Cutter.{AreClear, Clears, CutAt, CutNot, CutsAll, EndsAll, IsJudged, Opens, Holds, IsFound, IsLine, IsNoCut, IsWhole, PassesClear, PassesOn, PassesOver, StopsAt, Stretches, Takes, Tries, TriesNext, WillCut};
 ghost use Rattle.csplit_core.specs.Input.{all_lines, newline, without_newline};
 ghost use Rattle.csplit_core.specs.Measure.{Fits};
 ghost use Rattle.csplit_core.specs.Operand.{Line};
 ghost use Rattle.csplit_core.specs.inner.PlanLaws.{needed};
 ghost use Rattle.csplit_core.specs.inner.Progress.{AreSeen, MovesOn, Turns};
-ghost use Rattle.csplit_core.specs.Writer.{IsReady, OwnsFiles, size_of};
+ghost use Rattle.csplit_core.specs.Writer.{IsReady, size_of};
 ghost use Rattle.csplit_core.specs.declared.progress.Turn.TheVariants as turn_is;
 
 use crate::holding::{drain, hold_last, write_front};
@@ -166,10 +166,11 @@ impl<'o> LineCutter<'o> {
         }
     }
 
-    /// Removes all files, in order. One that can't be removed is broken and closed, and the next is tried.
-    pub(crate) fn clear<O: Outs>(&self, outs: &mut O)
-        requires { (first : ℕ) × OwnsFiles self.now.writer first (O.slots outs.old) }
-        ensures { (first : ℕ) → OwnsFiles self.now.writer first (O.slots outs.old) → SweptFrom first (O.slots outs.old) (O.slots outs.new) }
+    /// Removes all files that are still there, in order. One that can't be removed is broken and closed, and the next
+    /// is tried.
+    pub(crate) fn clear<O: Outs>(&mut self, outs: &mut O)
+        requires { AreThere self.old.writer.files (O.slots outs.old) }
+        ensures { Clears self.old (O.slots outs.old) (O.slots outs.new) self.new }
     {
         self.writer.clear(outs);
     }

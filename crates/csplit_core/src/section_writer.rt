@@ -1,12 +1,12 @@
 //! Writing sections: a file for each that is kept, and its size on standard output.
-ghost use Rattle.std.specs.Prelude.{◌≡◌, ◌+◌, ◌<◌, ◌≤◌, ◌^◌, ◌++◌, ◌∷◌, [], ℕ, length, decimal, IsTrue, IfErr, OnOk};
+ghost use Rattle.std.specs.Prelude.{◌≡◌, ◌+◌, ◌<◌, ◌≤◌, ◌^◌, ◌++◌, ◌∷◌, [], length, decimal, vec_capacity, vec_len, IsTrue, IfErr, OnOk};
 ghost use Rattle.ports_core.specs.Slot.{is_writable, told_of, with_written};
-ghost use Rattle.ports_core.specs.Swept.{SweptFrom};
+ghost use Rattle.ports_core.specs.Swept.{AreThere, Removes};
 ghost use Rattle.ports_core.specs.inner.Write.{WritesShort};
 ghost use Rattle.csplit_core.specs.inner.Draft.{with_bytes, with_section};
 ghost use Rattle.csplit_core.specs.Input.{newline};
 ghost use Rattle.csplit_core.specs.inner.Writer.{Begins, Ends, Goes};
-ghost use Rattle.csplit_core.specs.Writer.{IsReady, OwnsFiles, size_of};
+ghost use Rattle.csplit_core.specs.Writer.{IsReady, size_of};
 ghost use Rattle.csplit_core.specs.inner.WriterSteps.{Appends, Makes, Starts};
 ghost use Rattle.csplit_core.specs.declared.section_writer.Current.TheVariants.{File};
 
@@ -39,22 +39,17 @@ pub enum Current {
 pub struct SectionWriter {
     alloc: Global,
     style: Style,
-    /// The output of the first file, once one was made; the others follow it.
-    first: usize,
-    /// How many files were made.
-    made: usize,
+    /// The outputs of the files that were made, in order, but of those that were removed.
+    files: Vec<usize>,
     current: Current,
 }
 
 impl Model for SectionWriter {
-    ghost use Rattle.std.specs.Prelude.{◌+◌, ◌≤◌, ◌^◌};
     ghost use Rattle.csplit_core.specs.Writer.{WriterState};
 
     ghost Value = { WriterState };
 
-    ghost view = { λ w. record { style = w.style; first = w.first; made = w.made; current = w.current } };
-
-    ghost invariant = { λ w. w.first + w.made ≤ 2 ^ 64 };
+    ghost view = { λ w. record { style = w.style; files = w.files.items; current = w.current } };
 }
 
 impl SectionWriter {
@@ -76,8 +71,7 @@ impl SectionWriter {
         let mut writer = SectionWriter {
             alloc,
             style,
-            first: 0,
-            made: 0,
+            files: Vec::new(alloc),
             current: Current::Skipped,
         };
         writer.begin(is_kept, outs)?;
@@ -148,14 +142,15 @@ impl SectionWriter {
         }
     }
 
-    /// Removes all files, in order. One that can't be removed is broken and closed, and the next is tried.
-    pub(crate) fn clear<O: Outs>(&self, outs: &mut O)
-        requires { (first : ℕ) × OwnsFiles self.now first (O.slots outs.old) }
-        ensures { (first : ℕ) → OwnsFiles self.now first (O.slots outs.old) → SweptFrom first (O.slots outs.old) (O.slots outs.new) }
+    /// Removes all files that are still there, in order. One that can't be removed is broken and closed, and the next
+    /// is tried.
+    pub(crate) fn clear<O: Outs>(&mut self, outs: &mut O)
+        requires { AreThere self.old.files (O.slots outs.old) }
+        ensures same { self.new ≡ record self.old { files = self.new.files } }
+        ensures removes { Removes self.old.files (O.slots outs.old) self.new.files (O.slots outs.new) }
     {
-        if self.made > 0 {
-            sweep_files(self.first, self.made, outs);
-        }
+        let left = sweep_files(&mut self.files, outs);
+        self.files.truncate(left);
     }
 
     /// Begins a section, where none is open.
@@ -185,11 +180,11 @@ impl SectionWriter {
             self.alloc,
             &self.style.prefix,
             self.style.digits,
-            self.made as u64,
+            self.files.len() as u64,
         )?;
+        self.files.reserve(1)?;
         let slot = outs.open(name.as_str(), Mode::Fresh)?;
-        self.first = if self.made == 0 { slot } else { self.first };
-        self.made += 1;
+        add(&mut self.files, slot);
         self.current = Current::File { slot, size: 0 };
         Ok(slot)
     }
@@ -226,6 +221,17 @@ impl SectionWriter {
             return Ok(());
         }
         write_size(size, outs)
+    }
+}
+
+/// Appends an output to those of the files, where there is room for it.
+fn add(files: &mut Vec<usize>, slot: usize)
+    requires { vec_len files.old < vec_capacity files.old }
+    ensures { files.new.items ≡ files.old.items ++ slot ∷ [] }
+{
+    match files.push(slot) {
+        Ok(()) => {}
+        Err(_) => unreachable!(),
     }
 }
 

@@ -20,7 +20,7 @@ use Rattle.ends_core.specs.declared.kept.Kept.{Kept}
 use Rattle.ends_core.specs.Ends.{measure, first_of, after_of, last_of, but_last_of}
 use Rattle.ends_core.specs.Head.{head_work}
 use Rattle.ends_core.specs.Head.{IsDone}
-use Rattle.ends_core.specs.Stage.{Stretch, the_first, all_but_last, from_the_nth, the_last, keeps, work_in, waiting_in, front_in, stretch_of, delim_of, unit_of, count_of, left_of, waiting_of, waiting, past_in, past_of, may_lack, work, Holds}
+use Rattle.ends_core.specs.Stage.{Stretch, the_first, all_but_last, from_the_nth, the_last, keeps, work_in, front_in, stretch_of, delim_of, unit_of, count_of, left_of, waiting_of, waiting, past_in, past_of, may_lack, work, Holds}
 use Rattle.ends_core.specs.inner.Stage.{is_last, due, due_at_end, left_waiting, is_full, unused_of, FullLacksNone, SameAsked}
 use Rattle.ends_core.specs.Stage.{is_done}
 use Rattle.ends_core.specs.Kept.{most_of, may_lack_of, delim_of as kept_delim, unit_of as kept_unit}
@@ -98,7 +98,7 @@ waits_next (Last kept) x piece holds =
     ap (λ held. last_of (kept_delim kept) (kept_unit kept) (most_of kept) (held ++ piece)) holds.waits ∙ sym (last_of-append (kept_delim kept) (kept_unit kept) (most_of kept) x piece)
 
 waits_now : (ends next : Ends) (x piece : List ℕ) → SameAsked ends next → waiting_of next ≡ left_waiting ends piece → Holds ends x → waiting_of next ≡ waiting next (x ++ piece)
-waits_now ends next x piece same waits holds = waits ∙ waits_next ends x piece holds ∙ sym (same_for (λ s d u n. waiting_in s d u n (x ++ piece)) ends next same)
+waits_now ends next x piece same waits holds = waits ∙ waits_next ends x piece holds ∙ sym (same_for (λ s d u n. (work_in s d u n).waiting (x ++ piece)) ends next same)
 
 none_lacks : (ends : Ends) → keeps (stretch_of ends) ≡ false → may_lack ends ≡ false
 none_lacks (First count front) none = refl
@@ -212,7 +212,7 @@ if_err (Err f) also is = also f is
 -- what is taken in of an input before any piece
 
 -- nothing waits before anything came in
-pub waits_none : (s : Stretch) (delim : ℕ) (unit : Counted) (n : ℕ) → waiting_in s delim unit n [] ≡ []
+pub waits_none : (s : Stretch) (delim : ℕ) (unit : Counted) (n : ℕ) → (work_in s delim unit n).waiting [] ≡ []
 waits_none the_first delim unit n = refl
 waits_none all_but_last delim unit n = last_none delim unit n
 waits_none from_the_nth delim unit n = refl
@@ -222,7 +222,7 @@ last_within : (delim : ℕ) (unit : Counted) (n : ℕ) (x : List ℕ) → length
 last_within delim unit n x = omega (arith, sym (length-append (but_last_of delim unit n x) (last_of delim unit n x)) ∙ ap length (ends_together delim unit n x))
 
 -- no more waits than came in
-pub waits_within : (s : Stretch) (delim : ℕ) (unit : Counted) (n : ℕ) (x : List ℕ) → length (waiting_in s delim unit n x) ≤ length x
+pub waits_within : (s : Stretch) (delim : ℕ) (unit : Counted) (n : ℕ) (x : List ℕ) → length ((work_in s delim unit n).waiting x) ≤ length x
 waits_within the_first delim unit n x = omega arith
 waits_within all_but_last delim unit n x = last_within delim unit n x
 waits_within from_the_nth delim unit n x = omega arith
@@ -258,7 +258,7 @@ pub loads : (told : Bool) (slot count : ℕ) (ends next : Ends) (old new : List 
     → Passes told slot count (λ x. waiting_of next ≡ waiting ends x) old new → FullLacksNone next → Loads Holds (λ (those : Ends) slots. IsTrue (is_writable slots 0)) OwnsNone work told slot count ends next old new
 loads told slot count ends next old new fresh same left past others passes full =
     let none : is_last (stretch_of ends) ≡ false → passes.front ≡ [] = λ is. nil_from_length passes.front (sym passes.long ∙ others is) in
-    let waits = passes.keeps ∙ sym (same_for (λ s d u n. waiting_in s d u n passes.front) ends next same) in
+    let waits = passes.keeps ∙ sym (same_for (λ s d u n. (work_in s d u n).waiting passes.front) ends next same) in
     record {
       front = passes.front;
       long = passes.long;

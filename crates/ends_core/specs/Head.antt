@@ -12,6 +12,11 @@ abbrev pub ahead_of : Counted → ℕ
 ahead_of Lines = 4096
 ahead_of Bytes = 0
 
+-- what came in and isn't written yet, since what follows decides it: the last lines or bytes, where all but them are
+-- asked for
+abbrev pub head_waiting : ℕ → Counted → Bool → ℕ → List ℕ → List ℕ
+head_waiting delim unit but_last n x = if but_last then last_of delim unit n x else []
+
 -- What a head makes of its input: what belongs to the head whatever may still come is written at once, and nothing at
 -- the end. Of the first n it is complete once n came in. It takes memory where all but the last are asked for, since
 -- those wait.
@@ -19,17 +24,13 @@ abbrev pub head_work : ℕ → Counted → Bool → ℕ → Work
 head_work delim unit but_last n = record {
   settled = λ x. only_out (head_of delim unit but_last n x);
   whole = λ x. only_out (head_of delim unit but_last n x);
+  waiting = head_waiting delim unit but_last n;
   is_complete = λ x. not but_last && nat_le n (measure delim unit x);
   verdict = always_well;
   clears = false;
   means = on_output but_last;
   ahead = ahead_of unit;
 }
-
--- what came in and isn't written yet, since what follows decides it: the last lines or bytes, where all but them are
--- asked for
-abbrev pub head_waiting : ℕ → Counted → Bool → ℕ → List ℕ → List ℕ
-head_waiting delim unit but_last n x = if but_last then last_of delim unit n x else []
 
 -- the numbers of a text are bytes
 abbrev pub AreBytes : List ℕ → Type 0

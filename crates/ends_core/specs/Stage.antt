@@ -35,13 +35,6 @@ work_in all_but_last delim unit n = head_work delim unit true n
 work_in from_the_nth delim unit n = tail_work delim unit true n
 work_in the_last delim unit n = tail_work delim unit false n
 
--- what came in and isn't written yet
-abbrev pub waiting_in : Stretch → ℕ → Counted → ℕ → List ℕ → List ℕ
-waiting_in the_first delim unit n x = head_waiting delim unit false n x
-waiting_in all_but_last delim unit n x = head_waiting delim unit true n x
-waiting_in from_the_nth delim unit n x = tail_waiting delim unit true n x
-waiting_in the_last delim unit n x = tail_waiting delim unit false n x
-
 -- how many of the front are written, or passed over
 abbrev pub front_in : Stretch → ℕ → ℕ
 front_in the_first n = n
@@ -121,7 +114,7 @@ abbrev pub work : Ends → Work
 work ends = work_in (stretch_of ends) (delim_of ends) (unit_of ends) (count_of ends)
 
 abbrev pub waiting : Ends → List ℕ → List ℕ
-waiting ends x = waiting_in (stretch_of ends) (delim_of ends) (unit_of ends) (count_of ends) x
+waiting ends x = (work ends).waiting x
 
 -- it can have been fed x
 pub record Holds (ends : Ends) (x : List ℕ) : Type 0 where

@@ -139,10 +139,6 @@ impl Stage for Ends {
 
     ghost work = { work };
 
-    ghost held = { λ ends. length (waiting_of ends) };
-
-    ghost waiting = { waiting };
-
     ghost size = { λ ends. length (waiting_of ends) + past_of ends };
 
     ghost IsDone = { is_done };
@@ -264,4 +260,6 @@ impl Stage for Ends {
     }
 
     ghost lawful = { lawful };
+
+    ghost there = { λ ends first slots owns. tt };
 }

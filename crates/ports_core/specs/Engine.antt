@@ -4,7 +4,7 @@ use Rattle.std.specs.Prelude.{◌≡◌, ℕ, ◌+◌, ◌≤◌, ◌^◌, Bool,
 use Rattle.ports_core.specs.Slot.{Slot, Rose, changed_at}
 use Rattle.ports_core.specs.Source.{Source, source_at, skips}
 use Rattle.ports_core.specs.Part.{Part, OutputsAt, StoppedBetween}
-use Rattle.ports_core.specs.Swept.{Swept}
+use Rattle.ports_core.specs.Swept.{Swept, AreThere}
 use Rattle.ports_core.specs.Work.{Work, Means, Needs, IsSettled, IsSpare, Judges}
 use Rattle.ports_core.specs.declared.fault.Fault.{Fault}
 use Rattle.ports_core.specs.declared.fault.Fault.TheVariants.{Memory, Write, Read, Open, Suffixes, NoMatch, Range, Usage, Failed, TooLong}
@@ -104,6 +104,10 @@ EndsShort Holds Owns work engine told old new fault = (before : List Slot) (x : 
 -- the slots from this place on are the engine's own, before and after
 abbrev pub KeepsOwn : {E : Type 0} → (E → ℕ → List Slot → Type 0) → E → E → List Slot → List Slot → Type 0
 KeepsOwn Owns old new before after = (first : ℕ) → Owns old first before → Owns new first after
+
+-- the files that it made are there, if they were before
+abbrev pub KeepsThere : {E : Type 0} → (E → List ℕ) → E → E → List Slot → List Slot → Type 0
+KeepsThere files old new before after = AreThere (files old) before → AreThere (files new) after
 
 -- its files are cleared away if the work clears them, and else stay
 abbrev pub Clears : {E : Type 0} → (E → ℕ → List Slot → Type 0) → (E → Work) → E → List Slot → List Slot → Type 0

@@ -1,6 +1,6 @@
 -- Which files are left where a tool removes what it made.
-use Rattle.std.specs.Prelude.{◌≡◌, ℕ, ◌+◌, ◌≤◌, ◌<◌, Bool, true, false, List, length}
-use Rattle.ports_core.specs.Slot.{Slot, slot_at, has_file, closes, breaks, removes}
+use Rattle.std.specs.Prelude.{◌≡◌, ℕ, ◌≤◌, ◌<◌, eqb, ◌||◌, Bool, true, false, List, [], ◌∷◌, length}
+use Rattle.ports_core.specs.Slot.{Slot, slot_at, has_file, changed_at, closes, breaks, removes, with_broken, is_removable}
 
 -- one file: it is removed; or its removal failed, and it is broken and closed; or there is none
 pub data Cleared (old : Slot) : Slot → Type 0 where
@@ -19,7 +19,30 @@ abbrev pub Swept : Bool → ℕ → List Slot → List Slot → Type 0
 Swept true first old new = SweptFrom first old new
 Swept false first old new = new ≡ old
 
--- from this place on `count` outputs have a file, and those after them have none
-pub record AreMade (first count : ℕ) (slots : List Slot) : Type 0 where
-  pub files : (place : ℕ) → first ≤ place → place < first + count → has_file (slot_at slots place).state ≡ true
-  pub none_after : (place : ℕ) → first + count ≤ place → has_file (slot_at slots place).state ≡ false
+-- no output from this place on has a file
+abbrev pub HasNoFiles : ℕ → List Slot → Type 0
+HasNoFiles first slots = (place : ℕ) → first ≤ place → has_file (slot_at slots place).state ≡ false
+
+abbrev pub is_among : ℕ → List ℕ → Bool
+is_among place [] = false
+is_among place (one ∷ places) = eqb place one || is_among place places
+
+-- these are different outputs, and each has a file that can be removed
+abbrev pub AreThere : List ℕ → List Slot → Type 0
+AreThere [] slots = Unit {0}
+AreThere (place ∷ places) slots = is_removable slots place × (is_among place places ≡ false) × AreThere places slots
+
+-- These files are removed, one after another, and nothing else is touched. Those are left whose removal failed: each of
+-- them is broken and closed, and the next is tried.
+pub data Removes : List ℕ → List Slot → List ℕ → List Slot → Type 0 where
+  all_tried : (slots : List Slot) → Removes [] slots [] slots
+  goes : (place : ℕ) (places left : List ℕ) (old new : List Slot)
+      → Removes places (changed_at place removes old) left new → Removes (place ∷ places) old left new
+  stays : (place : ℕ) (places left : List ℕ) (old new : List Slot)
+      → Removes places (with_broken place (changed_at place closes old)) left new
+      → Removes (place ∷ places) old (place ∷ left) new
+
+-- these files are removed, or all stay
+abbrev pub RemovesIf : Bool → List ℕ → List Slot → List ℕ → List Slot → Type 0
+RemovesIf true files old left new = Removes files old left new
+RemovesIf false files old left new = (left ≡ files) × (new ≡ old)

@@ -37,6 +37,8 @@ pub record Work : Type 0 where
   pub settled : List ℕ → Part
   -- what is written where the input ends after them, before any file is removed
   pub whole : List ℕ → Part
+  -- which of these bytes aren't written yet, since what follows decides where they go
+  pub waiting : List ℕ → List ℕ
   -- whatever comes after them, the outputs stay
   pub is_complete : List ℕ → Bool
   -- the fault with which the work itself ends there: names ran out, no match, a range

@@ -3,8 +3,9 @@
 ghost use Rattle.std.specs.Prelude.{◌≡◌, ◌+◌, ◌^◌, ◌<◌, ◌≤◌, ◌↔◌, ℕ, List, [], true, false, length, IfErr, OnOk, OnErr, IsErrOf, IsTrue};
 ghost use Rattle.ports_core.specs.Slot.{is_writable};
 ghost use Rattle.ports_core.specs.Source.{is_readable};
-ghost use Rattle.ports_core.specs.Engine.{Loads, TakesIn, PutsOut, CutsOff, Finishes, EndsShort, EndsWith, EndsThere, IsCaused, IsMet, KeepsOwn, Clears, MayGet, is_verdict};
+ghost use Rattle.ports_core.specs.Engine.{Loads, TakesIn, PutsOut, CutsOff, Finishes, EndsShort, EndsWith, EndsThere, IsCaused, IsMet, KeepsOwn, KeepsThere, Clears, MayGet};
 ghost use Rattle.ports_core.specs.Work.{IsSpare};
+ghost use Rattle.ports_core.specs.Swept.{AreThere, RemovesIf};
 ghost use Rattle.ports_core.specs.Guard.{GuardState, HoldsIn};
 
 use crate::{Fault, Inputs, Outs, Stage, fed_with};
@@ -59,8 +60,8 @@ impl<S: Stage> Guarded<S> {
         ensures ready { OnOk result (S.Ready self.new.stage (O.slots outs.new)) }
         ensures fed { OnOk result (self.new.fed ≡ self.old.fed + length piece.now) }
         ensures bound { OnOk result (self.new.fed < 2 ^ 63) }
-        ensures owns { OnOk result (KeepsOwn S.Owns self.old.stage self.new.stage (O.slots outs.old) (O.slots outs.new)) }
-        ensures owned { IfErr result (λ fault. is_verdict fault ≡ false → KeepsOwn S.Owns self.old.stage self.new.stage (O.slots outs.old) (O.slots outs.new)) }
+        ensures owns { KeepsOwn S.Owns self.old.stage self.new.stage (O.slots outs.old) (O.slots outs.new) }
+        ensures there { KeepsThere S.files self.old.stage self.new.stage (O.slots outs.old) (O.slots outs.new) }
         ensures cut { IfErr result (CutsOff S.Holds S.Owns S.work self.old.stage piece.now O.told (O.slots outs.old) (O.slots outs.new)) }
         ensures refused { IfErr result (IsCaused (IsMet (S.work self.old.stage).means (S.work self.old.stage).means.feeding (S.may_lack self.old.stage piece.now ≡ true) (EndsWith S.Holds S.work self.old.stage piece.now) (O.slots outs.old) (O.slots outs.new)) self.old.is_over self.old.fed (length piece.now) (O.slots outs.old) (O.slots outs.new)) }
         ensures long { self.old.is_over ≡ false → 2 ^ 63 ≤ self.old.fed + length piece.now → IsErrOf result Fault.TooLong × (O.slots outs.new ≡ O.slots outs.old) }
@@ -117,8 +118,8 @@ impl<S: Stage> Guarded<S> {
         ensures same { S.work self.new.stage ≡ S.work self.old.stage }
         ensures outputs { OnOk result (Finishes S.Holds S.Owns S.work self.old.stage O.told (O.slots outs.old) (O.slots outs.new)) }
         ensures writable { OnOk result ((S.work self.old.stage).means.output ≡ true → IsTrue (is_writable (O.slots outs.new) 0)) }
-        ensures owns { OnOk result (KeepsOwn S.Owns self.old.stage self.new.stage (O.slots outs.old) (O.slots outs.new)) }
-        ensures owned { IfErr result (λ fault. is_verdict fault ≡ false → KeepsOwn S.Owns self.old.stage self.new.stage (O.slots outs.old) (O.slots outs.new)) }
+        ensures owns { KeepsOwn S.Owns self.old.stage self.new.stage (O.slots outs.old) (O.slots outs.new) }
+        ensures there { KeepsThere S.files self.old.stage self.new.stage (O.slots outs.old) (O.slots outs.new) }
         ensures cut { IfErr result (EndsShort S.Holds S.Owns S.work self.old.stage O.told (O.slots outs.old) (O.slots outs.new)) }
         ensures refused { IfErr result (IsCaused (IsMet (S.work self.old.stage).means (S.work self.old.stage).means.closing (Unit {0}) (EndsThere S.Holds S.work self.old.stage) (O.slots outs.old) (O.slots outs.new)) self.old.is_over self.old.fed 0 (O.slots outs.old) (O.slots outs.new)) }
         ensures failed { self.old.is_over ≡ true → IsErrOf result Fault.Failed × (self.new ≡ self.old) × (O.slots outs.new ≡ O.slots outs.old) }
@@ -130,12 +131,15 @@ impl<S: Stage> Guarded<S> {
         self.stage.finish(outs)
     }
 
-    /// Gives the input up, after a fault or where it broke off: removes the files that it made, in order, if its work
-    /// clears them. One that can't be removed is broken and closed, and the next is tried. Not to be called after
-    /// `Suffixes`, `NoMatch` or `Range`, which have removed them.
+    /// Gives the input up, after any fault or where it broke off: removes the files that it made and that are still
+    /// there, in order, if its work clears them. One that can't be removed is broken and closed, and the next is tried.
+    /// After `Suffixes`, `NoMatch` or `Range`, or when called again, it tries those whose removal failed before.
     pub fn abandon<O: Outs>(&mut self, outs: &mut O)
-        requires { (first : ℕ) × S.Owns self.old.stage first (O.slots outs.old) }
+        requires { AreThere (S.files self.old.stage) (O.slots outs.old) }
         ensures same { S.work self.new.stage ≡ S.work self.old.stage }
+        ensures removes { RemovesIf (S.work self.old.stage).clears (S.files self.old.stage) (O.slots outs.old) (S.files self.new.stage) (O.slots outs.new) }
+        ensures owns { KeepsOwn S.Owns self.old.stage self.new.stage (O.slots outs.old) (O.slots outs.new) }
+        ensures there { AreThere (S.files self.new.stage) (O.slots outs.new) }
         ensures swept { Clears S.Owns S.work self.old.stage (O.slots outs.old) (O.slots outs.new) }
         ensures over { self.new.is_over ≡ true }
     {
@@ -169,8 +173,7 @@ impl<S: Stage> Guarded<S> {
 
     /// How many bytes wait, and so aren't written: those that came in and of which it isn't decided yet where they go.
     pub fn held(&self) -> u64
-        ensures bytes { result ≡ S.held self.now.stage }
-        ensures waits { (x : List ℕ) → HoldsIn S.Holds self.now x → result ≡ length (S.waiting self.now.stage x) }
+        ensures { (x : List ℕ) → HoldsIn S.Holds self.now x → result ≡ length ((S.work self.now.stage).waiting x) }
     {
         self.stage.waits()
     }

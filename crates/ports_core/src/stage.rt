@@ -2,7 +2,8 @@ ghost use Rattle.std.specs.Prelude.{◌≡◌, ◌+◌, ◌^◌, ◌<◌, ◌≤
 ghost use Rattle.ports_core.specs.Slot.{Slot, is_writable};
 ghost use Rattle.ports_core.specs.Source.{is_readable};
 ghost use Rattle.ports_core.specs.Work.{Work, IsLawful, IsSpare};
-ghost use Rattle.ports_core.specs.Engine.{Loads, TakesIn, PutsOut, CutsOff, Finishes, EndsShort, EndsWith, EndsThere, IsMet, KeepsOwn, Clears, MayGet, is_verdict};
+ghost use Rattle.ports_core.specs.Engine.{Loads, TakesIn, PutsOut, CutsOff, Finishes, EndsShort, EndsWith, EndsThere, IsMet, KeepsOwn, KeepsThere, Clears, MayGet};
+ghost use Rattle.ports_core.specs.Swept.{AreThere, RemovesIf};
 
 use crate::{Fault, Inputs, Outs};
 
@@ -14,12 +15,6 @@ pub trait Stage {
 
     /// What it makes of its input.
     ghost work: { Self → Work };
-
-    /// How many bytes wait in it.
-    ghost held: { Self → ℕ };
-
-    /// Which of the bytes that came in wait.
-    ghost waiting: { Self → List ℕ → List ℕ };
 
     /// How many bytes it has to count; 0 where its own limit bounds them.
     ghost size: { Self → ℕ } = { λ stage. 0 };
@@ -36,6 +31,9 @@ pub trait Stage {
     /// Whether the slots from a place on are those that it opened.
     ghost Owns: { Self → ℕ → List Slot → Type 0 };
 
+    /// The outputs of the files that it made and didn't remove; none where its work never clears them.
+    ghost files: { Self → List ℕ } = { λ stage. [] };
+
     /// Takes the next piece, and writes what is settled with it.
     ///
     /// # Errors
@@ -49,8 +47,8 @@ pub trait Stage {
         ensures holds { OnOk result (TakesIn Holds piece.now self.old self.new) }
         ensures outputs { OnOk result (PutsOut Holds Owns work self.old piece.now O.told (O.slots outs.old) (O.slots outs.new)) }
         ensures ready { OnOk result (Ready self.new (O.slots outs.new)) }
-        ensures owns { OnOk result (KeepsOwn Owns self.old self.new (O.slots outs.old) (O.slots outs.new)) }
-        ensures owned { IfErr result (λ fault. is_verdict fault ≡ false → KeepsOwn Owns self.old self.new (O.slots outs.old) (O.slots outs.new)) }
+        ensures owns { KeepsOwn Owns self.old self.new (O.slots outs.old) (O.slots outs.new) }
+        ensures there { KeepsThere files self.old self.new (O.slots outs.old) (O.slots outs.new) }
         ensures cut { IfErr result (CutsOff Holds Owns work self.old piece.now O.told (O.slots outs.old) (O.slots outs.new)) }
         ensures met { IfErr result (IsMet (work self.old).means (work self.old).means.feeding (may_lack self.old piece.now ≡ true) (EndsWith Holds work self.old piece.now) (O.slots outs.old) (O.slots outs.new)) };
 
@@ -83,18 +81,21 @@ pub trait Stage {
         ensures size { size self.new ≤ size self.old }
         ensures outputs { OnOk result (Finishes Holds Owns work self.old O.told (O.slots outs.old) (O.slots outs.new)) }
         ensures writable { OnOk result ((work self.old).means.output ≡ true → IsTrue (is_writable (O.slots outs.new) 0)) }
-        ensures owns { OnOk result (KeepsOwn Owns self.old self.new (O.slots outs.old) (O.slots outs.new)) }
-        ensures owned { IfErr result (λ fault. is_verdict fault ≡ false → KeepsOwn Owns self.old self.new (O.slots outs.old) (O.slots outs.new)) }
+        ensures owns { KeepsOwn Owns self.old self.new (O.slots outs.old) (O.slots outs.new) }
+        ensures there { KeepsThere files self.old self.new (O.slots outs.old) (O.slots outs.new) }
         ensures cut { IfErr result (EndsShort Holds Owns work self.old O.told (O.slots outs.old) (O.slots outs.new)) }
         ensures met { IfErr result (IsMet (work self.old).means (work self.old).means.closing (Unit {0}) (EndsThere Holds work self.old) (O.slots outs.old) (O.slots outs.new)) };
 
-    /// Removes the files that it made, in order, if its work clears them. One that can't be removed is broken and
-    /// closed, and the next is tried.
+    /// Removes the files that it made and that are still there, in order, if its work clears them. One that can't be
+    /// removed is broken and closed, and the next is tried.
     fn clear<O: Outs>(&mut self, outs: &mut O)
-        requires { (first : ℕ) × Owns self.old first (O.slots outs.old) }
+        requires { AreThere (files self.old) (O.slots outs.old) }
         ensures same { work self.new ≡ work self.old }
         ensures size { size self.new ≤ size self.old }
-        ensures swept { Clears Owns work self.old (O.slots outs.old) (O.slots outs.new) };
+        ensures removes { RemovesIf (work self.old).clears (files self.old) (O.slots outs.old) (files self.new) (O.slots outs.new) }
+        ensures swept { Clears Owns work self.old (O.slots outs.old) (O.slots outs.new) }
+        ensures owns { KeepsOwn Owns self.old self.new (O.slots outs.old) (O.slots outs.new) }
+        ensures there { AreThere (files self.new) (O.slots outs.new) };
 
     /// Whether the output is complete: whatever comes, it stays.
     fn is_done(&self) -> bool
@@ -103,8 +104,7 @@ pub trait Stage {
 
     /// How many bytes wait.
     fn waits(&self) -> u64
-        ensures bytes { result ≡ held self.now }
-        ensures waits { (x : List ℕ) → length x < 2 ^ 63 → Holds self.now x → result ≡ length (waiting self.now x) };
+        ensures { (x : List ℕ) → length x < 2 ^ 63 → Holds self.now x → result ≡ length ((work self.now).waiting x) };
 
     /// How many bytes the next piece may have, so that at most its work's `ahead` of them are not used.
     fn wanted(&self) -> u64
@@ -116,4 +116,6 @@ pub trait Stage {
         ensures { (x : List ℕ) → Holds self.now x → IsSpare (work self.now) x result };
 
     ghost lawful: { (stage : Self) → IsLawful (work stage) };
+
+    ghost there: { (stage : Self) (first : ℕ) (slots : List Slot) → Owns stage first slots → AreThere (files stage) slots };
 }

@@ -1,17 +1,23 @@
-ghost use Rattle.std.specs.Prelude.{◌+◌, ◌^◌, ◌≤◌};
-ghost use Rattle.ports_core.specs.Swept.{AreMade, SweptFrom};
+ghost use Rattle.std.specs.Prelude.{◌≤◌, length, take};
+ghost use Rattle.ports_core.specs.Swept.{AreThere, Removes};
 
 use crate::Outs;
 
-/// Removes `count` files from the output `first` on, in order. One that can't be removed is broken and closed, and
-/// the next is tried.
-pub fn sweep_files<O: Outs>(first: usize, count: usize, outs: &mut O)
-    requires streams { 2 ≤ first }
-    requires bound { first + count ≤ 2 ^ 64 }
-    requires made { AreMade first count (O.slots outs.old) }
-    ensures { SweptFrom first (O.slots outs.old) (O.slots outs.new) }
+/// Removes the files of these outputs, in order. One that can't be removed is broken and closed, and the next is tried.
+/// The outputs of those that couldn't be removed are moved to the front; it returns how many they are.
+pub fn sweep_files<O: Outs>(files: &mut [usize], outs: &mut O) -> usize
+    requires { AreThere files.old (O.slots outs.old) }
+    ensures within { result ≤ length files.old }
+    ensures removes { Removes files.old (O.slots outs.old) (take result files.new) (O.slots outs.new) }
 {
-    for n in 0..count {
-        let _ = outs.remove(first + n);
+    let mut left = 0;
+    for place in 0..files.len() {
+        let file = files[place];
+        if outs.remove(file).is_ok() {
+            continue;
+        }
+        files[left] = file;
+        left += 1;
     }
+    left
 }

@@ -128,7 +128,3 @@ module _ (told : Bool) (state : PartsState) (old new : List Slot) where
 pub on_ok : {P : Type 0} (result : Result (Unit {0}) Fault) → P → OnOk result P
 on_ok (Ok done) is = is
 on_ok (Err f) is = tt
-
-pub on_err : {P : Fault → Type 0} (result : Result (Unit {0}) Fault) → ((f : Fault) → P f) → IfErr result P
-on_err (Ok done) is = tt
-on_err (Err f) is = is f

@@ -23,7 +23,7 @@ use Rattle.ports_core.specs.declared.slot.State.{State}
 use Rattle.ports_core.specs.declared.slot.State.TheVariants.{Open, Closed}
 use Rattle.ports_core.proofs.PartLemmas.{stopped_here, outputs_count}
 use Rattle.split_core.specs.Parts.{dealt, round_robin}
-use Rattle.split_core.specs.Split.{Share, share, named, is_named, are_named, from_start, file_at, only_files, dealt_files, settled_by, whole_by, is_short, is_some, split_means, split_work, bytes_in, waiting}
+use Rattle.split_core.specs.Split.{Share, share, named, is_named, are_named, from_start, file_at, only_files, dealt_files, settled_by, whole_by, is_short, is_some, split_means, split_work, bytes_in, waiting_after}
 use Rattle.split_core.specs.inner.Dealt.{dealt_piece, dealt_first, reached_by}
 use Rattle.split_core.specs.FilesState.{FilesState}
 use Rattle.split_core.specs.RoundState.{RoundState}
@@ -342,6 +342,7 @@ does_all delim names others elide n fresh are same =
       work_by short = record {
         settled = settled_by (round_plan delim n elide names);
         whole = whole_by (round_plan delim n elide names);
+        waiting = waiting_after (settled_by (round_plan delim n elide names));
         is_complete = short;
         verdict = λ x. cond (short x) (Some fault.Suffixes) None;
         clears = false;
@@ -364,7 +365,7 @@ bytes_filed : (names : Naming) (place : ℕ) (these : List (List ℕ)) → map (
 bytes_filed names place [] = refl
 bytes_filed names place (bytes ∷ these) = ap (λ rest. bytes ∷ rest) (bytes_filed names (place + 1) these)
 
-pub none_waits : (round : RoundState) (x : List ℕ) → Holds round x → 0 ≡ length (waiting (work round) x)
+pub none_waits : (round : RoundState) (x : List ℕ) → Holds round x → 0 ≡ length ((work round).waiting x)
 none_waits round x holds = sym (ap length (ap (λ count. drop count x) all ∙ drop-length x)) where
   files : List (List ℕ)
   files = files_of round.delim round.elide round.count x

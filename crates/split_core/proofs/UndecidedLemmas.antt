@@ -16,7 +16,7 @@ use Rattle.seg_core.specs.declared.cut.Cut.TheVariants as cut
 use Rattle.split_core.specs.declared.limit.Limit.{Limit}
 use Rattle.split_core.specs.declared.limit.Limit.TheVariants.{Lines, Bytes, LineBytes}
 use Rattle.split_core.specs.Parts.{whole_lines, most, cut_up, unless_empty, parts, settled_rest, waiting_rest, round_robin, dealt}
-use Rattle.split_core.specs.Split.{Plan, share, is_named, are_named, named, file_at, settled_by, is_short, split_work, dealt_files, bytes_in, waiting}
+use Rattle.split_core.specs.Split.{Plan, share, is_named, are_named, named, file_at, settled_by, is_short, split_work, dealt_files, bytes_in}
 use Rattle.split_core.specs.Splitter.{IsPositive}
 use Rattle.split_core.specs.PartState.{parts_work}
 use Rattle.split_core.specs.Place.{dealt_to, dealt_spots, split_spots}
@@ -173,7 +173,7 @@ parts_differ (LineBytes n delim) names x some are i past within = elim (cases_lt
   | inr none ↦ absurd (none_wait (LineBytes n delim) names x i are (open_of_none delim (cut_up (LineBytes n delim) x).rest (omega (arith, none))) past within)
 ]
 
-parts_undecided : (limit : Limit) (names : Naming) (x : List ℕ) → 0 < most limit → are_named names (length (parts limit x)) ≡ true → IsUndecided (parts_spots limit names) x (waiting (parts_work limit names) x)
+parts_undecided : (limit : Limit) (names : Naming) (x : List ℕ) → 0 < most limit → are_named names (length (parts limit x)) ≡ true → IsUndecided (parts_spots limit names) x ((parts_work limit names).waiting x)
 parts_undecided limit names x some are = record {
   before = settled_in limit names x;
   are_last = after_front x (settled_in limit names x) (waiting_rest limit (cut_up limit x).rest) (came_in limit names x are);
@@ -194,7 +194,7 @@ dealt_decided delim n names x y i less =
     ∙ ap (λ front. cond (nat_lt i (length x) && is_named names (delimiters delim front % n)) (spot (delimiters delim front % n + 1) (length (dealt n (delimiters delim front % n) 0 (lines_of delim front))) ∷ []) []) (take-append-le i x y (omega (arith, less)))
 
 round_undecided : (delim n : ℕ) (elide : Bool) (names : Naming) (x : List ℕ) → 0 < n → are_named names (length (dealt_files delim elide n x)) ≡ true
-    → IsUndecided (split_spots (round_plan delim n elide names)) x (waiting (split_work (round_plan delim n elide names)) x)
+    → IsUndecided (split_spots (round_plan delim n elide names)) x ((split_work (round_plan delim n elide names)).waiting x)
 round_undecided delim n elide names x some are =
     let has : bytes_in (settled_by (round_plan delim n elide names) x) ≡ joined (dealt_files delim elide n x) = ap joined (dealt_settled delim n elide names x ∙ each_named names (dealt_files delim elide n x) are) in
     let size : length (bytes_in (settled_by (round_plan delim n elide names) x)) ≡ length x = ap length has ∙ dealt_bytes delim n elide x some in record {
@@ -214,11 +214,11 @@ counted : (names : Naming) (those : List (List ℕ)) → not (are_named names (l
 counted names those is = ap (are_named names) (sym (length-map those (share Closed))) ∙ has_names _ is
 
 undecided_at : (delim : ℕ) (cut : Cut) (elide : Bool) (names : Naming) → IsPositive cut → (x : List ℕ) → is_short (plan_by delim cut elide names) x ≡ false
-    → IsUndecided (split_spots (plan_by delim cut elide names)) x (waiting (split_work (plan_by delim cut elide names)) x)
+    → IsUndecided (split_spots (plan_by delim cut elide names)) x ((split_work (plan_by delim cut elide names)).waiting x)
 undecided_at delim (cut.Lines n) elide names some x enough = parts_undecided (Lines n delim) names x some (counted names (parts (Lines n delim) x) enough)
 undecided_at delim (cut.Bytes n) elide names some x enough = parts_undecided (Bytes n) names x some (counted names (parts (Bytes n) x) enough)
 undecided_at delim (cut.LineBytes n) elide names some x enough = parts_undecided (LineBytes n delim) names x some (counted names (parts (LineBytes n delim) x) enough)
 undecided_at delim (cut.Round n) elide names some x enough = round_undecided delim n elide names x some (counted names (dealt_files delim elide n x) enough)
 
-pub split_undecided : (plan : Plan) → IsPositive plan.cut → (x : List ℕ) → is_short plan x ≡ false → IsUndecided (split_spots plan) x (waiting (split_work plan) x)
+pub split_undecided : (plan : Plan) → IsPositive plan.cut → (x : List ℕ) → is_short plan x ≡ false → IsUndecided (split_spots plan) x ((split_work plan).waiting x)
 split_undecided plan some x enough = undecided_at plan.delim plan.cut plan.elide plan.names some x enough

@@ -7,10 +7,9 @@ use Rattle.ports_core.specs.Engine.{TakesIn, PutsOut, CutsOff, Finishes, EndsSho
 use Rattle.ports_core.specs.declared.fault.Fault.{Fault}
 use Rattle.split_core.specs.declared.splitter.Splitter.{Splitter}
 use Rattle.split_core.specs.declared.splitter.Splitter.TheVariants.{Parts, Round}
-use Rattle.split_core.specs.Split.{waiting}
 use Rattle.split_core.specs.Ways.{Holds, Owns, Ready, work}
 use Rattle.split_core.specs.inner.Ways.{FinishesBy, PassesBy, of_parts, of_round, parts_end, round_ends}
-use Rattle.split_core.specs.Ways.{held}
+use Rattle.split_core.specs.inner.Ways.{held}
 use Rattle.split_core.proofs.PartStageLemmas as part
 use Rattle.split_core.proofs.RoundLemmas as dealing
 use Rattle.split_core.proofs.WaitingLemmas.{parts_wait}
@@ -23,7 +22,7 @@ all_named (Round round) x holds = refl
 pub never_short : (engine : GuardState Splitter) (x : List ℕ) → HoldsIn Holds engine x → (work engine.stage).is_complete x ≡ false
 never_short engine x holds = all_named engine.stage x holds.within
 
-pub held_is : (way : Splitter) (x : List ℕ) → Holds way x → held way ≡ length (waiting (work way) x)
+pub held_is : (way : Splitter) (x : List ℕ) → Holds way x → held way ≡ length ((work way).waiting x)
 held_is (Parts parts) x holds = parts_wait parts parts.waiting (length parts.waiting) refl refl x holds
 held_is (Round round) x holds = dealing.none_waits round x holds
 

@@ -7,7 +7,7 @@ use Rattle.ports_core.specs.declared.fault.Fault.TheVariants.{Suffixes}
 use Rattle.ports_core.specs.declared.slot.State.TheVariants.{Closed}
 use Rattle.split_core.specs.declared.limit.Limit.{Limit}
 use Rattle.split_core.specs.Parts.{parts}
-use Rattle.split_core.specs.Split.{share, named, are_named, from_start, only_files, settled_parts, split_means}
+use Rattle.split_core.specs.Split.{share, named, are_named, from_start, only_files, settled_parts, split_means, waiting_after}
 use Rattle.split_core.specs.PartsState.{PartsState, IsReady, OwnsFile}
 
 -- what `split` makes of an input by this limit, whatever else is asked of it
@@ -15,6 +15,7 @@ abbrev pub parts_work : Limit → Naming → Work
 parts_work limit names = record {
   settled = λ x. only_files (named names 0 (settled_parts limit x));
   whole = λ x. only_files (named names 0 (map (share Closed) (parts limit x)));
+  waiting = waiting_after (λ x. only_files (named names 0 (settled_parts limit x)));
   is_complete = λ x. not (are_named names (length (map (share Closed) (parts limit x))));
   verdict = λ x. if not (are_named names (length (map (share Closed) (parts limit x)))) then Some Suffixes else None;
   clears = false;

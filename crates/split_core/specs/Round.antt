@@ -4,7 +4,7 @@ use Rattle.seg_core.specs.Line.{delimiters, line_count}
 use Rattle.ports_core.specs.Name.{Naming}
 use Rattle.ports_core.specs.Slot.{Slot, is_closable}
 use Rattle.ports_core.specs.Work.{Work, always_well}
-use Rattle.split_core.specs.Split.{Plan, are_named, from_start, settled_by, whole_by, split_means}
+use Rattle.split_core.specs.Split.{Plan, are_named, from_start, settled_by, whole_by, split_means, waiting_after}
 use Rattle.split_core.specs.FilesState.{FilesState}
 use Rattle.split_core.specs.RoundState.{RoundState}
 use Rattle.seg_core.specs.declared.cut.Cut.TheVariants.{Round}
@@ -21,6 +21,7 @@ abbrev pub round_work : Plan → Work
 round_work plan = record {
   settled = settled_by plan;
   whole = whole_by plan;
+  waiting = waiting_after (settled_by plan);
   is_complete = λ x. false;
   verdict = always_well;
   clears = false;

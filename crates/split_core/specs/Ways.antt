@@ -1,5 +1,5 @@
 -- The two ways to cut, as one stage.
-use Rattle.std.specs.Prelude.{ℕ, List, length}
+use Rattle.std.specs.Prelude.{ℕ, List}
 use Rattle.ports_core.specs.Slot.{Slot}
 use Rattle.ports_core.specs.Work.{Work}
 use Rattle.split_core.specs.declared.splitter.Splitter.{Splitter}
@@ -23,8 +23,3 @@ Ready (Round state) slots = round.Ready state slots
 abbrev pub Owns : Splitter → ℕ → List Slot → Type 0
 Owns (Parts state) first slots = part.Owns state first slots
 Owns (Round state) first slots = round.Owns state first slots
-
--- how many bytes wait; where lines are dealt, none
-abbrev pub held : Splitter → ℕ
-held (Parts state) = length state.waiting
-held (Round state) = 0

@@ -8,7 +8,7 @@ ghost use Rattle.split_core.specs.declared.limit.Limit.TheVariants.{Bytes, LineB
 ghost use Rattle.split_core.specs.Parts.{cut_up, dealt, most, parts, round_robin, settled_rest, waiting_rest};
 ghost use Rattle.split_core.specs.Place.{split_spots};
 ghost use Rattle.split_core.specs.Sections.{AreLineByteParts, byte_parts, line_parts};
-ghost use Rattle.split_core.specs.Split.{Plan, Share, dealt_files, is_short, settled_parts, share, split_work, waiting};
+ghost use Rattle.split_core.specs.Split.{Plan, Share, dealt_files, is_short, settled_parts, share, split_work};
 ghost use Rattle.split_core.specs.Splitter.{IsPositive};
 ghost use Rattle.split_core.specs.Ways.{Holds, work};
 ghost use Rattle.split_core.specs.declared.splitter.Splitter.{Splitter};
@@ -70,7 +70,7 @@ pub fn lines_are_dealt()
 /// is said by spots, and each file has at each spot just the one byte that goes there.
 pub fn agreed_is_settled()
     ensures outputs { (plan : Plan) → IsPositive plan.cut → (x : List ℕ) → IsAgreed (split_work plan) x ((split_work plan).settled x) }
-    ensures waits { (plan : Plan) → IsPositive plan.cut → (x : List ℕ) → is_short plan x ≡ false → IsUndecided (split_spots plan) x (waiting (split_work plan) x) }
+    ensures waits { (plan : Plan) → IsPositive plan.cut → (x : List ℕ) → is_short plan x ≡ false → IsUndecided (split_spots plan) x ((split_work plan).waiting x) }
     ensures placed { (plan : Plan) → IsPositive plan.cut → ArePlaced (split_work plan) (split_spots plan) }
 {}
 

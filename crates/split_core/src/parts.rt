@@ -6,7 +6,7 @@ ghost use Rattle.split_core.specs.inner.Moves.{EndsFile, Extends, FindsFile, Fin
 ghost use Rattle.split_core.specs.PartState.{parts_work, work};
 ghost use Rattle.split_core.specs.Parts.{most};
 ghost use Rattle.split_core.specs.PartsState.{IsReady, Stands};
-ghost use Rattle.split_core.specs.Split.{from_start, waiting};
+ghost use Rattle.split_core.specs.Split.{from_start};
 
 use crate::Limit;
 use crate::files::{open_next, write_bytes, write_held};

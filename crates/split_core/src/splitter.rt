@@ -4,11 +4,10 @@ ghost use Rattle.ports_core.specs.Guard.{HoldsIn};
 ghost use Rattle.ports_core.specs.Part.{OutputsAt, StoppedBetween, nothing};
 ghost use Rattle.ports_core.specs.Slot.{Slot};
 ghost use Rattle.split_core.specs.Sharing.{CannotOpen};
-ghost use Rattle.split_core.specs.Split.{settled_by, split_work, waiting};
+ghost use Rattle.split_core.specs.Split.{settled_by, split_work};
 ghost use Rattle.split_core.specs.Splitter.{HasNames, IsPositive};
 ghost use Rattle.split_core.specs.Ways.{Holds, Owns, Ready, work};
-ghost use Rattle.split_core.specs.inner.Ways.{FinishesBy, PassesBy};
-ghost use Rattle.split_core.specs.Ways.{held};
+ghost use Rattle.split_core.specs.inner.Ways.{FinishesBy, PassesBy, held};
 ghost use Rattle.split_core.specs.laws.Ways.{lawful};
 
 use crate::parts::Parts;
@@ -78,10 +77,6 @@ impl Stage for Splitter {
 
     ghost work = { work };
 
-    ghost held = { held };
-
-    ghost waiting = { λ splitter. waiting (work splitter) };
-
     ghost may_lack = { λ splitter piece. true };
 
     ghost Ready = { Ready };
@@ -137,4 +132,6 @@ impl Stage for Splitter {
     }
 
     ghost lawful = { lawful };
+
+    ghost there = { λ splitter first slots owns. tt };
 }

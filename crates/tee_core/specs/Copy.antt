@@ -19,6 +19,7 @@ abbrev pub tee_work : Mode → List (List ℕ) → Work
 tee_work mode names = record {
   settled = copies mode names Open;
   whole = copies mode names Closed;
+  waiting = λ x. [];
   is_complete = λ x. false;
   verdict = always_well;
   clears = false;

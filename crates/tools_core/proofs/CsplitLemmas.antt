@@ -4,7 +4,7 @@ use Rattle.std.proofs.lemmas.Bool.{false≢true}
 use Rattle.ports_core.specs.Guard.{GuardState, HoldsIn}
 use Rattle.ports_core.specs.Slot.{Slot}
 use Rattle.ports_core.specs.Part.{OutputsAt, StoppedBetween, nothing}
-use Rattle.ports_core.specs.Swept.{AreMade}
+use Rattle.ports_core.specs.Swept.{HasNoFiles}
 use Rattle.ports_core.specs.Work.{Work, Needs}
 use Rattle.ports_core.specs.Engine.{is_verdict}
 use Rattle.ports_core.specs.declared.fault.Fault.{Fault}
@@ -46,19 +46,19 @@ unjudged_by style old new Failed breaks = refl
 unjudged_by style old new TooLong breaks = refl
 
 csplit_stops : (told : Bool) (style : Style) (operands : List Operand) (opening : Needs) (old new : List Slot) (fault : Fault) → opening.memory ≡ true → opening.files ≡ true → 2 ≤ length old
-    → ((before : List Slot) → OutputsAt told before nothing old → StoppedBetween told before nothing (settled_by style operands []) fault new) → Breaks style old new fault → ((place : ℕ) → length old ≤ place → AreMade place 0 new)
+    → ((before : List Slot) → OutputsAt told before nothing old → StoppedBetween told before nothing (settled_by style operands []) fault new) → Breaks style old new fault → HasNoFiles (length old) new
     → OpensShort (csplit_work style operands) opening told old new fault
 csplit_stops told style operands opening old new fault may opens two stop breaks none = record {
   unjudged = unjudged_by style old new fault breaks;
   reached = new;
   why = stops_as style operands opening old new fault may opens breaks;
   stop = stop old (nothing_out told old (some_there old two));
-  swept = swept_none (not style.keep) (length old) new (λ place past. (none place past).none_after place (omega (arith)));
+  swept = swept_none (not style.keep) (length old) new none;
 }
 
 -- The style is a copy of the one that was asked for.
 pub csplit_short : (told : Bool) (style asked : Style) (operands : List Operand) (opening : Needs) (old new : List Slot) (E : Type 0) (result : Result E Fault) → opening.memory ≡ true → opening.files ≡ true → style ≡ asked → 2 ≤ length old
-    → IfErr result (λ fault. (before : List Slot) → OutputsAt told before nothing old → StoppedBetween told before nothing (settled_by style operands []) fault new) → IfErr result (Breaks style old new) → IfErr result (λ fault. (place : ℕ) → length old ≤ place → AreMade place 0 new)
+    → IfErr result (λ fault. (before : List Slot) → OutputsAt told before nothing old → StoppedBetween told before nothing (settled_by style operands []) fault new) → IfErr result (Breaks style old new) → IfErr result (λ fault. HasNoFiles (length old) new)
     → IfErr result (OpensShort (csplit_work asked operands) opening told old new)
 csplit_short told style asked operands opening old new E (Ok engine) may opens is two stop breaks none = tt
 csplit_short told style asked operands opening old new E (Err fault) may opens is two stop breaks none =

@@ -4,8 +4,8 @@ use Rattle.bre_core.specs.Pattern.{Pattern}
 use Rattle.bre_core.specs.Search.{contains}
 use Rattle.seg_core.specs.Line.{lines_of, line_count, ends_with}
 use Rattle.ports_core.specs.Part.{Part, Begins, nothing}
-use Rattle.ports_core.specs.Swept.{AreMade}
 use Rattle.ports_core.specs.Slot.{Slot}
+use Rattle.ports_core.specs.Swept.{Removes}
 use Rattle.ports_core.specs.inner.Slot.{KeepsBroken}
 use Rattle.ports_core.specs.declared.fault.Fault.{Fault}
 use Rattle.csplit_core.specs.Csplit.{settled_of, whole_of}
@@ -21,7 +21,7 @@ use Rattle.csplit_core.specs.Progress.{AimsAt}
 use Rattle.csplit_core.specs.inner.Progress.{GoesPast}
 use Rattle.csplit_core.specs.Section.{is_final}
 use Rattle.csplit_core.specs.Writer.{OwnsFiles, IsReady, Breaks, size_of}
-use Rattle.csplit_core.specs.inner.Writer.{KeepsFiles, Halts, Moves as Gets}
+use Rattle.csplit_core.specs.inner.Writer.{BegunNot, KeepsFiles, Halts, Moves as Gets, new_writer}
 use Rattle.csplit_core.specs.declared.progress.Turn.{Turn}
 use Rattle.csplit_core.specs.declared.progress.Turn.TheVariants.{UsedUp, Missed, Above, Below, Cuts}
 use Rattle.csplit_core.specs.declared.line_cutter.Cut.{Cut}
@@ -59,7 +59,7 @@ pub record Took (told : Bool) (cutter : CutterState) (text : List ℕ) (old new 
   pub same : IsSame cutter next
   pub stands : (x : List ℕ) → IsWhole x → Stands cutter x → Stands next (x ++ text)
   pub moves : (x : List ℕ) → IsWhole x → Stands cutter x
-      → Gets told (settled_part cutter x) (settled_part cutter (x ++ text)) old new
+      → Gets told cutter.writer next.writer (settled_part cutter x) (settled_part cutter (x ++ text)) old new
   pub keeps : KeepsBroken old new
   pub owns : KeepsFiles cutter.writer next.writer old new
   pub ready : IsReady next.writer new
@@ -71,7 +71,7 @@ pub record TookNot (told : Bool) (cutter : CutterState) (text : List ℕ) (old n
     (fault : Fault) : Type 0 where
   pub same : IsSame cutter next
   pub halts : (x : List ℕ) → IsWhole x → Stands cutter x
-      → Halts told (settled_part cutter x) (settled_part cutter (x ++ text)) old new fault
+      → Halts told cutter.writer (settled_part cutter x) (settled_part cutter (x ++ text)) old new fault
   pub breaks : Breaks cutter.writer.style old new fault
   pub owns : KeepsFiles cutter.writer next.writer old new
 
@@ -93,7 +93,7 @@ pub record Held (told : Bool) (cutter : CutterState) (left : List ℕ) (old new 
   pub window : next.window ≡ record cutter.window { held = next.window.held }
   pub stands : (x : List ℕ) (at : IsAt cutter x left) → Arrives cutter x left at → Stands next x
   pub moves : (x : List ℕ) (at : IsAt cutter x left) → Arrives cutter x left at
-      → Gets told (part_at cutter x left at) (settled_part cutter x) old new
+      → Gets told cutter.writer next.writer (part_at cutter x left at) (settled_part cutter x) old new
   pub keeps : KeepsBroken old new
   pub owns : KeepsFiles cutter.writer next.writer old new
   pub ready : IsReady next.writer new
@@ -103,7 +103,7 @@ pub record HeldNot (told : Bool) (cutter : CutterState) (left : List ℕ) (old n
     (fault : Fault) : Type 0 where
   pub same : IsSame cutter next
   pub halts : (x : List ℕ) (at : IsAt cutter x left) → Arrives cutter x left at
-      → Halts told (part_at cutter x left at) (settled_part cutter x) old new fault
+      → Halts told cutter.writer (part_at cutter x left at) (settled_part cutter x) old new fault
   pub breaks : Breaks cutter.writer.style old new fault
   pub owns : KeepsFiles cutter.writer next.writer old new
 
@@ -198,7 +198,7 @@ pub record IsAfter (told : Bool) (cutter : CutterState) (x line : List ℕ) (nex
   pub near : next.lines ≤ search_line (suppress_in next) (state_in next)
   pub none : now.taken ≡ 0
   pub grows : Begins low (part_at next x rest now)
-  pub moves : Gets told low (part_at next x rest now) old new
+  pub moves : Gets told cutter.writer next.writer low (part_at next x rest now) old new
 
 -- The open section ended at a cut, and the next one began.
 pub record CutAt (told : Bool) (cutter : CutterState) (cut : Cut) (place : ℕ) (left : List ℕ) (old new : List Slot)
@@ -220,7 +220,7 @@ pub record CutNot (told : Bool) (cutter : CutterState) (cut : Cut) (place : ℕ)
     (next : CutterState) (fault : Fault) : Type 0 where
   pub same : IsSame cutter next
   pub halts : (x line : List ℕ) (at : IsAt cutter x left) → CutsNow cutter x left line cut place at
-      → Halts told (part_at cutter x left at) (settled_part cutter x) old new fault
+      → Halts told cutter.writer (part_at cutter x left at) (settled_part cutter x) old new fault
   pub breaks : Breaks cutter.writer.style old new fault
   pub owns : KeepsFiles cutter.writer next.writer old new
 
@@ -232,7 +232,7 @@ pub record CutAll (told : Bool) (cutter : CutterState) (cut : Cut) (place : ℕ)
   pub sound : IsSound next
   pub stands : (x : List ℕ) (at : IsAt cutter x left) → CutsNow cutter x left line cut place at → Stands next x
   pub moves : (x : List ℕ) (at : IsAt cutter x left) → CutsNow cutter x left line cut place at
-      → Gets told (part_at cutter x left at) (settled_part cutter x) old new
+      → Gets told cutter.writer next.writer (part_at cutter x left at) (settled_part cutter x) old new
   pub keeps : KeepsBroken old new
   pub owns : KeepsFiles cutter.writer next.writer old new
   pub ready : IsReady next.writer new
@@ -242,7 +242,7 @@ pub record CutAllNot (told : Bool) (cutter : CutterState) (cut : Cut) (place : �
     (old new : List Slot) (next : CutterState) (fault : Fault) : Type 0 where
   pub same : IsSame cutter next
   pub halts : (x : List ℕ) (at : IsAt cutter x left) → CutsNow cutter x left line cut place at
-      → Halts told (part_at cutter x left at) (settled_part cutter x) old new fault
+      → Halts told cutter.writer (part_at cutter x left at) (settled_part cutter x) old new fault
   pub breaks : Breaks cutter.writer.style old new fault
   pub owns : KeepsFiles cutter.writer next.writer old new
 
@@ -305,28 +305,21 @@ pub record Opened (told : Bool) (style : Style) (operands : List Operand) (old n
   pub asked : cutter.writer.style ≡ style
   pub operands_are : cutter.operands ≡ operands
   pub stands : Stands cutter []
-  pub moves : Gets told nothing (settled_of style operands []) old new
+  pub moves : Gets told (new_writer style) cutter.writer nothing (settled_of style operands []) old new
   pub owns : OwnsFiles cutter.writer (length old) new
   pub ready : IsReady cutter.writer new
   pub sound : IsSound cutter
   pub size : load cutter ≡ 0
 
--- It could not begin.
-pub record OpenedNot (told : Bool) (style : Style) (operands : List Operand) (old new : List Slot)
-    (fault : Fault) : Type 0 where
-  pub halts : Halts told nothing (settled_of style operands []) old new fault
-  pub breaks : Breaks style old new fault
-  -- no file was made
-  pub none : (place : ℕ) → length old ≤ place → AreMade place 0 new
-
 abbrev pub Opens : Bool → Style → List Operand → List Slot → List Slot → Result CutterState Fault → Type 0
 Opens told style operands old new (Ok cutter) = Opened told style operands old new cutter
-Opens told style operands old new (Err fault) = OpenedNot told style operands old new fault
+Opens told style operands old new (Err fault) = BegunNot told style (settled_of style operands []) old new fault
 
 -- The last section ended.
 pub record EndedAll (told : Bool) (cutter : CutterState) (old new : List Slot) (next : CutterState) : Type 0 where
   pub same : IsSame cutter next
-  pub moves : (x : List ℕ) → Stands cutter x → Gets told (settled_part cutter x) (whole_part cutter x) old new
+  pub moves : (x : List ℕ) → Stands cutter x
+      → Gets told cutter.writer next.writer (settled_part cutter x) (whole_part cutter x) old new
   -- how the plan ends stays
   pub judged : (x : List ℕ) → Stands cutter x → IsJudged next x
   pub keeps : KeepsBroken old new
@@ -336,10 +329,16 @@ pub record EndedAll (told : Bool) (cutter : CutterState) (old new : List Slot) (
 pub record EndedNone (told : Bool) (cutter : CutterState) (old new : List Slot) (next : CutterState)
     (fault : Fault) : Type 0 where
   pub same : IsSame cutter next
-  pub halts : (x : List ℕ) → Stands cutter x → Halts told (settled_part cutter x) (whole_part cutter x) old new fault
+  pub halts : (x : List ℕ) → Stands cutter x
+      → Halts told cutter.writer (settled_part cutter x) (whole_part cutter x) old new fault
   pub breaks : Breaks cutter.writer.style old new fault
   pub owns : KeepsFiles cutter.writer next.writer old new
 
 abbrev pub EndsAll : Bool → CutterState → List Slot → List Slot → CutterState → Result (Unit {0}) Fault → Type 0
 EndsAll told cutter old new next (Ok done) = EndedAll told cutter old new next
 EndsAll told cutter old new next (Err fault) = EndedNone told cutter old new next fault
+
+-- The files that were there are removed, and those are left whose removal failed.
+pub record Clears (cutter : CutterState) (old new : List Slot) (next : CutterState) : Type 0 where
+  pub same : next ≡ record cutter { writer = record cutter.writer { files = next.writer.files } }
+  pub removes : Removes cutter.writer.files old next.writer.files new

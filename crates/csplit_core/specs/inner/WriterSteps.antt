@@ -1,5 +1,5 @@
 -- What the steps of the writer of sections do.
-use Rattle.std.specs.Prelude.{◌≡◌, ℕ, ◌+◌, ◌<◌, Bool, List, [], ◌∷◌, ◌++◌, length, Result, Ok, Err}
+use Rattle.std.specs.Prelude.{◌≡◌, ℕ, ◌+◌, Bool, List, [], ◌∷◌, ◌++◌, length, Result, Ok, Err}
 use Rattle.ports_core.specs.Name.{numbered_name}
 use Rattle.ports_core.specs.Slot.{Slot, FailsToOpen, opened, told_of, with_written}
 use Rattle.ports_core.specs.inner.Slot.{KeepsBroken}
@@ -23,15 +23,13 @@ Appends told writer slot size bytes old new next (Err fault) = (next ≡ writer)
     × WritesShort told slot bytes old new fault
 
 abbrev pub next_name : WriterState → List ℕ
-next_name writer = numbered_name writer.style.prefix writer.style.digits writer.made
+next_name writer = numbered_name writer.style.prefix writer.style.digits (length writer.files)
 
 -- the next file was made
 pub record Made (writer : WriterState) (old new : List Slot) (next : WriterState) (slot : ℕ) : Type 0 where
   pub place : slot ≡ length old
   pub added : new ≡ old ++ opened (next_name writer) Fresh ∷ []
-  pub same : next ≡ record writer { first = next.first; made = writer.made + 1; current = File slot 0 }
-  pub is_first : writer.made ≡ 0 → next.first ≡ slot
-  pub follows : 0 < writer.made → next.first ≡ writer.first
+  pub same : next ≡ record writer { files = writer.files ++ slot ∷ []; current = File slot 0 }
 
 -- why a file with this name wasn't made: there was no memory for the name, or it couldn't be opened
 pub data MakesNone (old : List Slot) (name : List ℕ) (new : List Slot) : Fault → Type 0 where
@@ -53,7 +51,7 @@ pub record Started (told : Bool) (style : Style) (writer : WriterState) (kept : 
   pub asked : next.style ≡ style
   pub writes : (ended : List Contents) → Pauses writer ended → Writes next (begun_after ended kept)
   pub moves : (ended : List Contents) → Pauses writer ended
-      → Moves told (part_by style ended) (draft_part style (begun_after ended kept)) old new
+      → Moves told writer next (part_by style ended) (draft_part style (begun_after ended kept)) old new
   pub size : size_of next.current ≡ 0
   pub keeps : KeepsBroken old new
   pub owns : KeepsFiles writer next old new
@@ -64,8 +62,8 @@ pub record StartedNot (told : Bool) (style : Style) (writer : WriterState) (kept
     (next : WriterState) (fault : Fault) : Type 0 where
   pub asked : next.style ≡ style
   pub halts : (ended : List Contents) → Pauses writer ended
-      → Halts told (part_by style ended) (draft_part style (begun_after ended kept)) old new fault
-  pub none_made : next.made ≡ writer.made
+      → Halts told writer (part_by style ended) (draft_part style (begun_after ended kept)) old new fault
+  pub none_made : next.files ≡ writer.files
   pub breaks : Breaks style old new fault
   pub owns : KeepsFiles writer next old new
 

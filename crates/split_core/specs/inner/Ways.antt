@@ -56,3 +56,8 @@ pub data FinishesBy (told : Bool) (before after : List Slot) (result : Result (U
       → KeepsFile old.current before new.current after → FinishesBy told before after result (Parts old) (Parts new)
   round_ends : (old new : RoundState) → Closes told old before after new result
       → FinishesBy told before after result (Round old) (Round new)
+
+-- how many bytes wait; where lines are dealt, none
+abbrev pub held : Splitter → ℕ
+held (Parts state) = length state.waiting
+held (Round state) = 0

@@ -1,12 +1,14 @@
-use Rattle.std.proofs.Common.{◌≡◌, ◌+◌, subst, arith}
-use Rattle.ports_core.proofs.SweepLemmas.{Sweeping, swept_one, swept_all}
+use Rattle.std.proofs.Common.{refl, sym, ◌∙◌, arith}
+use Rattle.ports_core.proofs.SweepLemmas.{none_swept, sweep_on, sweep_past}
 use Rattle.ports_core.proofs.sweep.sweep_files.Goals as goal
 
-pub loop-n-preserved : goal.loop-n-preserved
-loop-n-preserved g c =
-    let next : c.args.first + c.loop-n.n + 1 ≡ c.args.first + (c.loop-n.n + 1) = omega arith in
-    subst (λ place. Sweeping c.args.first place (g.O.Outs.slots c.args.outs.now) (g.O.Outs.slots c.remove.new.self)) next
-    (swept_one c.args.first c.args.count (c.args.first + c.loop-n.n) _ _ _ c.remove.result c.requires.made c.loop-n.invariant (omega arith) (omega (arith, c.loop-n-test.true)) c.remove.ensures.ok c.remove.ensures.err)
+pub loop-place-init : goal.loop-place-init
+loop-place-init g c = none_swept c.args.files.now _ c.requires
 
-pub returns : goal.returns
-returns g c = swept_all c.args.first c.args.count (c.args.first + c.loop-n.n) _ _ c.requires.made c.loop-n.invariant (omega (arith, c.loop-n-test.false))
+pub loop-place-preserved-then-is_ok : goal.loop-place-preserved-then-is_ok
+loop-place-preserved-then-is_ok g c =
+    sweep_on c.args.files.now c.loop-place.files c.loop-place.place c.loop-place.left _ _ _ _ c.remove.result c.loop-place.invariant (omega (arith, c.loop-place-test.true, c.loop-place.invariant.size)) refl (sym c.is_ok.ensures.value ∙ c.if-is_ok.true) c.remove.ensures.ok
+
+pub loop-place-preserved : goal.loop-place-preserved
+loop-place-preserved g c =
+    sweep_past c.args.files.now c.loop-place.files c.loop-place.place c.loop-place.left _ _ _ _ c.remove.result c.loop-place.invariant (omega (arith, c.loop-place-test.true, c.loop-place.invariant.size)) refl (sym c.is_ok.ensures.value ∙ c.if-is_ok.false) c.remove.ensures.err

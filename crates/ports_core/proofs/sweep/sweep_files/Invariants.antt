@@ -1,6 +1,5 @@
-use Rattle.std.proofs.Common.{◌+◌}
 use Rattle.ports_core.proofs.SweepLemmas.{Sweeping}
 use Rattle.ports_core.proofs.sweep.sweep_files.Given as goal
 
-abbrev pub invariant-loop-n : goal.invariant-loop-n
-invariant-loop-n g l = Sweeping l.first (l.first + l.n) (g.O.Outs.slots l.fn.outs) (g.O.Outs.slots l.outs)
+abbrev pub invariant-loop-place : goal.invariant-loop-place
+invariant-loop-place g l = Sweeping l.fn.files l.files l.place l.left (g.O.Outs.slots l.fn.outs) (g.O.Outs.slots l.outs)

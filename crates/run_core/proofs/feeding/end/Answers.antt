@@ -7,9 +7,9 @@ pub returns-in-Ok : goal.returns-in-Ok
 returns-in-Ok g c = finished c.in-Ok.ensures.outputs
 
 pub given_up-requires : goal.given_up-requires
-given_up-requires g c unjudged = (c.requires.owns.0, c.in-Err.ensures.owned unjudged c.requires.owns.0 c.requires.owns.1)
+given_up-requires g c unjudged = (c.requires.owns.0, c.close.ensures.owns c.requires.owns.0 c.requires.owns.1)
 
 pub returns-in-Err : goal.returns-in-Err
 returns-in-Err g c =
     subst (λ those. EndsSo g.S.Stage.Holds g.S.Stage.Owns g.S.Stage.work g.O.Outs.told c.args.engine.now c.args.fed (g.O.Outs.slots c.args.outs.now) (g.O.Outs.slots c.given_up.new.outs) (Err those)) (sym c.given_up.ensures.same)
-    (close_short _ _ _ _ c.args.engine.now c.close.new.self _ _ _ _ c.in-Err.fault c.in-Err.ensures.cut c.in-Err.ensures.refused c.close.ensures.same c.in-Err.ensures.owned c.given_up.ensures.judged c.given_up.ensures.swept)
+    (close_short _ _ _ _ c.args.engine.now c.close.new.self _ _ _ _ c.in-Err.fault c.in-Err.ensures.cut c.in-Err.ensures.refused c.close.ensures.same (λ unjudged. c.close.ensures.owns) c.given_up.ensures.judged c.given_up.ensures.swept)

@@ -46,7 +46,7 @@ read_part-requires-clause-input g c = c.pieces.invariant.readable
 -- where the read broke off
 
 pub abandon-requires : goal.abandon-requires
-abandon-requires g c = (c.requires.owns.0, c.pieces.invariant.feeds.owns c.requires.owns.0 c.requires.owns.1)
+abandon-requires g c = g.met.S.Stage.there _ c.requires.owns.0 _ (c.pieces.invariant.feeds.owns c.requires.owns.0 c.requires.owns.1)
 
 pub returns-in-Err-clause-ends : goal.returns-in-Err-clause-ends
 returns-in-Err-clause-ends g c before opening own at =
@@ -159,7 +159,7 @@ pieces-preserved g c =
 -- where it failed
 
 pub given_up-requires : goal.given_up-requires
-given_up-requires g c unjudged = (c.requires.owns.0, c.in-Err-feed.ensures.owned unjudged c.requires.owns.0 (c.pieces.invariant.feeds.owns c.requires.owns.0 c.requires.owns.1))
+given_up-requires g c unjudged = (c.requires.owns.0, c.feed.ensures.owns c.requires.owns.0 (c.pieces.invariant.feeds.owns c.requires.owns.0 c.requires.owns.1))
 
 pub returns-in-Err-feed-clause-ends : goal.returns-in-Err-feed-clause-ends
 returns-in-Err-feed-clause-ends g c before opening own at =
@@ -170,9 +170,9 @@ returns-in-Err-feed-clause-ends g c before opening own at =
     (λ told. let more = (read_more _ _ _ _ _ _ _ _ _ (so_far.read told) so_far.readable (c.in-Ok.ensures.bytes told) c.in-Ok.ensures.rest).bytes in
     given_so _ _ _ _ opening _ _ _ _ _ c.given_up.ensures.same (stopped_feeding _ _ _ g.met.S.Stage.lawful _ opening _ _ _ _ c.feed.new.self _ _ so_far.fed (take c.in-Ok.n c.read_part.new.buffer) _ _ _ _ _ before c.in-Err-feed.fault so_far.feeds own at
     more within going (sound_at (g.I.Inputs.sources c.read_part.new.inputs) c.args.slot (still_readable _ _ _ _ c.in-Ok.n c.in-Ok.ensures.rest so_far.readable), λ _. more)
-    c.in-Err-feed.ensures.cut c.in-Err-feed.ensures.refused c.feed.ensures.same c.in-Err-feed.ensures.owned c.given_up.ensures.judged c.given_up.ensures.swept))
+    c.in-Err-feed.ensures.cut c.in-Err-feed.ensures.refused c.feed.ensures.same (λ unjudged. c.feed.ensures.owns) c.given_up.ensures.judged c.given_up.ensures.swept))
     (λ untold. given_so _ _ _ _ opening _ _ _ _ _ c.given_up.ensures.same (stopped_feeding _ _ _ g.met.S.Stage.lawful _ opening _ _ _ _ c.feed.new.self _ _ so_far.fed (take c.in-Ok.n c.read_part.new.buffer) [] _ _ _ _ before c.in-Err-feed.fault so_far.feeds own at
-    (sym (append-nil _)) within going (sound_at (g.I.Inputs.sources c.read_part.new.inputs) c.args.slot (still_readable _ _ _ _ c.in-Ok.n c.in-Ok.ensures.rest so_far.readable), λ told. absurd (false≢true (sym untold ∙ told))) c.in-Err-feed.ensures.cut c.in-Err-feed.ensures.refused c.feed.ensures.same c.in-Err-feed.ensures.owned c.given_up.ensures.judged c.given_up.ensures.swept))
+    (sym (append-nil _)) within going (sound_at (g.I.Inputs.sources c.read_part.new.inputs) c.args.slot (still_readable _ _ _ _ c.in-Ok.n c.in-Ok.ensures.rest so_far.readable), λ told. absurd (false≢true (sym untold ∙ told))) c.in-Err-feed.ensures.cut c.in-Err-feed.ensures.refused c.feed.ensures.same (λ unjudged. c.feed.ensures.owns) c.given_up.ensures.judged c.given_up.ensures.swept))
     (λ breaks. absurd (false≢true breaks))
 
 pub returns-in-Err-feed-clause-others : goal.returns-in-Err-feed-clause-others

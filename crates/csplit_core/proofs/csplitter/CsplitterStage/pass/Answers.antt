@@ -1,14 +1,25 @@
-use Rattle.csplit_core.proofs.StageClauses.{cuts_off, passes_at, puts_out, takes_in}
+use Rattle.std.proofs.Common.{refl}
+use Rattle.ports_core.proofs.HandedOn.{result_is}
+use Rattle.csplit_core.specs.inner.CsplitState.{Passes}
+use Rattle.csplit_core.proofs.ByteLemmas.{piece_ends}
+use Rattle.csplit_core.proofs.StageSteps.{none_counted, past_passes, some_counted, stop_counted}
+use Rattle.csplit_core.proofs.StretchLemmas.{rest_all}
 use Rattle.csplit_core.proofs.csplitter.CsplitterStage.pass.Goals as goal
 
-pub returns-clause-holds : goal.returns-clause-holds
-returns-clause-holds g c = takes_in g.O.Outs.told c.args.self.now c.take_piece.new.self c.args.piece.now _ _ c.take_piece.result
-    (passes_at g.O.Outs.told _ c.args.self.now _ c.args.piece.now _ _ c.take_piece.new.self c.take_piece.result c.self.view_is c.take_piece.ensures.passes)
+pub returns-then-is_past-clause-passes : goal.returns-then-is_past-clause-passes
+returns-then-is_past-clause-passes g c = past_passes g.O.Outs.told _ c.args.self.now _ c.args.piece.now _ c.self.view_is (c.is_past.ensures.past c.if-is_past.true) c.requires.ready.writer c.requires.ready.sound c.requires.ready.unbroken
 
-pub returns-clause-outputs : goal.returns-clause-outputs
-returns-clause-outputs g c = puts_out g.O.Outs.told c.args.self.now c.take_piece.new.self c.args.piece.now _ _ c.take_piece.result
-    (passes_at g.O.Outs.told _ c.args.self.now _ c.args.piece.now _ _ c.take_piece.new.self c.take_piece.result c.self.view_is c.take_piece.ensures.passes)
+pub take_lines-requires-clause-whole : goal.take_lines-requires-clause-whole
+take_lines-requires-clause-whole g c = piece_ends c.args.piece.now c.in-Some.end c.in-Some.ensures.some
 
-pub returns-clause-cut : goal.returns-clause-cut
-returns-clause-cut g c = cuts_off g.O.Outs.told c.args.self.now c.take_piece.new.self c.args.piece.now _ _ c.take_piece.result
-    (passes_at g.O.Outs.told _ c.args.self.now _ c.args.piece.now _ _ c.take_piece.new.self c.take_piece.result c.self.view_is c.take_piece.ensures.passes)
+pub returns-in_err-take_lines-in-Some-clause-passes : goal.returns-in_err-take_lines-in-Some-clause-passes
+returns-in_err-take_lines-in-Some-clause-passes g c = result_is (Passes g.O.Outs.told c.args.self.now c.args.piece.now _ _ c.take_lines.new.self) c.from_residual.result _ c.from_residual.ensures.1
+    (stop_counted g.O.Outs.told _ c.args.self.now c.take_lines.new.self.cutter c.args.piece.now _ c.in-Some.end _ _ _ c.self.view_is c.in-Some.ensures.some refl c.in_err-take_lines-in-Some.ensures.takes)
+
+pub returns-in-None-clause-passes : goal.returns-in-None-clause-passes
+returns-in-None-clause-passes g c = none_counted g.O.Outs.told _ c.args.self.now c.wait.new.self 0 c.args.piece.now _ c.wait.result c.self.view_is (c.is_past.ensures.live c.if-is_past.false) c.in-None.ensures.none c.requires.ready.writer c.requires.ready.sound c.requires.ready.unbroken
+    c.wait.ensures.cutter c.wait.ensures.live c.wait.ensures.err
+
+pub returns-in_ok-take_lines-in-Some-clause-passes : goal.returns-in_ok-take_lines-in-Some-clause-passes
+returns-in_ok-take_lines-in-Some-clause-passes g c = some_counted g.O.Outs.told _ c.args.self.now c.take_lines.new.self c.wait-in-Some.new.self 0 c.args.piece.now _ _ c.in-Some.end _ _ c.wait-in-Some.result c.self.view_is (c.is_past.ensures.live c.if-is_past.false) c.in-Some.ensures.some refl (rest_all c.in-Some.end c.args.piece.now) c.requires.ready.unbroken
+    c.in_ok-take_lines-in-Some.ensures.takes c.in_ok-take_lines-in-Some.ensures.rest c.wait-in-Some.ensures.cutter c.wait-in-Some.ensures.past c.wait-in-Some.ensures.live c.wait-in-Some.ensures.err

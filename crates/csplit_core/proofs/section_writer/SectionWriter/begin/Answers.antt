@@ -14,7 +14,7 @@ returns-then-not-is_kept g c =
 
 pub returns-then-self : goal.returns-then-self
 returns-then-self g c =
-    subst (Started g.O.Outs.told c.args.self.now.style c.args.self.now c.args.is_kept _ _) (sym (ap (λ i. state_of i.style i.first i.made Unmade) c.self-inside.view_is ∙ ap (λ (w : WriterState). record w { current = Unmade }) c.self.view_is))
+    subst (Started g.O.Outs.told c.args.self.now.style c.args.self.now c.args.is_kept _ _) (sym (ap (λ i. state_of i.style i.files.items Unmade) c.self-inside.view_is ∙ ap (λ (w : WriterState). record w { current = Unmade }) c.self.view_is))
     (begin_unmade g.O.Outs.told c.args.self.now c.args.is_kept _ c.if-not-is_kept.false (sym (ap (λ i. i.style.elide) c.self-inside.view_is ∙ ap (λ (w : WriterState). w.style.elide) c.self.view_is) ∙ c.if-self.true) c.requires)
 
 pub returns-in_err-make_file : goal.returns-in_err-make_file

@@ -17,8 +17,8 @@ pass-tells g c =
       holds = on_ok_each c.result (λ left waits full. takes_in ends c.new.self.now piece c.ensures.same c.ensures.past left waits full) c.ensures.left c.ensures.waits c.ensures.full;
       outputs = on_ok c.result (λ wrote. puts_out g.O.Outs.told ends piece _ _ wrote) c.ensures.out;
       ready = on_ok c.result (λ wrote. writable_still g.O.Outs.told _ _ (due ends piece) c.requires.ready wrote) c.ensures.out;
-      owns = on_ok c.result (λ wrote first own. tt) c.ensures.out;
-      owned = if_err c.result (λ fault stops unjudged first own. tt) c.ensures.cut;
+      owns = λ first own. tt;
+      there = λ are. tt;
       cut = if_err c.result (λ fault stops. cuts_off g.O.Outs.told _ ends piece _ _ fault stops) c.ensures.cut;
       met = if_err c.result (λ fault stops. met g.O.Outs.told ends piece _ _ _ fault c.requires.ready stops) c.ensures.cut;
     }
@@ -30,8 +30,8 @@ finish-tells g c =
       size = c.ensures.bound;
       outputs = on_ok c.result (λ wrote. finishes g.O.Outs.told ends _ _ wrote) c.ensures.out;
       writable = on_ok c.result (λ wrote output. writable_still g.O.Outs.told _ _ (due_at_end ends) c.requires.ready wrote) c.ensures.out;
-      owns = on_ok c.result (λ wrote first own. tt) c.ensures.out;
-      owned = if_err c.result (λ fault stops unjudged first own. tt) c.ensures.cut;
+      owns = λ first own. tt;
+      there = λ are. tt;
       cut = if_err c.result (λ fault stops. ends_short g.O.Outs.told _ ends _ _ fault stops) c.ensures.cut;
       met = if_err c.result (λ fault stops. end_met g.O.Outs.told ends _ _ _ fault c.requires.ready stops) c.ensures.cut;
     }

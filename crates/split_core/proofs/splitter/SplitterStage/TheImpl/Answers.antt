@@ -1,5 +1,5 @@
 use Rattle.std.proofs.Common.{◌∙◌, arith}
-use Rattle.split_core.proofs.PartStageLemmas.{on_ok, on_err}
+use Rattle.split_core.proofs.PartStageLemmas.{on_ok}
 use Rattle.split_core.proofs.WaysLemmas.{cuts_off, end_met, ends, ends_short, held_is, met, only_files, owns_at_end, puts_out, same_at_end, same_work, still_owns, still_ready, takes_in}
 use Rattle.split_core.proofs.splitter.SplitterStage.TheImpl.Goals as goal
 
@@ -13,8 +13,8 @@ pass-tells g c =
       holds = takes_in told c.args.piece.now _ _ c.result old new c.ensures;
       outputs = puts_out told c.args.piece.now _ _ c.result old new c.ensures;
       ready = still_ready told c.args.piece.now _ _ c.result old new c.ensures;
-      owns = on_ok c.result (still_owns told c.args.piece.now _ _ c.result old new c.ensures);
-      owned = on_err c.result (λ fault unjudged. still_owns told c.args.piece.now _ _ c.result old new c.ensures);
+      owns = still_owns told c.args.piece.now _ _ c.result old new c.ensures;
+      there = λ are. tt;
       cut = cuts_off told c.args.piece.now _ _ c.result old new c.ensures;
       met = met told c.args.piece.now _ _ c.result old new c.ensures;
     }
@@ -28,14 +28,11 @@ finish-tells g c =
       size = omega arith;
       outputs = ends told _ _ c.result old new c.ensures;
       writable = on_ok c.result (λ output. absurd (only_files old output));
-      owns = on_ok c.result (owns_at_end told _ _ c.result old new c.ensures);
-      owned = on_err c.result (λ fault unjudged. owns_at_end told _ _ c.result old new c.ensures);
+      owns = owns_at_end told _ _ c.result old new c.ensures;
+      there = λ are. tt;
       cut = ends_short told _ _ c.result old new c.ensures;
       met = end_met told _ _ c.result old new c.ensures;
     }
 
 pub waits-tells : goal.waits-tells
-waits-tells c = record {
-  bytes = c.ensures;
-  waits = λ x few holds. c.ensures ∙ held_is c.args.self.now x holds;
-}
+waits-tells c x few holds = c.ensures ∙ held_is c.args.self.now x holds
