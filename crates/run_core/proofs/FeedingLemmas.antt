@@ -237,9 +237,6 @@ module _ {S : Type 0} (Holds : S → List ℕ → Type 0) (Owns : S → ℕ → 
 
 -- what was read was needed
 
-pub needed_none : (is_complete : List ℕ → Bool) (most : ℕ) → IsNeeded is_complete most []
-needed_none is_complete most = inl refl
-
 pub piece_within : (n most : ℕ) (buffer : List ℕ) → n ≤ most → length (take n buffer) ≤ most
 piece_within n most buffer within = omega (arith, length-take n buffer)
 
