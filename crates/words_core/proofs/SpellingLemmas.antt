@@ -74,7 +74,7 @@ one_place_more (word ∷ words) place total some is = ap (λ (rest : List (Bor (
 
 -- a fault among the first words, whatever follows them
 
-of_more : (given : Given) (meant : Result Given Fault) (fault : Fault) → given_before given meant ≡ Err fault → meant ≡ Err fault
+pub of_more : (given : Given) (meant : Result Given Fault) (fault : Fault) → given_before given meant ≡ Err fault → meant ≡ Err fault
 of_more given (Ok more) fault is = absurd (cc)
 of_more given (Err other) fault is = is
 

@@ -143,11 +143,15 @@ pub fn operands_may_mix()
 {}
 
 /// Of several faults the leftmost word's is told: one that is found among the first words is told whatever follows them, but
-/// that a value is missing, which is so only where no word follows.
+/// that a value is missing, which is so only where no word follows; and where nothing is wrong with the first words, the
+/// fault stands after them.
 pub fn leftmost_fault_is_told()
-    ensures { (rows : List OptionRow) (first more : List (List ℕ)) (place : ℕ) (state : State) (kind : UsageKind) (word : ℕ)
+    ensures told { (rows : List OptionRow) (first more : List (List ℕ)) (place : ℕ) (state : State) (kind : UsageKind) (word : ℕ)
         → spelled rows first place state ≡ Err (Fault.Usage kind word) → kind ≢ MissingValue
         → spelled rows (first ++ more) place state ≡ Err (Fault.Usage kind word) }
+    ensures later { (rows : List OptionRow) (first more : List (List ℕ)) (place : ℕ) (state : State) (given : Given) (kind : UsageKind) (word : ℕ)
+        → spelled rows first place state ≡ Ok given → spelled rows (first ++ more) place state ≡ Err (Fault.Usage kind word)
+        → place + length first ≤ word }
 {}
 
 /// The operands are some of the words, in their order, each with its place.
