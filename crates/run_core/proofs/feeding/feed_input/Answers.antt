@@ -209,7 +209,7 @@ pub give_back-requires-clause-input : goal.give_back-requires-clause-input
 give_back-requires-clause-input g c = c.pieces.invariant.readable
 
 pub give_back-requires-clause-within : goal.give_back-requires-clause-within
-give_back-requires-clause-within g c told = let so_far = c.pieces.invariant in enough_taken _ so_far.fed _ _ _ _ (c.unused-unused.ensures so_far.fed so_far.feeds.holds) (so_far.took told)
+give_back-requires-clause-within g c told = let so_far = c.pieces.invariant in omega (arith, enough_taken _ so_far.fed _ _ _ _ (c.unused-unused.ensures so_far.fed so_far.feeds.holds) (so_far.took told))
 
 pub end-requires-2-clause-owns : goal.end-requires-2-clause-owns
 end-requires-2-clause-owns g c = (c.requires.owns.0, c.pieces.invariant.feeds.owns c.requires.owns.0 c.requires.owns.1)
