@@ -1,7 +1,7 @@
 -- What `csplit` leaves of its input.
 use Rattle.std.proofs.Common.{◌≡◌, ℕ, ◌+◌, ◌-◌, ◌<◌, ◌≤◌, zero, suc, Bool, true, false, not, ◌&&◌, cond, List, [], ◌∷◌, ◌++◌, length, length-drop, map, drop, append_assoc, None, inl, inr, ◌⊎◌, refl, sym, ◌∙◌, ap, subst, arith}
 use Rattle.std.specs.List.{All}
-use Rattle.std.proofs.lemmas.List.{map-append, drop-drop, take-append-drop, take_all}
+use Rattle.std.proofs.lemmas.List.{length-map, map-append, drop-drop, take-append-drop, take_all}
 use Rattle.std.proofs.lemmas.List.Elements.{All-nil, All-cons}
 use Rattle.seg_core.specs.Line.{joined, lines_of}
 use Rattle.seg_core.proofs.FirstLines.{joined-append}
@@ -30,6 +30,7 @@ use Rattle.tools_core.specs.Outcome.{CsplitEndsAs}
 use Rattle.tools_core.specs.Outcome as outcome
 use Rattle.tools_core.specs.Tasks.{csplit_task}
 use Rattle.tools_core.specs.Promises.{Run, Does, HasInput, AreNumbered, AreSections, IsSound, SkipNothing, contents_of, files_of, in_turn, last_section, left_out, text_at}
+use Rattle.tools_core.proofs.NumberLemmas.{numbered_in_order}
 use Rattle.tools_core.proofs.PromiseLemmas.{DidOne, did_one, not_one, one_done, slot_of}
 use Rattle.tools_core.proofs.SplitPromises.{bytes_written}
 use Rattle.tools_core.proofs.SkipLemmas.{KeepTargets, targets_keep}
@@ -175,8 +176,13 @@ are_numbered run asked input does has =
     let split = is_csplit run asked input does has in
     let lines = all_lines input in
     let sections = whole_sections lines (plan asked.style.suppress split.operands lines) in
+    let files = map slot_of (files_by asked.style 0 (map contents_in sections)) in
+    let size : length (map (λ (file : Slot). file.name) files) ≡ length files = length-map files (λ (file : Slot). file.name) in
+    let named : (place : ℕ) → place < length files → text_at (map (λ (file : Slot). file.name) files) place ≡ numbered_name asked.style.prefix asked.style.digits place =
+    λ place within. numbered_from asked.style 0 (map contents_in sections) place within ∙ ap (numbered_name asked.style.prefix asked.style.digits) (omega arith) in
     subst (AreNumbered asked.style.prefix asked.style.digits) (sym split.files) (record {
-      named = λ place within. numbered_from asked.style 0 (map contents_in sections) place within ∙ ap (numbered_name asked.style.prefix asked.style.digits) (omega arith);
+      named = named;
+      in_order = λ few least. numbered_in_order asked.style.prefix asked.style.digits (map (λ (file : Slot). file.name) files) (λ place within. named place (omega (arith, size, within))) (omega (arith, size, few)) (omega (arith, size, least));
       sound = all_sound asked.style 0 sections (closed_steps lines (plan asked.style.suppress split.operands lines).steps _ refl);
     })
 

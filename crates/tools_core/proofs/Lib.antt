@@ -11,6 +11,7 @@ pub mod CanLemmas
 pub mod TeePromises
 pub mod SamePromises
 pub mod SplitPromises
+pub mod NumberLemmas
 pub mod SkipLemmas
 pub mod CsplitPromises
 pub mod BeginLemmas

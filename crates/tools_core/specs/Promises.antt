@@ -1,6 +1,6 @@
 -- What people rest on, in a manual's words: what a run leaves, over inputs and outputs that tell their bytes, as those
 -- in memory do.
-use Rattle.std.specs.Prelude.{◌≡◌, ℕ, ◌+◌, ◌/◌, ◌%◌, ◌<◌, ◌≤◌, ◌==◌, suc, Bool, true, false, List, [], ◌∷◌, ◌++◌, length, map, drop, All, slice_index_or, ◌⊎◌, Option, Some, None, Ok, if◌then◌else◌}
+use Rattle.std.specs.Prelude.{◌≡◌, ℕ, ◌+◌, ◌^◌, ◌/◌, ◌%◌, ◌<◌, ◌≤◌, ◌==◌, suc, Bool, true, false, List, [], ◌∷◌, ◌++◌, length, map, drop, All, slice_index_or, ◌⊎◌, Option, Some, None, Ok, if◌then◌else◌}
 use Rattle.std.specs.declared.cmp.Ordering.TheVariants.{Less}
 use Rattle.std.specs.Ordering.{nat_cmp}
 use Rattle.std.specs.Cmp.Lexicographic.{slice_cmp}
@@ -203,10 +203,12 @@ pub record AreSections (style : Style) (operands : List Operand) (input : List �
       (files_by style 0 (map contents_in (whole_sections (all_lines input) (plan style.suppress operands (all_lines input)))))
 
 -- The files are numbered in their order: each name is the prefix and the file's number, from 0 on, filled with zeros to
--- this many digits. Each file was made anew, and is sound.
+-- this many digits. Where no number has more digits, a shell's `*` gives them in this order. Each file was made anew, and
+-- is sound.
 pub record AreNumbered (prefix : List ℕ) (digits : ℕ) (files : List Slot) : Type 0 where
   pub named : (place : ℕ) → place < length files
       → text_at (map (λ (file : Slot). file.name) files) place ≡ numbered_name prefix digits place
+  pub in_order : length files ≤ 10 ^ digits → length files ≤ 2 ^ 64 → AreInOrder (map (λ (file : Slot). file.name) files)
   pub sound : All (IsSound Fresh) files
 
 -- an output has a beginning of what another has, under its name

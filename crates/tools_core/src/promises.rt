@@ -49,7 +49,8 @@ pub fn split_loses_nothing()
     ensures dealt { (split : Run) (asked : SplitAsked) (n : ℕ) (input : List ℕ) → Does split (Split asked) → HasInput split input → asked.cut ≡ Round n → AreDealt asked.delim n asked.elide input (contents_of split) }
 {}
 
-/// `csplit` loses nothing. Its files are numbered in their order. Where no section is skipped (`%`) and no line is left out
+/// `csplit` loses nothing. Its files are numbered in their order, in which a shell's `*` gives them while no number has more
+/// digits than were asked for. Where no section is skipped (`%`) and no line is left out
 /// at a cut (`--suppress-matched`), they are joined the input. In any case each line is in just one file or in none, in the
 /// order of the input, and those in none are just those of skipped sections and those that are left out at cuts.
 pub fn csplit_loses_nothing()
