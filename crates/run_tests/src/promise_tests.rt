@@ -2,12 +2,15 @@
 //! promised, with no bytes written down that are wanted.
 ghost use Rattle.std.specs.Prelude.{IfOk};
 
+use crate::follow_tests::watch_of;
 use crate::left::{Plan, inputs_of, planned_outs};
 use ports_core::{Fault, MemOut, Outs};
 use std::alloc::Global;
 use std::process::Abort;
 use std::test::Fail;
 use tools_core::run::run;
+use tools_core::run_follow;
+use watch_core::Edit;
 
 /// Five lines, the last of them open, and one of them longer than the others.
 const TEXT: &[u8] = b"a\nbb\nccccccccc\nd\ne";
@@ -169,5 +172,39 @@ fn leave_a_beginning(
         let begins = well.bytes(slot).starts_with(outs.bytes(slot));
         assert_eq!(rt; begins, true, "in {slot} of {words:?}");
     }
+    Ok(())
+}
+
+#[test]
+fn tail_follows(rt: HostRuntime) -> Result<(), Fail> {
+    for words in FOLLOWING {
+        tell_all(&rt, rt.alloc(), words)?;
+    }
+    Ok(())
+}
+
+const FOLLOWING: &[Pair<'static>] = &[
+    (&["tail", "-f", "-n", "2", "f"], &["tail", "-n", "2"]),
+    (&["tail", "-F", "-c", "3", "f"], &["tail", "-c", "3"]),
+    (&["tail", "-f", "-n", "+4", "f"], &["tail", "-n", "+4"]),
+];
+
+/// The text is there at the first look, and grows at later ones.
+const LOOKS: &[&[Edit<'static>]] = &[
+    &[Edit::Replace("f", TEXT)],
+    &[Edit::Append("f", b"f\ng")],
+    &[],
+    &[Edit::Append("f", b"h"), Edit::Append("f", b"\n")],
+];
+
+/// The words that follow write what the others write of the text, and then all that came.
+fn tell_all(rt: &impl Abort, alloc: Global, words: &Pair<'_>) -> Result<(), Fault> {
+    let mut watch = watch_of(alloc, LOOKS)?;
+    let mut outs = MemOut::new(alloc)?;
+    let status = run_follow(alloc, words.0, &mut watch, &mut outs, 4);
+    let mut all = Vec::from_slice(alloc, left_by(rt, alloc, words.1, 4)?.bytes(0))?;
+    all.extend_from_slice(b"f\ngh\n")?;
+    assert_eq!(rt; status, 0, "of {words:?}");
+    assert_eq!(rt; outs.bytes(0), all.as_slice(), "of {words:?}");
     Ok(())
 }

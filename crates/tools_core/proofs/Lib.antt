@@ -18,3 +18,6 @@ pub mod BeginLemmas
 pub mod TeeBegins
 pub mod BeginPromises
 pub mod ToldLemmas
+pub mod FollowText
+pub mod GrowingText
+pub mod FollowPromises

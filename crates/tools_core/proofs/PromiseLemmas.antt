@@ -50,7 +50,7 @@ left_so tool outcome error reached new silent kept says outputs swept =
 
 -- a run whose status is 0 met no fault
 
-unfailed : (failed : Bool) → ◌≡◌ {A = ℕ} 0 (cond failed 1 0) → failed ≡ false
+pub unfailed : (failed : Bool) → ◌≡◌ {A = ℕ} 0 (cond failed 1 0) → failed ≡ false
 unfailed true is = absurd (not_one is)
 unfailed false is = refl
 

@@ -28,6 +28,9 @@ use Rattle.words_core.specs.declared.settings.Settings.TheVariants.{Head, Tail}
 use Rattle.words_core.specs.EndsAsked.{EndsAsked}
 use Rattle.words_core.specs.SplitAsked.{SplitAsked}
 use Rattle.words_core.specs.Words.{settings_of}
+use Rattle.watch_core.specs.Snapshot.{Snapshot}
+use Rattle.watch_core.specs.Watched.{Watched}
+use Rattle.tools_core.specs.Following.{FollowingEnds}
 use Rattle.tools_core.specs.Outcome.{RunEnds, names_read}
 use Rattle.tools_core.specs.Tasks.{has_headers}
 
@@ -225,3 +228,26 @@ BeginsEach run other =
 -- standard error has something, or broke itself
 abbrev pub IsTold : Run → Type 0
 IsTold run = (0 < length (slot_at run.outputs 1).written) ⊎ ((slot_at run.outputs 1).is_broken ≡ true)
+
+-- one run of `tail` that follows: its words, in how many looks, what each look would see, and what it left
+pub record FollowRun : Type 0 where
+  pub words : List (List ℕ)
+  pub count : ℕ
+  pub shows : ℕ → Snapshot
+  -- what the looks that were made saw, and the names as they are watched
+  pub seen : List Snapshot
+  pub watched : List Watched
+  pub outputs : List Slot
+  pub status : ℕ
+
+-- it followed what its words ask for, ended as `run_follow` ensures, and met no fault
+pub record Follows (run : FollowRun) (options : EndsAsked) (followed : Followed) : Type 0 where
+  pub looks : ℕ
+  pub read : settings_of run.words ≡ Ok (Tail (record { ends = options; followed = Some followed; looks = looks }))
+  pub ends : FollowingEnds true true run.words run.count run.shows run.seen run.watched run.outputs run.status
+  pub well : run.status ≡ 0
+
+-- at every look the name leads to this file, which has all that it had at the look before, and perhaps more after it
+abbrev pub OnlyGrows : (ℕ → Snapshot) → List ℕ → ℕ → Type 0
+OnlyGrows shows name file =
+    (n : ℕ) → ((shows n).leads name ≡ Some file) × IsBeginning ((shows n).holds file) ((shows (suc n)).holds file)

@@ -15,5 +15,5 @@ pub use follow::run_follow;
 pub use program::run_words;
 pub use promises::{
     csplit_loses_nothing, cutting_changes_nothing, faults_leave_a_beginning, head_and_tail_meet,
-    split_loses_nothing, tee_copies,
+    split_loses_nothing, tail_follows, tee_copies,
 };

@@ -1,18 +1,22 @@
 //! What people rest on, as laws of runs, with no code: each stands on the contract of a function whose body is empty. They
 //! speak of runs over inputs and outputs that tell their bytes, as those in memory do, and of what `run` ensures of each.
-ghost use Rattle.std.specs.Prelude.{◌≡◌, ◌+◌, ◌++◌, ℕ, List, false, length};
+ghost use Rattle.std.specs.Prelude.{◌≡◌, ◌+◌, ◌++◌, ◌∷◌, [], ℕ, List, false, length};
+ghost use Rattle.ends_core.specs.Ends.{tail_of};
+ghost use Rattle.ports_core.specs.Slot.{slot_at};
 ghost use Rattle.seg_core.specs.Line.{joined, line_count};
 ghost use Rattle.seg_core.specs.declared.count.Sign.TheVariants.{Minus, Plain, Plus};
 ghost use Rattle.seg_core.specs.declared.cut.Cut.TheVariants.{Bytes, LineBytes, Lines, Round};
 ghost use Rattle.operand_core.specs.Reading.{Asks};
 ghost use Rattle.operand_core.specs.declared.operand.Operand.{Operand};
-ghost use Rattle.tools_core.specs.Promises.{AreCopies, AreDealt, AreLinePieces, AreListed, AreNumbered, ArePieces, AreSections, AreUncut, BeginsEach, CountAlike, Does, FindAlike, HasInput, IsHead, IsTail, IsTold, Ran, Run, SkipNothing, contents_of, files_of, output_of};
+ghost use Rattle.tools_core.specs.Promises.{AreCopies, AreDealt, AreLinePieces, AreListed, AreNumbered, ArePieces, AreSections, AreUncut, BeginsEach, CountAlike, Does, FindAlike, FollowRun, Follows, HasInput, IsHead, IsTail, IsTold, OnlyGrows, Ran, Run, SkipNothing, contents_of, files_of, output_of};
+ghost use Rattle.tools_core.specs.Tasks.{is_plus};
 ghost use Rattle.words_core.specs.CsplitAsked.{CsplitAsked};
 ghost use Rattle.words_core.specs.EndsAsked.{EndsAsked};
 ghost use Rattle.words_core.specs.SplitAsked.{SplitAsked};
 ghost use Rattle.words_core.specs.TeeAsked.{TeeAsked};
 ghost use Rattle.words_core.specs.declared.settings.Settings.{Settings};
 ghost use Rattle.words_core.specs.declared.settings.Settings.TheVariants.{Csplit, Split, Tee};
+ghost use Rattle.words_core.specs.declared.value.Followed.{Followed};
 
 /// Of one input, the first N lines and all from the line after them on, written one after another, are the input:
 /// `head -n N` and then `tail -n +M`, where M is N + 1. So are all but the last N and the last N: `head -n -N` and then
@@ -65,4 +69,13 @@ pub fn csplit_loses_nothing()
 pub fn faults_leave_a_beginning()
     ensures begins { (run well : Run) (asked : Settings) (input : List ℕ) → Ran run asked → Does well asked → run.world ≡ well.world → HasInput run input → BeginsEach run well }
     ensures told { (run : Run) (asked : Settings) → Ran run asked → run.status ≡ 1 → IsTold run }
+{}
+
+/// `tail -f` tells all, once. Of one file that only grows it writes the last lines or bytes that the file has at the first
+/// look, or all from the Nth on, and then all that came by the last look, in order, and nothing twice. It does so in as many
+/// looks as it is asked for, by descriptor and by name.
+pub fn tail_follows()
+    ensures { (run : FollowRun) (options : EndsAsked) (followed : Followed) (name came : List ℕ) (file n : ℕ) → Follows run options followed → IsBare options → options.names ≡ name ∷ [] → run.count ≡ n + 1 → OnlyGrows run.shows name file
+        → (run.shows n).holds file ≡ (run.shows 0).holds file ++ came
+        → (slot_at run.outputs 0).written ≡ tail_of options.delim options.unit (is_plus options.count.sign) options.count.amount ((run.shows 0).holds file) ++ came }
 {}

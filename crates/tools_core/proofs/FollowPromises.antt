@@ -1,0 +1,77 @@
+-- What `tail` writes of one file that only grows, where it follows it and meets no fault.
+use Rattle.std.proofs.Common.{◌≡◌, ℕ, ◌+◌, ◌<◌, ◌≤◌, zero, suc, Bool, true, false, not, ◌&&◌, ◌||◌, is_some, List, [], ◌∷◌, ◌++◌, length, Option, Some, None, inl, inr, refl, sym, ◌∙◌, ap, subst, arith}
+use Rattle.std.proofs.lemmas.Bool.{cases_lt, false≢true}
+use Rattle.ends_core.specs.Ends.{tail_of}
+use Rattle.ports_core.specs.Slot.{Slot, slot_at, streams}
+use Rattle.ports_core.specs.Streams.{standard_error, standard_output}
+use Rattle.watch_core.specs.Snapshot.{Snapshot}
+use Rattle.watch_core.specs.Watched.{Watched}
+use Rattle.follow_core.specs.Ending.{FollowEndsAs, KeptSoLong, looked, no_room, seen_first, stopped}
+use Rattle.follow_core.specs.FollowState.{is_alive}
+use Rattle.follow_core.specs.Followed.{any_failed, text_from}
+use Rattle.follow_core.specs.Look.{Look, Ways, is_dropped, snapshots, ways_of}
+use Rattle.follow_core.specs.Share.{shares_of}
+use Rattle.follow_core.specs.Run.{AreKept, name_text}
+use Rattle.follow_core.specs.Version.{entries_of, open_after}
+use Rattle.words_core.specs.EndsAsked.{EndsAsked}
+use Rattle.words_core.specs.declared.value.Followed.{Followed}
+use Rattle.tools_core.specs.Following.{FollowingEndsAt, is_name, start_of}
+use Rattle.tools_core.specs.Tasks.{has_headers, is_plus}
+use Rattle.tools_core.specs.Promises.{FollowRun, Follows, IsBare, OnlyGrows}
+use Rattle.tools_core.proofs.FollowText.{is_text}
+use Rattle.tools_core.proofs.GrowingText.{growing_text, kept_in, seen_are, stays_open}
+use Rattle.tools_core.proofs.PromiseLemmas.{not_one, unfailed}
+
+-- the file keeps its bytes
+keeps : (by_name : Bool) (name : List ℕ) (shows : ℕ → Snapshot) (file count : ℕ) (seen : List Snapshot) → OnlyGrows shows name file → KeptSoLong true by_name shows count seen (name ∷ [])
+keeps by_name name shows file count seen grows told n zero few within = kept_in by_name name shows file n grows
+keeps by_name name shows file count seen grows told n (suc place) few within = absurd (omega (arith, within))
+
+-- so a further look could always give something
+alive_by : (dropped by_name : Bool) (opened : Option ℕ) (file : ℕ) → dropped ≡ false → opened ≡ Some file → ((not dropped && (by_name || is_some opened)) || false) ≡ true
+alive_by true by_name opened file kept is = absurd (false≢true (sym kept))
+alive_by false true opened file kept is = refl
+alive_by false false opened file kept is = ap (λ those. is_some those || false) is
+
+opens : (by_name : Bool) (name : List ℕ) (shows : ℕ → Snapshot) (file : ℕ) (looks : List Look) → OnlyGrows shows name file → snapshots looks ≡ seen_first shows (length looks) → 0 < length looks → open_after by_name name (snapshots looks) ≡ Some file
+opens by_name name shows file [] grows saw some = absurd (omega (arith, some))
+opens by_name name shows file (look ∷ looks) grows saw some =
+    ap (open_after by_name name) (saw ∙ seen_are shows (suc (length looks))) ∙ stays_open by_name name shows file (length looks) grows
+
+never_over : (ways : Ways) (name : List ℕ) (shows : ℕ → Snapshot) (file : ℕ) (looks : List Look) → OnlyGrows shows name file → snapshots looks ≡ seen_first shows (length looks) → 0 < length looks → is_dropped 0 looks ≡ false → is_alive ways (name ∷ []) looks ≡ false → ⊥
+never_over ways name shows file looks grows saw some kept over =
+    false≢true (sym over ∙ alive_by (is_dropped 0 looks) ways.by_name (open_after ways.by_name name (snapshots looks)) file kept (opens ways.by_name name shows file looks grows saw some))
+
+all_made : (ways : Ways) (name : List ℕ) (shows : ℕ → Snapshot) (file count : ℕ) (looks : List Look) → OnlyGrows shows name file → snapshots looks ≡ seen_first shows (length looks) → is_dropped 0 looks ≡ false → length looks ≤ count
+    → (length looks < count → (0 < length looks) × (◌≡◌ {A = Bool} true true → is_alive ways (name ∷ []) looks ≡ false)) → length looks ≡ count
+all_made ways name shows file count looks grows saw kept few full = elim (cases_lt (length looks) count) [
+  | inl less ↦ let why = full less in absurd (never_over ways name shows file looks grows saw why.0 kept (why.1 refl))
+  | inr enough ↦ omega (arith, few, enough)
+]
+
+wrote_so : (ways : Ways) (name came : List ℕ) (shows : ℕ → Snapshot) (file n : ℕ) (seen : List Snapshot) (watched : List Watched) (new : List Slot) → OnlyGrows shows name file → (shows n).holds file ≡ (shows 0).holds file ++ came
+    → FollowEndsAs true true ways false (name ∷ []) (n + 1) shows streams seen watched new 0 → (slot_at new 0).written ≡ ways.start ((shows 0).holds file) ++ came
+wrote_so ways name came shows file n seen watched new grows is (looked looks shares seen_is broken made few full are leaves) =
+    let shares_are = are refl in
+    let well : any_failed (shares_of ways (name ∷ []) looks) ≡ false = ap any_failed (sym shares_are) ∙ unfailed (any_failed shares) leaves.status_is in
+    let kept = subst (λ those. AreKept (entries_of ways.by_name name those)) (sym made.saw) (kept_in ways.by_name name shows file (length looks) grows) in
+    let text = is_text ways name looks well kept in
+    let count : length looks ≡ n + 1 = all_made ways name shows file (n + 1) looks grows made.saw text.kept few full in
+    let (error, tells, slots) = leaves.wrote standard_output standard_error [] refl in
+    ap (λ those. (slot_at those 0).written) slots ∙ ap (text_from false None) shares_are ∙ text.is
+    ∙ ap (λ those. name_text ways.start (entries_of ways.by_name name those)) (made.saw ∙ ap (seen_first shows) (count ∙ (let e : n + 1 ≡ suc n = omega arith in e)))
+    ∙ growing_text ways.by_name name shows file n ways.start came grows is
+wrote_so ways name came shows file n seen watched new grows is (stopped mid why stop says failed) = absurd (not_one failed)
+wrote_so ways name came shows file n seen watched new grows is (no_room unseen unwatched says failed) = absurd (not_one failed)
+
+pub tells_all : (run : FollowRun) (options : EndsAsked) (followed : Followed) (name came : List ℕ) (file n : ℕ) → Follows run options followed → IsBare options → options.names ≡ name ∷ [] → run.count ≡ n + 1 → OnlyGrows run.shows name file
+    → (run.shows n).holds file ≡ (run.shows 0).holds file ++ came
+    → (slot_at run.outputs 0).written ≡ tail_of options.delim options.unit (is_plus options.count.sign) options.count.amount ((run.shows 0).holds file) ++ came
+tells_all run options followed name came file n follows bare named count grows is =
+    let ways = ways_of (is_name followed) (start_of options) in
+    let ends = subst (FollowingEndsAt true true run.words run.count run.shows run.seen run.watched run.outputs run.status) follows.read follows.ends in
+    let kept = subst (KeptSoLong true (is_name followed) run.shows run.count run.seen) (sym named) (keeps (is_name followed) name run.shows file run.count run.seen grows) in
+    let one = subst (λ names. FollowEndsAs true true ways (has_headers options.headers options.names) names run.count run.shows streams run.seen run.watched run.outputs run.status) named (ends kept) in
+    let headless = subst (λ headers. FollowEndsAs true true ways headers (name ∷ []) run.count run.shows streams run.seen run.watched run.outputs run.status) bare one in
+    let counted = subst (λ looks. FollowEndsAs true true ways false (name ∷ []) looks run.shows streams run.seen run.watched run.outputs run.status) count headless in
+    wrote_so ways name came run.shows file n run.seen run.watched run.outputs grows is (subst (FollowEndsAs true true ways false (name ∷ []) (n + 1) run.shows streams run.seen run.watched run.outputs) follows.well counted)
