@@ -239,8 +239,11 @@ none_missing suppress operands lines live =
 
 pub are_sections : (run : Run) (asked : CsplitAsked) (input : List ℕ) → Does run (Csplit asked) → HasInput run input → (operands : List Operand) × Asks asked.operands operands × AreSections asked.style operands input (contents_of run)
 are_sections run asked input does has =
-    let split = is_csplit run asked input does has in
-    (split.operands, split.asks, record {
-      all = none_missing asked.style.suppress split.operands (all_lines input) split.well;
-      files = ap (map (λ (file : Slot). file.written)) split.files ∙ bytes_written _;
-    })
+    let split = is_csplit run asked input does has in (
+      split.operands,
+      split.asks,
+      record {
+        all = none_missing asked.style.suppress split.operands (all_lines input) split.well;
+        files = ap (map (λ (file : Slot). file.written)) split.files ∙ bytes_written _;
+      },
+    )

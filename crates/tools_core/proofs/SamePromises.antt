@@ -39,8 +39,8 @@ does_same (Tee asked) inputs these those new other one two =
 pub leave_same : (one other : Run) (asked : Settings) → Does one asked → Does other asked → FindAlike one other → one.outputs ≡ other.outputs
 leave_same one other asked does does_too same =
     let alike : inputs_at one.world (names_of asked) ≡ inputs_at other.world (names_of asked) =
-        sym (ap (λ (meant : Result Settings Fault). inputs_at one.world (names_at meant)) does.ran.read) ∙ same
-        ∙ ap (λ (meant : Result Settings Fault). inputs_at other.world (names_at meant)) does_too.ran.read in
+    sym (ap (λ (meant : Result Settings Fault). inputs_at one.world (names_at meant)) does.ran.read) ∙ same
+    ∙ ap (λ (meant : Result Settings Fault). inputs_at other.world (names_at meant)) does_too.ran.read in
     does_same asked (inputs_at other.world (names_of asked)) one.inputs other.inputs one.outputs other.outputs
     (subst (λ (inputs : List Input). DoesAsked true true asked inputs one.inputs one.outputs 0) alike (did one asked does))
     (did other asked does_too)

@@ -199,19 +199,22 @@ last_section lines plan = lines_between plan.last.current (whole_end (length lin
 -- Each line of the input is in one section, or is left out at a cut, and in their order these are all lines. The files
 -- have the sections that are kept, one each, and nothing else: none is of a section that is skipped, nor of an empty
 -- one where empty files are left out.
-pub record AreSections (style : Style) (operands : List Operand) (input : List ℕ) (contents : List (List ℕ)) : Type 0 where
+pub record AreSections (style : Style) (operands : List Operand) (input : List ℕ)
+    (contents : List (List ℕ)) : Type 0 where
   pub all : in_turn style.suppress (all_lines input) (plan style.suppress operands (all_lines input)).steps
       (last_section (all_lines input) (plan style.suppress operands (all_lines input))) ≡ all_lines input
   pub files : contents ≡ map (λ (file : File). file.bytes)
-      (files_by style 0 (map contents_in (whole_sections (all_lines input) (plan style.suppress operands (all_lines input)))))
+      (files_by style 0 (map contents_in
+      (whole_sections (all_lines input) (plan style.suppress operands (all_lines input)))))
 
 -- The files are numbered in their order: each name is the prefix and the file's number, from 0 on, filled with zeros to
--- this many digits. Where no number has more digits, a shell's `*` gives them in this order. Each file was made anew, and
--- is sound.
+-- this many digits. Where no number has more digits, a shell's `*` gives them in this order. Each file was made anew,
+-- and is sound.
 pub record AreNumbered (prefix : List ℕ) (digits : ℕ) (files : List Slot) : Type 0 where
   pub named : (place : ℕ) → place < length files
       → text_at (map (λ (file : Slot). file.name) files) place ≡ numbered_name prefix digits place
-  pub in_order : length files ≤ 10 ^ digits → length files ≤ 2 ^ 64 → AreInOrder (map (λ (file : Slot). file.name) files)
+  pub in_order : length files ≤ 10 ^ digits → length files ≤ 2 ^ 64
+      → AreInOrder (map (λ (file : Slot). file.name) files)
   pub sound : All (IsSound Fresh) files
 
 -- an output has a beginning of what another has, under its name
