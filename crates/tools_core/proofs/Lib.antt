@@ -21,3 +21,4 @@ pub mod ToldLemmas
 pub mod FollowText
 pub mod GrowingText
 pub mod FollowPromises
+pub mod StretchPromises
