@@ -18,9 +18,20 @@ const TEXT: &[u8] = b"a\nbb\nccccccccc\nd\ne";
 /// Words that write two parts of the input which are to meet.
 type Pair<'a> = (&'a [&'a str], &'a [&'a str]);
 
-/// Runs the words over the text, which comes by this many bytes at once, and returns what it left, if its status is 0.
+/// Runs the words over the five lines, which come by this many bytes at once, and returns what it left, if its status is 0.
 fn left_by(rt: &impl Abort, alloc: Global, words: &[&str], pieces: usize) -> Result<MemOut, Fault> {
-    let mut inputs = inputs_of(alloc, &[], TEXT)?;
+    left_of(rt, alloc, words, TEXT, pieces)
+}
+
+/// The same over any text.
+fn left_of(
+    rt: &impl Abort,
+    alloc: Global,
+    words: &[&str],
+    text: &[u8],
+    pieces: usize,
+) -> Result<MemOut, Fault> {
+    let mut inputs = inputs_of(alloc, &[], text)?;
     inputs.pieces(pieces.max(1));
     let mut outs = MemOut::new(alloc)?;
     let status = run(alloc, words, &mut inputs, &mut outs);
@@ -30,8 +41,18 @@ fn left_by(rt: &impl Abort, alloc: Global, words: &[&str], pieces: usize) -> Res
 
 #[test]
 fn head_and_tail_meet(rt: HostRuntime) -> Result<(), Fail> {
+    for text in TEXTS {
+        all_meet(&rt, rt.alloc(), text)?;
+    }
+    Ok(())
+}
+
+/// The five lines, an empty text, and one with lines that end with byte 0.
+const TEXTS: &[&[u8]] = &[TEXT, b"", b"a\n\0b\0\0c"];
+
+fn all_meet(rt: &impl Abort, alloc: Global, text: &[u8]) -> Result<(), Fault> {
     for pair in PAIRS {
-        meet(&rt, rt.alloc(), pair)?;
+        meet(rt, alloc, text, pair)?;
     }
     Ok(())
 }
@@ -43,22 +64,40 @@ const PAIRS: &[Pair<'static>] = &[
     (&["head", "-n", "-9"], &["tail", "-n", "9"]),
     (&["head", "-c", "7"], &["tail", "-c", "+8"]),
     (&["head", "-c", "-7"], &["tail", "-c", "7"]),
+    (&["head", "-z", "-n", "2"], &["tail", "-z", "-n", "+3"]),
+    (&["head", "-z", "-n", "-1"], &["tail", "-z", "-n", "1"]),
 ];
 
-fn meet(rt: &impl Abort, alloc: Global, pair: &Pair<'_>) -> Result<(), Fault> {
-    let head = left_by(rt, alloc, pair.0, 4)?;
-    let tail = left_by(rt, alloc, pair.1, 64)?;
+fn meet(rt: &impl Abort, alloc: Global, text: &[u8], pair: &Pair<'_>) -> Result<(), Fault> {
+    let head = left_of(rt, alloc, pair.0, text, 4)?;
+    let tail = left_of(rt, alloc, pair.1, text, 64)?;
     let mut both = Vec::from_slice(alloc, head.bytes(0))?;
     both.extend_from_slice(tail.bytes(0))?;
-    assert_eq!(rt; both.as_slice(), TEXT, "of {pair:?}");
+    assert_eq!(rt; both.as_slice(), text, "of {pair:?}");
     Ok(())
 }
 
 #[test]
 fn tee_copies(rt: HostRuntime) -> Result<(), Fail> {
-    let outs = left_by(&rt, rt.alloc(), &["tee", "s", "t"], 4)?;
-    for slot in [0, 2, 3] {
-        same_bytes(&rt, outs.bytes(slot), TEXT);
+    for row in TEES {
+        copy(&rt, rt.alloc(), row)?;
+    }
+    Ok(())
+}
+
+/// Words of `tee`, with the outputs that they name.
+const TEES: &[(&[&str], &[usize])] = &[
+    (&["tee"], &[0]),
+    (&["tee", "s", "t"], &[0, 2, 3]),
+    (&["tee", "-a", "s"], &[0, 2]),
+];
+
+fn copy(rt: &impl Abort, alloc: Global, row: &(&[&str], &[usize])) -> Result<(), Fault> {
+    let outs = left_by(rt, alloc, row.0, 4)?;
+    let none = left_of(rt, alloc, row.0, b"", 4)?;
+    for slot in row.1 {
+        same_bytes(rt, outs.bytes(*slot), TEXT);
+        same_bytes(rt, none.bytes(*slot), b"");
     }
     Ok(())
 }
@@ -115,6 +154,54 @@ const SPLIT: &[&[&str]] = &[
     &["split", "-C", "4", "-", "part."],
     &["split", "-l", "1", "-t", "c", "--additional-suffix=.txt"],
 ];
+
+#[test]
+fn files_are_as_large_as_asked(rt: HostRuntime) -> Result<(), Fail> {
+    for row in SIZES {
+        have_sizes(&rt, rt.alloc(), row)?;
+    }
+    Ok(())
+}
+
+/// Words of `split`, and how many bytes each file has.
+const SIZES: &[(&[&str], &[usize])] = &[
+    (&["split", "-l", "2"], &[5, 12, 1]),
+    (&["split", "-b", "5"], &[5, 5, 5, 3]),
+    (&["split", "-C", "4"], &[2, 3, 4, 4, 4, 1]),
+    (&["split", "-C", "5"], &[5, 5, 5, 3]),
+    (&["split", "-n", "r/2"], &[13, 5]),
+    (&["split", "-n", "r/7"], &[2, 3, 10, 2, 1, 0, 0]),
+    (&["split", "-e", "-n", "r/7"], &[2, 3, 10, 2, 1]),
+];
+
+fn have_sizes(rt: &impl Abort, alloc: Global, row: &(&[&str], &[usize])) -> Result<(), Fault> {
+    let outs = left_by(rt, alloc, row.0, 4)?;
+    let mut slot: usize = 2;
+    for size in row.1 {
+        assert_eq!(rt; outs.bytes(slot).len(), *size, "in {slot} of {row:?}");
+        slot = slot.saturating_add(1);
+    }
+    assert_eq!(rt; outs.name(slot).is_empty(), true, "of {row:?}");
+    Ok(())
+}
+
+#[test]
+fn lines_are_dealt_in_turn(rt: HostRuntime) -> Result<(), Fail> {
+    let lines = left_by(&rt, rt.alloc(), &["split", "-l", "1"], 4)?;
+    let dealt = left_by(&rt, rt.alloc(), &["split", "-n", "r/2"], 4)?;
+    same_bytes(&rt, dealt.bytes(2), &joined(rt.alloc(), &lines, &[2, 4, 6])?);
+    same_bytes(&rt, dealt.bytes(3), &joined(rt.alloc(), &lines, &[3, 5])?);
+    Ok(())
+}
+
+/// What these outputs have, one after another.
+fn joined(alloc: Global, outs: &MemOut, slots: &[usize]) -> Result<Vec<u8>, Fault> {
+    let mut all = Vec::new(alloc);
+    for slot in slots {
+        all.extend_from_slice(outs.bytes(*slot))?;
+    }
+    Ok(all)
+}
 
 #[test]
 fn csplit_loses_nothing(rt: HostRuntime) -> Result<(), Fail> {
