@@ -1,4 +1,4 @@
-ghost use Rattle.std.specs.Prelude.{◌≤◌, ◌<◌, ◌+◌, ◌^◌, length, IfSome};
+ghost use Rattle.std.specs.Prelude.{◌≡◌, ◌≤◌, ◌<◌, ◌+◌, ◌^◌, false, length, IfSome, IsTrue};
 
 use ports_core::MOST_BYTES;
 use std::alloc::Global;
@@ -108,7 +108,10 @@ impl Stream {
         Ok(stream)
     }
 
-    fn take(&mut self) -> bool {
+    fn take(&mut self) -> bool
+        ensures came { IsTrue result → self.old.before + self.old.waiting < self.new.before + self.new.waiting }
+        ensures nothing { result ≡ false → self.new.before + self.new.waiting ≡ self.old.before + self.old.waiting }
+    {
         self.before += self.waiting as u64;
         self.waiting = 0;
         match read_some(&mut self.file, &mut self.buffer) {
@@ -123,7 +126,9 @@ impl Stream {
         }
     }
 
-    fn len(&self) -> Option<u64> {
+    fn len(&self) -> Option<u64>
+        ensures { IfSome result (λ len. len ≡ self.now.before + self.now.waiting) }
+    {
         if self.is_broken {
             return None;
         }
