@@ -85,7 +85,7 @@ pub data IsRead (content : Content) (Leaves : List ℕ → Type 0) : (is_vain : 
 abbrev pub LeavesOf : Bool → Source → List ℕ → Type 0
 LeavesOf told source rest = told ≡ true → source.left.bytes ≡ rest
 
--- An input came in these pieces, of which each is what one read gave, and they are no more bytes than any tool takes.
+-- An input came in these pieces, each of a size that one read gives, and together no more bytes than any tool takes.
 pub record ComesIn (told : Bool) (content : Content) (source : Source) (is_vain : Bool) (pieces : List (List ℕ))
     (fault : Option Fault) : Type 0 where
   pub read : IsRead content (LeavesOf told source) is_vain (concat pieces) fault
