@@ -281,7 +281,8 @@ fn leave_a_beginning(
 #[test]
 fn tail_follows(rt: HostRuntime) -> Result<(), Fail> {
     for words in FOLLOWING {
-        tell_all(&rt, rt.alloc(), words)?;
+        tell_all(&rt, rt.alloc(), words, GROWING, b"f\ngh\n")?;
+        tell_all(&rt, rt.alloc(), words, CUT_SHORT, b"fg\n")?;
     }
     Ok(())
 }
@@ -293,20 +294,34 @@ const FOLLOWING: &[Pair<'static>] = &[
 ];
 
 /// The text is there at the first look, and grows at later ones.
-const LOOKS: &[&[Edit<'static>]] = &[
+const GROWING: &[&[Edit<'static>]] = &[
     &[Edit::Replace("f", TEXT)],
     &[Edit::Append("f", b"f\ng")],
     &[],
     &[Edit::Append("f", b"h"), Edit::Append("f", b"\n")],
 ];
 
+/// The text is there at the first look, and goes; then others come.
+const CUT_SHORT: &[&[Edit<'static>]] = &[
+    &[Edit::Replace("f", TEXT)],
+    &[Edit::Truncate("f", 0)],
+    &[Edit::Append("f", b"f")],
+    &[Edit::Append("f", b"g\n")],
+];
+
 /// The words that follow write what the others write of the text, and then all that came.
-fn tell_all(rt: &impl Abort, alloc: Global, words: &Pair<'_>) -> Result<(), Fault> {
-    let mut watch = watch_of(alloc, LOOKS)?;
+fn tell_all(
+    rt: &impl Abort,
+    alloc: Global,
+    words: &Pair<'_>,
+    looks: &[&[Edit<'_>]],
+    came: &[u8],
+) -> Result<(), Fault> {
+    let mut watch = watch_of(alloc, looks)?;
     let mut outs = MemOut::new(alloc)?;
     let status = run_follow(alloc, words.0, &mut watch, &mut outs, 4);
     let mut all = Vec::from_slice(alloc, left_by(rt, alloc, words.1, 4)?.bytes(0))?;
-    all.extend_from_slice(b"f\ngh\n")?;
+    all.extend_from_slice(came)?;
     assert_eq!(rt; status, 0, "of {words:?}");
     assert_eq!(rt; outs.bytes(0), all.as_slice(), "of {words:?}");
     Ok(())

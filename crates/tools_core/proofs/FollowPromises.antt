@@ -17,15 +17,15 @@ use Rattle.words_core.specs.EndsAsked.{EndsAsked}
 use Rattle.words_core.specs.declared.value.Followed.{Followed}
 use Rattle.tools_core.specs.Following.{FollowingEndsAt, is_name, start_of}
 use Rattle.tools_core.specs.Tasks.{has_headers, is_plus}
-use Rattle.tools_core.specs.Promises.{FollowRun, Follows, IsBare, OnlyGrows}
+use Rattle.tools_core.specs.Promises.{FollowRun, Follows, IsBare, KeepsBytes, OnlyGrows}
 use Rattle.tools_core.proofs.FollowText.{is_text}
 use Rattle.tools_core.proofs.GrowingText.{growing_text, kept_in, seen_are, stays_open}
 use Rattle.tools_core.proofs.PromiseLemmas.{not_one, unfailed}
 
 -- the file keeps its bytes
-keeps : (by_name : Bool) (name : List ℕ) (shows : ℕ → Snapshot) (file count : ℕ) (seen : List Snapshot) → OnlyGrows shows name file → KeptSoLong true by_name shows count seen (name ∷ [])
-keeps by_name name shows file count seen grows told n zero few within = kept_in by_name name shows file n grows
-keeps by_name name shows file count seen grows told n (suc place) few within = absurd (omega (arith, within))
+keeps : (by_name : Bool) (name : List ℕ) (shows : ℕ → Snapshot) (count : ℕ) (seen : List Snapshot) → KeepsBytes by_name shows name → KeptSoLong true by_name shows count seen (name ∷ [])
+keeps by_name name shows count seen kept told n zero few within = kept n
+keeps by_name name shows count seen kept told n (suc place) few within = absurd (omega (arith, within))
 
 -- so a further look could always give something
 alive_by : (dropped by_name : Bool) (opened : Option ℕ) (file : ℕ) → dropped ≡ false → opened ≡ Some file → ((not dropped && (by_name || is_some opened)) || false) ≡ true
@@ -49,29 +49,58 @@ all_made ways name shows file count looks grows saw kept few full = elim (cases_
   | inr enough ↦ omega (arith, few, enough)
 ]
 
-wrote_so : (ways : Ways) (name came : List ℕ) (shows : ℕ → Snapshot) (file n : ℕ) (seen : List Snapshot) (watched : List Watched) (new : List Slot) → OnlyGrows shows name file → (shows n).holds file ≡ (shows 0).holds file ++ came
-    → FollowEndsAs true true ways false (name ∷ []) (n + 1) shows streams seen watched new 0 → (slot_at new 0).written ≡ ways.start ((shows 0).holds file) ++ came
-wrote_so ways name came shows file n seen watched new grows is (looked looks shares seen_is broken made few full are leaves) =
+-- the looks that were made, and what was written
+record WroteText (ways : Ways) (name : List ℕ) (shows : ℕ → Snapshot) (count : ℕ) (seen : List Snapshot) (new : List Slot) : Type 0 where
+  pub looks : List Look
+  pub seen_is : seen ≡ snapshots looks
+  pub saw : snapshots looks ≡ seen_first shows (length looks)
+  pub kept : is_dropped 0 looks ≡ false
+  pub few : length looks ≤ count
+  pub full : length looks < count → (0 < length looks) × (◌≡◌ {A = Bool} true true → is_alive ways (name ∷ []) looks ≡ false)
+  pub is : (slot_at new 0).written ≡ name_text ways.start (entries_of ways.by_name name (snapshots looks))
+
+wrote_text : (ways : Ways) (name : List ℕ) (shows : ℕ → Snapshot) (count : ℕ) (seen : List Snapshot) (watched : List Watched) (new : List Slot) → KeepsBytes ways.by_name shows name
+    → FollowEndsAs true true ways false (name ∷ []) count shows streams seen watched new 0 → WroteText ways name shows count seen new
+wrote_text ways name shows count seen watched new keeps_bytes (looked looks shares seen_is broken made few full are leaves) =
     let shares_are = are refl in
     let well : any_failed (shares_of ways (name ∷ []) looks) ≡ false = ap any_failed (sym shares_are) ∙ unfailed (any_failed shares) leaves.status_is in
-    let kept = subst (λ those. AreKept (entries_of ways.by_name name those)) (sym made.saw) (kept_in ways.by_name name shows file (length looks) grows) in
+    let kept = subst (λ those. AreKept (entries_of ways.by_name name those)) (sym made.saw) (keeps_bytes (length looks)) in
     let text = is_text ways name looks well kept in
-    let count : length looks ≡ n + 1 = all_made ways name shows file (n + 1) looks grows made.saw text.kept few full in
-    let (error, tells, slots) = leaves.wrote standard_output standard_error [] refl in
-    ap (λ those. (slot_at those 0).written) slots ∙ ap (text_from false None) shares_are ∙ text.is
-    ∙ ap (λ those. name_text ways.start (entries_of ways.by_name name those)) (made.saw ∙ ap (seen_first shows) (count ∙ (let e : n + 1 ≡ suc n = omega arith in e)))
-    ∙ growing_text ways.by_name name shows file n ways.start came grows is
-wrote_so ways name came shows file n seen watched new grows is (stopped mid why stop says failed) = absurd (not_one failed)
-wrote_so ways name came shows file n seen watched new grows is (no_room unseen unwatched says failed) = absurd (not_one failed)
+    let (error, tells, slots) = leaves.wrote standard_output standard_error [] refl in record {
+      looks = looks;
+      seen_is = seen_is;
+      saw = made.saw;
+      kept = text.kept;
+      few = few;
+      full = full;
+      is = ap (λ those. (slot_at those 0).written) slots ∙ ap (text_from false None) shares_are ∙ text.is;
+    }
+wrote_text ways name shows count seen watched new keeps_bytes (stopped mid why stop says failed) = absurd (not_one failed)
+wrote_text ways name shows count seen watched new keeps_bytes (no_room unseen unwatched says failed) = absurd (not_one failed)
+
+follows_text : (run : FollowRun) (options : EndsAsked) (followed : Followed) (name : List ℕ) → Follows run options followed → IsBare options → options.names ≡ name ∷ [] → KeepsBytes (is_name followed) run.shows name
+    → WroteText (ways_of (is_name followed) (start_of options)) name run.shows run.count run.seen run.outputs
+follows_text run options followed name follows bare named keeps_bytes =
+    let ways = ways_of (is_name followed) (start_of options) in
+    let ends = subst (FollowingEndsAt true true run.words run.count run.shows run.seen run.watched run.outputs run.status) follows.read follows.ends in
+    let kept = subst (KeptSoLong true (is_name followed) run.shows run.count run.seen) (sym named) (keeps (is_name followed) name run.shows run.count run.seen keeps_bytes) in
+    let one = subst (λ names. FollowEndsAs true true ways (has_headers options.headers options.names) names run.count run.shows streams run.seen run.watched run.outputs run.status) named (ends kept) in
+    let headless = subst (λ headers. FollowEndsAs true true ways headers (name ∷ []) run.count run.shows streams run.seen run.watched run.outputs run.status) bare one in
+    wrote_text ways name run.shows run.count run.seen run.watched run.outputs keeps_bytes (subst (FollowEndsAs true true ways false (name ∷ []) run.count run.shows streams run.seen run.watched run.outputs) follows.well headless)
+
+pub tells_text : (run : FollowRun) (options : EndsAsked) (followed : Followed) (name : List ℕ) → Follows run options followed → IsBare options → options.names ≡ name ∷ [] → KeepsBytes (is_name followed) run.shows name
+    → (slot_at run.outputs 0).written ≡ name_text (tail_of options.delim options.unit (is_plus options.count.sign) options.count.amount) (entries_of (is_name followed) name run.seen)
+tells_text run options followed name follows bare named keeps_bytes =
+    let wrote = follows_text run options followed name follows bare named keeps_bytes in
+    wrote.is ∙ ap (λ seen. name_text (tail_of options.delim options.unit (is_plus options.count.sign) options.count.amount) (entries_of (is_name followed) name seen)) (sym wrote.seen_is)
 
 pub tells_all : (run : FollowRun) (options : EndsAsked) (followed : Followed) (name came : List ℕ) (file n : ℕ) → Follows run options followed → IsBare options → options.names ≡ name ∷ [] → run.count ≡ n + 1 → OnlyGrows run.shows name file
     → (run.shows n).holds file ≡ (run.shows 0).holds file ++ came
     → (slot_at run.outputs 0).written ≡ tail_of options.delim options.unit (is_plus options.count.sign) options.count.amount ((run.shows 0).holds file) ++ came
 tells_all run options followed name came file n follows bare named count grows is =
     let ways = ways_of (is_name followed) (start_of options) in
-    let ends = subst (FollowingEndsAt true true run.words run.count run.shows run.seen run.watched run.outputs run.status) follows.read follows.ends in
-    let kept = subst (KeptSoLong true (is_name followed) run.shows run.count run.seen) (sym named) (keeps (is_name followed) name run.shows file run.count run.seen grows) in
-    let one = subst (λ names. FollowEndsAs true true ways (has_headers options.headers options.names) names run.count run.shows streams run.seen run.watched run.outputs run.status) named (ends kept) in
-    let headless = subst (λ headers. FollowEndsAs true true ways headers (name ∷ []) run.count run.shows streams run.seen run.watched run.outputs run.status) bare one in
-    let counted = subst (λ looks. FollowEndsAs true true ways false (name ∷ []) looks run.shows streams run.seen run.watched run.outputs run.status) count headless in
-    wrote_so ways name came run.shows file n run.seen run.watched run.outputs grows is (subst (FollowEndsAs true true ways false (name ∷ []) (n + 1) run.shows streams run.seen run.watched run.outputs) follows.well counted)
+    let wrote = follows_text run options followed name follows bare named (λ k. kept_in (is_name followed) name run.shows file k grows) in
+    let made : length wrote.looks ≡ run.count = all_made ways name run.shows file run.count wrote.looks grows wrote.saw wrote.kept wrote.few wrote.full in
+    wrote.is
+    ∙ ap (λ those. name_text ways.start (entries_of (is_name followed) name those)) (wrote.saw ∙ ap (seen_first run.shows) (made ∙ count ∙ (let e : n + 1 ≡ suc n = omega arith in e)))
+    ∙ growing_text (is_name followed) name run.shows file n ways.start came grows is

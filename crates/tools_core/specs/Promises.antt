@@ -25,6 +25,9 @@ use Rattle.watch_core.specs.Watched.{Watched}
 use Rattle.csplit_core.specs.Input.{newline}
 use Rattle.csplit_core.specs.Output.{is_empty}
 use Rattle.words_core.specs.CsplitAsked.{CsplitAsked}
+use Rattle.follow_core.specs.Ending.{seen_first}
+use Rattle.follow_core.specs.Run.{AreKept}
+use Rattle.follow_core.specs.Version.{entries_of}
 use Rattle.tools_core.specs.Following.{FollowingEnds}
 use Rattle.tools_core.specs.Outcome.{RunEnds, names_read}
 use Rattle.tools_core.specs.Tasks.{has_headers}
@@ -271,3 +274,7 @@ pub record AreShared (asked : CsplitAsked) (input : List ℕ) (contents : List (
   pub all : all_of stretches ≡ lines_of newline input
   pub files : contents ≡ filed_of asked.style.elide stretches
   pub due : AreDue asked stretches
+
+-- as long as a file is only appended to it keeps its bytes, at every look
+abbrev pub KeepsBytes : (by_name : Bool) → (ℕ → Snapshot) → List ℕ → Type 0
+KeepsBytes by_name shows name = (n : ℕ) → AreKept (entries_of by_name name (seen_first shows n))

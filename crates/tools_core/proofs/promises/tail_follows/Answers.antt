@@ -1,5 +1,5 @@
-use Rattle.tools_core.proofs.FollowPromises.{tells_all}
+use Rattle.tools_core.proofs.FollowPromises.{tells_all, tells_text}
 use Rattle.tools_core.proofs.promises.tail_follows.Goals as goal
 
 pub returns : goal.returns
-returns c = tells_all
+returns c = record { grows = tells_all; text = tells_text }
