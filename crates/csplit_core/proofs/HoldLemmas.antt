@@ -25,7 +25,7 @@ use Rattle.csplit_core.proofs.DraftLemmas.{open_part, part_none, closed_files}
 
 -- want of memory leaves the outputs as they are
 
-in_turn : (told : Bool) (part : Part) (place : ℕ) (slots : List Slot) {writer : WriterState} → InTurn part.files place → Halts told writer part part slots slots Memory
+pub in_turn : (told : Bool) (part : Part) (place : ℕ) (slots : List Slot) {writer : WriterState} → InTurn part.files place → Halts told writer part part slots slots Memory
 in_turn told part place slots turn before at = record {
   part = part;
   above = part_begins_itself part;

@@ -7,7 +7,8 @@ use Rattle.ports_core.specs.Part.{nothing}
 use Rattle.ports_core.specs.Slot.{Slot}
 use Rattle.ports_core.specs.declared.fault.Fault.{Fault}
 use Rattle.ports_core.specs.declared.fault.Fault.TheVariants.{Memory}
-use Rattle.ports_core.proofs.PartLemmas.{part_begins_itself, nothing_begins_part}
+use Rattle.ports_core.proofs.PartLemmas.{nothing_begins_part}
+use Rattle.csplit_core.proofs.HoldLemmas.{in_turn}
 use Rattle.csplit_core.specs.Csplit.{settled_of}
 use Rattle.csplit_core.specs.Draft.{draft_part}
 use Rattle.csplit_core.specs.inner.Draft.{first_draft}
@@ -24,7 +25,7 @@ use Rattle.csplit_core.specs.declared.progress.Progress.{Progress}
 use Rattle.csplit_core.specs.declared.progress.Turn.{Turn}
 use Rattle.csplit_core.specs.declared.progress.Turn.TheVariants.{UsedUp, Missed, Above, Below, Cuts}
 use Rattle.csplit_core.specs.Writer.{WriterState, Writes, size_of}
-use Rattle.csplit_core.specs.inner.Writer.{Halts, Begun, BegunNot}
+use Rattle.csplit_core.specs.inner.Writer.{Begun, BegunNot}
 use Rattle.csplit_core.specs.Cutter.{CutterState, most_next, pattern_next, kept_next, next_of, most_by, pattern_by, kept_by, settled_draft, IsFit, Stands}
 use Rattle.csplit_core.specs.inner.Cutter.{IsNoCut, Opened}
 use Rattle.csplit_core.proofs.AdvanceLemmas.{advances}
@@ -189,22 +190,9 @@ opened_not told style operands next kept old new fault next_is kept_is begun =
     (subst (λ k. BegunNot told style (draft_part style (first_draft k)) old new fault) (kept_is ∙ ap kept_next (next_is ∙ next_seen operands)) begun)
 
 -- where there is no memory, nothing was done
-nothing_halts : (told : Bool) (slots : List Slot) {writer : WriterState} → Halts told writer nothing nothing slots slots Memory
-nothing_halts told slots before at = record {
-  part = nothing;
-  above = part_begins_itself nothing;
-  below = part_begins_itself nothing;
-  place = 0;
-  turn = record { closed = tt; within = omega arith; last = omega arith };
-  reached = slots;
-  outputs = at.outputs;
-  marks = refl;
-  from = tt;
-}
-
 opened_none : (told : Bool) (style : Style) (operands : List Operand) (slots : List Slot) → BegunNot told style (settled_of style operands []) slots slots Memory
 opened_none told style operands slots = record {
-  halts = halts_wider told nothing nothing (settled_of style operands []) slots slots Memory (nothing_halts told slots) (nothing_begins_part (settled_of style operands []));
+  halts = halts_wider told nothing nothing (settled_of style operands []) slots slots Memory (in_turn told nothing 0 slots (record { closed = tt; within = omega arith; last = omega arith })) (nothing_begins_part (settled_of style operands []));
   breaks = tt;
   none = none_past slots;
 }
