@@ -147,12 +147,7 @@ fn main(rt: HostRuntime) -> io::Result<()> {
     let best = best_of_rounds(&rt, &mut scan, &bre, &text)?;
     println!(rt;
         "{} {} {} {} {} {}",
-        best.plain,
-        best.matched,
-        best.found.lines,
-        best.found.steps,
-        best.passed,
-        best.unclear
+        best.plain, best.matched, best.found.lines, best.found.steps, best.passed, best.unclear
     )?;
     Ok(())
 }
