@@ -1,18 +1,17 @@
 -- Each line of an input of `csplit` is in one file, or was skipped, or left out at a cut.
-use Rattle.std.proofs.Common.{◌≡◌, ℕ, ◌+◌, ◌-◌, ◌<◌, ◌≤◌, zero, suc, min, Bool, true, false, not, ◌&&◌, cond, List, [], ◌∷◌, ◌++◌, length, map, take, drop, Some, refl, sym, ◌∙◌, ap, subst, arith, append_assoc, append-nil}
+use Rattle.std.proofs.Common.{◌≡◌, ℕ, ◌+◌, ◌-◌, ◌≤◌, suc, Bool, true, false, not, ◌&&◌, cond, List, [], ◌∷◌, ◌++◌, length, map, drop, refl, sym, ◌∙◌, ap, arith, append-nil}
 use Rattle.std.proofs.lemmas.Bool.{false≢true}
 use Rattle.std.proofs.lemmas.List.{length-drop, length-map, length-take, map-append}
-use Rattle.seg_core.specs.Line.{joined, lines_of}
+use Rattle.seg_core.specs.Line.{lines_of}
 use Rattle.ports_core.specs.Part.{File}
 use Rattle.ports_core.specs.Slot.{Slot}
 use Rattle.operand_core.specs.Style.{Style}
-use Rattle.operand_core.specs.declared.operand.Operand.{Operand}
 use Rattle.csplit_core.specs.Input.{all_lines, newline}
 use Rattle.csplit_core.specs.Operand.{Line, has_more, is_kept}
-use Rattle.csplit_core.specs.Output.{Contents, contents_of as contents_in, is_empty, makes_file, file_at, files_of as files_by}
+use Rattle.csplit_core.specs.Output.{contents_of as contents_in, is_empty, makes_file, file_at, files_of as files_by}
 use Rattle.csplit_core.specs.Plan.{State, start, state_after, Step, Ending, Runs, is_used_up, misses, is_above, is_below, cuts, line_after}
 use Rattle.csplit_core.specs.Planned.{plan}
-use Rattle.csplit_core.specs.Section.{Section, bytes_of, is_final, is_last_kept, lines_between, section, section_of, whole_end, whole_sections}
+use Rattle.csplit_core.specs.Section.{Section, bytes_of, is_last_kept, lines_between, section, section_of, whole_end}
 use Rattle.csplit_core.specs.laws.PlanLaws.{plan_runs}
 use Rattle.csplit_core.specs.laws.SectionLaws.{are_within}
 use Rattle.csplit_core.proofs.WholeLemmas.{between_rest, ends_after_all, rest_is_all}
