@@ -18,6 +18,7 @@ use Rattle.run_core.specs.RunEnds.{RunsOver}
 use Rattle.words_core.specs.declared.settings.Settings.{Settings}
 use Rattle.words_core.specs.declared.settings.Settings.TheVariants.{Head, Tail}
 use Rattle.words_core.specs.EndsAsked.{EndsAsked}
+use Rattle.words_core.specs.declared.value.Followed.{Followed}
 use Rattle.words_core.specs.SplitAsked.{SplitAsked}
 use Rattle.words_core.specs.Words.{settings_of}
 use Rattle.watch_core.specs.Snapshot.{Snapshot}
@@ -32,14 +33,15 @@ use Rattle.tools_core.specs.Following.{FollowingEnds}
 use Rattle.tools_core.specs.Outcome.{RunEnds, names_read}
 use Rattle.tools_core.specs.Tasks.{has_headers}
 
--- One run: its words, what it found, and what it left. Where words ask `tail` to follow files, the program has another
--- run, of which nothing is said here.
+-- One run: its words, what it found, and what it left. Where words ask `tail` to follow files, the program has another,
+-- a `FollowRun`.
 pub record Run : Type 0 where
   -- the first is the tool's name
   pub words : List (List ℕ)
   -- what standard input holds, and what lies at each name
   pub world : World
-  -- what is left of the inputs
+  -- the inputs before, and what is left of them
+  pub begun : List Source
   pub inputs : List Source
   -- standard output, standard error, and then the files, in the order in which they were opened
   pub outputs : List Slot
@@ -49,7 +51,7 @@ pub record Run : Type 0 where
 pub record Ran (run : Run) (asked : Settings) : Type 0 where
   pub read : settings_of run.words ≡ Ok asked
   pub ends : RunsOver true run.world (names_read run.words)
-      (λ found. RunEnds true true run.words found run.inputs run.outputs run.status)
+      (λ found. RunEnds true true run.words found run.begun run.inputs run.outputs run.status)
 
 -- and it met no fault
 pub record Does (run : Run) (asked : Settings) : Type 0 where
