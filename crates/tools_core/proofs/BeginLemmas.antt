@@ -181,7 +181,7 @@ begins_whole task input bytes sources new status place is grows differs (stopped
     let at_bytes = subst (λ content. RunStep true task largest_piece nothing (header_text task.with_header true input.name) input.slot sources content step) is at_input in
     stopped_begins task.work.clears step.high (part_of task input.name bytes) step.low error fault reached new place (step_begins task input.name bytes input.slot sources step grows at_bytes) differs between swept
 begins_whole task input bytes sources new status place is grows differs (stopped fault (first ∷ before) other after error step reached are done untouched at stops between swept says status_is) = absurd (only_one input first before after other are)
-begins_whole task input bytes sources new status place is grows differs (no_room error says slots untouched status_is) =
+begins_whole task input bytes sources new status place is grows differs (no_room error says slots untouched count status_is) =
     still_begins (streams_with error) new place _ slots (bare_begins error _ place differs)
 
 -- Works grow.

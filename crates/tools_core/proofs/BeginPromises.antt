@@ -13,11 +13,10 @@ use Rattle.words_core.specs.CsplitAsked.{CsplitAsked}
 use Rattle.words_core.specs.declared.settings.Settings.{Settings}
 use Rattle.words_core.specs.declared.settings.Settings.TheVariants.{Head, Tail, Split, Csplit, Tee}
 use Rattle.tools_core.specs.Outcome.{CsplitEndsAs, DoesAsked, RefusesOperands}
-use Rattle.tools_core.specs.Outcome as outcome
 use Rattle.tools_core.specs.Tasks.{csplit_task, head_task, naming_of, names_of, split_task, tail_task}
 use Rattle.tools_core.specs.Promises.{BeginsAs, BeginsEach, Does, HasInput, Ran, Run}
 use Rattle.tools_core.proofs.BeginLemmas.{IsGrowing, bare_begins, begins_whole, lawful_grows, split_grows, still_begins}
-use Rattle.tools_core.proofs.PromiseLemmas.{did, ending, has_one, not_one, one_done, ran_over}
+use Rattle.tools_core.proofs.PromiseLemmas.{did, ending, has_one, one_done, ran_over}
 use Rattle.tools_core.proofs.TeeBegins.{tee_begins}
 use Rattle.tools_core.proofs.SplitPromises.{not_short}
 
@@ -36,11 +35,9 @@ refused_begin new other error slots place differs = still_begins (streams_with e
 
 csplit_begin : (asked : CsplitAsked) (input : Input) (bytes : List ℕ) (these those : List Source) (new other : List Slot) (status : ℕ) → input.content ≡ Some (ending bytes)
     → CsplitEndsAs true true asked (input ∷ []) these new status → CsplitEndsAs true true asked (input ∷ []) those other 0 → BeginAt new other
-csplit_begin asked input bytes these those new other status is (outcome.cut operands asks one) (outcome.cut operands_too asks_too two) =
-    ends_begin (csplit_task asked operands) input bytes these those new other status is (λ well. lawful_grows (csplit_task asked operands).work bytes (csplit_law.lawful asked.style operands)) one
-    (subst (λ read. EndsAs true true (csplit_task asked read) (input ∷ []) those other 0) (asks_once asked.operands operands_too operands asks_too asks) two)
-csplit_begin asked input bytes these those new other status is (outcome.cut operands asks one) (outcome.unread untouched refuses) = absurd (not_one refuses.failed)
-csplit_begin asked input bytes these those new other status is (outcome.unread untouched refuses) two = refused_begin new other refuses.error refuses.slots
+csplit_begin asked input bytes these those new other status is one two =
+    ends_begin (csplit_task asked one.operands) input bytes these those new other status is (λ well. lawful_grows (csplit_task asked one.operands).work bytes (csplit_law.lawful asked.style one.operands)) one.ends
+    (subst (λ read. EndsAs true true (csplit_task asked read) (input ∷ []) those other 0) (asks_once asked.operands two.operands one.operands two.asks one.asks) two.ends)
 
 begin_at : (asked : Settings) (input : Input) (bytes : List ℕ) (these those : List Source) (new other : List Slot) (status : ℕ) → input.content ≡ Some (ending bytes)
     → DoesAsked true true asked (input ∷ []) these new status → DoesAsked true true asked (input ∷ []) those other 0 → BeginAt new other

@@ -26,7 +26,6 @@ use Rattle.csplit_core.proofs.WholeLemmas.{none_lost_at_end}
 use Rattle.words_core.specs.CsplitAsked.{CsplitAsked}
 use Rattle.words_core.specs.declared.settings.Settings.TheVariants.{Csplit}
 use Rattle.tools_core.specs.Outcome.{CsplitEndsAs}
-use Rattle.tools_core.specs.Outcome as outcome
 use Rattle.tools_core.specs.Tasks.{csplit_task}
 use Rattle.tools_core.specs.Promises.{Run, Does, HasInput, AreNumbered, IsSound, SkipNothing, contents_of, files_of, text_at}
 use Rattle.tools_core.proofs.NumberLemmas.{numbered_in_order}
@@ -157,14 +156,13 @@ pub record IsCsplit (run : Run) (asked : CsplitAsked) (input : List ℕ) : Type 
   pub files : files_of run ≡ map slot_of (files_by asked.style 0 (map contents_in (whole_sections (all_lines input) (plan asked.style.suppress operands (all_lines input)))))
 
 was_cut : (run : Run) (asked : CsplitAsked) (input : List ℕ) (one : DidOne run (Csplit asked) input) → CsplitEndsAs true true asked (one.input ∷ []) run.inputs run.outputs 0 → IsCsplit run asked input
-was_cut run asked input one (outcome.cut operands asks ends) =
-    let made = one_done (csplit_task asked operands) one.input input run.inputs run.outputs one.content ends in record {
-      operands = operands;
-      asks = asks;
+was_cut run asked input one does =
+    let made = one_done (csplit_task asked does.operands) one.input input run.inputs run.outputs one.content does.ends in record {
+      operands = does.operands;
+      asks = does.asks;
       well = ends_well _ made.unjudged;
       files = ap (drop 2) made.slots;
     }
-was_cut run asked input one (outcome.unread untouched refuses) = absurd (not_one refuses.failed)
 
 pub is_csplit : (run : Run) (asked : CsplitAsked) (input : List ℕ) → Does run (Csplit asked) → HasInput run input → IsCsplit run asked input
 is_csplit run asked input does has = let one = did_one run (Csplit asked) input does has in was_cut run asked input one one.does

@@ -97,7 +97,7 @@ well_done task inputs sources new (as_defined error reached says outputs swept d
     let quiet = quiet_inputs task true inputs sound in
     record { sound = sound; slots = left_so task.tool (made_by task inputs) error reached new quiet.0 quiet.1 says outputs swept }
 well_done task inputs sources new (stopped fault before input after error step reached are done untouched at stops between swept says status) = absurd (not_one status)
-well_done task inputs sources new (no_room error says slots untouched status) = absurd (not_one status)
+well_done task inputs sources new (no_room error says slots untouched count status) = absurd (not_one status)
 
 -- one input, which ends after these bytes
 
@@ -131,11 +131,15 @@ one_done task input bytes sources new is ends =
 
 -- what the words of a run ask for was done, over what the run found, or its operands were refused
 
+not_refused : {A B C : Type 0} → A ⊎ (B × C) → A ⊎ C
+not_refused (inl did) = inl did
+not_refused (inr (same, refuses)) = inr refuses
+
 pub ran_over : (run : Run) (asked : Settings) → Ran run asked → DoesAsked true true asked (inputs_at run.world (names_of asked)) run.inputs run.outputs run.status ⊎ RefusesOperands true run.words asked run.outputs run.status
 ran_over run asked ran =
     let (found, finds, ends) = ran.ends in
-    subst (λ (meant : Result Settings Fault). RunEndsAt true true run.words (inputs_at run.world (names_at meant)) run.inputs run.outputs run.status meant) ran.read
-    (subst (λ those. RunEndsAt true true run.words those run.inputs run.outputs run.status (settings_of run.words)) (finds.there refl) ends)
+    not_refused (subst (λ (meant : Result Settings Fault). RunEndsAt true true run.words (inputs_at run.world (names_at meant)) run.begun run.inputs run.outputs run.status meant) ran.read
+    (subst (λ those. RunEndsAt true true run.words those run.begun run.inputs run.outputs run.status (settings_of run.words)) (finds.there refl) ends))
 
 by_either : (run : Run) (asked : Settings) (found : List Input) → run.status ≡ 0 → DoesAsked true true asked found run.inputs run.outputs run.status ⊎ RefusesOperands true run.words asked run.outputs run.status
     → DoesAsked true true asked found run.inputs run.outputs 0

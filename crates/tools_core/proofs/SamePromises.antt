@@ -11,21 +11,19 @@ use Rattle.tee_core.specs.Run.{all_copied}
 use Rattle.words_core.specs.CsplitAsked.{CsplitAsked}
 use Rattle.words_core.specs.declared.settings.Settings.{Settings}
 use Rattle.words_core.specs.declared.settings.Settings.TheVariants.{Head, Tail, Split, Csplit, Tee}
-use Rattle.tools_core.specs.Outcome.{CsplitEndsAs, DoesAsked, cut, unread, names_at}
+use Rattle.tools_core.specs.Outcome.{CsplitEndsAs, DoesAsked, names_at}
 use Rattle.tools_core.specs.Tasks.{csplit_task, head_task, split_task, tail_task, names_of}
 use Rattle.tools_core.specs.Promises.{Run, Does, FindAlike}
-use Rattle.tools_core.proofs.PromiseLemmas.{did, not_one, well_done}
+use Rattle.tools_core.proofs.PromiseLemmas.{did, well_done}
 use Rattle.tools_core.proofs.TeePromises.{bytes_at}
 
 ends_same : (task : Task) (inputs : List Input) (these those : List Source) (new other : List Slot) → EndsAs true true task inputs these new 0 → EndsAs true true task inputs those other 0 → new ≡ other
 ends_same task inputs these those new other one two = (well_done task inputs these new one).slots ∙ sym (well_done task inputs those other two).slots
 
 csplit_same : (asked : CsplitAsked) (inputs : List Input) (these those : List Source) (new other : List Slot) → CsplitEndsAs true true asked inputs these new 0 → CsplitEndsAs true true asked inputs those other 0 → new ≡ other
-csplit_same asked inputs these those new other (cut operands asks one) (cut operands_too asks_too two) =
-    ends_same (csplit_task asked operands) inputs these those new other one
-    (subst (λ read. EndsAs true true (csplit_task asked read) inputs those other 0) (asks_once asked.operands operands_too operands asks_too asks) two)
-csplit_same asked inputs these those new other (unread untouched refuses) two = absurd (not_one refuses.failed)
-csplit_same asked inputs these those new other (cut operands asks one) (unread untouched refuses) = absurd (not_one refuses.failed)
+csplit_same asked inputs these those new other one two =
+    ends_same (csplit_task asked one.operands) inputs these those new other one.ends
+    (subst (λ read. EndsAs true true (csplit_task asked read) inputs those other 0) (asks_once asked.operands two.operands one.operands two.asks one.asks) two.ends)
 
 does_same : (asked : Settings) (inputs : List Input) (these those : List Source) (new other : List Slot) → DoesAsked true true asked inputs these new 0 → DoesAsked true true asked inputs those other 0 → new ≡ other
 does_same (Head asked) inputs these those new other one two = ends_same (head_task asked) inputs these those new other one two

@@ -1,5 +1,5 @@
 -- What any run of `tee` leaves is a beginning of what one leaves that met no fault.
-use Rattle.std.proofs.Common.{◌≡◌, ℕ, zero, suc, true, List, [], ◌∷◌, ◌++◌, map, take, Option, inl, refl, sym, ◌∙◌, ap, subst, append_assoc}
+use Rattle.std.proofs.Common.{◌≡◌, ℕ, zero, suc, Bool, true, List, [], ◌∷◌, ◌++◌, map, take, Option, inl, refl, sym, ◌∙◌, ap, subst, append_assoc}
 use Rattle.std.specs.List.{concat}
 use Rattle.ports_core.specs.Slot.{Slot, adds, closes, opened, slot_at}
 use Rattle.ports_core.specs.Source.{Content, Source}
@@ -9,7 +9,7 @@ use Rattle.ports_core.specs.declared.fault.Fault.{Fault}
 use Rattle.ports_core.specs.declared.slot.Mode.{Mode}
 use Rattle.ports_core.proofs.PartLemmas.{begins_itself, begins_trans, take_begins_after}
 use Rattle.run_core.specs.Input.{Input}
-use Rattle.tee_core.specs.Run.{EndsAs, FileLeft, FilesLeft, IsRead, OutputLeft, all_copied, copied, file_cut, file_unclosed, file_unopened, file_whole, no_file, no_room, one_file, output_cut, output_whole, to_break, to_end, to_limit}
+use Rattle.tee_core.specs.Run.{EndsAs, FileLeft, FilesLeft, IsRead, OutputLeft, all_copied, copied, file_cut, file_unclosed, file_unopened, file_whole, no_file, no_room, one_file, output_cut, output_whole, to_break, to_end, to_last_output, to_limit}
 use Rattle.words_core.specs.TeeAsked.{TeeAsked}
 use Rattle.tools_core.specs.Outcome.{TeeEndsAs}
 use Rattle.tools_core.specs.Promises.{BeginsAs}
@@ -17,10 +17,11 @@ use Rattle.tools_core.proofs.BeginLemmas.{bare_begins, empty_begins, still_begin
 use Rattle.tools_core.proofs.TeePromises.{bytes_at}
 
 -- all that was copied is a beginning of the input
-read_begins : (content : Content) (Leaves : List ℕ → Type 0) (x : List ℕ) (fault : Option Fault) → IsRead content Leaves x fault → IsBeginning x content.bytes
-read_begins content Leaves _ _ (to_end x is ends leaves) = subst (IsBeginning x) (sym is) (begins_itself x)
-read_begins content Leaves _ _ (to_break x is breaks leaves) = subst (IsBeginning x) (sym is) (begins_itself x)
-read_begins content Leaves _ _ (to_limit x piece rest is long leaves) = (piece ++ rest, is ∙ append_assoc x piece rest)
+read_begins : (content : Content) (Leaves : List ℕ → Type 0) (is_vain : Bool) (x : List ℕ) (fault : Option Fault) → IsRead content Leaves is_vain x fault → IsBeginning x content.bytes
+read_begins content Leaves _ _ _ (to_end x is ends leaves) = subst (IsBeginning x) (sym is) (begins_itself x)
+read_begins content Leaves _ _ _ (to_break x is breaks leaves) = subst (IsBeginning x) (sym is) (begins_itself x)
+read_begins content Leaves _ _ _ (to_limit x piece rest is long short leaves) = (piece ++ rest, is ∙ append_assoc x piece rest)
+read_begins content Leaves _ _ _ (to_last_output x rest is leaves) = (rest, is)
 
 -- so is what came before an output broke in a piece
 concat_then : (before : List (List ℕ)) (piece : List ℕ) (after : List (List ℕ)) → concat (before ++ piece ∷ after) ≡ (concat before ++ piece) ++ concat after
@@ -55,10 +56,10 @@ files_begin mode pieces bytes _ _ _ all (one_file name names first broke file fi
 
 copies_begin : (mode : Mode) (names : List (List ℕ)) (content : Content) (source : Source) (new : List Slot) (status : ℕ) (place : ℕ) → (place ≡ 1 → ⊥) → EndsAs true true mode names content source new status → BeginsAs (slot_at new place) (slot_at (all_copied true mode names content.bytes) place)
 copies_begin mode names content source new status place differs (no_room error says leaves slots failed) = still_begins _ new place _ slots (bare_begins error _ place differs)
-copies_begin mode names content source new status place differs (copied pieces fault first broke output error files read out_left files_left says slots is) =
+copies_begin mode names content source new status place differs (copied pieces fault first broke output error files comes going out_left files_left says slots is) =
     subst (λ those. BeginsAs (slot_at those place) (slot_at (all_copied true mode names content.bytes) place)) (sym slots) (at place differs) where
       all : IsBeginning (concat pieces) content.bytes
-      all = read_begins content _ (concat pieces) fault read
+      all = read_begins content _ _ (concat pieces) fault comes.read
 
       at : (place : ℕ) → (place ≡ 1 → ⊥) → BeginsAs (slot_at (output ∷ error ∷ files) place) (slot_at (all_copied true mode names content.bytes) place)
       at zero differs = let begins = output_begins pieces first output out_left in record { bytes = begins_trans _ (concat pieces) _ begins.1 all; named = inl begins.0 }

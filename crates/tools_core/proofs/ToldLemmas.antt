@@ -139,7 +139,7 @@ ends_told task inputs sources new status one (stopped fault before input after e
     subst SaysSome (sym (swept_error _ reached new swept))
     (marked_some (IsNext between.part step.high) fault _ error between.outputs.since reached (subst (λ slots. Marks (IsNext between.part step.high) fault slots reached) between.outputs.slots between.marks)
     (all_told task.tool _ standard_error error (has_after (made_by task before).messages _ (inl (message_some task.tool fault _))) says))
-ends_told task inputs sources new status one (no_room error says slots untouched is) =
+ends_told task inputs sources new status one (no_room error says slots untouched count is) =
     subst (λ those. SaysSome (slot_at those 1)) (sym slots) (all_told task.tool (message_of task.tool Memory [] ∷ []) standard_error error (inl (message_some task.tool Memory [])) says)
 
 refused_told : (tool : Tool) (text : List ℕ) (new : List Slot) (status : ℕ) → 0 < length text → Refuses true tool text new status → SaysSome (slot_at new 1)
@@ -147,8 +147,7 @@ refused_told tool text new status some refuses =
     subst (λ those. SaysSome (slot_at those 1)) (sym refuses.slots) (said_told tool text standard_error refuses.error some refuses.says)
 
 csplit_told : (asked : CsplitAsked) (inputs : List Input) (sources : List Source) (new : List Slot) (status : ℕ) → status ≡ 1 → CsplitEndsAs true true asked inputs sources new status → SaysSome (slot_at new 1)
-csplit_told asked inputs sources new status one (outcome.cut operands asks ends) = ends_told (csplit_task asked operands) inputs sources new status one ends
-csplit_told asked inputs sources new status one (outcome.unread untouched refuses) = refused_told tool.Csplit _ new status (message_some tool.Csplit Memory []) refuses
+csplit_told asked inputs sources new status one does = ends_told (csplit_task asked does.operands) inputs sources new status one does.ends
 
 -- `tee`: an output that broke has its message, after the call in which it did.
 
@@ -207,7 +206,7 @@ status_text names broke pieces (Some fault) true is said one =
 tee_told : (mode : Mode) (names : List (List ℕ)) (content : Content) (source : Source) (new : List Slot) (status : ℕ) → status ≡ 1 → tee.EndsAs true true mode names content source new status → SaysSome (slot_at new 1)
 tee_told mode names content source new status one (tee.no_room error says leaves slots is) =
     subst (λ those. SaysSome (slot_at those 1)) (sym slots) (all_told tool.Tee (message_of tool.Tee Memory [] ∷ []) standard_error error (inl (message_some tool.Tee Memory [])) says)
-tee_told mode names content source new status one (tee.copied pieces fault first broke output error files read out_left files_left says slots is) =
+tee_told mode names content source new status one (tee.copied pieces fault first broke output error files comes going out_left files_left says slots is) =
     subst (λ those. SaysSome (slot_at those 1)) (sym slots)
     (all_told tool.Tee _ standard_error error (status_text names (first ∷ broke) (length pieces) fault _ refl (outputs_said mode pieces names first broke output files out_left files_left) (sym is ∙ one)) says)
 
