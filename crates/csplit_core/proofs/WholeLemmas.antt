@@ -55,7 +55,7 @@ ends_after_all total (missed operand repetition) live = refl
 ends_after_all total (above operand repetition matched cut) live = refl
 ends_after_all total (below operand repetition) live = absurd (false≢true (sym live))
 
-pub rest_is_all : (x : List Line) (current : ℕ) → 1 ≤ current → lines_between current (suc (length x)) x ≡ drop (current - 1) x
+rest_is_all : (x : List Line) (current : ℕ) → 1 ≤ current → lines_between current (suc (length x)) x ≡ drop (current - 1) x
 rest_is_all x current some = take_all (suc (length x) - current) (drop (current - 1) x) (let e : length (drop (current - 1) x) ≡ length x - (current - 1) = length-drop (current - 1) x in omega (arith, e, some))
 
 pub none_lost_at_end : (operands : List Operand) (x : List Line) → is_final (plan false operands x).ending ≡ false → lines_in (whole_sections x (plan false operands x)) ≡ x

@@ -143,7 +143,7 @@ fn leave_the_same(
 #[test]
 fn split_loses_nothing(rt: HostRuntime) -> Result<(), Fail> {
     for words in SPLIT {
-        hold(&rt, rt.alloc(), words, TEXT)?;
+        lose_nothing(&rt, rt.alloc(), words)?;
     }
     Ok(())
 }
@@ -206,10 +206,7 @@ fn joined(alloc: Global, outs: &MemOut, slots: &[usize]) -> Result<Vec<u8>, Faul
 #[test]
 fn csplit_loses_nothing(rt: HostRuntime) -> Result<(), Fail> {
     for words in CSPLIT {
-        hold(&rt, rt.alloc(), words, TEXT)?;
-    }
-    for row in SHARED {
-        hold(&rt, rt.alloc(), row.0, row.1)?;
+        lose_nothing(&rt, rt.alloc(), words)?;
     }
     Ok(())
 }
@@ -220,21 +217,8 @@ const CSPLIT: &[&[&str]] = &[
     &["csplit", "-s", "-", "/d/-2", "5"],
 ];
 
-/// Words that skip lines, or leave some out, and what is in the files then: the other lines.
-const SHARED: &[(&[&str], &[u8])] = &[
-    (
-        &["csplit", "--suppress-matched", "-", "/c/", "/d/"],
-        b"a\nbb\ne",
-    ),
-    (&["csplit", "-", "%b%", "/d/"], b"bb\nccccccccc\nd\ne"),
-    (
-        &["csplit", "--suppress-matched", "-", "%b%", "4"],
-        b"ccccccccc\ne",
-    ),
-];
-
-/// The files that the words make are joined these bytes, in the order of their names.
-fn hold(rt: &impl Abort, alloc: Global, words: &[&str], wanted: &[u8]) -> Result<(), Fault> {
+/// The files that the words make are joined the text, in the order of their names.
+fn lose_nothing(rt: &impl Abort, alloc: Global, words: &[&str]) -> Result<(), Fault> {
     let outs = left_by(rt, alloc, words, 4)?;
     let mut all = Vec::new(alloc);
     for slot in 2..20 {
@@ -243,7 +227,7 @@ fn hold(rt: &impl Abort, alloc: Global, words: &[&str], wanted: &[u8]) -> Result
         assert_eq!(rt; slot == 2 || comes_after || is_none, true, "of {words:?}");
         all.extend_from_slice(outs.bytes(slot))?;
     }
-    assert_eq!(rt; all.as_slice(), wanted, "of {words:?}");
+    assert_eq!(rt; all.as_slice(), TEXT, "of {words:?}");
     Ok(())
 }
 

@@ -38,7 +38,7 @@ abbrev AllKept : List Section → Type 0
 AllKept [] = Unit {0}
 AllKept (section ∷ sections) = (section.is_kept ≡ true) × AllKept sections
 
-pub kept_after : (more : Bool) (operand : Operand) (operands : List Operand) → KeepTargets (operand ∷ operands) → KeepTargets (operands_after more operand operands)
+kept_after : (more : Bool) (operand : Operand) (operands : List Operand) → KeepTargets (operand ∷ operands) → KeepTargets (operands_after more operand operands)
 kept_after true operand operands keep = keep
 kept_after false operand operands keep = keep.1
 
@@ -51,7 +51,7 @@ record Kept (lines : List Line) (steps : List Step) (ending : Ending) : Type 0 w
   pub final : is_last_kept ending ≡ true
 
 -- the run's operands are these
-pub front_keeps : (operands : List Operand) (operand : Operand) (rest : List Operand) → operands ≡ operand ∷ rest → KeepTargets operands → KeepTargets (operand ∷ rest)
+front_keeps : (operands : List Operand) (operand : Operand) (rest : List Operand) → operands ≡ operand ∷ rest → KeepTargets operands → KeepTargets (operand ∷ rest)
 front_keeps operands operand rest is keep = subst KeepTargets is keep
 
 runs_keep : (suppress : Bool) (lines : List Line) (state : State) (steps : List Step) (last : State) (ending : Ending) → Runs suppress lines state steps last ending → KeepTargets state.operands → Kept lines steps ending
@@ -74,7 +74,7 @@ sections_kept suppress operands lines keep =
 bytes_then : (one other : List Line) → bytes_of (one ++ other) ≡ bytes_of one ++ bytes_of other
 bytes_then one other = ap joined (map-append (λ (line : Line). line.text) one other) ∙ joined-append (map (λ (line : Line). line.text) one) (map (λ (line : Line). line.text) other)
 
-pub all_bytes : (lines : List (List ℕ)) → map (λ (line : Line). line.text) (map marked lines) ≡ lines
+all_bytes : (lines : List (List ℕ)) → map (λ (line : Line). line.text) (map marked lines) ≡ lines
 all_bytes [] = refl
 all_bytes (line ∷ lines) = ap (λ rest. line ∷ rest) (all_bytes lines)
 
@@ -164,7 +164,7 @@ was_cut run asked input one does =
       files = ap (drop 2) made.slots;
     }
 
-pub is_csplit : (run : Run) (asked : CsplitAsked) (input : List ℕ) → Does run (Csplit asked) → HasInput run input → IsCsplit run asked input
+is_csplit : (run : Run) (asked : CsplitAsked) (input : List ℕ) → Does run (Csplit asked) → HasInput run input → IsCsplit run asked input
 is_csplit run asked input does has = let one = did_one run (Csplit asked) input does has in was_cut run asked input one one.does
 
 pub are_numbered : (run : Run) (asked : CsplitAsked) (input : List ℕ) → Does run (Csplit asked) → HasInput run input → AreNumbered asked.style.prefix asked.style.digits (files_of run)

@@ -21,4 +21,3 @@ pub mod ToldLemmas
 pub mod FollowText
 pub mod GrowingText
 pub mod FollowPromises
-pub mod StretchPromises

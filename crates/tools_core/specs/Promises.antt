@@ -1,6 +1,6 @@
 -- What people rest on, in a manual's words: what a run leaves, over inputs and outputs that tell their bytes, as those
 -- in memory do.
-use Rattle.std.specs.Prelude.{◌≡◌, ℕ, ◌+◌, ◌^◌, ◌/◌, ◌%◌, ◌<◌, ◌≤◌, ◌==◌, suc, Bool, true, false, not, ◌&&◌, List, [], ◌∷◌, ◌++◌, length, map, drop, All, slice_index_or, ◌⊎◌, Option, Some, None, Ok, if◌then◌else◌}
+use Rattle.std.specs.Prelude.{◌≡◌, ℕ, ◌+◌, ◌^◌, ◌/◌, ◌%◌, ◌<◌, ◌≤◌, ◌==◌, suc, Bool, true, false, List, [], ◌∷◌, ◌++◌, length, map, drop, All, slice_index_or, ◌⊎◌, Option, Some, None, Ok, if◌then◌else◌}
 use Rattle.std.specs.declared.cmp.Ordering.TheVariants.{Less}
 use Rattle.std.specs.Ordering.{nat_cmp}
 use Rattle.std.specs.Cmp.Lexicographic.{slice_cmp}
@@ -23,9 +23,6 @@ use Rattle.words_core.specs.SplitAsked.{SplitAsked}
 use Rattle.words_core.specs.Words.{settings_of}
 use Rattle.watch_core.specs.Snapshot.{Snapshot}
 use Rattle.watch_core.specs.Watched.{Watched}
-use Rattle.csplit_core.specs.Input.{newline}
-use Rattle.csplit_core.specs.Output.{is_empty}
-use Rattle.words_core.specs.CsplitAsked.{CsplitAsked}
 use Rattle.follow_core.specs.Ending.{seen_first}
 use Rattle.follow_core.specs.Run.{AreKept}
 use Rattle.follow_core.specs.Version.{entries_of}
@@ -229,53 +226,6 @@ pub record Follows (run : FollowRun) (options : EndsAsked) (followed : Followed)
 abbrev pub OnlyGrows : (ℕ → Snapshot) → List ℕ → ℕ → Type 0
 OnlyGrows shows name file =
     (n : ℕ) → ((shows n).leads name ≡ Some file) × IsBeginning ((shows n).holds file) ((shows (suc n)).holds file)
-
--- what becomes of lines of the input of `csplit`
-pub data Lot : Type 0 where
-  -- they are a section, which has a file
-  filed : Lot
-  -- they are a section that `%` skips
-  skipped : Lot
-  -- it is the line at a cut, which `--suppress-matched` leaves out
-  left_out : Lot
-
-pub record Stretch : Type 0 where
-  pub lot : Lot
-  pub lines : List (List ℕ)
-
-abbrev pub is_filed : Lot → Bool
-is_filed filed = true
-is_filed skipped = false
-is_filed left_out = false
-
--- the lines of all stretches, one after another
-abbrev pub all_of : List Stretch → List (List ℕ)
-all_of [] = []
-all_of (stretch ∷ more) = stretch.lines ++ all_of more
-
--- what files have of stretches; with `-z` an empty section has none
-abbrev pub filed_of : Bool → List Stretch → List (List ℕ)
-filed_of elide [] = []
-filed_of elide (stretch ∷ more) = if is_filed stretch.lot && not (elide && is_empty (joined stretch.lines))
-    then joined stretch.lines ∷ filed_of elide more else filed_of elide more
-
--- a section is skipped only where some operand skips one, and what is left out is one line, where that is asked for
-abbrev pub IsDue : CsplitAsked → Lot → List (List ℕ) → Type 0
-IsDue asked filed lines = Unit {0}
-IsDue asked skipped lines = SkipNothing asked.operands → ⊥
-IsDue asked left_out lines = (asked.style.suppress ≡ true) × (length lines ≡ 1)
-
-abbrev pub AreDue : CsplitAsked → List Stretch → Type 0
-AreDue asked [] = Unit {0}
-AreDue asked (stretch ∷ more) = IsDue asked stretch.lot stretch.lines × AreDue asked more
-
--- The lines of the input are stretches, one after another, each with its lot, and the files have those that are filed, in
--- order. So each line is in just one file or in none, and those in none were skipped or left out.
-pub record AreShared (asked : CsplitAsked) (input : List ℕ) (contents : List (List ℕ)) : Type 0 where
-  pub stretches : List Stretch
-  pub all : all_of stretches ≡ lines_of newline input
-  pub files : contents ≡ filed_of asked.style.elide stretches
-  pub due : AreDue asked stretches
 
 -- as long as a file is only appended to it keeps its bytes, at every look
 abbrev pub KeepsBytes : (by_name : Bool) → (ℕ → Snapshot) → List ℕ → Type 0

@@ -61,7 +61,6 @@ pub fn split_loses_nothing()
 pub fn csplit_loses_nothing()
     ensures numbered { (csplit : Run) (asked : CsplitAsked) (input : List ℕ) → Does csplit (Csplit asked) → HasInput csplit input → AreNumbered asked.style.prefix asked.style.digits (files_of csplit) }
     ensures joined { (csplit : Run) (asked : CsplitAsked) (input : List ℕ) → Does csplit (Csplit asked) → HasInput csplit input → asked.style.suppress ≡ false → SkipNothing asked.operands → joined (contents_of csplit) ≡ input }
-    ensures shared { (csplit : Run) (asked : CsplitAsked) (input : List ℕ) → Does csplit (Csplit asked) → HasInput csplit input → AreShared asked input (contents_of csplit) }
 {}
 
 /// Nothing after a fault but a beginning. Whatever a run met, standard output and each file have a beginning of what they
