@@ -1,5 +1,5 @@
 -- What `csplit` leaves of its input.
-use Rattle.std.proofs.Common.{◌≡◌, ℕ, ◌+◌, ◌<◌, zero, suc, Bool, true, false, not, ◌&&◌, cond, List, [], ◌∷◌, ◌++◌, length, map, drop, None, inl, inr, ◌⊎◌, refl, sym, ◌∙◌, ap, subst, arith}
+use Rattle.std.proofs.Common.{◌≡◌, ℕ, ◌+◌, ◌-◌, ◌<◌, ◌≤◌, zero, suc, Bool, true, false, not, ◌&&◌, cond, List, [], ◌∷◌, ◌++◌, length, length-drop, map, drop, append_assoc, None, inl, inr, ◌⊎◌, refl, sym, ◌∙◌, ap, subst, arith}
 use Rattle.std.specs.List.{All}
 use Rattle.std.proofs.lemmas.List.{length-map, map-append, drop-drop, take-append-drop, take_all}
 use Rattle.std.proofs.lemmas.List.Elements.{All-nil, All-cons}
@@ -18,18 +18,20 @@ use Rattle.csplit_core.specs.Input.{all_lines, marked, newline}
 use Rattle.operand_core.specs.declared.operand.Operand.{Operand}
 use Rattle.csplit_core.specs.Operand.{Line, has_more}
 use Rattle.csplit_core.specs.Output.{Contents, contents_of as contents_in, is_empty, makes_file, file_at, files_of as files_by}
-use Rattle.csplit_core.specs.Plan.{State, start, state_after, operands_after, Step, Ending, used_up, missed, above, below, Runs, is_used_up, misses, is_above, is_below, cuts}
+use Rattle.csplit_core.specs.Plan.{State, start, line_after, state_after, operands_after, step_of, Step, Ending, used_up, missed, above, below, Runs, is_used_up, misses, is_above, is_below, cuts}
 use Rattle.csplit_core.specs.Planned.{plan}
-use Rattle.csplit_core.specs.Section.{Section, section_of, bytes_of, is_final, is_last_kept, lines_in, whole_sections}
+use Rattle.csplit_core.specs.Section.{Section, section_of, bytes_of, is_final, is_last_kept, lines_between, lines_in, whole_sections}
 use Rattle.csplit_core.specs.laws.PlanLaws.{plan_runs}
-use Rattle.csplit_core.proofs.WholeLemmas.{none_lost_at_end}
+use Rattle.csplit_core.specs.laws.SectionLaws.{are_within}
+use Rattle.csplit_core.proofs.WholeLemmas.{ends_after_all, none_lost_at_end}
 use Rattle.words_core.specs.CsplitAsked.{CsplitAsked}
 use Rattle.words_core.specs.declared.settings.Settings.TheVariants.{Csplit}
 use Rattle.tools_core.specs.Outcome.{CsplitEndsAs}
 use Rattle.tools_core.specs.Tasks.{csplit_task}
-use Rattle.tools_core.specs.Promises.{Run, Does, HasInput, AreNumbered, IsSound, SkipNothing, contents_of, files_of, text_at}
+use Rattle.tools_core.specs.Promises.{Run, Does, HasInput, AreNumbered, AreSections, IsSound, SkipNothing, contents_of, files_of, in_turn, last_section, left_out, text_at}
 use Rattle.tools_core.proofs.NumberLemmas.{numbered_in_order}
 use Rattle.tools_core.proofs.PromiseLemmas.{DidOne, did_one, not_one, one_done, slot_of}
+use Rattle.tools_core.proofs.SplitPromises.{bytes_written}
 use Rattle.tools_core.proofs.SkipLemmas.{KeepTargets, targets_keep}
 
 -- All sections are kept, where all operands keep theirs.
@@ -192,3 +194,54 @@ none_is_lost run asked input does has whole none =
     ∙ ap (λ suppress. bytes_of (lines_in (whole_sections lines (plan suppress split.operands lines)))) whole
     ∙ ap bytes_of (none_lost_at_end split.operands lines (subst (λ suppress. is_final (plan suppress split.operands lines).ending ≡ false) whole split.well))
     ∙ ap joined (all_bytes (lines_of newline input)) ∙ joined-lines_of newline input
+
+-- Each line in its turn
+
+-- the lines from one to before another, and the rest
+between_rest : (first cut : ℕ) (lines : List Line) → 1 ≤ first → first ≤ cut → lines_between first cut lines ++ drop (cut - 1) lines ≡ drop (first - 1) lines
+between_rest first cut lines some least =
+    ap (λ those. lines_between first cut lines ++ those) (ap (λ n. drop n lines) (let e : cut - 1 ≡ first - 1 + (cut - first) = omega (arith, some, least) in e) ∙ sym (drop-drop (cut - first) (first - 1) lines))
+    ∙ take-append-drop (cut - first) (drop (first - 1) lines)
+
+cut_rest : (suppress : Bool) (lines : List Line) (step : Step) → 1 ≤ step.cut → left_out suppress lines step ++ drop (line_after suppress step.cut - 1) lines ≡ drop (step.cut - 1) lines
+cut_rest true lines step some = between_rest step.cut (suc step.cut) lines some (omega arith)
+cut_rest false lines step some = refl
+
+past_cut : (suppress : Bool) (cut : ℕ) → 1 ≤ cut → 1 ≤ line_after suppress cut
+past_cut true cut some = omega (arith, some)
+past_cut false cut some = some
+
+all_in_turn : (suppress : Bool) (lines : List Line) (first : State) (steps : List Step) (last : State) (ending : Ending) → Runs suppress lines first steps last ending → 1 ≤ first.current
+    → in_turn suppress lines steps (drop (last.current - 1) lines) ≡ drop (first.current - 1) lines
+all_in_turn suppress lines first steps last ending (is_used_up state none) some = refl
+all_in_turn suppress lines first steps last ending (misses state operand operands is none) some = refl
+all_in_turn suppress lines first steps last ending (is_above state operand operands matched cut is at far) some = refl
+all_in_turn suppress lines first steps last ending (is_below state operand operands matched cut is at within low) some = refl
+all_in_turn suppress lines first steps last ending (cuts state operand operands matched cut steps' last' ending' is at from within rest) some =
+    let low : 1 ≤ cut = omega (arith, some, from) in
+    let step = step_of state operand matched cut in
+    ap (λ those. lines_between state.current cut lines ++ (left_out suppress lines step ++ those)) (all_in_turn suppress lines (state_after suppress operand operands state.repetition matched cut) steps' last' ending' rest (past_cut suppress cut low))
+    ∙ ap (λ those. lines_between state.current cut lines ++ those) (cut_rest suppress lines step low)
+    ∙ between_rest state.current cut lines some from
+
+rest_is_all : (lines : List Line) (current : ℕ) → 1 ≤ current → lines_between current (suc (length lines)) lines ≡ drop (current - 1) lines
+rest_is_all lines current some = take_all (suc (length lines) - current) (drop (current - 1) lines) (let e : length (drop (current - 1) lines) ≡ length lines - (current - 1) = length-drop (current - 1) lines in omega (arith, e, some))
+
+none_missing : (suppress : Bool) (operands : List Operand) (lines : List Line) → is_final (plan suppress operands lines).ending ≡ false → in_turn suppress lines (plan suppress operands lines).steps (last_section lines (plan suppress operands lines)) ≡ lines
+none_missing suppress operands lines live =
+    let plan' = plan suppress operands lines in
+    let runs = plan_runs suppress operands lines in
+    let some = (are_within suppress lines (start operands) _ _ _ runs (omega arith)).1 in
+    ap (in_turn suppress lines plan'.steps) (ap (λ end. lines_between plan'.last.current end lines) (ends_after_all (length lines) plan'.ending live) ∙ rest_is_all lines plan'.last.current some)
+    ∙ all_in_turn suppress lines (start operands) _ _ _ runs (omega arith)
+
+pub are_sections : (run : Run) (asked : CsplitAsked) (input : List ℕ) → Does run (Csplit asked) → HasInput run input → (operands : List Operand) × Asks asked.operands operands × AreSections asked.style operands input (contents_of run)
+are_sections run asked input does has =
+    let split = is_csplit run asked input does has in (
+      split.operands,
+      split.asks,
+      record {
+        all = none_missing asked.style.suppress split.operands (all_lines input) split.well;
+        files = ap (map (λ (file : Slot). file.written)) split.files ∙ bytes_written _;
+      },
+    )

@@ -65,7 +65,7 @@ pub not_short : (has : Bool) → cond (not has) (Some Suffixes) None ≡ None �
 not_short true well = refl
 not_short false well = absurd (cc)
 
-bytes_written : (files : List File) → map (λ (file : Slot). file.written) (map slot_of files) ≡ map (λ (file : File). file.bytes) files
+pub bytes_written : (files : List File) → map (λ (file : Slot). file.written) (map slot_of files) ≡ map (λ (file : File). file.bytes) files
 bytes_written [] = refl
 bytes_written (file ∷ files) = ap (λ those. file.bytes ∷ those) (bytes_written files)
 

@@ -6,13 +6,21 @@ use Rattle.std.specs.Ordering.{nat_cmp}
 use Rattle.std.specs.Cmp.Lexicographic.{slice_cmp}
 use Rattle.seg_core.specs.Line.{delimiters, ends_with, first_lines, joined, lines_of}
 use Rattle.ports_core.specs.Name.{name_at, numbered_name}
-use Rattle.ports_core.specs.Part.{IsBeginning}
+use Rattle.ports_core.specs.Part.{File, IsBeginning}
 use Rattle.ports_core.specs.Slot.{Slot, slot_at}
 use Rattle.ports_core.specs.Source.{Content, Source}
 use Rattle.ports_core.specs.declared.slot.Mode.{Mode}
 use Rattle.ports_core.specs.declared.slot.Mode.TheVariants.{Fresh}
 use Rattle.ports_core.specs.declared.slot.State.TheVariants.{Closed}
 use Rattle.seg_core.specs.declared.count.Sign.{Sign}
+use Rattle.operand_core.specs.Style.{Style}
+use Rattle.operand_core.specs.declared.operand.Operand.{Operand}
+use Rattle.csplit_core.specs.Input.{all_lines}
+use Rattle.csplit_core.specs.Operand.{Line}
+use Rattle.csplit_core.specs.Output.{contents_of as contents_in, files_of as files_by}
+use Rattle.csplit_core.specs.Plan.{Step}
+use Rattle.csplit_core.specs.Planned.{Plan, plan}
+use Rattle.csplit_core.specs.Section.{lines_between, section_of, whole_end, whole_sections}
 use Rattle.run_core.specs.Input.{World, inputs_at, is_dash}
 use Rattle.run_core.specs.RunEnds.{RunsOver}
 use Rattle.words_core.specs.declared.settings.Settings.{Settings}
@@ -178,6 +186,31 @@ skips (byte ∷ word) = byte == 37
 abbrev pub SkipNothing : List (List ℕ) → Type 0
 SkipNothing [] = Unit {0}
 SkipNothing (word ∷ words) = (skips word ≡ false) × SkipNothing words
+
+-- the line at the cut of a step, where such lines are left out
+abbrev pub left_out : Bool → List Line → Step → List Line
+left_out true lines step = lines_between step.cut (suc step.cut) lines
+left_out false lines step = []
+
+-- the lines of each step's section and the line that is left out after it, and then those of the last section
+abbrev pub in_turn : Bool → List Line → List Step → List Line → List Line
+in_turn suppress lines [] last = last
+in_turn suppress lines (step ∷ steps) last =
+    (section_of lines step).lines ++ (left_out suppress lines step ++ in_turn suppress lines steps last)
+
+abbrev pub last_section : List Line → Plan → List Line
+last_section lines plan = lines_between plan.last.current (whole_end (length lines) plan.ending) lines
+
+-- Each line of the input is in one section, or is left out at a cut, and in their order these are all lines. The files
+-- have the sections that are kept, one each, and nothing else: none is of a section that is skipped, nor of an empty
+-- one where empty files are left out.
+pub record AreSections (style : Style) (operands : List Operand) (input : List ℕ)
+    (contents : List (List ℕ)) : Type 0 where
+  pub all : in_turn style.suppress (all_lines input) (plan style.suppress operands (all_lines input)).steps
+      (last_section (all_lines input) (plan style.suppress operands (all_lines input))) ≡ all_lines input
+  pub files : contents ≡ map (λ (file : File). file.bytes)
+      (files_by style 0 (map contents_in
+      (whole_sections (all_lines input) (plan style.suppress operands (all_lines input)))))
 
 -- The files are numbered in their order: each name is the prefix and the file's number, from 0 on, filled with zeros to
 -- this many digits. Where no number has more digits, a shell's `*` gives them in this order. Each file was made anew,

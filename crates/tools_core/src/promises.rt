@@ -8,8 +8,10 @@ ghost use Rattle.ports_core.specs.Slot.{slot_at};
 ghost use Rattle.seg_core.specs.Line.{joined, line_count};
 ghost use Rattle.seg_core.specs.declared.count.Sign.TheVariants.{Minus, Plain, Plus};
 ghost use Rattle.seg_core.specs.declared.cut.Cut.TheVariants.{Bytes, LineBytes, Lines, Round};
+ghost use Rattle.operand_core.specs.Reading.{Asks};
+ghost use Rattle.operand_core.specs.declared.operand.Operand.{Operand};
 ghost use Rattle.tools_core.specs.Following.{is_name};
-ghost use Rattle.tools_core.specs.Promises.{AreCopies, AreDealt, AreLinePieces, AreListed, AreNumbered, ArePieces, AreShared, AreUncut, BeginsEach, CountAlike, Does, FindAlike, FollowRun, Follows, HasInput, IsBare, IsHead, IsTail, IsTold, KeepsBytes, OnlyGrows, Ran, Run, SkipNothing, contents_of, files_of, output_of};
+ghost use Rattle.tools_core.specs.Promises.{AreCopies, AreDealt, AreLinePieces, AreListed, AreNumbered, ArePieces, AreSections, AreUncut, BeginsEach, CountAlike, Does, FindAlike, FollowRun, Follows, HasInput, IsBare, IsHead, IsTail, IsTold, KeepsBytes, OnlyGrows, Ran, Run, SkipNothing, contents_of, files_of, output_of};
 ghost use Rattle.tools_core.specs.Tasks.{is_plus};
 ghost use Rattle.words_core.specs.CsplitAsked.{CsplitAsked};
 ghost use Rattle.words_core.specs.EndsAsked.{EndsAsked};
@@ -55,12 +57,13 @@ pub fn split_loses_nothing()
 {}
 
 /// `csplit` loses nothing. Its files are numbered in their order, in which a shell's `*` gives them while no number has more
-/// digits than were asked for. Where no section is skipped (`%`) and no line is left out at a cut (`--suppress-matched`),
-/// they are joined the input. In any case each line is in just one file or in none, in the order of the input, and those in
-/// none were skipped, or left out.
+/// digits than were asked for. Where no section is skipped (`%`) and no line is left out
+/// at a cut (`--suppress-matched`), they are joined the input. In any case each line is in just one file or in none, in the
+/// order of the input, and those in none are just those of skipped sections and those that are left out at cuts.
 pub fn csplit_loses_nothing()
     ensures numbered { (csplit : Run) (asked : CsplitAsked) (input : List ℕ) → Does csplit (Csplit asked) → HasInput csplit input → AreNumbered asked.style.prefix asked.style.digits (files_of csplit) }
     ensures joined { (csplit : Run) (asked : CsplitAsked) (input : List ℕ) → Does csplit (Csplit asked) → HasInput csplit input → asked.style.suppress ≡ false → SkipNothing asked.operands → joined (contents_of csplit) ≡ input }
+    ensures sections { (csplit : Run) (asked : CsplitAsked) (input : List ℕ) → Does csplit (Csplit asked) → HasInput csplit input → (operands : List Operand) × Asks asked.operands operands × AreSections asked.style operands input (contents_of csplit) }
 {}
 
 /// Nothing after a fault but a beginning. Whatever a run met, standard output and each file have a beginning of what they
