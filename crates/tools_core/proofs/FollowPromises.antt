@@ -1,12 +1,12 @@
 -- What `tail` writes of one file that only grows, where it follows it and meets no fault.
-use Rattle.std.proofs.Common.{◌≡◌, ℕ, ◌+◌, ◌<◌, ◌≤◌, zero, suc, Bool, true, false, not, ◌&&◌, ◌||◌, is_some, List, [], ◌∷◌, ◌++◌, length, Option, Some, None, inl, inr, refl, sym, ◌∙◌, ap, subst, arith}
+use Rattle.std.proofs.Common.{◌≡◌, ℕ, ◌+◌, ◌<◌, ◌≤◌, suc, Bool, true, false, not, ◌&&◌, ◌||◌, is_some, List, [], ◌∷◌, ◌++◌, length, Option, Some, None, inl, inr, refl, sym, ◌∙◌, ap, subst, arith}
 use Rattle.std.proofs.lemmas.Bool.{cases_lt, false≢true}
 use Rattle.ends_core.specs.Ends.{tail_of}
 use Rattle.ports_core.specs.Slot.{Slot, slot_at, streams}
 use Rattle.ports_core.specs.Streams.{standard_error, standard_output}
 use Rattle.watch_core.specs.Snapshot.{Snapshot}
 use Rattle.watch_core.specs.Watched.{Watched}
-use Rattle.follow_core.specs.Ending.{FollowEndsAs, KeptSoLong, looked, no_room, seen_first, stopped}
+use Rattle.follow_core.specs.Ending.{FollowEndsAs, looked, no_room, seen_first, stopped}
 use Rattle.follow_core.specs.FollowState.{is_alive}
 use Rattle.follow_core.specs.Followed.{any_failed, text_from}
 use Rattle.follow_core.specs.Look.{Look, Ways, is_dropped, snapshots, ways_of}
@@ -22,12 +22,7 @@ use Rattle.tools_core.proofs.FollowText.{is_text}
 use Rattle.tools_core.proofs.GrowingText.{growing_text, kept_in, seen_are, stays_open}
 use Rattle.tools_core.proofs.PromiseLemmas.{not_one, unfailed}
 
--- the file keeps its bytes
-keeps : (by_name : Bool) (name : List ℕ) (shows : ℕ → Snapshot) (count : ℕ) (seen : List Snapshot) → KeepsBytes by_name shows name → KeptSoLong true by_name shows count seen (name ∷ [])
-keeps by_name name shows count seen kept told n zero few within = kept n
-keeps by_name name shows count seen kept told n (suc place) few within = absurd (omega (arith, within))
-
--- so a further look could always give something
+-- a file that is open could always have more, so no look is the last that can give something
 alive_by : (dropped by_name : Bool) (opened : Option ℕ) (file : ℕ) → dropped ≡ false → opened ≡ Some file → ((not dropped && (by_name || is_some opened)) || false) ≡ true
 alive_by true by_name opened file kept is = absurd (false≢true (sym kept))
 alive_by false true opened file kept is = refl
@@ -83,8 +78,7 @@ follows_text : (run : FollowRun) (options : EndsAsked) (followed : Followed) (na
 follows_text run options followed name follows bare named keeps_bytes =
     let ways = ways_of (is_name followed) (start_of options) in
     let ends = subst (FollowingEndsAt true true run.words run.count run.shows run.seen run.watched run.outputs run.status) follows.read follows.ends in
-    let kept = subst (KeptSoLong true (is_name followed) run.shows run.count run.seen) (sym named) (keeps (is_name followed) name run.shows run.count run.seen keeps_bytes) in
-    let one = subst (λ names. FollowEndsAs true true ways (has_headers options.headers options.names) names run.count run.shows streams run.seen run.watched run.outputs run.status) named (ends kept) in
+    let one = subst (λ names. FollowEndsAs true true ways (has_headers options.headers options.names) names run.count run.shows streams run.seen run.watched run.outputs run.status) named ends in
     let headless = subst (λ headers. FollowEndsAs true true ways headers (name ∷ []) run.count run.shows streams run.seen run.watched run.outputs run.status) bare one in
     wrote_text ways name run.shows run.count run.seen run.watched run.outputs keeps_bytes (subst (FollowEndsAs true true ways false (name ∷ []) run.count run.shows streams run.seen run.watched run.outputs) follows.well headless)
 
