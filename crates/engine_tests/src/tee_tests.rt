@@ -293,18 +293,6 @@ const VAIN: &[Case<'static>] = &[
     },
 ];
 
-/// What the run leaves of its input: what stands after the piece in which the last output broke.
-#[test]
-fn leaves_what_it_has_no_output_for(rt: HostRuntime) -> Result<(), Fail> {
-    let alloc = rt.alloc();
-    let mut inputs = inputs_of(alloc, INPUT, 2)?;
-    let mut outs = outs_of(alloc, &[(0, 1)])?;
-    let status = run_tee(alloc, &[], Mode::Fresh, &mut inputs, &mut outs);
-    assert_eq!(&rt; status, 1);
-    assert_eq!(&rt; inputs.left(0), Some(4));
-    Ok(())
-}
-
 #[test]
 fn messages_follow_the_calls(rt: HostRuntime) -> Result<(), Fail> {
     check_each(&rt, rt.alloc(), IN_ORDER)

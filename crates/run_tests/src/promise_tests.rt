@@ -189,7 +189,11 @@ fn have_sizes(rt: &impl Abort, alloc: Global, row: &(&[&str], &[usize])) -> Resu
 fn lines_are_dealt_in_turn(rt: HostRuntime) -> Result<(), Fail> {
     let lines = left_by(&rt, rt.alloc(), &["split", "-l", "1"], 4)?;
     let dealt = left_by(&rt, rt.alloc(), &["split", "-n", "r/2"], 4)?;
-    same_bytes(&rt, dealt.bytes(2), &joined(rt.alloc(), &lines, &[2, 4, 6])?);
+    same_bytes(
+        &rt,
+        dealt.bytes(2),
+        &joined(rt.alloc(), &lines, &[2, 4, 6])?,
+    );
     same_bytes(&rt, dealt.bytes(3), &joined(rt.alloc(), &lines, &[3, 5])?);
     Ok(())
 }
@@ -216,6 +220,25 @@ const CSPLIT: &[&[&str]] = &[
     &["csplit", "-z", "-f", "part", "-n", "1", "-", "/./", "{*}"],
     &["csplit", "-s", "-", "/d/-2", "5"],
 ];
+
+#[test]
+fn csplit_leaves_out_what_is_asked(rt: HostRuntime) -> Result<(), Fail> {
+    let alloc = rt.alloc();
+    let lines = left_by(&rt, alloc, &["split", "-l", "1"], 4)?;
+    let skips = left_by(&rt, alloc, &["csplit", "-", "%c%", "/d/"], 4)?;
+    let cuts = left_by(&rt, alloc, &["csplit", "--suppress-matched", "-", "/c/"], 4)?;
+    same_bytes(
+        &rt,
+        &joined(alloc, &skips, &[2, 3, 4])?,
+        &joined(alloc, &lines, &[4, 5, 6])?,
+    );
+    same_bytes(
+        &rt,
+        &joined(alloc, &cuts, &[2, 3, 4])?,
+        &joined(alloc, &lines, &[2, 3, 5, 6])?,
+    );
+    Ok(())
+}
 
 /// The files that the words make are joined the text, in the order of their names.
 fn lose_nothing(rt: &impl Abort, alloc: Global, words: &[&str]) -> Result<(), Fault> {
