@@ -1,7 +1,7 @@
 -- What a run that met no fault leaves: just its part, as its definition says, and nothing on standard error.
 use Rattle.std.proofs.Common.{◌≡◌, ℕ, Bool, true, false, ◌||◌, ◌&&◌, is_some, cond, List, [], ◌∷◌, ◌++◌, map, Option, Some, None, Result, inl, inr, ◌⊎◌, refl, sym, ◌∙◌, ap, subst, arith, append-nil}
 use Rattle.ports_core.specs.Slot.{Slot, adds}
-use Rattle.ports_core.specs.Source.{Content, Source}
+use Rattle.ports_core.specs.Source.{Content, Source, source_of}
 use Rattle.ports_core.specs.Streams.{standard_output, standard_error, streams_with}
 use Rattle.ports_core.specs.Part.{File, Part, OutputsAt, file_of, told_file, nothing, only_out}
 use Rattle.ports_core.specs.Swept.{Swept}
@@ -138,8 +138,8 @@ not_refused (inr (same, refuses)) = inr refuses
 pub ran_over : (run : Run) (asked : Settings) → Ran run asked → DoesAsked true true asked (inputs_at run.world (names_of asked)) run.inputs run.outputs run.status ⊎ RefusesOperands true run.words asked run.outputs run.status
 ran_over run asked ran =
     let (found, finds, ends) = ran.ends in
-    not_refused (subst (λ (meant : Result Settings Fault). RunEndsAt true true run.words (inputs_at run.world (names_at meant)) run.begun run.inputs run.outputs run.status meant) ran.read
-    (subst (λ those. RunEndsAt true true run.words those run.begun run.inputs run.outputs run.status (settings_of run.words)) (finds.there refl) ends))
+    not_refused (subst (λ (meant : Result Settings Fault). RunEndsAt true true run.words (inputs_at run.world (names_at meant)) (source_of run.world.standard ∷ []) run.inputs run.outputs run.status meant) ran.read
+    (subst (λ those. RunEndsAt true true run.words those (source_of run.world.standard ∷ []) run.inputs run.outputs run.status (settings_of run.words)) (finds.there refl) ends))
 
 by_either : (run : Run) (asked : Settings) (found : List Input) → run.status ≡ 0 → DoesAsked true true asked found run.inputs run.outputs run.status ⊎ RefusesOperands true run.words asked run.outputs run.status
     → DoesAsked true true asked found run.inputs run.outputs 0

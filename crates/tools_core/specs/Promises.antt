@@ -8,7 +8,7 @@ use Rattle.seg_core.specs.Line.{delimiters, ends_with, first_lines, joined, line
 use Rattle.ports_core.specs.Name.{name_at, numbered_name}
 use Rattle.ports_core.specs.Part.{File, IsBeginning}
 use Rattle.ports_core.specs.Slot.{Slot, slot_at}
-use Rattle.ports_core.specs.Source.{Content, Source}
+use Rattle.ports_core.specs.Source.{Content, Source, source_of}
 use Rattle.ports_core.specs.declared.slot.Mode.{Mode}
 use Rattle.ports_core.specs.declared.slot.Mode.TheVariants.{Fresh}
 use Rattle.ports_core.specs.declared.slot.State.TheVariants.{Closed}
@@ -45,8 +45,7 @@ pub record Run : Type 0 where
   pub words : List (List ℕ)
   -- what standard input holds, and what lies at each name
   pub world : World
-  -- the inputs before, and what is left of them
-  pub begun : List Source
+  -- what is left of the inputs
   pub inputs : List Source
   -- standard output, standard error, and then the files, in the order in which they were opened
   pub outputs : List Slot
@@ -56,7 +55,8 @@ pub record Run : Type 0 where
 pub record Ran (run : Run) (asked : Settings) : Type 0 where
   pub read : settings_of run.words ≡ Ok asked
   pub ends : RunsOver true run.world (names_read run.words)
-      (λ found. RunEnds true true run.words found run.begun run.inputs run.outputs run.status)
+      (λ found. RunEnds true true run.words found (source_of run.world.standard ∷ []) run.inputs run.outputs
+      run.status)
 
 -- and it met no fault
 pub record Does (run : Run) (asked : Settings) : Type 0 where
@@ -160,7 +160,7 @@ abbrev pub IsFilled : (delim n : ℕ) (piece next : List ℕ) → Type 0
 IsFilled delim n piece next = n < length piece + length (first_lines delim 1 (next ++ delim ∷ []))
 
 -- The pieces are joined the input. None is empty, none has more than n bytes, and between two pieces a line is cut only
--- where it is longer than that. Each has as many lines as fit.
+-- where it is longer than that. Each has as many lines as fit, where an open last line counts with its delimiter.
 pub record AreLinePieces (delim n : ℕ) (input : List ℕ) (pieces : List (List ℕ)) : Type 0 where
   pub all : joined pieces ≡ input
   pub some : (place : ℕ) → place < length pieces → 0 < length (text_at pieces place)

@@ -43,10 +43,10 @@ pub fn cutting_changes_nothing()
     ensures { (one other : Run) (asked : Settings) → Does one asked → Does other asked → FindAlike one other → one.outputs ≡ other.outputs }
 {}
 
-/// `split` loses nothing. Its files have the names that were asked for, and a shell's `*` gives them in the order of the input. With `-l N` and
-/// `-b N` they are joined the input, and each but the last has N lines or bytes; `-l` cuts no line. With `-C N` they are
-/// joined the input, each has as many lines as fit into N bytes, and a line is cut only where it is longer than that. With
-/// `-n r/N` each line is in just one file, in turn.
+/// `split` loses nothing. Its files have the names that were asked for, and a shell's `*` gives them in the order of the
+/// input. With `-l N` and `-b N` they are joined the input, and each but the last has N lines or bytes; `-l` cuts no line.
+/// With `-C N` they are joined the input, each has as many lines as fit into N bytes, where an open last line counts with
+/// its delimiter, and a line is cut only where it is longer than that. With `-n r/N` each line is in just one file, in turn.
 pub fn split_loses_nothing()
     ensures listed { (split : Run) (asked : SplitAsked) (input : List ℕ) → Does split (Split asked) → HasInput split input → AreListed asked (files_of split) }
     ensures lines { (split : Run) (asked : SplitAsked) (n : ℕ) (input : List ℕ) → Does split (Split asked) → HasInput split input → asked.cut ≡ Lines n → ArePieces (line_count asked.delim) n input (contents_of split) }
@@ -57,18 +57,18 @@ pub fn split_loses_nothing()
 {}
 
 /// `csplit` loses nothing. Its files are numbered in their order, in which a shell's `*` gives them while no number has more
-/// digits than were asked for. Where no section is skipped (`%`) and no line is left out
-/// at a cut (`--suppress-matched`), they are joined the input. In any case each line is in just one file or in none, in the
-/// order of the input, and those in none are just those of skipped sections and those that are left out at cuts.
+/// digits than were asked for. Where no section is skipped (`%`) and no line is left out at a cut (`--suppress-matched`),
+/// they are joined the input. In any case each line is in just one section, in the order of the input, or is left out at a
+/// cut, and the files have just the sections that are kept.
 pub fn csplit_loses_nothing()
     ensures numbered { (csplit : Run) (asked : CsplitAsked) (input : List ℕ) → Does csplit (Csplit asked) → HasInput csplit input → AreNumbered asked.style.prefix asked.style.digits (files_of csplit) }
     ensures joined { (csplit : Run) (asked : CsplitAsked) (input : List ℕ) → Does csplit (Csplit asked) → HasInput csplit input → asked.style.suppress ≡ false → SkipNothing asked.operands → joined (contents_of csplit) ≡ input }
     ensures sections { (csplit : Run) (asked : CsplitAsked) (input : List ℕ) → Does csplit (Csplit asked) → HasInput csplit input → (operands : List Operand) × Asks asked.operands operands × AreSections asked.style operands input (contents_of csplit) }
 {}
 
-/// Nothing after a fault but a beginning. Whatever a run met, standard output and each file have a beginning of what they
-/// have after a run that met no fault, which is asked for the same, over the same input. A run whose status is 1 said why, as
-/// far as standard error takes lines.
+/// Nothing after a fault but a beginning. Over one input that ends, whatever else a run met, standard output and each file
+/// have a beginning of what they have after a run that met no fault, which is asked for the same, over the same input. A run
+/// whose status is 1 said something, as far as standard error takes lines.
 pub fn faults_leave_a_beginning()
     ensures begins { (run well : Run) (asked : Settings) (input : List ℕ) → Ran run asked → Does well asked → run.world ≡ well.world → HasInput run input → BeginsEach run well }
     ensures told { (run : Run) (asked : Settings) → Ran run asked → run.status ≡ 1 → IsTold run }

@@ -142,7 +142,7 @@ pub fn operands_may_mix()
         → spelled rows (word ∷ words) place Reading ≡ given_before (one_operand word place) (spelled rows words (place + 1) Reading) }
 {}
 
-/// Of several faults the leftmost word's is told: one that is found among the first words is told whatever follows them, but
+/// Of several faults of single words the leftmost word's is told: one that is found among the first words is told whatever follows them, but
 /// that a value is missing, which is so only where no word follows; and where nothing is wrong with the first words, the
 /// fault stands after them.
 pub fn leftmost_fault_is_told()
