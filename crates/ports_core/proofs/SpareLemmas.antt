@@ -1,8 +1,8 @@
 -- Lemmas on what of an input isn't used.
-use Rattle.std.proofs.Common.{◌≡◌, ℕ, true, false, List, [], ◌++◌, length, inl, inr, refl, sym, ◌∙◌, ap, arith}
-use Rattle.std.proofs.lemmas.Bool.{false≢true}
-use Rattle.std.proofs.lemmas.List.{append-nil}
-use Rattle.ports_core.specs.Work.{Work, IsLawful, IsComplete, IsSpare}
+use Rattle.std.proofs.Common.{◌≡◌, ℕ, ◌≤◌, ◌<◌, true, false, List, [], ◌++◌, length, take, drop, ◌⊎◌, inl, inr, refl, sym, ◌∙◌, ap, arith}
+use Rattle.std.proofs.lemmas.Bool.{false≢true, cases_lt}
+use Rattle.std.proofs.lemmas.List.{append-nil, length-append, take-append-drop, take-append-le, take_at}
+use Rattle.ports_core.specs.Work.{Work, IsLawful, IsComplete, IsNeeded, IsSpare}
 
 -- while the output isn't complete all is used
 pub all_used : (work : Work) (x : List ℕ) → work.is_complete x ≡ false → IsSpare work x 0
@@ -28,3 +28,16 @@ complete_used work x n spare done = elim spare.enough [
   | inl none ↦ ap work.is_complete (sym (append-nil spare.used) ∙ ap (λ rest. spare.used ++ rest) (sym none) ∙ sym spare.joined) ∙ done
   | inr complete ↦ complete
 ]
+
+-- no more is spare than what came last, before which the output was not complete
+pub spare_within : (work : Work) (most n : ℕ) (x : List ℕ) → IsLawful work → IsNeeded work.is_complete most x → IsSpare work x n → n ≤ most
+spare_within work most n x lawful (inl none) spare = omega (arith, ap length none, ap length spare.joined ∙ length-append spare.used spare.rest, spare.long)
+spare_within work most n x lawful (inr (before, piece, is, few, going)) spare = by (cases_lt (length before) (length spare.used)) spare.enough where
+  by : (length before < length spare.used) ⊎ (length spare.used ≤ length before) → (spare.rest ≡ []) ⊎ (work.is_complete spare.used ≡ true) → n ≤ most
+  by over (inl none) = omega (arith, ap length none, spare.long)
+  by (inl over) (inr complete) = omega (arith, over, few, spare.long, ap length is ∙ length-append before piece, ap length spare.joined ∙ length-append spare.used spare.rest)
+  by (inr short) (inr complete) =
+      let used : take (length spare.used) before ≡ spare.used = sym (take-append-le (length spare.used) before piece short) ∙ ap (take (length spare.used)) (sym is ∙ spare.joined) ∙ take_at spare.used spare.rest (length spare.used) refl in
+      let all : spare.used ++ drop (length spare.used) before ≡ before = ap (λ those. those ++ drop (length spare.used) before) (sym used) ∙ take-append-drop (length spare.used) before in
+      let stays : IsComplete work spare.used (drop (length spare.used) before) = lawful.stays spare.used (drop (length spare.used) before) complete in
+      absurd (false≢true (sym going ∙ ap work.is_complete (sym all) ∙ stays.still))

@@ -1,5 +1,5 @@
 -- Lemmas on removing many files.
-use Rattle.std.proofs.Common.{◌≡◌, ℕ, ◌+◌, ◌<◌, ◌≤◌, zero, suc, eqb, eqb-true, eq-eqb, ne_eqb, Bool, true, false, ◌||◌, List, [], ◌∷◌, ◌++◌, length, get_or, set, take, drop, Result, Ok, Err, is_ok, OnOk, IfErr, IsTrue, refl, sym, ◌∙◌, ap, subst, arith, length-set, take-suc, take-suc-set, drop-cons, drop-set-lt}
+use Rattle.std.proofs.Common.{◌≡◌, ℕ, ◌+◌, ◌<◌, ◌≤◌, zero, suc, eqb, eqb-true, eq-eqb, Bool, true, false, ◌||◌, List, [], ◌∷◌, ◌++◌, length, get_or, set, take, drop, Result, Ok, Err, is_ok, OnOk, IfErr, IsTrue, refl, sym, ◌∙◌, ap, subst, arith, length-set, take-suc, take-suc-set, drop-cons, drop-set-lt}
 use Rattle.std.proofs.lemmas.Bool.{false≢true}
 use Rattle.ports_core.specs.Slot.{Slot, has_file, slot_at, changed_at, with_broken, removes, closes, breaks, is_removable}
 use Rattle.ports_core.specs.Swept.{Cleared, SweptFrom, removed, stuck, none, is_among, AreThere, Removes, all_tried, goes, stays}

@@ -2,7 +2,7 @@
 use Rattle.std.proofs.Common.{◌≡◌, ℕ, ◌-◌, ◌<◌, ◌≤◌, max, ◌&&◌, not, Bool, true, false, IsTrue, List, [], ◌++◌, length, take, drop, Option, Some, None, append_assoc, length-append, inl, inr, refl, sym, ◌∙◌, ap, subst, arith}
 use Rattle.std.specs.Prelude.{is_some}
 use Rattle.std.proofs.lemmas.Bool.{false≢true}
-use Rattle.std.proofs.lemmas.List.{append-nil, take_at, drop_at, take-append-le, drop-append-le, take-append-drop, length-take}
+use Rattle.std.proofs.lemmas.List.{append-nil, take_at, drop_at, take-append-le, drop-append-le, take-append-drop, length-take, length-take-le}
 use Rattle.ports_core.specs.Slot.{Slot, changed_at}
 use Rattle.ports_core.specs.Source.{Content, Source, source_at, is_readable, gives, fails, gets_back, with_next, Gave}
 use Rattle.ports_core.specs.Work.{Work, IsLawful, IsNeeded, IsSpare}
@@ -48,6 +48,11 @@ takes_more x buffer old_buffer slot size n start sources new took can gave is =
           (greatest _ _ _ (omega (arith, took.far unread, length-append x (take n buffer))) (omega (arith, all, none)));
     }
 
+-- a read gave as many as it says
+pub last_given : (old_buffer buffer : List ℕ) (slot size n : ℕ) (sources new : List Source) → IsTrue (is_readable sources slot) → Gave (source_at sources slot).left old_buffer buffer n → new ≡ changed_at slot (gives size n) sources → (source_at new slot).last ≡ n
+last_given old_buffer buffer slot size n sources new can gave is =
+    ap (λ (source : Source). source.last) (changed_source slot (gives size n) sources new can is) ∙ length-take-le n (source_at sources slot).left.bytes gave.within
+
 -- a read that failed took nothing
 pub takes_none : (x : List ℕ) (slot size : ℕ) (start sources new : List Source) → HasTaken x slot start sources → IsTrue (is_readable sources slot) → new ≡ changed_at slot (fails size) sources → HasTaken x slot start new
 takes_none x slot size start sources new took can is =
@@ -92,11 +97,6 @@ read_used work content x slot n start sources new spare read took can is =
 
 pub back_readable : (slot n : ℕ) (sources new : List Source) → new ≡ changed_at slot (gets_back n) sources → IsTrue (is_readable sources slot) → IsTrue (is_readable new slot)
 back_readable slot n sources new is can = ap (λ (source : Source). source.is_open && not source.is_broken) (changed_source slot (gets_back n) sources new can is) ∙ can
-
--- as many can be given back as were taken
-pub enough_taken : (work : Work) (x : List ℕ) (slot n : ℕ) (start sources : List Source) → IsSpare work x n → HasTaken x slot start sources → n ≤ length (source_at sources slot).taken
-enough_taken work x slot n start sources spare took =
-    omega (arith, ap length took.taken ∙ length-append (source_at start slot).taken x, ap length spare.joined ∙ length-append spare.used spare.rest, spare.long)
 
 -- one byte at the most is a piece
 pub needed_within : (is_complete : List ℕ → Bool) (most : ℕ) (x : List ℕ) → 0 < most → IsNeeded is_complete 1 x → IsNeeded is_complete most x

@@ -1,5 +1,5 @@
 -- Lemmas on what a run reads of its input.
-use Rattle.std.proofs.Common.{◌≡◌, ℕ, ◌+◌, ◌<◌, ◌≤◌, ◌^◌, List, [], ◌∷◌, ◌++◌, length, take, Bool, true, false, Option, Some, None, IsTrue, refl, sym, ◌∙◌, ap, subst, arith, length-append, length-take}
+use Rattle.std.proofs.Common.{◌≡◌, ℕ, ◌+◌, ◌<◌, ◌≤◌, ◌^◌, List, [], ◌∷◌, ◌++◌, length, take, Bool, true, false, Option, Some, None, IsTrue, ◌⊎◌, inr, refl, sym, ◌∙◌, ap, subst, arith, length-append, length-take}
 use Rattle.std.proofs.lemmas.List.{append-nil}
 use Rattle.tee_core.proofs.CopyLemmas.{joined_more}
 use Rattle.std.specs.List.{concat}
@@ -85,21 +85,22 @@ more_sized pieces buffer n sized some within most =
     All-push (λ (piece : List ℕ). (0 < length piece) × (length piece ≤ largest_piece)) pieces (take n buffer) sized one
 
 pub reads_copied : (told_in told : Bool) (mode : Mode) (names : List (List ℕ)) (content : Content) (source : Source) (slots : List Slot) (known : List Bool) (fault : Option Fault) (came : List ℕ) (pieces : List (List ℕ)) (is_vain : Bool) → came ≡ concat pieces → all_of known ≡ is_vain → AreSized pieces → length came < 2 ^ 63
-    → IsRead content (LeavesOf told_in source) is_vain came fault → Copies told mode names pieces [] slots known → CopiesRead told_in told mode names content source slots known fault
-reads_copied told_in told mode names content source slots known fault came pieces is_vain joined vain sized few read copies = record {
+    → (fault ≡ Some (Read 0)) ⊎ (source.is_broken ≡ false) → IsRead content (LeavesOf told_in source) is_vain came fault → Copies told mode names pieces [] slots known → CopiesRead told_in told mode names content source slots known fault
+reads_copied told_in told mode names content source slots known fault came pieces is_vain joined vain sized few met read copies = record {
   pieces = pieces;
   read = record {
     read = subst (λ bytes. IsRead content (LeavesOf told_in source) (all_of known) bytes fault) joined (subst (λ (flag : Bool). IsRead content (LeavesOf told_in source) flag came fault) (sym vain) read);
     sizes = sized;
     few = subst (λ (bytes : List ℕ). length bytes < 2 ^ 63) joined few;
+    met = met;
   };
   copies = copies;
 }
 
 -- and it is, in the piece that just came
 pub vain_copied : (told_in told : Bool) (mode : Mode) (names : List (List ℕ)) (content : Content) (source : Source) (slots : List Slot) (known : List Bool) (came buffer : List ℕ) (pieces : List (List ℕ)) (fed n sum : ℕ) → came ≡ concat pieces → all_of known ≡ true → AreSized pieces → (n ≡ 0 → ⊥) → n ≤ length buffer → length buffer ≤ largest_piece → fed ≡ length came → sum ≡ fed + n → sum < 2 ^ 63
-    → IsRead content (LeavesOf told_in source) true (came ++ take n buffer) None → Copies told mode names (pieces ++ take n buffer ∷ []) [] slots known → CopiesRead told_in told mode names content source slots known None
-vain_copied told_in told mode names content source slots known came buffer pieces fed n sum joined vain sized some within most counted is few read copies =
+    → source.is_broken ≡ false → IsRead content (LeavesOf told_in source) true (came ++ take n buffer) None → Copies told mode names (pieces ++ take n buffer ∷ []) [] slots known → CopiesRead told_in told mode names content source slots known None
+vain_copied told_in told mode names content source slots known came buffer pieces fed n sum joined vain sized some within most counted is few sound read copies =
     reads_copied told_in told mode names content source slots known None (came ++ take n buffer) (pieces ++ take n buffer ∷ []) true
     (ap (λ bytes. bytes ++ take n buffer) joined ∙ joined_more pieces (take n buffer)) vain (more_sized pieces buffer n sized some within most)
-    (let all = counted_more came buffer fed n sum counted within is in omega (arith, all, few)) read copies
+    (let all = counted_more came buffer fed n sum counted within is in omega (arith, all, few)) (inr sound) read copies

@@ -85,12 +85,14 @@ pub data IsRead (content : Content) (Leaves : List ℕ → Type 0) : (is_vain : 
 abbrev pub LeavesOf : Bool → Source → List ℕ → Type 0
 LeavesOf told source rest = told ≡ true → source.left.bytes ≡ rest
 
--- An input came in these pieces, each of a size that one read gives, and together no more bytes than any tool takes.
+-- An input came in these pieces, each of a size that one read gives, and together no more bytes than any tool takes. A
+-- read failed only where that is the fault that is told.
 pub record ComesIn (told : Bool) (content : Content) (source : Source) (is_vain : Bool) (pieces : List (List ℕ))
     (fault : Option Fault) : Type 0 where
   pub read : IsRead content (LeavesOf told source) is_vain (concat pieces) fault
   pub sizes : All (λ piece. (0 < length piece) × (length piece ≤ largest_piece)) pieces
   pub few : length (concat pieces) < 2 ^ 63
+  pub met : (fault ≡ Some (Read 0)) ⊎ (source.is_broken ≡ false)
 
 -- Standard output: it has all that was copied; or it broke in a piece, and has a beginning.
 pub data OutputLeft (told : Bool) (pieces : List (List ℕ)) : Option ℕ → Slot → Type 0 where

@@ -1,7 +1,6 @@
 -- Numbered names are in the order of their numbers, while none has more digits than it is filled to.
-use Rattle.std.proofs.Common.{◌≡◌, ℕ, ◌+◌, ◌-◌, ◌/◌, ◌%◌, ◌^◌, ◌<◌, ◌≤◌, zero, suc, List, [], ◌∷◌, ◌++◌, length, map, replicate, inl, inr, refl, sym, ◌∙◌, ap, subst, arith, append_assoc, decimal, Less, Equal}
-use Rattle.std.specs.Ordering.{nat_cmp, ordering_then}
-use Rattle.std.specs.Cmp.{nat_cmp_is}
+use Rattle.std.proofs.Common.{◌≡◌, ℕ, ◌+◌, ◌-◌, ◌/◌, ◌%◌, ◌^◌, ◌<◌, ◌≤◌, zero, suc, List, [], ◌∷◌, ◌++◌, length, map, replicate, inl, inr, refl, sym, ◌∙◌, ap, subst, arith, append_assoc, decimal, Less}
+use Rattle.std.specs.Ordering.{nat_cmp}
 use Rattle.std.specs.Cmp.Lexicographic.{slice_cmp}
 use Rattle.std.specs.Int.Digits.{digits_of}
 use Rattle.std.proofs.Math.Nat.{mod-lt, pow-suc, pow-zero}
@@ -11,19 +10,8 @@ use Rattle.std.proofs.lemmas.Int.Digits.{digits_of_step, length-digits_of_step}
 use Rattle.std.proofs.lemmas.List.{append-nil, length-map, map-append}
 use Rattle.std.proofs.lemmas.Nat.{div-add-mod'}
 use Rattle.ports_core.specs.Name.{numbered_name, zero_filled}
+use Rattle.ports_core.proofs.OrderLemmas.{IsBelow, first_less, same_front}
 use Rattle.tools_core.specs.Promises.{AreInOrder, text_at}
-
--- the one comes before the other, whatever follows each
-abbrev IsBelow : List ℕ → List ℕ → Type 0
-IsBelow low high = (after beyond : List ℕ) → slice_cmp nat_cmp (low ++ after) (high ++ beyond) ≡ Less
-
-first_less : (low high : ℕ) → low < high → IsBelow (low ∷ []) (high ∷ [])
-first_less low high less = λ after beyond. ap (λ o. ordering_then o (slice_cmp nat_cmp after beyond)) (sym (nat_cmp_is low high Less less))
-
-same_front : (front low high : List ℕ) → IsBelow low high → IsBelow (front ++ low) (front ++ high)
-same_front [] low high less = less
-same_front (byte ∷ front) low high less = λ after beyond.
-    ap (λ o. ordering_then o (slice_cmp nat_cmp (front ++ low ++ after) (front ++ high ++ beyond))) (sym (nat_cmp_is byte byte Equal refl)) ∙ same_front front low high less after beyond
 
 below_then : (low high rest others : List ℕ) → IsBelow low high → IsBelow (low ++ rest) (high ++ others)
 below_then low high rest others less = λ after beyond.
@@ -51,7 +39,7 @@ digits_in_order (suc width) low high less small =
           let same : high / 10 ≡ low / 10 = omega (arith, reached, one, two, less, first, second) in
           let last : 48 + low % 10 < 48 + high % 10 = omega (arith, same, one, two, less) in
           subst (λ front. IsBelow (digits_in width (low / 10) ++ (48 + low % 10) ∷ []) (front ++ (48 + high % 10) ∷ [])) (sym (ap (digits_in width) same))
-          (same_front (digits_in width (low / 10)) ((48 + low % 10) ∷ []) ((48 + high % 10) ∷ []) (first_less (48 + low % 10) (48 + high % 10) last))
+          (same_front (digits_in width (low / 10)) ((48 + low % 10) ∷ []) ((48 + high % 10) ∷ []) (first_less (48 + low % 10) (48 + high % 10) [] [] last))
     ]
 
 one_more : (byte count : ℕ) → byte ∷ replicate count byte ≡ replicate count byte ++ byte ∷ []

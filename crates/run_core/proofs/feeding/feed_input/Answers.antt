@@ -4,12 +4,12 @@ use Rattle.std.proofs.lemmas.Bool.{false≢true}
 use Rattle.ports_core.specs.Source.{Source, source_at}
 use Rattle.ports_core.specs.Work.{Work, IsNeeded, IsSettled, IsSpare}
 use Rattle.ports_core.specs.Engine.{EndsWith}
-use Rattle.ports_core.proofs.SpareLemmas.{complete_used}
+use Rattle.ports_core.proofs.SpareLemmas.{complete_used, spare_within}
 use Rattle.run_core.specs.Feeding.{Uses, enough, to_end}
 use Rattle.run_core.proofs.FeedingLemmas.{alike_itself, alike_used, judges, judging_of, broken_off, goes_on, stopped_feeding, ended, needed_more, piece_within, ends_sound, given_so}
 use Rattle.ports_core.proofs.InputsLemmas.{changed_source, sound_at, read_none_more, keeps_again, keeps_others, read_broken, of_content, still_readable, read_more, read_failed, read_to_end, asked_again, asked_at_end, broken_now}
 use Rattle.run_core.proofs.LoadLemmas.{loaded_feeds, loaded_readable, loaded_others, loaded_read, loaded_needed, loaded_asked}
-use Rattle.run_core.proofs.UsedLemmas.{back_readable, enough_taken, loaded_few, loaded_taken, needed_within, read_used, takes_more, takes_none, uses_all, uses_judged, uses_part}
+use Rattle.run_core.proofs.UsedLemmas.{back_readable, last_given, loaded_few, loaded_taken, needed_within, read_used, takes_more, takes_none, uses_all, uses_judged, uses_part}
 use Rattle.run_core.proofs.feeding.feed_input.Goals as goal
 
 -- what was taken in before the first piece
@@ -25,6 +25,7 @@ pieces-init g c =
       others = loaded_others _ _ _ _ _ _ _ start now _ _ loads;
       read = λ told. loaded_read _ _ _ _ _ _ _ start now _ _ loads told c.requires.input;
       took = λ told. loaded_taken _ _ _ _ _ _ _ start.stage now.stage _ _ loads told c.requires.input;
+      last = λ told. loaded_needed _ _ _ _ _ _ _ start now _ _ loads _;
       few = λ standard. loaded_few _ _ _ _ _ _ _ start.stage now.stage _ _ loads (g.met.S.Stage.lawful _);
       room = c.load.auto.buffer;
       needed = loaded_needed _ _ _ _ _ _ _ start now _ _ loads _;
@@ -141,6 +142,7 @@ pieces-preserved g c =
       others = keeps_again _ _ _ _ so_far.others (keeps_others _ _ _ _ c.in-Ok.ensures.rest);
       read = λ told. read_more _ _ _ _ _ _ _ _ _ (so_far.read told) so_far.readable (c.in-Ok.ensures.bytes told) c.in-Ok.ensures.rest;
       took = λ told. takes_more _ _ _ _ _ c.in-Ok.n _ _ _ (so_far.took told) so_far.readable (c.in-Ok.ensures.bytes told) c.in-Ok.ensures.rest;
+      last = λ told. needed_more _ _ c.in-Ok.n so_far.fed c.read_part.new.buffer (ap (λ (work : Work). work.is_complete so_far.fed) (sym so_far.feeds.same) ∙ sym (c.done.ensures.complete so_far.fed so_far.feeds.holds) ∙ c.pieces-test.true) (omega (arith, last_given _ _ _ _ c.in-Ok.n _ _ so_far.readable (c.in-Ok.ensures.bytes told) c.in-Ok.ensures.rest));
       few = λ standard n spare.
           subst (λ (those : Work). n ≤ those.ahead) so_far.feeds.same
           (c.wanted.ensures.few so_far.fed (take c.in-Ok.n c.read_part.new.buffer) c.feed.new.self.stage n so_far.feeds.holds.within
@@ -209,7 +211,9 @@ pub give_back-requires-clause-input : goal.give_back-requires-clause-input
 give_back-requires-clause-input g c = c.pieces.invariant.readable
 
 pub give_back-requires-clause-within : goal.give_back-requires-clause-within
-give_back-requires-clause-within g c told = let so_far = c.pieces.invariant in omega (arith, enough_taken _ so_far.fed _ _ _ _ (c.unused-unused.ensures so_far.fed so_far.feeds.holds) (so_far.took told))
+give_back-requires-clause-within g c told =
+    let so_far = c.pieces.invariant in
+    spare_within _ _ _ so_far.fed (g.met.S.Stage.lawful _) (subst (λ (those : Work). IsNeeded those.is_complete (source_at (g.I.Inputs.sources c.pieces.inputs) c.args.slot).last so_far.fed) (sym so_far.feeds.same) (so_far.last told)) (c.unused-unused.ensures so_far.fed so_far.feeds.holds)
 
 pub end-requires-2-clause-owns : goal.end-requires-2-clause-owns
 end-requires-2-clause-owns g c = (c.requires.owns.0, c.pieces.invariant.feeds.owns c.requires.owns.0 c.requires.owns.1)

@@ -15,6 +15,7 @@ invariant-pieces g l = record {
   others : KeepsOthers l.slot (g.I.Inputs.sources l.fn.inputs) (g.I.Inputs.sources l.inputs);
   read : g.I.Inputs.told ≡ true → HasRead (source_at (g.I.Inputs.sources l.fn.inputs) l.slot).left fed l.slot (g.I.Inputs.sources l.inputs);
   took : g.I.Inputs.told ≡ true → HasTaken fed l.slot (g.I.Inputs.sources l.fn.inputs) (g.I.Inputs.sources l.inputs);
+  last : g.I.Inputs.told ≡ true → IsNeeded (g.S.Stage.work l.fn.engine.stage).is_complete (source_at (g.I.Inputs.sources l.inputs) l.slot).last fed;
   few : l.slot ≡ 0 → (n : ℕ) → IsSpare (g.S.Stage.work l.fn.engine.stage) fed n → n ≤ (g.S.Stage.work l.fn.engine.stage).ahead;
   room : length l.buffer ≡ length l.fn.buffer;
   needed : IsNeeded (g.S.Stage.work l.fn.engine.stage).is_complete (length l.fn.buffer) fed;
