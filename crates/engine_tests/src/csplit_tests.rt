@@ -338,6 +338,43 @@ fn holds_what_an_offset_may_take_back(rt: HostRuntime) -> Result<(), Fail> {
     Ok(())
 }
 
+#[test]
+fn a_removal_that_failed_is_tried_again(rt: HostRuntime) -> Result<(), Fail> {
+    let operands = read_operands(rt.alloc(), &["/b/", "/x/"]).expect(&rt, "these are operands");
+    // The first call opens the file, and two of the last remove it and the second one.
+    for call in 2..12 {
+        let mut outs = MemOut::new(rt.alloc())?;
+        outs.fail_at(call);
+        let style = style_of(rt.alloc(), Options::Plain)?;
+        give_up_twice(rt.alloc(), style, &operands, &mut outs)?;
+        assert!(rt; outs.removed(2), "call {call}");
+    }
+    Ok(())
+}
+
+/// Cuts an input in which the last operand finds no line, and gives it up twice.
+///
+/// # Errors
+///
+/// Those of the opening.
+fn give_up_twice(
+    alloc: Global,
+    style: Style,
+    operands: &Operands,
+    outs: &mut MemOut,
+) -> Result<(), Fault>
+    requires streams { 2 ≤ length outs.old }
+    requires output { IsTrue (is_writable outs.old 0) }
+{
+    let mut engine = Csplitter::open(alloc, operands, style, outs)?;
+    if engine.feed(b"a\nb\n", outs).is_ok() {
+        let _ = engine.close(outs);
+    }
+    engine.abandon(outs);
+    engine.abandon(outs);
+    Ok(())
+}
+
 pub(crate) fn style_of(alloc: Global, options: Options) -> Result<Style, AllocError> {
     Ok(Style {
         prefix: String::from_str(alloc, "xx")?,
