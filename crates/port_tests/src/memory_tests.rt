@@ -1,6 +1,7 @@
 //! Calls that may return `Memory`, made with ample memory, and texts compared with the manual's.
-ghost use Rattle.std.specs.Prelude.{IfOk};
+ghost use Rattle.std.specs.Prelude.{IfOk, IsTrue, OnOk};
 ghost use Rattle.ports_core.specs.Slot.{is_removable};
+ghost use Rattle.ports_core.specs.Source.{is_readable};
 
 use crate::compare::{same, same_bytes};
 use crate::reading::{Call, ask, broken_input, open_and_ask};
@@ -108,6 +109,33 @@ fn an_input_in_memory(rt: HostRuntime) -> Result<(), Fail> {
         same(&rt, &inputs.open("f"), &Err(Fault::Open(slot)));
     }
     Ok(())
+}
+
+#[test]
+fn what_is_given_back_is_read_again(rt: HostRuntime) -> Result<(), Fail> {
+    let mut inputs = MemIn::new(rt.alloc())?;
+    inputs.input(b"abcd")?;
+    inputs.pieces(3);
+    let last = read_and_give_back(&mut inputs, 2)?;
+    same(&rt, &last, &3);
+    ask(&rt, &mut inputs, 0, &[Call::Read(9, 3, b"bcd")]);
+    Ok(())
+}
+
+/// Reads once, and gives back as many of the bytes, if there were so many. Returns how many there were.
+fn read_and_give_back(inputs: &mut MemIn, count: usize) -> Result<usize, Fault>
+    requires { IsTrue (is_readable inputs.old.sources 0) }
+    ensures { OnOk result (IsTrue (is_readable inputs.new.sources 0)) }
+{
+    let mut buffer = [0u8; 9];
+    let given = match inputs.read(0, &mut buffer) {
+        Ok(given) => given,
+        Err(fault) => return Err(fault),
+    };
+    if count <= given {
+        inputs.give_back(0, count as u64);
+    }
+    Ok(given)
 }
 
 #[test]
