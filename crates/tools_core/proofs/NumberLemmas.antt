@@ -58,6 +58,12 @@ filled_zero width =
     let all : width - 0 ≡ width = omega arith in
     ap (λ k. replicate k 48 ++ []) all ∙ append-nil (replicate width 48) ∙ zeros width
 
+filled_step : (digits all : List ℕ) (last count more : ℕ) → all ≡ digits ++ last ∷ [] → more ≡ count → replicate more 48 ++ map (λ d. 48 + d) all ≡ (replicate count 48 ++ map (λ d. 48 + d) digits) ++ (48 + last) ∷ []
+filled_step digits all last count more is same =
+    ap (λ k. replicate k 48 ++ map (λ d. 48 + d) all) same ∙ ap (λ those. replicate count 48 ++ map (λ d. 48 + d) those) is
+    ∙ ap (λ those. replicate count 48 ++ those) (map-append (λ d. 48 + d) digits (last ∷ []))
+    ∙ sym (append_assoc (replicate count 48) (map (λ d. 48 + d) digits) ((48 + last) ∷ []))
+
 filled_digits : (width n : ℕ) → n < 10 ^ width → filled width n ≡ digits_in width n
 filled_digits zero n small =
     let one : 10 ^ 0 ≡ 1 = pow-zero 10 in
@@ -68,11 +74,7 @@ filled_digits (suc width) n small = elim (cases_lt 0 n) [
       let step : digits_of 10 n ≡ digits_of 10 (n / 10) ++ (n % 10 ∷ []) = digits_of_step 10 n (omega arith) some in
       let longer : length (digits_of 10 n) ≡ length (digits_of 10 (n / 10)) + 1 = length-digits_of_step 10 n (omega arith) some in
       let size : suc width - length (digits_of 10 n) ≡ width - length (digits_of 10 (n / 10)) = omega (arith, longer) in
-      let front = replicate (width - length (digits_of 10 (n / 10))) 48 in
-      ap (λ k. replicate k 48 ++ map (λ d. 48 + d) (digits_of 10 n)) size
-      ∙ ap (λ those. front ++ map (λ d. 48 + d) those) step
-      ∙ ap (λ those. front ++ those) (map-append (λ d. 48 + d) (digits_of 10 (n / 10)) (n % 10 ∷ []))
-      ∙ sym (append_assoc front (map (λ d. 48 + d) (digits_of 10 (n / 10))) ((48 + n % 10) ∷ []))
+      filled_step (digits_of 10 (n / 10)) (digits_of 10 n) (n % 10) (width - length (digits_of 10 (n / 10))) (suc width - length (digits_of 10 n)) step size
       ∙ ap (λ front. front ++ (48 + n % 10) ∷ []) (filled_digits width (n / 10) (tenth width n small))
   | inr few ↦
       let none : 0 ≡ n = omega (arith, few) in
