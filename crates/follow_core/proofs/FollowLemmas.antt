@@ -2,7 +2,7 @@
 use Rattle.std.proofs.Math.Bool.{or-false as or_none, and-false as and_none}
 use Rattle.std.proofs.Common.{Err, ◌≡◌, ℕ, zero, suc, ◌<◌, ◌+◌, Bool, true, false, not, ◌||◌, ◌&&◌, List, [], ◌∷◌, ◌++◌, length, map, slice_index_or, refl, sym, ◌∙◌, ap, subst, arith, inl, inr, IsTrue}
 use Rattle.std.proofs.lemmas.Bool.{false≢true}
-use Rattle.std.proofs.lemmas.List.{length-map}
+use Rattle.std.proofs.lemmas.List.{length-append, length-map}
 use Rattle.std.proofs.Math.Seq.{take-length}
 use Rattle.ports_core.specs.Slot.{Slot, adds, can_write, is_open, is_writable, slot_at, told_of}
 use Rattle.follow_core.specs.Telling.{TellsAll}
@@ -16,7 +16,7 @@ use Rattle.follow_core.specs.inner.Calls.{HasStopped}
 use Rattle.follow_core.specs.inner.Looks.{Begins, MakesLook}
 use Rattle.follow_core.specs.Look.{Look, Ways, is_dropped, snapshots, ways_of}
 use Rattle.follow_core.specs.Printing.{PrinterState, Short, fresh_printer, no_room}
-use Rattle.follow_core.specs.Share.{Share, shares_at_look, shares_of}
+use Rattle.follow_core.specs.Share.{IsFront, Share, shares_at_look, shares_of}
 use Rattle.follow_core.specs.Sharing.{AllShared, AllShort, CanPrint, Wrote, WroteShort}
 use Rattle.follow_core.specs.Standing.{AllStand, AreBroken, CanVisit, IsFollowed, NameState, Stands, state_at, texts}
 use Rattle.follow_core.specs.inner.Visits.{any_goes_on, goes_on_as, StoppedAt, VisitedAll}
@@ -26,8 +26,8 @@ use Rattle.ports_core.specs.declared.slot.State.{State}
 use Rattle.ports_core.specs.declared.fault.Fault.TheVariants as fault
 use Rattle.watch_core.specs.Snapshot.{Snapshot}
 use Rattle.watch_core.specs.Watched.{Watched, added, watched_at}
-use Rattle.std.specs.Prelude.{is_some}
-use Rattle.follow_core.proofs.LaterLemmas.{last_file}
+use Rattle.std.specs.Prelude.{None, drop, is_some}
+use Rattle.follow_core.proofs.LaterLemmas.{last_file, unbroken_in}
 use Rattle.follow_core.proofs.ShareLemmas.{failed-append, last-append, messages-append, shares_more, text-append}
 use Rattle.follow_core.proofs.VisitAllLemmas.{broken_there, nothing_shared}
 use Rattle.follow_core.proofs.GiveLemmas.{wrote_as, wrote_both}
@@ -135,13 +135,16 @@ look_stopped {told_in} {told} {snapshot} {old} {watched} {watched_new} {slots} {
   shared = holds.shared;
   more = stopped.shares ++ stopped.share ∷ [];
   begun = up_to stopped.fates stopped.place stopped.shares stopped.share stopped.count stopped.within
-      (λ above. (count ∙ (subst (StandsIn told_in ways looks old.names watched) looking holds.stand).1 ∙ length_names old names holds.same, stopped.broken)) stopped.are stopped.begins;
+      ((let as_many : length watched_new ≡ length names = all in omega (arith, as_many)), (λ above. all), λ other within. stopped.broken other (subst (λ n. other < n) all within)) stopped.are stopped.begins;
   short = stopped.short;
 } where
   stopped : StoppedAt told_in told ways looks snapshot names old.printer slots watched_new slots_new why
   stopped = subst (λ those. StoppedAt told_in told ways looks snapshot those old.printer slots watched_new slots_new why) holds.same
       (subst (λ way. StoppedAt told_in told way looks snapshot (texts old.names) old.printer slots watched_new slots_new why) (sym holds.asked)
       (halts looks (stand_in told_in told ways headers names looks first old watched slots looking holds)))
+
+  all : length watched_new ≡ length names
+  all = count ∙ (subst (StandsIn told_in ways looks old.names watched) looking holds.stand).1 ∙ length_names old names holds.same
 
 -- whatever looks were made, the names broke just where they tell so
 abbrev pub Unbroken : (told_in told : Bool) → FollowState → List Watched → List Slot → List Watched → Type 0
@@ -213,7 +216,7 @@ held_added told_in told ways headers names looks first old mid watched watched_m
       shared = holds.shared;
       failed = holds.failed;
     }) where
-      new : (looks ≡ []) × (old.names ≡ map new_state (texts old.names))
+      new : (looks ≡ []) × (old.names ≡ map new_state (texts old.names)) × (watched ≡ [])
       new = subst (StandsIn told_in ways looks old.names watched) is.fresh holds.stand
 
 pub added_begins : (told_in : Bool) (old mid : FollowState) (watched watched_mid : List Watched) → IsAdded old mid watched watched_mid → Begins told_in old watched mid watched_mid
@@ -328,10 +331,19 @@ no_memory_is {old} {slots} {slots_new} {why} is = subst (IsCause old slots slots
 
 -- by what the names broke
 
-none_made : (ways : Ways) (looks : List Look) (names : List (List ℕ)) (watched : List Watched) → looks ≡ [] → AreBroken ways looks names watched
-none_made ways looks names watched none above = absurd (not_above (subst (λ (those : List Look). 0 < length those) none above)) where
-  not_above : 0 < 0 → ⊥
-  not_above above = omega arith
+none_failed : (names : List (List ℕ)) (watched rest : List Watched) (place : ℕ) → map added names ≡ watched ++ rest → place < length watched → (watched_at watched place).failed ≡ None
+none_failed names [] rest place are within = absurd (omega arith)
+none_failed [] (one ∷ watched) rest place are within = let size = ap length are in absurd (omega (arith, size))
+none_failed (name ∷ names) (one ∷ watched) rest zero are within = ap (λ those. (watched_at those 0).failed) (sym are)
+none_failed (name ∷ names) (one ∷ watched) rest (suc place) are within = none_failed names watched rest place (ap (drop 1) are) (omega arith)
+
+-- before the first look none did, of those that were added
+none_broken : (ways : Ways) (looks : List Look) (names : List (List ℕ)) (watched : List Watched) → looks ≡ [] → IsFront watched (map added names) → AreBroken ways looks names watched
+none_broken ways looks names watched none (rest, are) = subst (λ (those : List Look). AreBroken ways those names watched) (sym none) (
+  (let size = sym (length-append watched rest) ∙ ap length (sym are) ∙ length-map names added in omega (arith, size)),
+  (λ above. absurd (omega (arith, above))),
+  λ place within. unbroken_in ways [] place (watched_at watched place).failed (none_failed names watched rest place are within) refl,
+)
 
 pub broken_are : (told_in told : Bool) (ways : Ways) (headers : Bool) (names : List (List ℕ)) (looks : List Look) (first slots : List Slot) (follow : FollowState) (watched : List Watched) → Holds told_in told ways headers names looks first follow watched slots → AreBroken ways looks names watched
 broken_are told_in told ways headers names looks first slots follow watched holds = stage follow.stage holds.stand where
@@ -339,14 +351,18 @@ broken_are told_in told ways headers names looks first slots follow watched hold
   count = length_names follow names holds.same
 
   stage : (stage : Stage) → StandsIn told_in ways looks follow.names watched stage → AreBroken ways looks names watched
-  stage Fresh stand = none_made ways looks names watched stand.0
-  stage Looking stand = λ above. (stand.1 ∙ count, λ place within. broken_there told_in ways looks place (state_at follow.names place).text (watched_at watched place) (state_at follow.names place).standing (stand.0 place (subst (λ n. place < n) (sym count) within)))
+  stage Fresh stand = none_broken ways looks names watched stand.0 (map added names, ap (λ those. those ++ map added names) (sym stand.2))
+  stage Looking stand = (
+    (let as_many = stand.1 ∙ count in omega (arith, as_many)),
+    (λ above. stand.1 ∙ count),
+    λ place within. broken_there told_in ways looks place (state_at follow.names place).text (watched_at watched place) (state_at follow.names place).standing (stand.0 place (subst (λ n. place < n) stand.1 within)),
+  )
   stage Over stand = absurd stand
 
 -- before the first look
-pub fresh_unbroken : {told_in told : Bool} {old : FollowState} {watched : List Watched} {slots : List Slot} (watched_new : List Watched) → old.stage ≡ Fresh → Unbroken told_in told old watched slots watched_new
-fresh_unbroken {told_in} {told} {old} {watched} {slots} watched_new fresh ways headers names looks first holds =
-    none_made ways looks names watched_new (subst (StandsIn told_in ways looks old.names watched) fresh holds.stand).0
+pub fresh_unbroken : {told_in told : Bool} {old : FollowState} {watched : List Watched} {slots : List Slot} (watched_new : List Watched) → old.stage ≡ Fresh → IsFront watched_new (map added (texts old.names)) → Unbroken told_in told old watched slots watched_new
+fresh_unbroken {told_in} {told} {old} {watched} {slots} watched_new fresh front ways headers names looks first holds =
+    none_broken ways looks names watched_new (subst (StandsIn told_in ways looks old.names watched) fresh holds.stand).0 (subst (λ those. IsFront watched_new (map added those)) holds.same front)
 
 -- the names are watched, and no call was made on one
 pub begun_unbroken : {told_in told : Bool} {old mid : FollowState} {watched watched_mid watched_new : List Watched} {slots : List Slot} → Begins told_in old watched mid watched_mid → watched_new ≡ watched_mid → Unbroken told_in told old watched slots watched_new

@@ -53,9 +53,9 @@ CanLook follow watched slots = elim follow.stage [
   | Over ↦ Unit {0}
 ]
 
--- before the first look the names are new; then each is watched, and they stand as after these looks
+-- before the first look the names are new, and none is watched; then each is, and they stand as after these looks
 abbrev pub StandsIn : Bool → Ways → List Look → List NameState → List Watched → Stage → Type 0
-StandsIn told ways looks names watched Fresh = (looks ≡ []) × (names ≡ map new_state (texts names))
+StandsIn told ways looks names watched Fresh = (looks ≡ []) × (names ≡ map new_state (texts names)) × (watched ≡ [])
 StandsIn told ways looks names watched Looking = AllStand told ways looks names watched
     × (length watched ≡ length names)
 StandsIn told ways looks names watched Over = ⊥

@@ -1,5 +1,5 @@
 -- How a name stands between two looks.
-use Rattle.std.specs.Prelude.{◌≡◌, ◌<◌, ℕ, Bool, true, false, List, [], Option, Some, None, ◌⊎◌, length, map, slice_index_or, take, is_some}
+use Rattle.std.specs.Prelude.{◌≡◌, ◌<◌, ◌≤◌, ℕ, Bool, true, false, List, [], Option, Some, None, ◌⊎◌, length, map, slice_index_or, take, is_some}
 use Rattle.ports_core.specs.declared.fault.Fault.{Fault}
 use Rattle.ports_core.specs.declared.fault.Fault.TheVariants.{Read}
 use Rattle.watch_core.specs.Watched.{Watched, added, watched_at}
@@ -43,10 +43,12 @@ pub record BrokeIn (ways : Ways) (looks : List Look) (place : ℕ) (failed : Opt
   pub opened : ways.by_name ≡ false
       → (failed_in place (take 1 looks) ≡ failed_in place looks) ⊎ (failed_in place looks ≡ Some (Read place))
 
--- once a look was made, all names are watched, and each broke as the looks tell
+-- Each name that is watched broke just as these looks tell, if it did. Once a look was made all names are watched; where
+-- the first one found no memory to add them, it may be the first of them alone.
 abbrev pub AreBroken : Ways → List Look → List (List ℕ) → List Watched → Type 0
-AreBroken ways looks names watched = 0 < length looks → (length watched ≡ length names)
-    × ((place : ℕ) → place < length names → BrokeIn ways looks place (watched_at watched place).failed)
+AreBroken ways looks names watched = (length watched ≤ length names)
+    × (0 < length looks → length watched ≡ length names)
+    × ((place : ℕ) → place < length watched → BrokeIn ways looks place (watched_at watched place).failed)
 
 -- It is looked at again: its open file is that of the last entry, and this much of it was seen.
 pub record IsFollowed (told : Bool) (ways : Ways) (looks : List Look) (place : ℕ) (name : List ℕ) (watched : Watched)

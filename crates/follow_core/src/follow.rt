@@ -1,11 +1,13 @@
 //! Following: looks at names, one after another.
 ghost use Rattle.std.specs.Prelude.{◌≡◌, ◌<◌, ◌∷◌, ◌++◌, [], ℕ, Bool, List, true, length, map, Err, IfOk, IfErr, OnOk};
 ghost use Rattle.ports_core.specs.Slot.{Slot};
-ghost use Rattle.watch_core.specs.Watched.{Watched};
+ghost use Rattle.watch_core.specs.Watched.{Watched, added};
 ghost use Rattle.follow_core.specs.Sharing.{HasError};
 ghost use Rattle.follow_core.specs.inner.Looks.{Begins, CanBegin, MakesLook};
 ghost use Rattle.follow_core.specs.FollowState.{CanLook, FollowState, Holds, IsCause, LooksOn, SawOrNot, StopsOn, is_alive, opened_follow};
 ghost use Rattle.follow_core.specs.Look.{Look, Ways};
+ghost use Rattle.follow_core.specs.Share.{IsFront};
+ghost use Rattle.follow_core.specs.Standing.{texts};
 
 use crate::name::{Name, add_all, any_goes_on, new_names, visit_all};
 use crate::start::Start;
@@ -171,7 +173,7 @@ impl Follow {
     fn begin<W: Watch>(&mut self, watch: &mut W) -> Result<(), Fault>
         requires { CanBegin self.old (W.watched watch.old) }
         ensures begins { OnOk result (Begins W.told self.old (W.watched watch.old) self.new (W.watched watch.new)) }
-        ensures err { IfErr result (λ fault. (fault ≡ Fault.Memory) × (self.old.stage ≡ Stage.Fresh)) }
+        ensures err { IfErr result (λ fault. (fault ≡ Fault.Memory) × (self.old.stage ≡ Stage.Fresh) × IsFront (W.watched watch.new) (map added (texts self.old.names))) }
         ensures seen { W.seen watch.new ≡ W.seen watch.old }
         ensures shows { W.shows watch.new ≡ W.shows watch.old }
     {

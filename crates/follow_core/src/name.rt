@@ -6,6 +6,7 @@ ghost use Rattle.follow_core.specs.Sharing.{CanPrint};
 ghost use Rattle.follow_core.specs.inner.Calls.{HasStopped};
 ghost use Rattle.follow_core.specs.FollowState.{new_state};
 ghost use Rattle.follow_core.specs.Look.{Look, ways_of};
+ghost use Rattle.follow_core.specs.Share.{IsFront};
 ghost use Rattle.follow_core.specs.inner.Visits.{has_failed, any_goes_on, goes_on_as, standing_after, StoppedAt, VisitedAll, Visits};
 ghost use Rattle.follow_core.specs.Standing.{AllStand, CanVisit, NameState, state_at, texts};
 
@@ -163,7 +164,7 @@ pub(crate) fn new_names(alloc: Global, names: &[&str]) -> Result<Vec<Name>, Faul
 pub(crate) fn add_all<W: Watch>(names: &[Name], watch: &mut W) -> Result<(), Fault>
     requires { W.watched watch.old ≡ [] }
     ensures ok { OnOk result (W.watched watch.new ≡ map added (texts names.now)) }
-    ensures err { IfErr result (λ fault. fault ≡ Fault.Memory) }
+    ensures err { IfErr result (λ fault. (fault ≡ Fault.Memory) × IsFront (W.watched watch.new) (map added (texts names.now))) }
     ensures seen { W.seen watch.new ≡ W.seen watch.old }
     ensures shows { W.shows watch.new ≡ W.shows watch.old }
 {

@@ -9,7 +9,7 @@ use Rattle.follow_core.proofs.FollowLemmas.{begun_looked, begun_stopped, begun_u
 use Rattle.follow_core.proofs.follow.Follow.make_look.Goals as goal
 
 pub returns-in-Err-clause-makes : goal.returns-in-Err-clause-makes
-returns-in-Err-clause-makes g c = makes_none (fresh_unbroken _ c.in-Err.ensures.err.1) c.in-Err.ensures.err.0 c.begin.ensures.seen
+returns-in-Err-clause-makes g c = makes_none (fresh_unbroken _ c.in-Err.ensures.err.1 c.in-Err.ensures.err.2) c.in-Err.ensures.err.0 c.begin.ensures.seen
 
 pub returns-in-Err-turn-clause-makes : goal.returns-in-Err-turn-clause-makes
 returns-in-Err-turn-clause-makes g c = makes_none (begun_unbroken c.in_default.ensures.begins c.turn.ensures.watched) c.in-Err-turn.ensures.err.0 (c.in-Err-turn.ensures.err.1 ∙ c.begin.ensures.seen)
