@@ -31,9 +31,6 @@ use Rattle.words_core.specs.SplitAsked.{SplitAsked}
 use Rattle.words_core.specs.Words.{settings_of}
 use Rattle.watch_core.specs.Snapshot.{Snapshot}
 use Rattle.watch_core.specs.Watched.{Watched}
-use Rattle.follow_core.specs.Ending.{seen_first}
-use Rattle.follow_core.specs.Run.{AreKept}
-use Rattle.follow_core.specs.Version.{entries_of}
 use Rattle.tools_core.specs.Following.{FollowingEnds}
 use Rattle.tools_core.specs.Outcome.{RunEnds, names_read}
 use Rattle.tools_core.specs.Tasks.{has_headers}
@@ -255,11 +252,8 @@ pub record Follows (run : FollowRun) (options : EndsAsked) (followed : Followed)
   pub ends : FollowingEnds true true run.words run.count run.shows run.seen run.watched run.outputs run.status
   pub well : run.status ≡ 0
 
--- at every look the name leads to this file, which has all that it had at the look before, and perhaps more after it
-abbrev pub OnlyGrows : (ℕ → Snapshot) → List ℕ → ℕ → Type 0
-OnlyGrows shows name file =
-    (n : ℕ) → ((shows n).leads name ≡ Some file) × IsBeginning ((shows n).holds file) ((shows (suc n)).holds file)
-
--- as long as a file is only appended to it keeps its bytes, at every look
-abbrev pub KeepsBytes : (by_name : Bool) → (ℕ → Snapshot) → List ℕ → Type 0
-KeepsBytes by_name shows name = (n : ℕ) → AreKept (entries_of by_name name (seen_first shows n))
+-- at each of this many first looks the name leads to this file, which has all that it had at the look before, and
+-- perhaps more after it
+abbrev pub OnlyGrows : (count : ℕ) → (ℕ → Snapshot) → List ℕ → ℕ → Type 0
+OnlyGrows count shows name file = ((n : ℕ) → n < count → (shows n).leads name ≡ Some file)
+    × ((n : ℕ) → suc n < count → IsBeginning ((shows n).holds file) ((shows (suc n)).holds file))

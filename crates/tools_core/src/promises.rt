@@ -2,7 +2,7 @@
 //! speak of runs over inputs and outputs that tell their bytes, as those in memory do, and of what `run` ensures of each.
 ghost use Rattle.std.specs.Prelude.{◌≡◌, ◌+◌, ◌++◌, ◌∷◌, [], ℕ, List, false, length};
 ghost use Rattle.ends_core.specs.Ends.{tail_of};
-ghost use Rattle.follow_core.specs.Run.{name_text};
+ghost use Rattle.follow_core.specs.Run.{AreKept, name_text};
 ghost use Rattle.follow_core.specs.Version.{entries_of};
 ghost use Rattle.ports_core.specs.Slot.{slot_at};
 ghost use Rattle.seg_core.specs.Line.{joined, line_count};
@@ -11,7 +11,7 @@ ghost use Rattle.seg_core.specs.declared.cut.Cut.TheVariants.{Bytes, LineBytes, 
 ghost use Rattle.operand_core.specs.Reading.{Asks};
 ghost use Rattle.operand_core.specs.declared.operand.Operand.{Operand};
 ghost use Rattle.tools_core.specs.Following.{is_name};
-ghost use Rattle.tools_core.specs.Promises.{AreCopies, AreDealt, AreLinePieces, AreListed, AreNumbered, ArePieces, AreSections, AreUncut, BeginsEach, CountAlike, Does, FindAlike, FollowRun, Follows, HasInput, IsBare, IsHead, IsTail, IsTold, KeepsBytes, OnlyGrows, Ran, Run, SkipNothing, contents_of, files_of, output_of};
+ghost use Rattle.tools_core.specs.Promises.{AreCopies, AreDealt, AreLinePieces, AreListed, AreNumbered, ArePieces, AreSections, AreUncut, BeginsEach, CountAlike, Does, FindAlike, FollowRun, Follows, HasInput, IsBare, IsHead, IsTail, IsTold, OnlyGrows, Ran, Run, SkipNothing, contents_of, files_of, output_of};
 ghost use Rattle.tools_core.specs.Tasks.{is_plus};
 ghost use Rattle.words_core.specs.CsplitAsked.{CsplitAsked};
 ghost use Rattle.words_core.specs.EndsAsked.{EndsAsked};
@@ -77,11 +77,12 @@ pub fn faults_leave_a_beginning()
 /// `tail -f` tells all, once. Of one file that only grows it writes the last lines or bytes that the file has at the first
 /// look, or all from the Nth on, and then all that came by the last look, in order, and nothing twice. It does so in as many
 /// looks as it is asked for, by descriptor and by name. Of a file that is truncated or replaced too it writes the text of its
-/// name: that of each stretch of looks in which it only grew, and from the second stretch on all that it came to have.
+/// name: that of each stretch of looks in which it only grew, and from the second stretch on all that it came to have. What
+/// the file is at looks that were not made is no matter.
 pub fn tail_follows()
-    ensures grows { (run : FollowRun) (options : EndsAsked) (followed : Followed) (name came : List ℕ) (file n : ℕ) → Follows run options followed → IsBare options → options.names ≡ name ∷ [] → run.count ≡ n + 1 → OnlyGrows run.shows name file
+    ensures grows { (run : FollowRun) (options : EndsAsked) (followed : Followed) (name came : List ℕ) (file n : ℕ) → Follows run options followed → IsBare options → options.names ≡ name ∷ [] → run.count ≡ n + 1 → OnlyGrows (length run.seen) run.shows name file
         → (run.shows n).holds file ≡ (run.shows 0).holds file ++ came
         → (slot_at run.outputs 0).written ≡ tail_of options.delim options.unit (is_plus options.count.sign) options.count.amount ((run.shows 0).holds file) ++ came }
-    ensures text { (run : FollowRun) (options : EndsAsked) (followed : Followed) (name : List ℕ) → Follows run options followed → IsBare options → options.names ≡ name ∷ [] → KeepsBytes (is_name followed) run.shows name
+    ensures text { (run : FollowRun) (options : EndsAsked) (followed : Followed) (name : List ℕ) → Follows run options followed → IsBare options → options.names ≡ name ∷ [] → AreKept (entries_of (is_name followed) name run.seen)
         → (slot_at run.outputs 0).written ≡ name_text (tail_of options.delim options.unit (is_plus options.count.sign) options.count.amount) (entries_of (is_name followed) name run.seen) }
 {}
