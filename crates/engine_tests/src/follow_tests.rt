@@ -1,4 +1,5 @@
-//! Examples of following, by the definitions alone: each contract says what they make of some edits with a look after each list.
+//! Following: looks at files beside names that others watch; and examples of the definitions alone, where each contract says what
+//! they make of some edits with a look after each list.
 ghost use Rattle.std.specs.Prelude.{◌≡◌, [], ◌∷◌, drop, codes, true, false};
 ghost use Rattle.watch_core.specs.Edits.{append, truncate, replace, remove, edited_by, empty_world, seen_in};
 ghost use Rattle.follow_core.specs.Followed.{followed};
@@ -7,46 +8,52 @@ ghost use Rattle.follow_core.specs.Look.{unopened};
 ghost use Rattle.follow_core.specs.inner.Placing.{looks_after};
 
 use ends_core::Unit;
+use follow_core::{Follow, Start};
+use ports_core::{Fault, MemOut};
+use std::alloc::Global;
+use std::process::Abort;
+use std::test::Fail;
+use watch_core::{Edit, MemWatch, Watch};
 
 /// `tail -F -n 1 f`: what is appended, a truncation, and a replacement after more was appended.
 fn by_name()
-    ensures { followed (record { by_name = true; start = tail_of 10 Unit.Lines false 1 }) false (codes "f" ∷ []) (looks_after ((replace (codes "f") (codes "a\nb\n") ∷ []) ∷ (append (codes "f") (codes "c") ∷ []) ∷ (truncate (codes "f") 0 ∷ []) ∷ (append (codes "f") (codes "z\n") ∷ []) ∷ (append (codes "f") (codes "w") ∷ replace (codes "f") (codes "q\n") ∷ []) ∷ []))
+    ensures { followed (record { first = 0; by_name = true; start = tail_of 10 Unit.Lines false 1 }) false (codes "f" ∷ []) (looks_after ((replace (codes "f") (codes "a\nb\n") ∷ []) ∷ (append (codes "f") (codes "c") ∷ []) ∷ (truncate (codes "f") 0 ∷ []) ∷ (append (codes "f") (codes "z\n") ∷ []) ∷ (append (codes "f") (codes "w") ∷ replace (codes "f") (codes "q\n") ∷ []) ∷ []))
         ≡ record { out = codes "b\ncz\nwq\n"; messages = codes "tail: 'f': file truncated\n" ∷ codes "tail: 'f': file replaced\n" ∷ []; has_failed = false } }
 {}
 
 /// `tail -F f`, where the file comes after the first look.
 fn that_appears()
-    ensures { followed (record { by_name = true; start = tail_of 10 Unit.Lines false 10 }) false (codes "f" ∷ []) (looks_after ([] ∷ (replace (codes "f") (codes "x\n") ∷ []) ∷ []))
+    ensures { followed (record { first = 0; by_name = true; start = tail_of 10 Unit.Lines false 10 }) false (codes "f" ∷ []) (looks_after ([] ∷ (replace (codes "f") (codes "x\n") ∷ []) ∷ []))
         ≡ record { out = codes "x\n"; messages = codes "tail: cannot open 'f'\n" ∷ codes "tail: 'f': file appeared\n" ∷ []; has_failed = true } }
 {}
 
 /// `tail -F f`, where the file is removed and another one comes.
 fn that_comes_again()
-    ensures { followed (record { by_name = true; start = tail_of 10 Unit.Lines false 10 }) false (codes "f" ∷ []) (looks_after ((replace (codes "f") (codes "a\n") ∷ []) ∷ (remove (codes "f") ∷ []) ∷ (replace (codes "f") (codes "b\n") ∷ []) ∷ []))
+    ensures { followed (record { first = 0; by_name = true; start = tail_of 10 Unit.Lines false 10 }) false (codes "f" ∷ []) (looks_after ((replace (codes "f") (codes "a\n") ∷ []) ∷ (remove (codes "f") ∷ []) ∷ (replace (codes "f") (codes "b\n") ∷ []) ∷ []))
         ≡ record { out = codes "a\nb\n"; messages = codes "tail: 'f': file inaccessible\n" ∷ codes "tail: 'f': file appeared\n" ∷ []; has_failed = false } }
 {}
 
 /// `tail -f f`, where the file is removed and another one comes: the one that was opened is followed.
 fn that_is_left()
-    ensures { followed (record { by_name = false; start = tail_of 10 Unit.Lines false 10 }) false (codes "f" ∷ []) (looks_after ((replace (codes "f") (codes "a\n") ∷ []) ∷ (remove (codes "f") ∷ []) ∷ (replace (codes "f") (codes "b\n") ∷ []) ∷ []))
+    ensures { followed (record { first = 0; by_name = false; start = tail_of 10 Unit.Lines false 10 }) false (codes "f" ∷ []) (looks_after ((replace (codes "f") (codes "a\n") ∷ []) ∷ (remove (codes "f") ∷ []) ∷ (replace (codes "f") (codes "b\n") ∷ []) ∷ []))
         ≡ record { out = codes "a\n"; messages = []; has_failed = false } }
 {}
 
 /// `tail -f g`, where there is no such file.
 fn that_is_missing()
-    ensures { followed (record { by_name = false; start = tail_of 10 Unit.Lines false 10 }) false (codes "g" ∷ []) (looks_after ([] ∷ []))
+    ensures { followed (record { first = 0; by_name = false; start = tail_of 10 Unit.Lines false 10 }) false (codes "g" ∷ []) (looks_after ([] ∷ []))
         ≡ record { out = []; messages = codes "tail: cannot open 'g'\n" ∷ []; has_failed = true } }
 {}
 
 /// `tail -f -c 2 f`, where the file is truncated.
 fn that_is_truncated()
-    ensures { followed (record { by_name = false; start = tail_of 10 Unit.Bytes false 2 }) false (codes "f" ∷ []) (looks_after ((replace (codes "f") (codes "abc") ∷ []) ∷ (truncate (codes "f") 1 ∷ []) ∷ (append (codes "f") (codes "d") ∷ []) ∷ []))
+    ensures { followed (record { first = 0; by_name = false; start = tail_of 10 Unit.Bytes false 2 }) false (codes "f" ∷ []) (looks_after ((replace (codes "f") (codes "abc") ∷ []) ∷ (truncate (codes "f") 1 ∷ []) ∷ (append (codes "f") (codes "d") ∷ []) ∷ []))
         ≡ record { out = codes "bcad"; messages = codes "tail: 'f': file truncated\n" ∷ []; has_failed = false } }
 {}
 
 /// `tail -f -n 1 f g`: a header stands where the text of another name begins.
 fn of_two_names()
-    ensures { followed (record { by_name = false; start = tail_of 10 Unit.Lines false 1 }) true (codes "f" ∷ codes "g" ∷ []) (looks_after ((replace (codes "f") (codes "a\n") ∷ replace (codes "g") (codes "b\n") ∷ []) ∷ (append (codes "f") (codes "c\n") ∷ []) ∷ (append (codes "f") (codes "d\n") ∷ []) ∷ (append (codes "g") (codes "e\n") ∷ []) ∷ []))
+    ensures { followed (record { first = 0; by_name = false; start = tail_of 10 Unit.Lines false 1 }) true (codes "f" ∷ codes "g" ∷ []) (looks_after ((replace (codes "f") (codes "a\n") ∷ replace (codes "g") (codes "b\n") ∷ []) ∷ (append (codes "f") (codes "c\n") ∷ []) ∷ (append (codes "f") (codes "d\n") ∷ []) ∷ (append (codes "g") (codes "e\n") ∷ []) ∷ []))
         ≡ record { out = codes "==> f <==\na\n\n==> g <==\nb\n\n==> f <==\nc\nd\n\n==> g <==\ne\n"; messages = []; has_failed = false } }
 {}
 
@@ -54,7 +61,7 @@ fn of_two_names()
 fn of_one_that_breaks()
     ensures { let first = replace (codes "f") (codes "a\n") ∷ replace (codes "g") (codes "b\n") ∷ [] in
         let later = (append (codes "f") (codes "c\n") ∷ []) ∷ (append (codes "f") (codes "d\n") ∷ []) ∷ (append (codes "g") (codes "e\n") ∷ []) ∷ [] in
-        followed (record { by_name = false; start = tail_of 10 Unit.Lines false 1 }) true (codes "f" ∷ codes "g" ∷ []) (record { snapshot = seen_in (edited_by first empty_world); fates = unopened 0 0 ∷ [] } ∷ drop 1 (looks_after (first ∷ later)))
+        followed (record { first = 0; by_name = false; start = tail_of 10 Unit.Lines false 1 }) true (codes "f" ∷ codes "g" ∷ []) (record { snapshot = seen_in (edited_by first empty_world); fates = unopened 0 0 ∷ [] } ∷ drop 1 (looks_after (first ∷ later)))
         ≡ record { out = codes "==> g <==\nb\ne\n"; messages = codes "tail: cannot open 'f'\n" ∷ []; has_failed = true } }
 {}
 
@@ -68,4 +75,58 @@ fn definitions_give_the_examples() {
     that_is_truncated();
     of_two_names();
     of_one_that_breaks();
+}
+
+const LAST_LINE: Start = Start {
+    unit: Unit::Lines,
+    from_nth: false,
+    count: 1,
+    delim: b'\n',
+};
+
+/// Names that are followed, whether by name, and what two looks write and say of them.
+type Row<'a> = (&'a [&'a str], bool, &'a [u8], &'a [u8]);
+
+const ROWS: &[Row<'static>] = &[
+    (&["f"], false, b"b\nc\n", b""),
+    (
+        &["g", "h", "f"],
+        true,
+        b"==> g <==\nx\n\n==> f <==\nb\n\n==> g <==\ny\n\n==> f <==\nc\n",
+        b"tail: cannot open 'h'\n",
+    ),
+    (&[], true, b"", b""),
+];
+
+#[test]
+fn follows_beside_others(rt: HostRuntime) -> Result<(), Fail> {
+    for row in ROWS {
+        look_twice(&rt, rt.alloc(), row)?;
+    }
+    Ok(())
+}
+
+/// Two looks write as if nothing else were watched, and leave the name of others with the file that is open.
+fn look_twice(rt: &impl Abort, alloc: Global, row: &Row<'_>) -> Result<(), Fault> {
+    let mut watch = watch_of_others(alloc)?;
+    let opened = watch.open_id(0);
+    let mut outs = MemOut::new(alloc)?;
+    let mut follow = Follow::open(alloc, row.0, LAST_LINE, row.1, 1 < row.0.len())?;
+    follow.look(&mut watch, &mut outs)?;
+    follow.look(&mut watch, &mut outs)?;
+    assert_eq!(rt; (outs.bytes(0), outs.bytes(1)), (row.2, row.3));
+    assert_eq!(rt; watch.open_id(0), opened);
+    Ok(())
+}
+
+/// A watch over a name of others, who made a look and opened a file that is replaced at the next one.
+fn watch_of_others(alloc: Global) -> Result<MemWatch, Fault> {
+    let mut watch = MemWatch::new(alloc)?;
+    watch.then(&[Edit::Replace("g", b"w\n")])?;
+    watch.then(&[Edit::Replace("f", b"a\nb\n"), Edit::Replace("g", b"x\n")])?;
+    watch.then(&[Edit::Append("f", b"c\n"), Edit::Append("g", b"y\n")])?;
+    watch.add("g")?;
+    watch.turn()?;
+    watch.reopen(0)?;
+    Ok(watch)
 }

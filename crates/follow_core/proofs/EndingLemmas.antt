@@ -158,11 +158,12 @@ texts_of_new : (names : List (List ℕ)) → texts (map new_state names) ≡ nam
 texts_of_new [] = refl
 texts_of_new (name ∷ names) = ap (λ rest. name ∷ rest) (texts_of_new names)
 
-pub open_holds : (told_in told : Bool) (by_name : Bool) (start : Start) (headers : Bool) (names : List (List ℕ)) (follow : FollowState) (watched : List Watched) (slots : List Slot) → follow ≡ opened_follow by_name start headers names → watched ≡ [] → Holds told_in told (ways_of by_name start) headers names [] slots follow watched slots
-open_holds told_in told by_name start headers names follow watched slots is unwatched = subst (λ (f : FollowState). Holds told_in told (ways_of by_name start) headers names [] slots f watched slots) (sym is) (record {
+pub open_holds : (told_in told : Bool) (by_name : Bool) (start : Start) (headers : Bool) (names : List (List ℕ)) (follow : FollowState) (watched : List Watched) (slots : List Slot) → follow ≡ opened_follow by_name start headers names → watched ≡ [] → Holds told_in told (ways_of 0 by_name start) headers names [] slots follow watched slots
+open_holds told_in told by_name start headers names follow watched slots is unwatched = subst (λ (f : FollowState). Holds told_in told (ways_of 0 by_name start) headers names [] slots f watched slots) (sym is) (record {
   asked = refl;
   same = texts_of_new names;
-  stand = (refl, ap (map new_state) (sym (texts_of_new names)), unwatched);
+  numbered = λ looking some. refl;
+  stand = (refl, ap (map new_state) (sym (texts_of_new names)), ap length unwatched);
   shares = [];
   are = λ t. refl;
   shared = nothing_shared told (opened_follow by_name start headers names).printer slots;

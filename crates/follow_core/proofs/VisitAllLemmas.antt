@@ -1,9 +1,11 @@
 -- A look at one name after another.
-use Rattle.std.proofs.Common.{◌≡◌, ℕ, zero, suc, ◌<◌, ◌≤◌, ◌+◌, Bool, true, false, ◌||◌, List, [], ◌∷◌, ◌++◌, length, take, set, get_or, slice_index_or, refl, sym, ◌∙◌, ap, subst, arith, append_assoc, inl, inr, ◌⊎◌, Option, if◌then◌else◌}
-use Rattle.std.proofs.lemmas.List.{append-nil, get_or-map, get_or-set_other, get_or-set_same, length-append, length-map, length-set, length-take-le, take_all, get_or_past}
+use Rattle.std.proofs.Common.{◌≡◌, ℕ, zero, suc, ◌<◌, ◌≤◌, ◌+◌, Bool, true, false, ◌||◌, List, [], ◌∷◌, ◌++◌, length, take, set, replicate, get_or, slice_index_or, refl, sym, ◌∙◌, ap, subst, arith, append_assoc, inl, inr, ◌⊎◌, Option, if◌then◌else◌}
+use Rattle.std.proofs.lemmas.List.{append-nil, get_or-map, get_or-set_other, get_or-set_same, length-append, length-map, length-replicate, length-set, length-take-le, take_all, get_or_past}
 use Rattle.std.proofs.Math.Seq.{get_or-append_seam, map-set_same, take-suc}
 use Rattle.ports_core.specs.Slot.{Slot}
+use Rattle.ports_core.proofs.InputsLemmas.{changed_elsewhere}
 use Rattle.ports_core.proofs.SlotLemmas.{length-changed_at}
+use Rattle.follow_core.specs.FollowState.{AllReady}
 use Rattle.follow_core.specs.Followed.{any_failed, header_after, last_header_from, messages_of, share_text, text_from}
 use Rattle.follow_core.specs.Look.{Fate, Look, Ways, fate_at, is_dropped, sound}
 use Rattle.follow_core.specs.Share.{BeginsShare, Share, share_by, share_of, no_share, shares_at_look_from}
@@ -15,7 +17,7 @@ use Rattle.follow_core.specs.Standing.{AllStand, BrokeIn, CanVisit, NameState, S
 use Rattle.follow_core.proofs.GiveLemmas.{short_as, wrote_as, wrote_both, wrote_none, wrote_short}
 use Rattle.ports_core.specs.declared.fault.Fault.{Fault}
 use Rattle.watch_core.specs.Snapshot.{Snapshot}
-use Rattle.watch_core.specs.Watched.{Watched, opens, watched_at}
+use Rattle.watch_core.specs.Watched.{Watched, no_name, opens, watched_at}
 use Rattle.ports_core.specs.Slot.{changed_at}
 use Rattle.follow_core.specs.declared.name.Standing.{Standing}
 use Rattle.follow_core.specs.declared.name.Standing.TheVariants.{New, Followed, Left}
@@ -26,15 +28,15 @@ use Rattle.follow_core.proofs.ShareLemmas.{failed-append, last-append, messages-
 pub record VisitedUpTo (told_in told : Bool) (ways : Ways) (looks : List Look) (snapshot : Snapshot) (place : ℕ) (names : List NameState) (printer : PrinterState) (old : List Slot) (after : PrinterState) (new : List Slot) (watched : List Watched) (names_now : List NameState) (failed : Bool) : Type 0 where
   pub fates : List Fate
   pub shares : List Share
-  pub count : length fates ≡ place
-  pub are : told_in ≡ true → (later : List Fate) → shares ≡ shares_at_look_from ways looks (record { snapshot = snapshot; fates = fates ++ later }) 0 (take place (texts names))
+  pub count : length fates ≡ ways.first + place
+  pub are : told_in ≡ true → (later : List Fate) → shares ≡ shares_at_look_from ways looks (record { snapshot = snapshot; fates = fates ++ later }) ways.first (take place (texts names))
   pub is_failed : any_failed shares ≡ failed
   pub shared : AllShared told printer shares old after new
   pub same : texts names_now ≡ texts names
   pub done : (later : List Fate) (other : ℕ) → other < place
-      → Stands told_in ways (looks ++ record { snapshot = snapshot; fates = fates ++ later } ∷ []) other (state_at names_now other).text (watched_at watched other) (state_at names_now other).standing
+      → Stands told_in ways (looks ++ record { snapshot = snapshot; fates = fates ++ later } ∷ []) (ways.first + other) (state_at names_now other).text (watched_at watched (ways.first + other)) (state_at names_now other).standing
   pub rest : (other : ℕ) → place ≤ other → other < length names_now
-      → Stands told_in ways looks other (state_at names_now other).text (watched_at watched other) (state_at names_now other).standing
+      → Stands told_in ways looks (ways.first + other) (state_at names_now other).text (watched_at watched (ways.first + other)) (state_at names_now other).standing
 
 pub nothing_shared : (told : Bool) (printer : PrinterState) (slots : List Slot) → AllShared told printer [] slots printer slots
 nothing_shared told printer slots = record { printer_is = refl; slots = wrote_none told slots }
@@ -69,9 +71,9 @@ shared_short told printer mid shares share old now new why all one = record {
 pub visited_none : (told_in told : Bool) (ways : Ways) (looks : List Look) (snapshot : Snapshot) (names : List NameState) (printer : PrinterState) (slots : List Slot) (watched : List Watched) → AllStand told_in ways looks names watched
     → VisitedUpTo told_in told ways looks snapshot 0 names printer slots printer slots watched names false
 visited_none told_in told ways looks snapshot names printer slots watched stand = record {
-  fates = [];
+  fates = replicate ways.first sound;
   shares = [];
-  count = refl;
+  count = length-replicate ways.first sound ∙ omega arith;
   are = λ t later. refl;
   is_failed = refl;
   shared = nothing_shared told printer slots;
@@ -109,16 +111,19 @@ texts_set names place default one within same = map-set_same (λ (n : NameState)
 pub length_texts : (names now : List NameState) → texts now ≡ texts names → length (texts names) ≡ length now
 length_texts names now same = ap length (sym same) ∙ length-map now (λ (n : NameState). n.text)
 
+pub same_length : (names now : List NameState) → texts now ≡ texts names → length names ≡ length now
+same_length names now same = sym (length-map names (λ (n : NameState). n.text)) ∙ length_texts names now same
+
 -- the shares of the names before a place, and of the one at it
 shares_next : (ways : Ways) (looks : List Look) (look : Look) (names now : List NameState) (place : ℕ) → texts now ≡ texts names → place < length now
-    → shares_at_look_from ways looks look 0 (take place (texts names)) ++ share_of ways looks look place (state_at now place).text ∷ [] ≡ shares_at_look_from ways looks look 0 (take (suc place) (texts names))
+    → shares_at_look_from ways looks look ways.first (take place (texts names)) ++ share_of ways looks look (ways.first + place) (state_at now place).text ∷ [] ≡ shares_at_look_from ways looks look ways.first (take (suc place) (texts names))
 shares_next ways looks look names now place same within =
     let count : length (take place (texts names)) ≡ place = length-take-le place (texts names) (subst (λ n. place ≤ n) (sym (length_texts names now same)) (omega arith)) in
     let below : place < length (texts names) = subst (λ n. place < n) (sym (length_texts names now same)) within in
-    ap (λ name. shares_at_look_from ways looks look 0 (take place (texts names)) ++ share_of ways looks look place name ∷ []) (sym (text_there names now place same within))
-    ∙ ap (λ n. shares_at_look_from ways looks look 0 (take place (texts names)) ++ share_of ways looks look n (get_or (texts names) place []) ∷ []) (sym count ∙ omega arith)
-    ∙ sym (shares_one ways looks look 0 (take place (texts names)) (get_or (texts names) place []))
-    ∙ ap (shares_at_look_from ways looks look 0) (sym (take-suc (texts names) place [] below))
+    ap (λ name. shares_at_look_from ways looks look ways.first (take place (texts names)) ++ share_of ways looks look (ways.first + place) name ∷ []) (sym (text_there names now place same within))
+    ∙ ap (λ n. shares_at_look_from ways looks look ways.first (take place (texts names)) ++ share_of ways looks look (ways.first + n) (get_or (texts names) place []) ∷ []) (sym count)
+    ∙ sym (shares_one ways looks look ways.first (take place (texts names)) (get_or (texts names) place []))
+    ∙ ap (shares_at_look_from ways looks look ways.first) (sym (take-suc (texts names) place [] below))
 
 failed_one : (shares : List Share) (share : Share) (before failed : Bool) → any_failed shares ≡ before → share.has_failed ≡ failed → any_failed (shares ++ share ∷ []) ≡ (before || failed)
 failed_one shares share before failed is one = failed-append shares (share ∷ []) ∙ ap (λ first. first || (share.has_failed || false)) is ∙ ap (λ last. before || (last || false)) one ∙ ap (λ last. before || last) (none failed) where
@@ -136,20 +141,20 @@ equal_or_not (suc a) (suc b) = elim (equal_or_not a b) [
 ]
 
 pub visited_more : (told_in told : Bool) (ways : Ways) (looks : List Look) (snapshot snapshot_now : Snapshot) (names now : List NameState) (default one : NameState) (place : ℕ) (printer mid after : PrinterState) (old slots new : List Slot) (watched watched_new : List Watched) (before failed : Bool)
-    → place < length now → one.text ≡ (get_or now place default).text → KeepsOthers place watched watched_new → snapshot_now ≡ snapshot
+    → place < length now → one.text ≡ (get_or now place default).text → KeepsOthers (ways.first + place) watched watched_new → snapshot_now ≡ snapshot
     → VisitedUpTo told_in told ways looks snapshot place names printer old mid slots watched now before
-    → (Stands told_in ways looks place (get_or now place default).text (watched_at watched place) (get_or now place default).standing → Visited told_in told ways looks snapshot_now place (get_or now place default).text mid slots after new (watched_at watched_new place) one.standing failed)
+    → (Stands told_in ways looks (ways.first + place) (get_or now place default).text (watched_at watched (ways.first + place)) (get_or now place default).standing → Visited told_in told ways looks snapshot_now (ways.first + place) (get_or now place default).text mid slots after new (watched_at watched_new (ways.first + place)) one.standing failed)
     → (next : ℕ) → suc place ≡ next → VisitedUpTo told_in told ways looks snapshot next names printer old after new watched_new (set now place one) (before || failed)
 visited_more told_in told ways looks snapshot snapshot_now names now default one place printer mid after old slots new watched watched_new before failed within same keeps seen sofar visit next is = subst (λ n. VisitedUpTo told_in told ways looks snapshot n names printer old after new watched_new (set now place one) (before || failed)) is (record {
   fates = sofar.fates ++ visited.fate ∷ [];
   shares = sofar.shares ++ visited.share ∷ [];
   count = length-append sofar.fates (visited.fate ∷ []) ∙ ap (λ n. n + 1) sofar.count ∙ omega arith;
-  are = λ t later. subst (λ those. sofar.shares ++ visited.share ∷ [] ≡ shares_at_look_from ways looks (record { snapshot = snapshot; fates = those }) 0 (take (suc place) (texts names))) (sym (append_assoc sofar.fates (visited.fate ∷ []) later)) (both t later);
+  are = λ t later. subst (λ those. sofar.shares ++ visited.share ∷ [] ≡ shares_at_look_from ways looks (record { snapshot = snapshot; fates = those }) ways.first (take (suc place) (texts names))) (sym (append_assoc sofar.fates (visited.fate ∷ []) later)) (both t later);
   is_failed = failed_one sofar.shares visited.share before failed sofar.is_failed visited.is_failed;
   shared = shared_more told printer mid after sofar.shares visited.share old slots new sofar.shared visited.shared;
   same = texts_set now place default one within same ∙ sofar.same;
-  done = λ later other below. subst (λ those. Stands told_in ways (looks ++ record { snapshot = snapshot; fates = those } ∷ []) other (state_at (set now place one) other).text (watched_at watched_new other) (state_at (set now place one) other).standing) (sym (append_assoc sofar.fates (visited.fate ∷ []) later)) (there later other below (equal_or_not other place));
-  rest = λ other above inside. stands_same told_in ways looks other (state_at now other) (state_at (set now place one) other) (watched_at watched other) (watched_at watched_new other) (sym (get_or-set_other now place other one no_state (differs other above))) (sym (keeps.others other (differs other above)))
+  done = λ later other below. subst (λ those. Stands told_in ways (looks ++ record { snapshot = snapshot; fates = those } ∷ []) (ways.first + other) (state_at (set now place one) other).text (watched_at watched_new (ways.first + other)) (state_at (set now place one) other).standing) (sym (append_assoc sofar.fates (visited.fate ∷ []) later)) (there later other below (equal_or_not other place));
+  rest = λ other above inside. stands_same told_in ways looks (ways.first + other) (state_at now other) (state_at (set now place one) other) (watched_at watched (ways.first + other)) (watched_at watched_new (ways.first + other)) (sym (get_or-set_other now place other one no_state (differs other above))) (sym (kept other (differs other above)))
       (sofar.rest other (omega arith) (subst (λ n. other < n) (length-set now place one) inside));
 }) where
   item : NameState
@@ -158,28 +163,34 @@ visited_more told_in told ways looks snapshot snapshot_now names now default one
   found : item ≡ state_at now place
   found = state_there now place default within
 
-  visited : Visited told_in told ways looks snapshot place item.text mid slots after new (watched_at watched_new place) one.standing failed
-  visited = subst (λ (s : Snapshot). Visited told_in told ways looks s place item.text mid slots after new (watched_at watched_new place) one.standing failed) seen
-      (visit (subst (λ (n : NameState). Stands told_in ways looks place n.text (watched_at watched place) n.standing) (sym found) (sofar.rest place (omega arith) within)))
+  number : ℕ
+  number = ways.first + place
 
-  both : told_in ≡ true → (later : List Fate) → sofar.shares ++ visited.share ∷ [] ≡ shares_at_look_from ways looks (record { snapshot = snapshot; fates = sofar.fates ++ visited.fate ∷ later }) 0 (take (suc place) (texts names))
+  visited : Visited told_in told ways looks snapshot number item.text mid slots after new (watched_at watched_new number) one.standing failed
+  visited = subst (λ (s : Snapshot). Visited told_in told ways looks s number item.text mid slots after new (watched_at watched_new number) one.standing failed) seen
+      (visit (subst (λ (n : NameState). Stands told_in ways looks number n.text (watched_at watched number) n.standing) (sym found) (sofar.rest place (omega arith) within)))
+
+  kept : (other : ℕ) → (other ≡ place → ⊥) → watched_at watched_new (ways.first + other) ≡ watched_at watched (ways.first + other)
+  kept = λ other elsewhere. keeps.others (ways.first + other) (λ at. elsewhere (omega (arith, at)))
+
+  both : told_in ≡ true → (later : List Fate) → sofar.shares ++ visited.share ∷ [] ≡ shares_at_look_from ways looks (record { snapshot = snapshot; fates = sofar.fates ++ visited.fate ∷ later }) ways.first (take (suc place) (texts names))
   both t later =
       let look : Look = record { snapshot = snapshot; fates = sofar.fates ++ visited.fate ∷ later } in
       ap (λ front. front ++ visited.share ∷ []) (sofar.are t (visited.fate ∷ later))
-      ∙ ap (λ share. shares_at_look_from ways looks look 0 (take place (texts names)) ++ share ∷ []) (visited.is_share t (sofar.fates ++ visited.fate ∷ later) (fate_there snapshot sofar.fates visited.fate later place sofar.count))
-      ∙ ap (λ (n : NameState). shares_at_look_from ways looks look 0 (take place (texts names)) ++ share_of ways looks look place n.text ∷ []) found
+      ∙ ap (λ share. shares_at_look_from ways looks look ways.first (take place (texts names)) ++ share ∷ []) (visited.is_share t (sofar.fates ++ visited.fate ∷ later) (fate_there snapshot sofar.fates visited.fate later number sofar.count))
+      ∙ ap (λ (n : NameState). shares_at_look_from ways looks look ways.first (take place (texts names)) ++ share_of ways looks look number n.text ∷ []) found
       ∙ shares_next ways looks look names now place sofar.same within
 
   differs : (other : ℕ) → suc place ≤ other → other ≡ place → ⊥
   differs other above at = omega arith
 
-  there : (later : List Fate) (other : ℕ) → other < suc place → (other ≡ place) ⊎ (other ≡ place → ⊥) → Stands told_in ways (looks ++ record { snapshot = snapshot; fates = sofar.fates ++ visited.fate ∷ later } ∷ []) other (state_at (set now place one) other).text (watched_at watched_new other) (state_at (set now place one) other).standing
-  there later other below (inr elsewhere) = stands_same told_in ways (looks ++ record { snapshot = snapshot; fates = sofar.fates ++ visited.fate ∷ later } ∷ []) other (state_at now other) (state_at (set now place one) other) (watched_at watched other) (watched_at watched_new other) (sym (get_or-set_other now place other one no_state elsewhere)) (sym (keeps.others other elsewhere))
+  there : (later : List Fate) (other : ℕ) → other < suc place → (other ≡ place) ⊎ (other ≡ place → ⊥) → Stands told_in ways (looks ++ record { snapshot = snapshot; fates = sofar.fates ++ visited.fate ∷ later } ∷ []) (ways.first + other) (state_at (set now place one) other).text (watched_at watched_new (ways.first + other)) (state_at (set now place one) other).standing
+  there later other below (inr elsewhere) = stands_same told_in ways (looks ++ record { snapshot = snapshot; fates = sofar.fates ++ visited.fate ∷ later } ∷ []) (ways.first + other) (state_at now other) (state_at (set now place one) other) (watched_at watched (ways.first + other)) (watched_at watched_new (ways.first + other)) (sym (get_or-set_other now place other one no_state elsewhere)) (sym (kept other elsewhere))
       (sofar.done (visited.fate ∷ later) other (omega arith))
-  there later other below (inl at) = subst (λ n. Stands told_in ways (looks ++ record { snapshot = snapshot; fates = sofar.fates ++ visited.fate ∷ later } ∷ []) n (state_at (set now place one) n).text (watched_at watched_new n) (state_at (set now place one) n).standing) (sym at)
-      (subst (λ (n : NameState). Stands told_in ways (looks ++ record { snapshot = snapshot; fates = sofar.fates ++ visited.fate ∷ later } ∷ []) place n.text (watched_at watched_new place) n.standing) (sym (get_or-set_same now place one no_state within))
-      (subst (λ name. Stands told_in ways (looks ++ record { snapshot = snapshot; fates = sofar.fates ++ visited.fate ∷ later } ∷ []) place name (watched_at watched_new place) one.standing) (sym same)
-      (visited.stands (sofar.fates ++ visited.fate ∷ later) (fate_there snapshot sofar.fates visited.fate later place sofar.count))))
+  there later other below (inl at) = subst (λ n. Stands told_in ways (looks ++ record { snapshot = snapshot; fates = sofar.fates ++ visited.fate ∷ later } ∷ []) (ways.first + n) (state_at (set now place one) n).text (watched_at watched_new (ways.first + n)) (state_at (set now place one) n).standing) (sym at)
+      (subst (λ (n : NameState). Stands told_in ways (looks ++ record { snapshot = snapshot; fates = sofar.fates ++ visited.fate ∷ later } ∷ []) number n.text (watched_at watched_new number) n.standing) (sym (get_or-set_same now place one no_state within))
+      (subst (λ name. Stands told_in ways (looks ++ record { snapshot = snapshot; fates = sofar.fates ++ visited.fate ∷ later } ∷ []) number name (watched_at watched_new number) one.standing) (sym same)
+      (visited.stands (sofar.fates ++ visited.fate ∷ later) (fate_there snapshot sofar.fates visited.fate later number sofar.count))))
 
 -- all names
 
@@ -188,12 +199,12 @@ pub visited_all : (told_in told : Bool) (ways : Ways) (looks : List Look) (snaps
 visited_all told_in told ways looks snapshot names now place printer after old new watched failed end sofar = record {
   fates = sofar.fates;
   shares = sofar.shares;
-  are = λ t. sofar.are t [] ∙ ap (λ those. shares_at_look_from ways looks (record { snapshot = snapshot; fates = those }) 0 (take place (texts names))) (append-nil sofar.fates)
-      ∙ ap (shares_at_look_from ways looks (record { snapshot = snapshot; fates = sofar.fates }) 0) (take_all place (texts names) (subst (λ n. n ≤ place) (sym (length_texts names now sofar.same)) (omega arith)));
+  are = λ t. sofar.are t [] ∙ ap (λ those. shares_at_look_from ways looks (record { snapshot = snapshot; fates = those }) ways.first (take place (texts names))) (append-nil sofar.fates)
+      ∙ ap (shares_at_look_from ways looks (record { snapshot = snapshot; fates = sofar.fates }) ways.first) (take_all place (texts names) (subst (λ n. n ≤ place) (sym (length_texts names now sofar.same)) (omega arith)));
   is_failed = sofar.is_failed;
   shared = sofar.shared;
   same = sofar.same;
-  stand = λ other within. subst (λ those. Stands told_in ways (looks ++ record { snapshot = snapshot; fates = those } ∷ []) other (state_at now other).text (watched_at watched other) (state_at now other).standing) (append-nil sofar.fates) (sofar.done [] other (omega arith));
+  stand = λ other within. subst (λ those. Stands told_in ways (looks ++ record { snapshot = snapshot; fates = those } ∷ []) (ways.first + other) (state_at now other).text (watched_at watched (ways.first + other)) (state_at now other).standing) (append-nil sofar.fates) (sofar.done [] other (omega arith));
 }
 
 -- by what a name broke, as it stands
@@ -226,9 +237,9 @@ before_or_not (suc a) (suc b) = elim (before_or_not a b) [
 
 -- a look that was stopped at a name
 pub visited_short : (told_in told : Bool) (ways : Ways) (looks : List Look) (snapshot snapshot_now : Snapshot) (names now : List NameState) (default : NameState) (place : ℕ) (printer mid : PrinterState) (old slots new : List Slot) (watched watched_new : List Watched) (before : Bool) (why : Fault)
-    → place < length now → snapshot_now ≡ snapshot → Opened place watched watched_new
+    → place < length now → snapshot_now ≡ snapshot → Opened (ways.first + place) watched watched_new
     → VisitedUpTo told_in told ways looks snapshot place names printer old mid slots watched now before
-    → (Stands told_in ways looks place (get_or now place default).text (watched_at watched place) (get_or now place default).standing → (is_dropped place looks ≡ false) × Stopped told_in told ways looks snapshot_now (get_or now place default).text mid slots new why)
+    → (Stands told_in ways looks (ways.first + place) (get_or now place default).text (watched_at watched (ways.first + place)) (get_or now place default).standing → (is_dropped (ways.first + place) looks ≡ false) × Stopped told_in told ways looks snapshot_now (get_or now place default).text mid slots new why)
     → StoppedAt told_in told ways looks snapshot (texts names) printer old watched_new new why
 visited_short told_in told ways looks snapshot snapshot_now names now default place printer mid old slots new watched watched_new before why within seen opened sofar stop = record {
   fates = sofar.fates;
@@ -237,9 +248,9 @@ visited_short told_in told ways looks snapshot snapshot_now names now default pl
   shares = sofar.shares;
   share = stopped.1.share;
   within = subst (λ n. place < n) (sym (length_texts names now sofar.same)) within;
-  are = λ t. sofar.are t [] ∙ ap (λ those. shares_at_look_from ways looks (record { snapshot = snapshot; fates = those }) 0 (take place (texts names))) (append-nil sofar.fates);
+  are = λ t. sofar.are t [] ∙ ap (λ those. shares_at_look_from ways looks (record { snapshot = snapshot; fates = those }) ways.first (take place (texts names))) (append-nil sofar.fates);
   begins = λ t. subst (BeginsShare stopped.1.share) (share_is t) (stopped.1.begins t sofar.fates);
-  broken = λ other inside. subst (BrokeIn ways (looks ++ look ∷ []) other) (sym (same other)) (there other (subst (λ n. other < n) (length_texts names now sofar.same) inside) (before_or_not other place));
+  broken = λ other inside. subst (BrokeIn ways (looks ++ look ∷ []) (ways.first + other)) (sym (same (ways.first + other))) (there other (subst (λ n. other < n) (length_texts names now sofar.same) inside) (before_or_not other place));
   short = shared_short told printer mid sofar.shares stopped.1.share old slots new why sofar.shared stopped.1.short;
 } where
   item : NameState
@@ -248,33 +259,40 @@ visited_short told_in told ways looks snapshot snapshot_now names now default pl
   found : item ≡ state_at now place
   found = state_there now place default within
 
-  stopped : (is_dropped place looks ≡ false) × Stopped told_in told ways looks snapshot item.text mid slots new why
-  stopped = subst (λ (s : Snapshot). (is_dropped place looks ≡ false) × Stopped told_in told ways looks s item.text mid slots new why) seen
-      (stop (subst (λ (n : NameState). Stands told_in ways looks place n.text (watched_at watched place) n.standing) (sym found) (sofar.rest place (omega arith) within)))
+  number : ℕ
+  number = ways.first + place
+
+  stopped : (is_dropped number looks ≡ false) × Stopped told_in told ways looks snapshot item.text mid slots new why
+  stopped = subst (λ (s : Snapshot). (is_dropped number looks ≡ false) × Stopped told_in told ways looks s item.text mid slots new why) seen
+      (stop (subst (λ (n : NameState). Stands told_in ways looks number n.text (watched_at watched number) n.standing) (sym found) (sofar.rest place (omega arith) within)))
 
   look : Look
   look = record { snapshot = snapshot; fates = sofar.fates }
 
-  share_is : told_in ≡ true → share_by ways item.text looks look sound ≡ share_of ways looks look place (get_or (texts names) place [])
+  share_is : told_in ≡ true → share_by ways item.text looks look sound ≡ share_of ways looks look number (get_or (texts names) place [])
   share_is t =
-      ap (share_by ways item.text looks look) (sym (get_or_past sofar.fates place sound (omega arith)))
-      ∙ ap (λ test. if test then no_share item.text else share_by ways item.text looks look (fate_at place look)) (sym stopped.0)
-      ∙ ap (share_of ways looks look place) (ap (λ (n : NameState). n.text) found ∙ sym (text_there names now place sofar.same within))
+      let count = sofar.count in
+      ap (share_by ways item.text looks look) (sym (get_or_past sofar.fates number sound (omega (arith, count))))
+      ∙ ap (λ test. if test then no_share item.text else share_by ways item.text looks look (fate_at number look)) (sym stopped.0)
+      ∙ ap (share_of ways looks look number) (ap (λ (n : NameState). n.text) found ∙ sym (text_there names now place sofar.same within))
 
   same : (other : ℕ) → (watched_at watched_new other).failed ≡ (watched_at watched other).failed
-  same other = ap (λ (those : List Watched). (watched_at those other).failed) opened.1 ∙ opens_failed watched place other opened.0
+  same other = ap (λ (those : List Watched). (watched_at those other).failed) opened.1 ∙ opens_failed watched number other opened.0
 
-  there : (other : ℕ) → other < length now → (other < place) ⊎ (place ≤ other) → BrokeIn ways (looks ++ look ∷ []) other (watched_at watched other).failed
-  there other inside (inl less) = broken_there told_in ways (looks ++ look ∷ []) other (state_at now other).text (watched_at watched other) (state_at now other).standing
-      (subst (λ those. Stands told_in ways (looks ++ record { snapshot = snapshot; fates = those } ∷ []) other (state_at now other).text (watched_at watched other) (state_at now other).standing) (append-nil sofar.fates) (sofar.done [] other less))
+  there : (other : ℕ) → other < length now → (other < place) ⊎ (place ≤ other) → BrokeIn ways (looks ++ look ∷ []) (ways.first + other) (watched_at watched (ways.first + other)).failed
+  there other inside (inl less) = broken_there told_in ways (looks ++ look ∷ []) (ways.first + other) (state_at now other).text (watched_at watched (ways.first + other)) (state_at now other).standing
+      (subst (λ those. Stands told_in ways (looks ++ record { snapshot = snapshot; fates = those } ∷ []) (ways.first + other) (state_at now other).text (watched_at watched (ways.first + other)) (state_at now other).standing) (append-nil sofar.fates) (sofar.done [] other less))
   there other inside (inr more) =
-      let count : length sofar.fates ≡ place = sofar.count in
-      broken_sound ways looks look other (watched_at watched other).failed (get_or_past sofar.fates other sound (omega (arith, count, more)))
-      (broken_there told_in ways looks other (state_at now other).text (watched_at watched other) (state_at now other).standing (sofar.rest other more inside))
+      let count = sofar.count in
+      broken_sound ways looks look (ways.first + other) (watched_at watched (ways.first + other)).failed (get_or_past sofar.fates (ways.first + other) sound (omega (arith, count, more)))
+      (broken_there told_in ways looks (ways.first + other) (state_at now other).text (watched_at watched (ways.first + other)) (state_at now other).standing (sofar.rest other more inside))
 
-pub next_ready : (names : List NameState) (one : NameState) (place : ℕ) (watched watched_new : List Watched) → place < length names → ((other : ℕ) → other < length names → CanVisit (state_at names other) (watched_at watched other)) → KeepsOthers place watched watched_new → CanVisit one (watched_at watched_new place)
-    → (other : ℕ) → other < length (set names place one) → CanVisit (state_at (set names place one) other) (watched_at watched_new other)
-next_ready names one place watched watched_new within ready keeps can other inside = by (equal_or_not other place) where
-  by : (other ≡ place) ⊎ (other ≡ place → ⊥) → CanVisit (state_at (set names place one) other) (watched_at watched_new other)
-  by (inl at) = subst (λ n. CanVisit (state_at (set names place one) n) (watched_at watched_new n)) (sym at) (subst (λ (n : NameState). CanVisit n (watched_at watched_new place)) (sym (get_or-set_same names place one no_state within)) can)
-  by (inr elsewhere) = subst (λ (n : NameState). CanVisit n (watched_at watched_new other)) (sym (get_or-set_other names place other one no_state elsewhere)) (subst (CanVisit (state_at names other)) (sym (keeps.others other elsewhere)) (ready other (subst (λ n. other < n) (length-set names place one) inside)))
+pub next_ready : (first : ℕ) (names : List NameState) (one : NameState) (place : ℕ) (watched watched_new : List Watched) → place < length names → AllReady names first watched → KeepsOthers (first + place) watched watched_new → CanVisit one (watched_at watched_new (first + place)) → AllReady (set names place one) first watched_new
+next_ready first names one place watched watched_new within ready keeps can other inside = by (equal_or_not other place) where
+  by : (other ≡ place) ⊎ (other ≡ place → ⊥) → CanVisit (state_at (set names place one) other) (watched_at watched_new (first + other))
+  by (inl at) = subst (λ n. CanVisit (state_at (set names place one) n) (watched_at watched_new (first + n))) (sym at) (subst (λ (n : NameState). CanVisit n (watched_at watched_new (first + place))) (sym (get_or-set_same names place one no_state within)) can)
+  by (inr elsewhere) = subst (λ (n : NameState). CanVisit n (watched_at watched_new (first + other))) (sym (get_or-set_other names place other one no_state elsewhere)) (subst (CanVisit (state_at names other)) (sym (keeps.others (first + other) (λ at. elsewhere (omega (arith, at))))) (ready other (subst (λ n. other < n) (length-set names place one) inside)))
+
+-- a name of another number stays as it was
+pub opened_other : (number other : ℕ) (old new : List Watched) → Opened number old new → (other ≡ number → ⊥) → watched_at new other ≡ watched_at old other
+opened_other number other old new (file, is) elsewhere = ap (λ those. watched_at those other) is ∙ changed_elsewhere no_name number other (opens file) old elsewhere

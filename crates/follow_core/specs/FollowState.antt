@@ -21,6 +21,8 @@ pub record FollowState : Type 0 where
   pub by_name : Bool
   pub start : Start
   pub names : List NameState
+  -- the number of the first of them, once they are watched
+  pub first : ℕ
   pub printer : PrinterState
   pub stage : Stage
   -- a name was missing at the first look, a call on one failed, or a fault ended following
@@ -36,36 +38,49 @@ opened_follow by_name start headers names =
       by_name = by_name;
       start = start;
       names = map new_state names;
+      first = 0;
       printer = fresh_printer headers;
       stage = Fresh;
       has_failed = false;
     }
 
--- each name can be looked at
-abbrev pub AllReady : List NameState → List Watched → Type 0
-AllReady names watched = (place : ℕ) → place < length names → CanVisit (state_at names place) (watched_at watched place)
+-- each name can be looked at, where this is the number of the first
+abbrev pub AllReady : List NameState → (first : ℕ) → List Watched → Type 0
+AllReady names first watched =
+    (place : ℕ) → place < length names → CanVisit (state_at names place) (watched_at watched (first + place))
 
--- the next look can be made: the first one where nothing is watched yet; one that ended following takes nothing
+-- the next look can be made: the first one whatever others watch; one that ended following takes nothing
 abbrev pub CanLook : FollowState → List Watched → List Slot → Type 0
 CanLook follow watched slots = elim follow.stage [
-  | Fresh ↦ (watched ≡ []) × CanPrint slots
-  | Looking ↦ AllReady follow.names watched × CanPrint slots
+  | Fresh ↦ CanPrint slots
+  | Looking ↦ AllReady follow.names follow.first watched × CanPrint slots
   | Over ↦ Unit {0}
 ]
 
--- before the first look the names are new, and none is watched; then each is, and they stand as after these looks
+-- a look leaves the watched name of this number as it is: others added it, or following is over
+abbrev pub IsOther : FollowState → List Watched → ℕ → Type 0
+IsOther follow watched number = elim follow.stage [
+  | Fresh ↦ number < length watched
+  | Looking ↦ (place : ℕ) → place < length follow.names → number ≡ follow.first + place → ⊥
+  | Over ↦ Unit {0}
+]
+
+-- Before the first look the names are new, and will come after those that are watched already; then they are watched
+-- after these, and stand as after these looks.
 abbrev pub StandsIn : Bool → Ways → List Look → List NameState → List Watched → Stage → Type 0
-StandsIn told ways looks names watched Fresh = (looks ≡ []) × (names ≡ map new_state (texts names)) × (watched ≡ [])
+StandsIn told ways looks names watched Fresh = (looks ≡ []) × (names ≡ map new_state (texts names))
+    × (length watched ≡ ways.first)
 StandsIn told ways looks names watched Looking = AllStand told ways looks names watched
-    × (length watched ≡ length names)
+    × (length watched ≡ ways.first + length names)
 StandsIn told ways looks names watched Over = ⊥
 
 -- These looks at these names were made, from the outputs as they were at first: they have exactly what the looks give.
 -- Where the files don't tell their bytes, they have something.
 pub record Holds (told_in told : Bool) (ways : Ways) (headers : Bool) (names : List (List ℕ)) (looks : List Look)
     (first : List Slot) (follow : FollowState) (watched : List Watched) (slots : List Slot) : Type 0 where
-  pub asked : ways ≡ ways_of follow.by_name follow.start
+  pub asked : ways ≡ ways_of ways.first follow.by_name follow.start
   pub same : texts follow.names ≡ names
+  pub numbered : follow.stage ≡ Looking → 0 < length names → follow.first ≡ ways.first
   pub stand : StandsIn told_in ways looks follow.names watched follow.stage
   pub shares : List Share
   pub are : told_in ≡ true → shares ≡ shares_of ways names looks
@@ -77,13 +92,14 @@ pub record Holds (told_in told : Bool) (ways : Ways) (headers : Bool) (names : L
 pub data Begun (told_in : Bool) (ways : Ways) (names : List (List ℕ)) (looks : List Look) (snapshot : Snapshot)
     (watched : List Watched) : List Share → Type 0 where
   nothing : AreBroken ways looks names watched → Begun told_in ways names looks snapshot watched []
-  up_to : (fates : List Fate) (place : ℕ) (shares : List Share) (share : Share) → length fates ≡ place
-      → place < length names
+  up_to : (fates : List Fate) (place : ℕ) (shares : List Share) (share : Share)
+      → length fates ≡ ways.first + place → place < length names
       → AreBroken ways (looks ++ record { snapshot = snapshot; fates = fates } ∷ []) names watched
-      → (told_in ≡ true → shares ≡ shares_at_look_from ways looks (record { snapshot = snapshot; fates = fates }) 0
-      (take place names))
+      → (told_in ≡ true → shares ≡ shares_at_look_from ways looks (record { snapshot = snapshot; fates = fates })
+      ways.first (take place names))
       → (told_in ≡ true → BeginsShare share
-      (share_of ways looks (record { snapshot = snapshot; fates = fates }) place (slice_index_or names place [])))
+      (share_of ways looks (record { snapshot = snapshot; fates = fates }) (ways.first + place)
+      (slice_index_or names place [])))
       → Begun told_in ways names looks snapshot watched (shares ++ share ∷ [])
 
 -- Following ended in the look after these: the outputs had all that these give, and got a beginning of what that one
@@ -127,7 +143,7 @@ StopsOn told_in told snapshot old watched slots watched_new slots_new why =
     → Holds told_in told ways headers names looks first old watched slots
     → Halted told_in told ways headers names looks snapshot first watched_new slots_new why
 
--- the name at this place goes on: it wasn't dropped, and it is followed by name or a file of it is open
+-- the name of this number goes on: it wasn't dropped, and it is followed by name or a file of it is open
 abbrev pub goes_on_at : Ways → List Look → ℕ → List ℕ → Bool
 goes_on_at ways looks place name = not (is_dropped place looks)
     && (ways.by_name || is_some (open_after ways.by_name name (snapshots looks)))
@@ -140,4 +156,4 @@ is_alive_from ways looks place (name ∷ names) =
 
 -- a further look can give something
 abbrev pub is_alive : Ways → List (List ℕ) → List Look → Bool
-is_alive ways names looks = is_alive_from ways looks 0 names
+is_alive ways names looks = is_alive_from ways looks ways.first names

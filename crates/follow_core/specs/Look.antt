@@ -18,13 +18,13 @@ pub data Fate : Type 0 where
 
 pub record Look : Type 0 where
   pub snapshot : Snapshot
-  -- of each name, in order; a name that is left out came through
+  -- of each name that is watched, by its number; one that is left out came through
   pub fates : List Fate
 
 abbrev pub fate_at : ℕ → Look → Fate
 fate_at place look = slice_index_or look.fates place sound
 
--- the fault by which the name at this place broke, where it had this fate, and else at a later look
+-- the fault by which the name of this number broke, where it had this fate, and else at a later look
 abbrev pub failed_by : ℕ → Fate → Option Fault → Option Fault
 failed_by place sound later = later
 failed_by place (unopened notices bytes) later = Some (Open place)
@@ -35,7 +35,7 @@ abbrev pub failed_in : ℕ → List Look → Option Fault
 failed_in place [] = None
 failed_in place (look ∷ looks) = failed_by place (fate_at place look) (failed_in place looks)
 
--- the name at this place broke at one of these looks: it is dropped from then on
+-- the name of this number broke at one of these looks: it is dropped from then on
 abbrev pub is_dropped : ℕ → List Look → Bool
 is_dropped place looks = is_some (failed_in place looks)
 
@@ -47,15 +47,20 @@ abbrev pub is_first : List Look → Bool
 is_first [] = true
 is_first (look ∷ looks) = false
 
--- how the names are followed: by name, or by the file that was opened; and what is written of a file when it is opened
--- first
+-- how the names are followed: from which number on they are watched, one after another; by name, or by the file that
+-- was opened; and what is written of a file when it is opened first
 pub record Ways : Type 0 where
+  pub first : ℕ
   pub by_name : Bool
   pub start : List ℕ → List ℕ
 
 -- as they are asked for
-abbrev pub ways_of : Bool → Start → Ways
-ways_of by_name start = record { by_name = by_name; start = tail_of start.delim start.unit start.from_nth start.count }
+abbrev pub ways_of : (first : ℕ) → Bool → Start → Ways
+ways_of first by_name start = record {
+  first = first;
+  by_name = by_name;
+  start = tail_of start.delim start.unit start.from_nth start.count;
+}
 
 -- the versions of a name in these looks
 abbrev pub entries_in : Ways → List ℕ → List Look → List Entry

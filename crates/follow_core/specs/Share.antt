@@ -80,7 +80,7 @@ share_by ways name before look (unread notices bytes) = record {
   has_failed = true;
 }
 
--- what a look after these gives for the name at this place
+-- what a look after these gives for the name of this number
 abbrev pub share_of : Ways → List Look → Look → ℕ → List ℕ → Share
 share_of ways before look place name = if is_dropped place before then no_share name
     else share_by ways name before look (fate_at place look)
@@ -92,7 +92,7 @@ shares_at_look_from ways before look place (name ∷ names) =
 
 -- what a look after these gives, for the names in order
 abbrev pub shares_at_look : Ways → List (List ℕ) → List Look → Look → List Share
-shares_at_look ways names before look = shares_at_look_from ways before look 0 names
+shares_at_look ways names before look = shares_at_look_from ways before look ways.first names
 
 abbrev pub shares_from : Ways → List (List ℕ) → List Look → List Look → List Share
 shares_from ways names before [] = []

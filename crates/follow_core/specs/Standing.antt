@@ -1,5 +1,5 @@
 -- How a name stands between two looks.
-use Rattle.std.specs.Prelude.{◌≡◌, ◌<◌, ◌≤◌, ℕ, Bool, true, false, List, [], Option, Some, None, ◌⊎◌, length, map, slice_index_or, take, is_some}
+use Rattle.std.specs.Prelude.{◌≡◌, ◌<◌, ◌≤◌, ◌+◌, ℕ, Bool, true, false, List, [], Option, Some, None, ◌⊎◌, length, map, slice_index_or, take, is_some}
 use Rattle.ports_core.specs.declared.fault.Fault.{Fault}
 use Rattle.ports_core.specs.declared.fault.Fault.TheVariants.{Read}
 use Rattle.watch_core.specs.Watched.{Watched, added, watched_at}
@@ -36,19 +36,20 @@ pub record StandsAt (last : Entry) (opened : Option ℕ) (position : ℕ) : Type
   pub file : opened ≡ file_of last
   pub seen : position ≡ seen_length last
 
--- The name at this place broke just as these looks tell, if it did: at the first call on it that failed, by its fault.
+-- The name of this number broke just as these looks tell, if it did: at the first call on it that failed, by its fault.
 -- Where names aren't followed, that was at the first look, or a read: at no other is a file opened.
 pub record BrokeIn (ways : Ways) (looks : List Look) (place : ℕ) (failed : Option Fault) : Type 0 where
   pub fault : failed ≡ failed_in place looks
   pub opened : ways.by_name ≡ false
       → (failed_in place (take 1 looks) ≡ failed_in place looks) ⊎ (failed_in place looks ≡ Some (Read place))
 
--- Each name that is watched broke just as these looks tell, if it did. Once a look was made all names are watched; where
--- the first one found no memory to add them, it may be the first of them alone.
+-- From the number of the first on these names are watched: all of them once a look was made; where the first look found
+-- no memory to add them, perhaps only the first ones. Each that is broke just as these looks tell, if it did.
 abbrev pub AreBroken : Ways → List Look → List (List ℕ) → List Watched → Type 0
-AreBroken ways looks names watched = (length watched ≤ length names)
-    × (0 < length looks → length watched ≡ length names)
-    × ((place : ℕ) → place < length watched → BrokeIn ways looks place (watched_at watched place).failed)
+AreBroken ways looks names watched = (length watched ≤ ways.first + length names)
+    × (0 < length looks → length watched ≡ ways.first + length names)
+    × ((place : ℕ) → ways.first + place < length watched
+    → BrokeIn ways looks (ways.first + place) (watched_at watched (ways.first + place)).failed)
 
 -- It is looked at again: its open file is that of the last entry, and this much of it was seen.
 pub record IsFollowed (told : Bool) (ways : Ways) (looks : List Look) (place : ℕ) (name : List ℕ) (watched : Watched)
@@ -80,8 +81,8 @@ Stands told ways looks place name watched New = (looks ≡ []) × (watched ≡ a
 Stands told ways looks place name watched (Followed position) = IsFollowed told ways looks place name watched position
 Stands told ways looks place name watched Left = IsLeft told ways looks place name watched
 
--- all names stand so, each at its place
+-- all names stand so, each by its number
 abbrev pub AllStand : Bool → Ways → List Look → List NameState → List Watched → Type 0
 AllStand told ways looks names watched = (place : ℕ) → place < length names
-    → Stands told ways looks place (state_at names place).text (watched_at watched place)
+    → Stands told ways looks (ways.first + place) (state_at names place).text (watched_at watched (ways.first + place))
     (state_at names place).standing

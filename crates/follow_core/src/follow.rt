@@ -1,12 +1,11 @@
 //! Following: looks at names, one after another.
-ghost use Rattle.std.specs.Prelude.{◌≡◌, ◌<◌, ◌∷◌, ◌++◌, [], ℕ, Bool, List, true, length, map, Err, IfOk, IfErr, OnOk};
+ghost use Rattle.std.specs.Prelude.{◌≡◌, ◌<◌, ◌≤◌, ◌+◌, ◌^◌, ◌∷◌, ◌++◌, [], ℕ, Bool, List, true, length, map, Err, IfOk, IfErr, OnOk};
 ghost use Rattle.ports_core.specs.Slot.{Slot};
-ghost use Rattle.watch_core.specs.Watched.{Watched, added};
+ghost use Rattle.watch_core.specs.Watched.{Watched, watched_at};
 ghost use Rattle.follow_core.specs.Sharing.{HasError};
-ghost use Rattle.follow_core.specs.inner.Looks.{Begins, CanBegin, MakesLook};
-ghost use Rattle.follow_core.specs.FollowState.{CanLook, FollowState, Holds, IsCause, LooksOn, SawOrNot, StopsOn, is_alive, opened_follow};
+ghost use Rattle.follow_core.specs.inner.Looks.{AddsSome, Begins, CanBegin, MakesLook};
+ghost use Rattle.follow_core.specs.FollowState.{CanLook, FollowState, Holds, IsCause, IsOther, LooksOn, SawOrNot, StopsOn, is_alive, opened_follow};
 ghost use Rattle.follow_core.specs.Look.{Look, Ways};
-ghost use Rattle.follow_core.specs.Share.{IsFront};
 ghost use Rattle.follow_core.specs.Standing.{texts};
 
 use crate::name::{Name, add_all, any_goes_on, new_names, visit_all};
@@ -38,6 +37,8 @@ pub struct Follow {
     by_name: bool,
     start: Start,
     names: Vec<Name>,
+    /// The number that the watch gave the first name, once it did.
+    first: usize,
     visitor: Visitor,
     stage: Stage,
     has_failed: bool,
@@ -46,7 +47,9 @@ pub struct Follow {
 impl Model for Follow {
     ghost Value = { FollowState };
 
-    ghost view = { λ f. record { by_name = f.by_name; start = f.start; names = f.names.items; printer = f.visitor; stage = f.stage; has_failed = f.has_failed } };
+    ghost view = { λ f. record { by_name = f.by_name; start = f.start; names = f.names.items; first = f.first; printer = f.visitor; stage = f.stage; has_failed = f.has_failed } };
+
+    ghost invariant = { λ f. f.first + length f.names.items ≤ 2 ^ 64 };
 }
 
 impl Follow {
@@ -71,13 +74,15 @@ impl Follow {
             by_name,
             start,
             names: new_names(alloc, names)?,
+            first: 0,
             visitor: Visitor::new(alloc, headers)?,
             stage: Stage::Fresh,
             has_failed: false,
         })
     }
 
-    /// Makes a look. The first one adds the names to what is watched; all looks take the same `watch`, on which nobody else calls.
+    /// Makes a look. The first one adds the names to what is watched, after those that others added, which stay as they are. All
+    /// looks take the same `watch`, on which nobody else calls from the first look on.
     ///
     /// A name that can't be looked at, opened or read is told on standard error and dropped, and the others go on. A message that can't
     /// be written is passed over.
@@ -101,6 +106,7 @@ impl Follow {
         ensures over { self.old.stage ≡ Stage.Over → (result ≡ Err Fault.Failed) × (O.slots outs.new ≡ O.slots outs.old) × (W.watched watch.new ≡ W.watched watch.old) × (W.seen watch.new ≡ W.seen watch.old) × (self.new ≡ self.old) }
         ensures failed { (self.old.stage ≡ Stage.Over → ⊥) → IfErr result (λ _. self.new.has_failed ≡ true) }
         ensures shows { W.shows watch.new ≡ W.shows watch.old }
+        ensures others { (number : ℕ) → IsOther self.old (W.watched watch.old) number → watched_at (W.watched watch.new) number ≡ watched_at (W.watched watch.old) number }
     {
         match self.stage {
             Stage::Over => Err(Fault::Failed),
@@ -142,6 +148,7 @@ impl Follow {
         ensures cause { IfErr result (IsCause self.old (O.slots outs.old) (O.slots outs.new)) }
         ensures error { HasError (O.slots outs.new) }
         ensures shows { W.shows watch.new ≡ W.shows watch.old }
+        ensures others { (number : ℕ) → IsOther self.old (W.watched watch.old) number → watched_at (W.watched watch.new) number ≡ watched_at (W.watched watch.old) number }
     {
         if let Err(fault) = self.begin(watch) {
             return Err(fault);
@@ -153,6 +160,7 @@ impl Follow {
             self.by_name,
             self.start,
             &mut self.names,
+            self.first,
             &mut self.visitor,
             watch,
             outs,
@@ -173,14 +181,15 @@ impl Follow {
     fn begin<W: Watch>(&mut self, watch: &mut W) -> Result<(), Fault>
         requires { CanBegin self.old (W.watched watch.old) }
         ensures begins { OnOk result (Begins W.told self.old (W.watched watch.old) self.new (W.watched watch.new)) }
-        ensures err { IfErr result (λ fault. (fault ≡ Fault.Memory) × (self.old.stage ≡ Stage.Fresh) × IsFront (W.watched watch.new) (map added (texts self.old.names))) }
+        ensures err { IfErr result (λ fault. (fault ≡ Fault.Memory) × (self.old.stage ≡ Stage.Fresh) × AddsSome (texts self.old.names) (W.watched watch.old) (W.watched watch.new)) }
         ensures seen { W.seen watch.new ≡ W.seen watch.old }
         ensures shows { W.shows watch.new ≡ W.shows watch.old }
     {
         match self.stage {
             Stage::Fresh => {
-                if let Err(fault) = add_all(&self.names, watch) {
-                    return Err(fault);
+                match add_all(&self.names, watch) {
+                    Ok(first) => self.first = first,
+                    Err(fault) => return Err(fault),
                 }
                 self.stage = Stage::Looking;
                 Ok(())

@@ -1,14 +1,14 @@
 //! Names that are followed.
-ghost use Rattle.std.specs.Prelude.{◌≡◌, ◌<◌, [], ℕ, List, length, map, string_bytes, IfOk, IfErr, OnOk};
+ghost use Rattle.std.specs.Prelude.{◌≡◌, ◌<◌, ◌≤◌, ◌+◌, ◌^◌, ◌++◌, ℕ, List, length, map, string_bytes, IfOk, IfErr, OnOk};
 ghost use Rattle.watch_core.specs.Snapshot.{latest};
 ghost use Rattle.watch_core.specs.Watched.{added, watched_at};
 ghost use Rattle.follow_core.specs.Sharing.{CanPrint};
 ghost use Rattle.follow_core.specs.inner.Calls.{HasStopped};
-ghost use Rattle.follow_core.specs.FollowState.{new_state};
+ghost use Rattle.follow_core.specs.FollowState.{AllReady, new_state};
 ghost use Rattle.follow_core.specs.Look.{Look, ways_of};
-ghost use Rattle.follow_core.specs.Share.{IsFront};
+ghost use Rattle.follow_core.specs.inner.Looks.{AddsSome};
 ghost use Rattle.follow_core.specs.inner.Visits.{has_failed, any_goes_on, goes_on_as, standing_after, StoppedAt, VisitedAll, Visits};
-ghost use Rattle.follow_core.specs.Standing.{AllStand, CanVisit, NameState, state_at, texts};
+ghost use Rattle.follow_core.specs.Standing.{AllStand, CanVisit, NameState, texts};
 
 use crate::start::Start;
 use crate::visitor::{Came, Visitor};
@@ -91,7 +91,7 @@ impl Name {
     ) -> Result<bool, Fault>
         requires ready { CanVisit self.old (watched_at (W.watched watch.old) place) }
         requires can { CanPrint (O.slots outs.old) }
-        ensures visits { Visits W.told O.told (ways_of by_name start) (latest (W.seen watch.old)) place self.old (W.watched watch.old) visitor.old (O.slots outs.old) self.new (W.watched watch.new) visitor.new (O.slots outs.new) result }
+        ensures visits { (first : ℕ) → Visits W.told O.told (ways_of first by_name start) (latest (W.seen watch.old)) place self.old (W.watched watch.old) visitor.old (O.slots outs.old) self.new (W.watched watch.new) visitor.new (O.slots outs.new) result }
         ensures can { OnOk result (CanPrint (O.slots outs.new)) }
         ensures error { IfErr result (λ why. HasStopped why (O.slots outs.new)) }
         ensures seen { W.seen watch.new ≡ W.seen watch.old }
@@ -156,28 +156,32 @@ pub(crate) fn new_names(alloc: Global, names: &[&str]) -> Result<Vec<Name>, Faul
     Ok(made)
 }
 
-/// Adds the names to what is watched, each at its number.
+/// Adds the names to what is watched, one after another, and returns the number of the first; 0 where there are none.
 ///
 /// # Errors
 ///
 /// `Memory` where there is none: the first of them may have been added.
-pub(crate) fn add_all<W: Watch>(names: &[Name], watch: &mut W) -> Result<(), Fault>
-    requires { W.watched watch.old ≡ [] }
-    ensures ok { OnOk result (W.watched watch.new ≡ map added (texts names.now)) }
-    ensures err { IfErr result (λ fault. (fault ≡ Fault.Memory) × IsFront (W.watched watch.new) (map added (texts names.now))) }
+pub(crate) fn add_all<W: Watch>(names: &[Name], watch: &mut W) -> Result<usize, Fault>
+    ensures ok { OnOk result (W.watched watch.new ≡ W.watched watch.old ++ map added (texts names.now)) }
+    ensures first { IfOk result (λ first. (0 < length names.now → first ≡ length (W.watched watch.old)) × (first + length names.now ≤ 2 ^ 64)) }
+    ensures err { IfErr result (λ fault. (fault ≡ Fault.Memory) × AddsSome (texts names.now) (W.watched watch.old) (W.watched watch.new)) }
     ensures seen { W.seen watch.new ≡ W.seen watch.old }
     ensures shows { W.shows watch.new ≡ W.shows watch.old }
 {
-    let mut left = names;
+    let [head, rest @ ..] = names else {
+        return Ok(0);
+    };
+    let first = watch.add(head.text())?;
+    let mut left = rest;
     while let [name, rest @ ..] = left {
         watch.add(name.text())?;
         left = rest;
     }
-    Ok(())
+    Ok(first)
 }
 
-/// Looks at all names in order, each at its number in the watch. Returns whether one was missing at the first look, or a call on one
-/// failed.
+/// Looks at all names in order, each at its number in the watch, from that of the first on. Returns whether one was missing at the
+/// first look, or a call on one failed.
 ///
 /// # Errors
 ///
@@ -186,19 +190,22 @@ pub(crate) fn visit_all<W: Watch, O: Outs>(
     by_name: bool,
     start: Start,
     names: &mut [Name],
+    first: usize,
     visitor: &mut Visitor,
     watch: &mut W,
     outs: &mut O,
 ) -> Result<bool, Fault>
-    requires ready { (place : ℕ) → place < length names.old → CanVisit (state_at names.old place) (watched_at (W.watched watch.old) place) }
+    requires ready { AllReady names.old first (W.watched watch.old) }
+    requires fits { first + length names.old ≤ 2 ^ 64 }
     requires can { CanPrint (O.slots outs.old) }
-    ensures visited { IfOk result (λ failed. (looks : List Look) → AllStand W.told (ways_of by_name start) looks names.old (W.watched watch.old)
-        → VisitedAll W.told O.told (ways_of by_name start) looks (latest (W.seen watch.old)) names.old visitor.old (O.slots outs.old) visitor.new (O.slots outs.new) (W.watched watch.new) names.new failed) }
-    ensures stopped { IfErr result (λ why. (looks : List Look) → AllStand W.told (ways_of by_name start) looks names.old (W.watched watch.old)
-        → StoppedAt W.told O.told (ways_of by_name start) looks (latest (W.seen watch.old)) (texts names.old) visitor.old (O.slots outs.old) (W.watched watch.new) (O.slots outs.new) why) }
+    ensures visited { IfOk result (λ failed. (from : ℕ) (looks : List Look) → (0 < length names.old → first ≡ from) → AllStand W.told (ways_of from by_name start) looks names.old (W.watched watch.old)
+        → VisitedAll W.told O.told (ways_of from by_name start) looks (latest (W.seen watch.old)) names.old visitor.old (O.slots outs.old) visitor.new (O.slots outs.new) (W.watched watch.new) names.new failed) }
+    ensures stopped { IfErr result (λ why. (from : ℕ) (looks : List Look) → (0 < length names.old → first ≡ from) → AllStand W.told (ways_of from by_name start) looks names.old (W.watched watch.old)
+        → StoppedAt W.told O.told (ways_of from by_name start) looks (latest (W.seen watch.old)) (texts names.old) visitor.old (O.slots outs.old) (W.watched watch.new) (O.slots outs.new) why) }
     ensures texts { texts names.new ≡ texts names.old }
-    ensures ready { OnOk result ((place : ℕ) → place < length names.new → CanVisit (state_at names.new place) (watched_at (W.watched watch.new) place)) }
+    ensures ready { OnOk result (AllReady names.new first (W.watched watch.new)) }
     ensures count { length (W.watched watch.new) ≡ length (W.watched watch.old) }
+    ensures others { (number : ℕ) → ((place : ℕ) → place < length names.old → number ≡ first + place → ⊥) → watched_at (W.watched watch.new) number ≡ watched_at (W.watched watch.old) number }
     ensures can { OnOk result (CanPrint (O.slots outs.new)) }
     ensures error { IfErr result (λ why. HasStopped why (O.slots outs.new)) }
     ensures seen { W.seen watch.new ≡ W.seen watch.old }
@@ -207,7 +214,7 @@ pub(crate) fn visit_all<W: Watch, O: Outs>(
     let mut has_failed = false;
     let mut place = 0;
     while place < names.len() {
-        match names[place].visit(by_name, start, visitor, watch, place, outs) {
+        match names[place].visit(by_name, start, visitor, watch, first + place, outs) {
             Ok(failed) => has_failed |= failed,
             Err(fault) => return Err(fault),
         }

@@ -35,7 +35,7 @@ pub fn follow_files<W: Watch, O: Outs>(
     requires unseen { W.seen watch.old ≡ [] }
     requires unwatched { W.watched watch.old ≡ [] }
     requires outputs { O.slots outs.old ≡ streams }
-    ensures { FollowEndsAs W.told O.told (ways_of by_name start) headers (map (λ name. name.now) names.now) looks (W.shows watch.old) (O.slots outs.old) (W.seen watch.new) (W.watched watch.new) (O.slots outs.new) result }
+    ensures { FollowEndsAs W.told O.told (ways_of 0 by_name start) headers (map (λ name. name.now) names.now) looks (W.shows watch.old) (O.slots outs.old) (W.seen watch.new) (W.watched watch.new) (O.slots outs.new) result }
 {
     let mut follow = match Follow::open(alloc, names, start, by_name, headers) {
         Ok(follow) => follow,

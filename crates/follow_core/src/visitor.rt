@@ -93,7 +93,7 @@ impl Visitor {
         requires watchable { IsTrue (is_watchable (W.watched watch.old) place) }
         requires name { (watched_at (W.watched watch.old) place).name ≡ name.now }
         requires can { CanPrint (O.slots outs.old) }
-        ensures looks { (by_name : Bool) → Looks W.told O.told (ways_of by_name start) (latest (W.seen watch.old)) place name.now New (W.watched watch.old) self.old (O.slots outs.old) (W.watched watch.new) self.new (O.slots outs.new) result }
+        ensures looks { (first : ℕ) (by_name : Bool) → Looks W.told O.told (ways_of first by_name start) (latest (W.seen watch.old)) place name.now New (W.watched watch.old) self.old (O.slots outs.old) (W.watched watch.new) self.new (O.slots outs.new) result }
         ensures can { OnOk result (CanPrint (O.slots outs.new)) }
         ensures error { IfErr result (λ why. HasStopped why (O.slots outs.new)) }
         ensures seen { W.seen watch.new ≡ W.seen watch.old }
@@ -177,7 +177,7 @@ impl Visitor {
         requires watchable { IsTrue (is_watchable (W.watched watch.old) place) }
         requires name { (watched_at (W.watched watch.old) place).name ≡ name.now }
         requires can { CanPrint (O.slots outs.old) }
-        ensures looks { (start : List ℕ → List ℕ) → Looks W.told O.told (record { by_name = by_name; start = start }) (latest (W.seen watch.old)) place name.now (Followed position) (W.watched watch.old) self.old (O.slots outs.old) (W.watched watch.new) self.new (O.slots outs.new) result }
+        ensures looks { (first : ℕ) (start : List ℕ → List ℕ) → Looks W.told O.told (record { first = first; by_name = by_name; start = start }) (latest (W.seen watch.old)) place name.now (Followed position) (W.watched watch.old) self.old (O.slots outs.old) (W.watched watch.new) self.new (O.slots outs.new) result }
         ensures can { OnOk result (CanPrint (O.slots outs.new)) }
         ensures error { IfErr result (λ why. HasStopped why (O.slots outs.new)) }
         ensures seen { W.seen watch.new ≡ W.seen watch.old }

@@ -34,11 +34,11 @@ opens by_name name shows file [] grows saw some = absurd (omega (arith, some))
 opens by_name name shows file (look ∷ looks) grows saw some =
     ap (open_after by_name name) (saw ∙ seen_are shows (suc (length looks))) ∙ stays_open by_name name shows file (suc (length looks)) (length looks) (omega arith) grows
 
-never_over : (ways : Ways) (name : List ℕ) (shows : ℕ → Snapshot) (file : ℕ) (looks : List Look) → OnlyGrows (length looks) shows name file → snapshots looks ≡ seen_first shows (length looks) → 0 < length looks → is_dropped 0 looks ≡ false → is_alive ways (name ∷ []) looks ≡ false → ⊥
+never_over : (ways : Ways) (name : List ℕ) (shows : ℕ → Snapshot) (file : ℕ) (looks : List Look) → OnlyGrows (length looks) shows name file → snapshots looks ≡ seen_first shows (length looks) → 0 < length looks → is_dropped ways.first looks ≡ false → is_alive ways (name ∷ []) looks ≡ false → ⊥
 never_over ways name shows file looks grows saw some kept over =
-    false≢true (sym over ∙ alive_by (is_dropped 0 looks) ways.by_name (open_after ways.by_name name (snapshots looks)) file kept (opens ways.by_name name shows file looks grows saw some))
+    false≢true (sym over ∙ alive_by (is_dropped ways.first looks) ways.by_name (open_after ways.by_name name (snapshots looks)) file kept (opens ways.by_name name shows file looks grows saw some))
 
-all_made : (ways : Ways) (name : List ℕ) (shows : ℕ → Snapshot) (file count : ℕ) (looks : List Look) → OnlyGrows (length looks) shows name file → snapshots looks ≡ seen_first shows (length looks) → is_dropped 0 looks ≡ false → length looks ≤ count
+all_made : (ways : Ways) (name : List ℕ) (shows : ℕ → Snapshot) (file count : ℕ) (looks : List Look) → OnlyGrows (length looks) shows name file → snapshots looks ≡ seen_first shows (length looks) → is_dropped ways.first looks ≡ false → length looks ≤ count
     → (length looks < count → (0 < length looks) × (◌≡◌ {A = Bool} true true → is_alive ways (name ∷ []) looks ≡ false)) → length looks ≡ count
 all_made ways name shows file count looks grows saw kept few full = elim (cases_lt (length looks) count) [
   | inl less ↦ let why = full less in absurd (never_over ways name shows file looks grows saw why.0 kept (why.1 refl))
@@ -51,7 +51,7 @@ record WroteText (ways : Ways) (name : List ℕ) (shows : ℕ → Snapshot) (cou
   pub count_is : length looks ≡ length seen
   pub seen_is : seen ≡ snapshots looks
   pub saw : snapshots looks ≡ seen_first shows (length looks)
-  pub kept : is_dropped 0 looks ≡ false
+  pub kept : is_dropped ways.first looks ≡ false
   pub few : length looks ≤ count
   pub full : length looks < count → (0 < length looks) × (◌≡◌ {A = Bool} true true → is_alive ways (name ∷ []) looks ≡ false)
   pub is : (slot_at new 0).written ≡ name_text ways.start (entries_of ways.by_name name seen)
@@ -78,9 +78,9 @@ wrote_text ways name shows count seen watched new keeps_bytes (stopped mid why s
 wrote_text ways name shows count seen watched new keeps_bytes (no_room unseen unwatched says failed) = absurd (not_one failed)
 
 follows_text : (run : FollowRun) (options : EndsAsked) (followed : Followed) (name : List ℕ) → Follows run options followed → IsBare options → options.names ≡ name ∷ [] → (run.seen ≡ seen_first run.shows (length run.seen) → AreKept (entries_of (is_name followed) name run.seen))
-    → WroteText (ways_of (is_name followed) (start_of options)) name run.shows run.count run.seen run.outputs
+    → WroteText (ways_of 0 (is_name followed) (start_of options)) name run.shows run.count run.seen run.outputs
 follows_text run options followed name follows bare named keeps_bytes =
-    let ways = ways_of (is_name followed) (start_of options) in
+    let ways = ways_of 0 (is_name followed) (start_of options) in
     let ends = subst (FollowingEndsAt true true run.words run.count run.shows run.seen run.watched run.outputs run.status) follows.read follows.ends in
     let one = subst (λ names. FollowEndsAs true true ways (has_headers options.headers options.names) names run.count run.shows streams run.seen run.watched run.outputs run.status) named ends in
     let headless = subst (λ headers. FollowEndsAs true true ways headers (name ∷ []) run.count run.shows streams run.seen run.watched run.outputs run.status) bare one in
@@ -94,7 +94,7 @@ pub tells_all : (run : FollowRun) (options : EndsAsked) (followed : Followed) (n
     → (run.shows n).holds file ≡ (run.shows 0).holds file ++ came
     → (slot_at run.outputs 0).written ≡ tail_of options.delim options.unit (is_plus options.count.sign) options.count.amount ((run.shows 0).holds file) ++ came
 tells_all run options followed name came file n follows bare named count grows is =
-    let ways = ways_of (is_name followed) (start_of options) in
+    let ways = ways_of 0 (is_name followed) (start_of options) in
     let wrote = follows_text run options followed name follows bare named (λ saw. subst (λ those. AreKept (entries_of (is_name followed) name those)) (sym saw) (kept_in (is_name followed) name run.shows file (length run.seen) grows)) in
     let grew = subst (λ k. OnlyGrows k run.shows name file) (sym wrote.count_is) grows in
     let made : length wrote.looks ≡ run.count = all_made ways name run.shows file run.count wrote.looks grew wrote.saw wrote.kept wrote.few wrote.full in

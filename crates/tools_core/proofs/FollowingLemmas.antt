@@ -29,7 +29,7 @@ use Rattle.tools_core.proofs.SpeakerLemmas.{runs_as_named}
 -- what is followed is what the settings ask for
 pub follows_as : (told_in told : Bool) (asked : EndsAsked) (followed : Followed) (by_name : Bool) (start : Start) (headers : Bool) (names : List (List ℕ)) (looks : ℕ) (shows : ℕ → Snapshot) (first : List Slot) (seen : List Snapshot) (watched : List Watched) (new : List Slot) (status : ℕ)
     → by_name ≡ is_name followed → start ≡ start_of asked → headers ≡ has_headers asked.headers asked.names → names ≡ asked.names → first ≡ streams
-    → FollowEndsAs told_in told (ways_of by_name start) headers names looks shows first seen watched new status → FollowsAs told_in told asked followed looks shows seen watched new status
+    → FollowEndsAs told_in told (ways_of 0 by_name start) headers names looks shows first seen watched new status → FollowsAs told_in told asked followed looks shows seen watched new status
 follows_as told_in told asked followed by_name start headers names looks shows first seen watched new status name_is start_is headers_are names_are first_is ends =
     subst (λ b. F b (start_of asked) (has_headers asked.headers asked.names) asked.names streams) name_is
     (subst (λ (s : Start). F by_name s (has_headers asked.headers asked.names) asked.names streams) start_is
@@ -37,7 +37,7 @@ follows_as told_in told asked followed by_name start headers names looks shows f
     (subst (λ n. F by_name start headers n streams) names_are
     (subst (λ f. F by_name start headers names f) first_is ends)))) where
       F : Bool → Start → Bool → List (List ℕ) → List Slot → Type 0
-      F b s h n f = FollowEndsAs told_in told (ways_of b s) h n looks shows f seen watched new status
+      F b s h n f = FollowEndsAs told_in told (ways_of 0 b s) h n looks shows f seen watched new status
 
 -- words that weren't read for want of memory, where they ask for this
 

@@ -36,7 +36,7 @@ is_name Name = true
 abbrev pub FollowsAs : (told_in told : Bool) → EndsAsked → Followed → (looks : ℕ) → (ℕ → Snapshot) → List Snapshot
     → List Watched → List Slot → (status : ℕ) → Type 0
 FollowsAs told_in told asked followed looks shows seen watched new status =
-    FollowEndsAs told_in told (ways_of (is_name followed) (start_of asked)) (has_headers asked.headers asked.names)
+    FollowEndsAs told_in told (ways_of 0 (is_name followed) (start_of asked)) (has_headers asked.headers asked.names)
     asked.names looks shows streams seen watched new status
 
 -- the words are refused for this, and no name was watched and no look made

@@ -1,28 +1,36 @@
 -- What a look at all names leaves, and what all looks of a run do.
-use Rattle.std.specs.Prelude.{◌≡◌, ◌∷◌, ◌++◌, ℕ, Bool, List, [], Result, IfErr, OnOk, ◌<◌, ◌≤◌, true, false, length}
+use Rattle.std.specs.Prelude.{◌≡◌, ◌∷◌, ◌++◌, ℕ, Bool, List, [], Result, IfErr, OnOk, ◌<◌, ◌≤◌, true, false, length, map}
 use Rattle.ports_core.specs.Slot.{Slot}
 use Rattle.ports_core.specs.declared.fault.Fault.{Fault}
 use Rattle.watch_core.specs.Snapshot.{Snapshot}
-use Rattle.watch_core.specs.Watched.{Watched}
+use Rattle.watch_core.specs.Watched.{Watched, added, watched_at}
 use Rattle.follow_core.specs.declared.follow.Stage.TheVariants.{Fresh, Looking, Over}
-use Rattle.follow_core.specs.FollowState.{AllReady, FollowState, Holds, LooksOn, SawOrNot, StopsOn, is_alive}
+use Rattle.follow_core.specs.FollowState.{AllReady, FollowState, Holds, IsOther, LooksOn, SawOrNot, StopsOn, is_alive}
 use Rattle.follow_core.specs.Look.{Look, Ways, snapshots}
+use Rattle.follow_core.specs.Share.{IsFront}
 use Rattle.follow_core.specs.Sharing.{CanPrint}
 use Rattle.follow_core.specs.Ending.{Made}
 
--- nothing is watched yet, or each name can be looked at; following is not over
+-- the first of these names were added to what is watched
+pub record AddsSome (names : List (List ℕ)) (old new : List Watched) : Type 0 where
+  pub kept : IsFront old new
+  pub front : IsFront new (old ++ map added names)
+
+-- no look was made yet, or each name can be looked at; following is not over
 abbrev pub CanBegin : FollowState → List Watched → Type 0
 CanBegin follow watched = elim follow.stage [
-  | Fresh ↦ watched ≡ []
-  | Looking ↦ AllReady follow.names watched
+  | Fresh ↦ Unit {0}
+  | Looking ↦ AllReady follow.names follow.first watched
   | Over ↦ ⊥
 ]
 
--- all names are watched, and what held of the looks before holds
+-- all names are watched, what held of the looks before holds, and the names of others are as they were
 pub record Begins (told_in : Bool) (old : FollowState) (watched : List Watched) (new : FollowState)
     (watched_new : List Watched) : Type 0 where
   pub stage : new.stage ≡ Looking
-  pub ready : AllReady new.names watched_new
+  pub ready : AllReady new.names new.first watched_new
+  pub others : (number : ℕ) → IsOther old watched number
+      → IsOther new watched_new number × (watched_at watched_new number ≡ watched_at watched number)
   pub holds : (told : Bool) (ways : Ways) (headers : Bool) (names : List (List ℕ)) (looks : List Look)
       (first slots : List Slot)
       → Holds told_in told ways headers names looks first old watched slots
@@ -38,7 +46,7 @@ pub record MakesLook (told_in told : Bool) (snapshot : Snapshot) (seen : List Sn
   pub seen_is : OnOk result (seen_new ≡ seen ++ snapshot ∷ [])
   pub saw : IfErr result (λ why. SawOrNot seen snapshot seen_new)
   pub stage : OnOk result (new.stage ≡ Looking)
-  pub ready : OnOk result (AllReady new.names watched_new)
+  pub ready : OnOk result (AllReady new.names new.first watched_new)
   pub can : OnOk result (CanPrint slots_new)
 
 -- As many looks were made, or those after which nothing more can come, and no others; and the outputs have what they

@@ -1,5 +1,5 @@
 -- What a look at one name leaves, and at one name after another.
-use Rattle.std.specs.Prelude.{Bool, true, false, ◌||◌, List, [], ◌∷◌, if◌then◌else◌, ◌≡◌, ℕ, ◌++◌, Option, Some, None, length, Result, Ok, Err, ◌<◌, take, slice_index_or, IfErr, IfOk, OnOk}
+use Rattle.std.specs.Prelude.{Bool, true, false, ◌||◌, List, [], ◌∷◌, if◌then◌else◌, ◌≡◌, ℕ, ◌++◌, Option, Some, None, length, Result, Ok, Err, ◌<◌, take, slice_index_or, IfErr, IfOk, OnOk, ◌+◌}
 use Rattle.follow_core.specs.declared.visitor.Came.{Came}
 use Rattle.follow_core.specs.declared.visitor.Came.TheVariants.{Through, Missing, Dropped}
 use Rattle.follow_core.specs.declared.name.Standing.{Standing}
@@ -161,12 +161,13 @@ pub record StoppedAt (told_in told : Bool) (ways : Ways) (looks : List Look) (sn
   pub place : ℕ
   pub shares : List Share
   pub share : Share
-  pub count : length fates ≡ place
+  pub count : length fates ≡ ways.first + place
   pub within : place < length names
-  pub are : told_in ≡ true → shares ≡ shares_at_look_from ways looks (record { snapshot = snapshot; fates = fates }) 0
-      (take place names)
-  pub begins : told_in ≡ true → BeginsShare share
-      (share_of ways looks (record { snapshot = snapshot; fates = fates }) place (slice_index_or names place []))
+  pub are : told_in ≡ true → shares ≡ shares_at_look_from ways looks (record { snapshot = snapshot; fates = fates })
+      ways.first (take place names)
+  pub begins : told_in ≡ true → BeginsShare share (share_of ways looks
+      (record { snapshot = snapshot; fates = fates }) (ways.first + place) (slice_index_or names place []))
   pub broken : (other : ℕ) → other < length names
-      → BrokeIn ways (looks ++ record { snapshot = snapshot; fates = fates } ∷ []) other (watched_at watched other).failed
+      → BrokeIn ways (looks ++ record { snapshot = snapshot; fates = fates } ∷ []) (ways.first + other)
+      (watched_at watched (ways.first + other)).failed
   pub short : AllShort told printer (shares ++ share ∷ []) old new why

@@ -1,8 +1,10 @@
-use Rattle.std.proofs.Common.{◌≤◌, ◌+◌, refl, sym, ◌∙◌, ap, subst, arith}
+use Rattle.std.proofs.Common.{◌≡◌, ◌<◌, ◌≤◌, ◌+◌, ◌||◌, ℕ, length, set, refl, sym, ◌∙◌, ap, subst, arith}
 use Rattle.std.proofs.lemmas.List.{length-set}
 use Rattle.watch_core.specs.Snapshot.{latest}
-use Rattle.follow_core.specs.Look.{ways_of}
-use Rattle.follow_core.proofs.VisitAllLemmas.{next_ready, opened_count, texts_set, visited_all, visited_more, visited_none, visited_short}
+use Rattle.follow_core.specs.Look.{Ways, ways_of}
+use Rattle.follow_core.specs.Standing.{AllStand, texts}
+use Rattle.follow_core.specs.inner.Visits.{StoppedAt}
+use Rattle.follow_core.proofs.VisitAllLemmas.{VisitedUpTo, next_ready, opened_count, opened_other, same_length, texts_set, visited_all, visited_more, visited_none, visited_short}
 use Rattle.follow_core.proofs.name.visit_all.Goals as goal
 
 pub loop-place-init : goal.loop-place-init
@@ -10,42 +12,64 @@ loop-place-init g c = record {
   within = omega arith;
   same = refl;
   ready = c.requires.ready;
-  visited = λ looks stand. visited_none g.W.Watch.told g.O.Outs.told (ways_of c.args.by_name c.args.start) looks (latest (g.W.Watch.seen c.args.watch.now)) c.args.names.now c.args.visitor.now (g.O.Outs.slots c.args.outs.now) (g.W.Watch.watched c.args.watch.now) stand;
+  visited = λ from looks same stand. visited_none g.W.Watch.told g.O.Outs.told (ways_of from c.args.by_name c.args.start) looks (latest (g.W.Watch.seen c.args.watch.now)) c.args.names.now c.args.visitor.now (g.O.Outs.slots c.args.outs.now) (g.W.Watch.watched c.args.watch.now) stand;
   count = refl;
+  others = λ number other. refl;
   can = c.requires.can;
   seen = refl;
   shows = refl;
 }
 
 pub returns-in-Err-clause-stopped : goal.returns-in-Err-clause-stopped
-returns-in-Err-clause-stopped g c looks stand =
+returns-in-Err-clause-stopped g c from looks same =
     let l = c.loop-place in
-    visited_short g.W.Watch.told g.O.Outs.told (ways_of c.args.by_name c.args.start) looks (latest (g.W.Watch.seen c.args.watch.now)) (latest (g.W.Watch.seen l.watch)) c.args.names.now l.names c.index-names-place.result l.place c.args.visitor.now l.visitor (g.O.Outs.slots c.args.outs.now) (g.O.Outs.slots l.outs) (g.O.Outs.slots c.visit.new.outs) (g.W.Watch.watched l.watch) (g.W.Watch.watched c.visit.new.watch) l.has_failed c.in-Err.fault
-    c.loop-place-test.true (ap latest l.invariant.seen) c.in-Err.ensures.visits.halts (l.invariant.visited looks stand) (c.in-Err.ensures.visits.stopped looks)
+    let snapshot = latest (g.W.Watch.seen c.args.watch.now) in
+    let ways : ℕ → Ways = λ first. ways_of first c.args.by_name c.args.start in
+    let many : length c.args.names.now ≡ length l.names = same_length c.args.names.now l.names l.invariant.same in
+    let test : l.place < length l.names = c.loop-place-test.true in
+    subst (λ first. AllStand g.W.Watch.told (ways first) looks c.args.names.now (g.W.Watch.watched c.args.watch.now) → StoppedAt g.W.Watch.told g.O.Outs.told (ways first) looks snapshot (texts c.args.names.now) c.args.visitor.now (g.O.Outs.slots c.args.outs.now) (g.W.Watch.watched c.visit.new.watch) (g.O.Outs.slots c.visit.new.outs) c.in-Err.fault)
+    (same (omega (arith, many, test)))
+    (λ stand. visited_short g.W.Watch.told g.O.Outs.told (ways c.args.first) looks snapshot (latest (g.W.Watch.seen l.watch)) c.args.names.now l.names c.index-names-place.result l.place c.args.visitor.now l.visitor (g.O.Outs.slots c.args.outs.now) (g.O.Outs.slots l.outs) (g.O.Outs.slots c.visit.new.outs) (g.W.Watch.watched l.watch) (g.W.Watch.watched c.visit.new.watch) l.has_failed c.in-Err.fault
+    c.loop-place-test.true (ap latest l.invariant.seen) (c.in-Err.ensures.visits c.args.first).halts (l.invariant.visited c.args.first looks (λ some. refl) stand) ((c.in-Err.ensures.visits c.args.first).stopped looks))
 
 pub returns-in-Err-clause-texts : goal.returns-in-Err-clause-texts
-returns-in-Err-clause-texts g c = texts_set c.loop-place.names c.loop-place.place c.index-names-place.result c.visit.new.self c.loop-place-test.true c.visit.ensures.visits.same ∙ c.loop-place.invariant.same
+returns-in-Err-clause-texts g c = texts_set c.loop-place.names c.loop-place.place c.index-names-place.result c.visit.new.self c.loop-place-test.true (c.visit.ensures.visits c.args.first).same ∙ c.loop-place.invariant.same
 
 pub returns-in-Err-clause-count : goal.returns-in-Err-clause-count
-returns-in-Err-clause-count g c = opened_count c.loop-place.place (g.W.Watch.watched c.loop-place.watch) (g.W.Watch.watched c.visit.new.watch) c.in-Err.ensures.visits.halts ∙ c.loop-place.invariant.count
+returns-in-Err-clause-count g c = opened_count (c.args.first + c.loop-place.place) (g.W.Watch.watched c.loop-place.watch) (g.W.Watch.watched c.visit.new.watch) (c.in-Err.ensures.visits c.args.first).halts ∙ c.loop-place.invariant.count
+
+pub returns-in-Err-clause-others : goal.returns-in-Err-clause-others
+returns-in-Err-clause-others g c number other =
+    let l = c.loop-place in
+    let many : length c.args.names.now ≡ length l.names = same_length c.args.names.now l.names l.invariant.same in
+    let test : l.place < length l.names = c.loop-place-test.true in
+    opened_other (c.args.first + l.place) number (g.W.Watch.watched l.watch) (g.W.Watch.watched c.visit.new.watch) (c.in-Err.ensures.visits c.args.first).halts (other l.place (omega (arith, many, test))) ∙ l.invariant.others number other
 
 pub loop-place-preserved : goal.loop-place-preserved
 loop-place-preserved g c =
     let l = c.loop-place in
-    let ways = ways_of c.args.by_name c.args.start in
+    let snapshot = latest (g.W.Watch.seen c.args.watch.now) in
+    let ways : ℕ → Ways = λ first. ways_of first c.args.by_name c.args.start in
+    let many : length c.args.names.now ≡ length l.names = same_length c.args.names.now l.names l.invariant.same in
+    let test : l.place < length l.names = c.loop-place-test.true in
+    let visits = c.in-Ok.ensures.visits c.args.first in
     record {
       within = subst (λ n. l.place + 1 ≤ n) (sym (length-set l.names l.place c.visit.new.self)) (omega arith);
-      same = texts_set l.names l.place c.index-names-place.result c.visit.new.self c.loop-place-test.true c.visit.ensures.visits.same ∙ l.invariant.same;
-      ready = next_ready l.names c.visit.new.self l.place (g.W.Watch.watched l.watch) (g.W.Watch.watched c.visit.new.watch) c.loop-place-test.true l.invariant.ready c.in-Ok.ensures.visits.others c.in-Ok.ensures.visits.ready;
-      visited = λ looks stand. visited_more g.W.Watch.told g.O.Outs.told ways looks (latest (g.W.Watch.seen c.args.watch.now)) (latest (g.W.Watch.seen l.watch)) c.args.names.now l.names c.index-names-place.result c.visit.new.self l.place c.args.visitor.now l.visitor c.visit.new.visitor (g.O.Outs.slots c.args.outs.now) (g.O.Outs.slots l.outs) (g.O.Outs.slots c.visit.new.outs) (g.W.Watch.watched l.watch) (g.W.Watch.watched c.visit.new.watch) l.has_failed c.in-Ok.failed
-          c.loop-place-test.true c.visit.ensures.visits.same c.in-Ok.ensures.visits.others (ap latest l.invariant.seen) (l.invariant.visited looks stand) (c.in-Ok.ensures.visits.visited looks) (l.place + 1) (omega arith);
-      count = c.in-Ok.ensures.visits.others.count ∙ l.invariant.count;
+      same = texts_set l.names l.place c.index-names-place.result c.visit.new.self c.loop-place-test.true (c.visit.ensures.visits c.args.first).same ∙ l.invariant.same;
+      ready = next_ready c.args.first l.names c.visit.new.self l.place (g.W.Watch.watched l.watch) (g.W.Watch.watched c.visit.new.watch) c.loop-place-test.true l.invariant.ready visits.others visits.ready;
+      visited = λ from looks same. subst (λ first. AllStand g.W.Watch.told (ways first) looks c.args.names.now (g.W.Watch.watched c.args.watch.now)
+          → VisitedUpTo g.W.Watch.told g.O.Outs.told (ways first) looks snapshot (l.place + 1) c.args.names.now c.args.visitor.now (g.O.Outs.slots c.args.outs.now) c.visit.new.visitor (g.O.Outs.slots c.visit.new.outs) (g.W.Watch.watched c.visit.new.watch) (set l.names l.place c.visit.new.self) (l.has_failed || c.in-Ok.failed))
+          (same (omega (arith, many, test)))
+          (λ stand. visited_more g.W.Watch.told g.O.Outs.told (ways c.args.first) looks snapshot (latest (g.W.Watch.seen l.watch)) c.args.names.now l.names c.index-names-place.result c.visit.new.self l.place c.args.visitor.now l.visitor c.visit.new.visitor (g.O.Outs.slots c.args.outs.now) (g.O.Outs.slots l.outs) (g.O.Outs.slots c.visit.new.outs) (g.W.Watch.watched l.watch) (g.W.Watch.watched c.visit.new.watch) l.has_failed c.in-Ok.failed
+          c.loop-place-test.true (c.visit.ensures.visits c.args.first).same visits.others (ap latest l.invariant.seen) (l.invariant.visited c.args.first looks (λ some. refl) stand) (visits.visited looks) (l.place + 1) (omega arith));
+      count = visits.others.count ∙ l.invariant.count;
+      others = λ number other. visits.others.others number (other l.place (omega (arith, many, test))) ∙ l.invariant.others number other;
       can = c.in-Ok.ensures.can;
       seen = c.visit.ensures.seen ∙ l.invariant.seen;
       shows = c.visit.ensures.shows ∙ l.invariant.shows;
     }
 
 pub returns-clause-visited : goal.returns-clause-visited
-returns-clause-visited g c looks stand =
+returns-clause-visited g c from looks same stand =
     let l = c.loop-place in
-    visited_all g.W.Watch.told g.O.Outs.told (ways_of c.args.by_name c.args.start) looks (latest (g.W.Watch.seen c.args.watch.now)) c.args.names.now l.names l.place c.args.visitor.now l.visitor (g.O.Outs.slots c.args.outs.now) (g.O.Outs.slots l.outs) (g.W.Watch.watched l.watch) l.has_failed (omega arith) (l.invariant.visited looks stand)
+    visited_all g.W.Watch.told g.O.Outs.told (ways_of from c.args.by_name c.args.start) looks (latest (g.W.Watch.seen c.args.watch.now)) c.args.names.now l.names l.place c.args.visitor.now l.visitor (g.O.Outs.slots c.args.outs.now) (g.O.Outs.slots l.outs) (g.W.Watch.watched l.watch) l.has_failed (omega arith) (l.invariant.visited from looks same stand)

@@ -6,26 +6,26 @@ use Rattle.follow_core.proofs.VisitLemmas.{first_fails, first_looks, first_missi
 use Rattle.follow_core.proofs.visitor.Visitor.first.Goals as goal
 
 pub returns-in-Ok-false-clause-looks : goal.returns-in-Ok-false-clause-looks
-returns-in-Ok-false-clause-looks g c by_name = first_missing c.in-Ok-false.ensures.ok c.in-Ok-false.field-0-test c.requires.name c.say.ensures
+returns-in-Ok-false-clause-looks g c first by_name = first_missing c.in-Ok-false.ensures.ok c.in-Ok-false.field-0-test c.requires.name c.say.ensures
 
 pub returns-in-Err-clause-looks : goal.returns-in-Err-clause-looks
-returns-in-Err-clause-looks g c by_name = first_unopened c.in-Err.ensures.err.0 c.in-Err.ensures.err.1 c.stop.ensures.tells
+returns-in-Err-clause-looks g c first by_name = first_unopened c.in-Err.ensures.err.0 c.in-Err.ensures.err.1 c.stop.ensures.tells
 
 pub returns-in-Err-open-clause-looks : goal.returns-in-Err-open-clause-looks
-returns-in-Err-open-clause-looks g c by_name = first_over (c.in-Ok-true.ensures.ok.file, c.in-Ok-true.ensures.ok.names) (first_short c.self.view_is (led_file c.in-Ok-true.ensures.ok c.in-Ok-true.field-0-test c.requires.name) c.in-Err-open.ensures.short)
+returns-in-Err-open-clause-looks g c first by_name = first_over (c.in-Ok-true.ensures.ok.file, c.in-Ok-true.ensures.ok.names) (first_short c.self.view_is (led_file c.in-Ok-true.ensures.ok c.in-Ok-true.field-0-test c.requires.name) c.in-Err-open.ensures.short)
 
 pub write_start-requires-clause-readable : goal.write_start-requires-clause-readable
 write_start-requires-clause-readable g c = readable_there _ _ _ _ _ _ c.in-Ok-true.ensures.ok c.in-Ok-true.field-0-test c.requires.watchable
 
 pub returns-in-Ok-clause-looks : goal.returns-in-Ok-clause-looks
-returns-in-Ok-clause-looks g c by_name =
+returns-in-Ok-clause-looks g c first by_name =
     let leaves = opened_leaves (ap latest c.reopen.ensures.seen) c.requires.watchable c.in-Ok-true.ensures.ok c.in-Ok-true.field-0-test c.requires.name c.in-Ok.ensures.keeps c.in-Ok.ensures.len in
     first_looks
     (first_whole c.self.view_is (led_file c.in-Ok-true.ensures.ok c.in-Ok-true.field-0-test c.requires.name)
     (contents_led g.W.Watch.told (latest (g.W.Watch.seen c.args.watch.now)) (latest (g.W.Watch.seen c.reopen.new.self)) (g.W.Watch.watched c.args.watch.now) (g.W.Watch.watched c.reopen.new.self) c.args.place c.args.name.now c.in-Ok-true.field-0 (ap latest c.reopen.ensures.seen) c.requires.watchable c.in-Ok-true.ensures.ok c.requires.name) c.in_default.ensures.out c.in_default.ensures.last c.in-Ok.ensures.ends) leaves.0 leaves.1
 
 pub returns-in-Err-write_start-clause-looks : goal.returns-in-Err-write_start-clause-looks
-returns-in-Err-write_start-clause-looks g c by_name = first_fails _ c.in-Ok-true.ensures.ok c.in-Err-write_start.ensures.keeps
+returns-in-Err-write_start-clause-looks g c first by_name = first_fails _ c.in-Ok-true.ensures.ok c.in-Err-write_start.ensures.keeps
     (first_cut c.self.view_is (led_file c.in-Ok-true.ensures.ok c.in-Ok-true.field-0-test c.requires.name)
     (contents_led g.W.Watch.told (latest (g.W.Watch.seen c.args.watch.now)) (latest (g.W.Watch.seen c.reopen.new.self)) (g.W.Watch.watched c.args.watch.now) (g.W.Watch.watched c.reopen.new.self) c.args.place c.args.name.now c.in-Ok-true.field-0 (ap latest c.reopen.ensures.seen) c.requires.watchable c.in-Ok-true.ensures.ok c.requires.name) c.in_default.ensures.out c.in_default.ensures.last c.in-Err-write_start.ensures.ends) c.stop-in-Err-write_start.ensures.tells
 
