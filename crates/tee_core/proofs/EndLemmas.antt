@@ -62,40 +62,40 @@ ends_at_once told_in told mode names old new_sources first mid new fault is at s
 
 -- nothing broke
 
-sound_first : {X : Type 0} (first : Option X) (rest : Bool) → (is_none first && rest) ≡ true → (first ≡ None) × (rest ≡ true)
+pub sound_first : {X : Type 0} (first : Option X) (rest : Bool) → (is_none first && rest) ≡ true → (first ≡ None) × (rest ≡ true)
 sound_first None rest is = (refl, is)
 sound_first (Some x) rest is = absurd (false≢true is)
 
-nothing_in : (call : ℕ) (names : List (List ℕ)) (broke : List (Option ℕ)) → are_sound broke ≡ true → said_in call names broke ≡ []
+pub nothing_in : (call : ℕ) (names : List (List ℕ)) (broke : List (Option ℕ)) → are_sound broke ≡ true → said_in call names broke ≡ []
 nothing_in call [] broke sound = refl
 nothing_in call (name ∷ names) [] sound = refl
 nothing_in call (name ∷ names) (None ∷ broke) sound = nothing_in call names broke sound
 nothing_in call (name ∷ names) (Some other ∷ broke) sound = absurd (false≢true sound)
 
-nothing_before : (call : ℕ) (names : List (List ℕ)) (broke : List (Option ℕ)) → are_sound broke ≡ true → said_before call names broke ≡ []
+pub nothing_before : (call : ℕ) (names : List (List ℕ)) (broke : List (Option ℕ)) → are_sound broke ≡ true → said_before call names broke ≡ []
 nothing_before zero names broke sound = refl
 nothing_before (suc call) names broke sound = ap (λ texts. texts ++ said_in call names broke) (nothing_before call names broke sound) ∙ nothing_in call names broke sound
 
-whole_output : (told : Bool) (pieces : List (List ℕ)) (first : Option ℕ) (output : Slot) → first ≡ None → OutputLeft told pieces first output → output ≡ adds (told_of told (concat pieces)) standard_output
+pub whole_output : (told : Bool) (pieces : List (List ℕ)) (first : Option ℕ) (output : Slot) → first ≡ None → OutputLeft told pieces first output → output ≡ adds (told_of told (concat pieces)) standard_output
 whole_output told pieces _ _ is output_whole = refl
 whole_output told pieces _ _ is (output_cut before that after n is_there within) = absurd (some_none is) where
   some_none : {a : ℕ} → Some a ≡ None → ⊥
   some_none is = false≢true (ap is_none is)
 
-whole_files : (told : Bool) (mode : Mode) (pieces : List (List ℕ)) (names : List (List ℕ)) (broke : List (Option ℕ)) (files : List Slot) → are_sound broke ≡ true → FilesLeft told mode pieces names broke files → files ≡ map (λ name. closes (adds (told_of told (concat pieces)) (opened name mode))) names
+pub whole_files : (told : Bool) (mode : Mode) (pieces : List (List ℕ)) (names : List (List ℕ)) (broke : List (Option ℕ)) (files : List Slot) → are_sound broke ≡ true → FilesLeft told mode pieces names broke files → files ≡ map (λ name. closes (adds (told_of told (concat pieces)) (opened name mode))) names
 whole_files told mode pieces _ _ _ sound no_file = refl
 whole_files told mode pieces _ _ _ sound (one_file name names _ broke _ files file_whole rest) = ap (λ those. closes (adds (told_of told (concat pieces)) (opened name mode)) ∷ those) (whole_files told mode pieces names broke files sound rest)
 whole_files told mode pieces _ _ _ sound (one_file name names _ broke _ files (file_unopened kept named) rest) = absurd (false≢true sound)
 whole_files told mode pieces _ _ _ sound (one_file name names _ broke _ files (file_cut before that after n is within) rest) = absurd (false≢true sound)
 whole_files told mode pieces _ _ _ sound (one_file name names _ broke _ files file_unclosed rest) = absurd (false≢true sound)
 
-status_zero : (sound whole : Bool) → ◌≡◌ {A = ℕ} (if whole && sound then 0 else 1) 0 → (whole ≡ true) × (sound ≡ true)
+pub status_zero : (sound whole : Bool) → ◌≡◌ {A = ℕ} (if whole && sound then 0 else 1) 0 → (whole ≡ true) × (sound ≡ true)
 status_zero true true is = (refl, refl)
 status_zero true false is = absurd (omega (arith, is))
 status_zero false true is = absurd (omega (arith, is))
 status_zero false false is = absurd (omega (arith, is))
 
-read_whole : (content : Content) (Leaves : List ℕ → Type 0) (is_vain : Bool) (x : List ℕ) (fault : Option Fault) → is_vain ≡ false → is_none fault ≡ true → IsRead content Leaves is_vain x fault → content.bytes ≡ x
+pub read_whole : (content : Content) (Leaves : List ℕ → Type 0) (is_vain : Bool) (x : List ℕ) (fault : Option Fault) → is_vain ≡ false → is_none fault ≡ true → IsRead content Leaves is_vain x fault → content.bytes ≡ x
 read_whole content Leaves _ _ _ left sound (to_end x is ended leaves) = is
 read_whole content Leaves _ _ _ left sound (to_break x is breaks leaves) = absurd (false≢true sound)
 read_whole content Leaves _ _ _ left sound (to_limit x piece rest is many within leaves) = absurd (false≢true sound)

@@ -117,7 +117,7 @@ part_at low high error (suc zero) begins differs = absurd (differs refl)
 part_at low high error (suc (suc place)) begins differs = files_at low.files high.files begins.files place
 
 -- outputs that are at a part
-slots_at : (part : Part) (error : Slot) (now : List Slot) → OutputsAt true (streams_with error) part now → now ≡ adds part.out standard_output ∷ error ∷ map slot_of part.files
+pub slots_at : (part : Part) (error : Slot) (now : List Slot) → OutputsAt true (streams_with error) part now → now ≡ adds part.out standard_output ∷ error ∷ map slot_of part.files
 slots_at part error now at = at.slots ∙ ap (λ files. adds part.out standard_output ∷ error ∷ files) (since_is at.since part.files at.files)
 
 -- What a step has written is a beginning of the whole.

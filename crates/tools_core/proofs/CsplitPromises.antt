@@ -1,5 +1,5 @@
 -- What `csplit` leaves of its input.
-use Rattle.std.proofs.Common.{◌≡◌, ℕ, ◌+◌, ◌-◌, ◌<◌, ◌≤◌, zero, suc, Bool, true, false, not, ◌&&◌, cond, List, [], ◌∷◌, ◌++◌, length, length-drop, map, drop, append_assoc, None, inl, inr, ◌⊎◌, refl, sym, ◌∙◌, ap, subst, arith}
+use Rattle.std.proofs.Common.{◌≡◌, ℕ, ◌+◌, ◌-◌, ◌<◌, ◌≤◌, zero, suc, Bool, true, false, not, ◌&&◌, cond, List, [], ◌∷◌, ◌++◌, length, length-drop, map, drop, None, inl, inr, ◌⊎◌, refl, sym, ◌∙◌, ap, subst, arith}
 use Rattle.std.specs.List.{All}
 use Rattle.std.proofs.lemmas.List.{length-map, map-append, drop-drop, take-append-drop, take_all}
 use Rattle.std.proofs.lemmas.List.Elements.{All-nil, All-cons}
@@ -30,7 +30,7 @@ use Rattle.tools_core.specs.Outcome.{CsplitEndsAs}
 use Rattle.tools_core.specs.Tasks.{csplit_task}
 use Rattle.tools_core.specs.Promises.{Run, Does, HasInput, AreNumbered, AreSections, IsSound, SkipNothing, contents_of, files_of, in_turn, last_section, left_out, text_at}
 use Rattle.tools_core.proofs.NumberLemmas.{numbered_in_order}
-use Rattle.tools_core.proofs.PromiseLemmas.{DidOne, did_one, not_one, one_done, slot_of}
+use Rattle.tools_core.proofs.PromiseLemmas.{DidOne, did_one, one_done, slot_of}
 use Rattle.tools_core.proofs.SplitPromises.{bytes_written}
 use Rattle.tools_core.proofs.SkipLemmas.{KeepTargets, targets_keep}
 

@@ -18,6 +18,8 @@ pub mod BeginLemmas
 pub mod TeeBegins
 pub mod BeginPromises
 pub mod ToldLemmas
+pub mod LiveLemmas
+pub mod BrokenPromises
 pub mod FollowText
 pub mod GrowingText
 pub mod FollowPromises

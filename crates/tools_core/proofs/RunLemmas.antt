@@ -35,8 +35,8 @@ use Rattle.words_core.specs.declared.settings.Settings.{Settings}
 use Rattle.words_core.specs.declared.settings.Settings.TheVariants.{Head, Tail, Split, Csplit, Tee}
 use Rattle.words_core.specs.Words.{HasBadOperands, settings_of}
 use Rattle.tools_core.specs.Outcome.{CsplitEndsAs, DoesAsked, RefusesFor, RunEnds, RunEndsAt, TeeEndsAs, names_at, names_read, speaker}
-use Rattle.tools_core.specs.Tasks.{csplit_task, head_task, tail_task, split_task, names_of}
-use Rattle.tools_core.proofs.SpeakerLemmas.{runs_as_named, tool_of}
+use Rattle.tools_core.specs.Tasks.{csplit_task, head_task, tail_task, split_task, names_of, tool_of}
+use Rattle.tools_core.proofs.SpeakerLemmas.{runs_as_named}
 
 pub tool_runs : (told_in told : Bool) (world : World) (words : List (List ℕ)) (settings : Settings) (old sources : List Source) (new : List Slot) (status : ℕ) → settings_of words ≡ Ok settings
     → RunsOver told_in world (names_of settings) (λ found. DoesAsked told_in told settings found sources new status)

@@ -4,7 +4,7 @@ use Rattle.ports_core.specs.declared.fault.Fault.{Fault}
 use Rattle.ports_core.specs.declared.tool.Tool.{Tool}
 use Rattle.ports_core.specs.declared.tool.Tool.TheVariants as tool
 use Rattle.words_core.specs.declared.settings.Settings.{Settings}
-use Rattle.words_core.specs.declared.settings.Settings.TheVariants.{Head, Tail, Split, Csplit, Tee}
+use Rattle.words_core.specs.declared.settings.Settings.TheVariants.{Tail, Split, Csplit}
 use Rattle.words_core.specs.CsplitWords.{csplit_asked}
 use Rattle.words_core.specs.Given.{Given}
 use Rattle.words_core.specs.Spelling.{given_by}
@@ -14,14 +14,7 @@ use Rattle.words_core.specs.TailWords.{tail_asked}
 use Rattle.words_core.specs.Table.{ToolRow, row_named, tools}
 use Rattle.words_core.specs.Words.{settings_for, settings_of, tool_settings}
 use Rattle.tools_core.specs.Outcome.{speaker, or_cutters}
-
--- the tool that settings are for
-abbrev pub tool_of : Settings → Tool
-tool_of (Head asked) = tool.Head
-tool_of (Tail asked) = tool.Tail
-tool_of (Split asked) = tool.Split
-tool_of (Csplit asked) = tool.Csplit
-tool_of (Tee asked) = tool.Tee
+use Rattle.tools_core.specs.Tasks.{tool_of}
 
 tool_in : Result Settings Fault → Tool
 tool_in (Ok settings) = tool_of settings

@@ -1,227 +1,275 @@
--- A run whose status is 1 said so on standard error, as far as that takes lines.
-use Rattle.std.proofs.Common.{◌≡◌, ℕ, ◌<◌, ◌≤◌, zero, suc, Bool, true, false, ◌||◌, ◌&&◌, cond, is_none, is_some, List, [], ◌∷◌, ◌++◌, length, Option, Some, None, inl, inr, ◌⊎◌, refl, sym, ◌∙◌, ap, subst, arith, length-append}
+-- A run whose status is 1 told a fault on standard error, as far as that takes lines.
+use Rattle.std.proofs.Common.{◌≡◌, ℕ, ◌+◌, ◌≤◌, ◌<◌, zero, suc, Bool, true, false, ◌||◌, ◌&&◌, cond, is_none, is_some, List, [], ◌∷◌, ◌++◌, length, Option, Some, None, inl, inr, ◌⊎◌, refl, sym, ◌∙◌, ap, subst, arith, append_assoc, length-append}
 use Rattle.std.proofs.lemmas.Bool.{cases_lt, eq-eqb}
-use Rattle.ports_core.specs.Slot.{Slot, adds, breaks, changed_at, slot_at}
+use Rattle.ports_core.specs.Slot.{Slot, breaks, changed_at, slot_at}
 use Rattle.ports_core.specs.Source.{Content, Source}
-use Rattle.ports_core.specs.Streams.{standard_error}
-use Rattle.ports_core.specs.Part.{IsNext, Marks}
+use Rattle.ports_core.specs.Streams.{standard_error, streams_with}
+use Rattle.ports_core.specs.Part.{IsAt, IsNext, Marks, Part, StoppedBetween}
 use Rattle.ports_core.specs.Swept.{Swept}
 use Rattle.ports_core.specs.Text.{message_of}
-use Rattle.ports_core.specs.Message.{Prints, Says, SaysAll}
-use Rattle.ports_core.specs.Message as said_so
+use Rattle.ports_core.specs.Message.{SaysAll, output_named}
 use Rattle.ports_core.specs.declared.tool.Tool.{Tool}
 use Rattle.ports_core.specs.declared.tool.Tool.TheVariants as tool
 use Rattle.ports_core.specs.declared.slot.Mode.{Mode}
+use Rattle.ports_core.specs.declared.slot.State.TheVariants as state
 use Rattle.ports_core.specs.declared.fault.Fault.{Fault}
 use Rattle.ports_core.specs.declared.fault.Fault.TheVariants.{Memory, Write, Read, Open, Suffixes, NoMatch, Range, Usage, Failed, TooLong}
 use Rattle.run_core.specs.Feeding.{is_enough}
 use Rattle.run_core.specs.Input.{Input}
 use Rattle.run_core.specs.RunEnds.{EndsAs, as_defined, no_room, stopped}
 use Rattle.run_core.specs.Task.{Task, is_missing, made_by, of_content, of_inputs, verdict_messages}
-use Rattle.run_core.proofs.StopLemmas.{message_some}
 use Rattle.tee_core.specs.Run as tee
-use Rattle.tee_core.specs.Run.{FilesLeft, FileLeft, OutputLeft, are_sound, fault_in, messages_of, output_names, said_before, said_in, said_of_input}
-use Rattle.words_core.specs.CsplitAsked.{CsplitAsked}
+use Rattle.tee_core.specs.Run.{FilesLeft, OutputLeft, are_sound, fault_in, messages_of, output_names, said_before, said_in, said_of_input}
 use Rattle.words_core.specs.declared.settings.Settings.{Settings}
 use Rattle.words_core.specs.declared.settings.Settings.TheVariants.{Head, Tail, Split, Csplit, Tee}
-use Rattle.tools_core.specs.Outcome.{CsplitEndsAs, DoesAsked, Refuses, RefusesOperands}
+use Rattle.tools_core.specs.Outcome.{DoesAsked, RefusesOperands}
 use Rattle.tools_core.specs.Outcome as outcome
-use Rattle.tools_core.specs.Tasks.{csplit_task, head_task, split_task, tail_task}
-use Rattle.tools_core.specs.Promises.{IsTold, Ran, Run}
+use Rattle.tools_core.specs.Tasks.{csplit_task, head_task, split_task, tail_task, tool_of}
+use Rattle.tools_core.specs.Promises.{IsCalled, IsTold, Ran, Run, failing}
 use Rattle.tools_core.proofs.PromiseLemmas.{ran_over}
+use Rattle.tools_core.proofs.SpeakerLemmas.{runs_as_named}
 
--- What is said stays.
+-- One of the lines
 
-abbrev SaysSome : Slot → Type 0
-SaysSome error = (0 < length error.written) ⊎ (error.is_broken ≡ true)
+abbrev pub HasLine : List ℕ → List (List ℕ) → Type 0
+HasLine line lines = (before : List (List ℕ)) × (after : List (List ℕ)) × (lines ≡ before ++ line ∷ after)
 
-added_some : (bytes : List ℕ) (old : Slot) → SaysSome old → SaysSome (adds bytes old)
-added_some bytes old (inl some) = inl (omega (arith, length-append old.written bytes, some))
-added_some bytes old (inr broke) = inr broke
+has_after : (line : List ℕ) (front back : List (List ℕ)) → HasLine line back → HasLine line (front ++ back)
+has_after line front back (before, after, is) = (front ++ before, after, ap (λ those. front ++ those) is ∙ sym (append_assoc front before (line ∷ after)))
 
-printed_some : (text : List ℕ) (old new : Slot) → Prints true text old new → SaysSome old → SaysSome new
-printed_some text old new (said_so.whole sound is) some = subst SaysSome (sym is) (added_some text old some)
-printed_some text old new (said_so.cut sound n few is) some = inr (ap (λ (slot : Slot). slot.is_broken) is)
-printed_some text old new (said_so.passed broke is) some = subst SaysSome (sym is) some
+has_before : (line : List ℕ) (front back : List (List ℕ)) → HasLine line front → HasLine line (front ++ back)
+has_before line front back (before, after, is) = (before, after ++ back, ap (λ those. those ++ back) is ∙ append_assoc before (line ∷ after) back)
 
-printed_told : (text : List ℕ) (old new : Slot) → 0 < length text → Prints true text old new → SaysSome new
-printed_told text old new some (said_so.whole sound is) = subst SaysSome (sym is) (inl (omega (arith, length-append old.written text, some)))
-printed_told text old new some (said_so.cut sound n few is) = inr (ap (λ (slot : Slot). slot.is_broken) is)
-printed_told text old new some (said_so.passed broke is) = subst SaysSome (sym is) (inr broke)
+-- it is said, where all are
+abbrev pub SaysLine : Tool → List ℕ → Slot → Type 0
+SaysLine tool line error = (before : List (List ℕ)) × (after : List (List ℕ)) × SaysAll true tool (before ++ line ∷ after) standard_error error
 
-said_text : (tool : Tool) (text said : List ℕ) → 0 < length text → (said ≡ text) ⊎ (said ≡ message_of tool Memory []) → 0 < length said
-said_text tool text said some (inl is) = subst (λ those. 0 < length those) (sym is) some
-said_text tool text said some (inr is) = subst (λ those. 0 < length those) (sym is) (message_some tool Memory [])
+pub says_line : (tool : Tool) (line : List ℕ) (lines : List (List ℕ)) (error : Slot) → HasLine line lines → SaysAll true tool lines standard_error error → SaysLine tool line error
+says_line tool line lines error (before, after, is) says = (before, after, subst (λ those. SaysAll true tool those standard_error error) is says)
 
-said_told : (tool : Tool) (text : List ℕ) (old new : Slot) → 0 < length text → Says true tool text old new → SaysSome new
-said_told tool text old new some says = printed_told says.said old new (said_text tool text says.said some says.is) says.printed
+-- One that tells a fault
 
-all_some : (tool : Tool) (texts : List (List ℕ)) (old new : Slot) → SaysAll true tool texts old new → SaysSome old → SaysSome new
-all_some tool [] old new same some = subst SaysSome (sym same) some
-all_some tool (text ∷ texts) old new (mid, says, rest) some = all_some tool texts mid new rest (printed_some says.said old mid says.printed some)
+abbrev pub HasFault : Tool → List (List ℕ) → Type 0
+HasFault tool lines = (fault : Fault) × (name : List ℕ) × HasLine (message_of tool fault name) lines
 
--- one of the texts isn't empty
-abbrev HasText : List (List ℕ) → Type 0
-HasText [] = ⊥
-HasText (text ∷ texts) = (0 < length text) ⊎ HasText texts
+abbrev pub TellsFault : Tool → Slot → Type 0
+TellsFault tool error = (fault : Fault) × (name : List ℕ) × SaysLine tool (message_of tool fault name) error
 
-all_told : (tool : Tool) (texts : List (List ℕ)) (old new : Slot) → HasText texts → SaysAll true tool texts old new → SaysSome new
-all_told tool [] old new has says = absurd has
-all_told tool (text ∷ texts) old new (inl some) (mid, says, rest) = all_some tool texts mid new rest (said_told tool text old mid some says)
-all_told tool (text ∷ texts) old new (inr more) (mid, says, rest) = all_told tool texts mid new more rest
+only_fault : (tool : Tool) (fault : Fault) (name : List ℕ) → HasFault tool (message_of tool fault name ∷ [])
+only_fault tool fault name = (fault, name, ([], [], refl))
 
-has_after : (front back : List (List ℕ)) → HasText back → HasText (front ++ back)
-has_after [] back has = has
-has_after (text ∷ front) back has = inr (has_after front back has)
+fault_after : (tool : Tool) (front back : List (List ℕ)) → HasFault tool back → HasFault tool (front ++ back)
+fault_after tool front back (fault, name, has) = (fault, name, has_after (message_of tool fault name) front back has)
 
-has_before : (front back : List (List ℕ)) → HasText front → HasText (front ++ back)
-has_before [] back has = absurd has
-has_before (text ∷ front) back (inl some) = inl some
-has_before (text ∷ front) back (inr more) = inr (has_before front back more)
+fault_before : (tool : Tool) (front back : List (List ℕ)) → HasFault tool front → HasFault tool (front ++ back)
+fault_before tool front back (fault, name, has) = (fault, name, has_before (message_of tool fault name) front back has)
 
--- A fault of an input, or of the work, has its message.
+tells_fault : (tool : Tool) (lines : List (List ℕ)) (error : Slot) → HasFault tool lines → SaysAll true tool lines standard_error error → TellsFault tool error
+tells_fault tool lines error (fault, name, has) says = (fault, name, says_line tool (message_of tool fault name) lines error has says)
 
-text_by : (task : Task) (enough : Bool) (verdict : Option Fault) (name : List ℕ) → cond enough (is_some verdict) true ≡ true → HasText (cond enough (verdict_messages task verdict) (message_of task.tool (Read 0) name ∷ []))
-text_by task true None name failed = absurd (cc)
-text_by task true (Some fault) name failed = inl (message_some task.tool fault (task.subject fault))
-text_by task false verdict name failed = inl (message_some task.tool (Read 0) name)
+-- A fault of an input, or of the work, has its line.
 
-content_text : (task : Task) (is_first : Bool) (name : List ℕ) (content : Option Content) → (of_content task is_first name content).failed ≡ true → HasText (of_content task is_first name content).messages
-content_text task is_first name None failed = inl (message_some task.tool (Open 0) name)
-content_text task is_first name (Some content) failed = text_by task (is_enough task.work content) (task.work.verdict content.bytes) name failed
+fault_by : (task : Task) (enough : Bool) (verdict : Option Fault) (name : List ℕ) → cond enough (is_some verdict) true ≡ true → HasFault task.tool (cond enough (verdict_messages task verdict) (message_of task.tool (Read 0) name ∷ []))
+fault_by task true None name failed = absurd (cc)
+fault_by task true (Some fault) name failed = only_fault task.tool fault (task.subject fault)
+fault_by task false verdict name failed = only_fault task.tool (Read 0) name
 
-or_text : (one other : Bool) (front back : List (List ℕ)) → (one || other) ≡ true → (one ≡ true → HasText front) → (other ≡ true → HasText back) → HasText (front ++ back)
-or_text true other front back is first second = has_before front back (first refl)
-or_text false other front back is first second = has_after front back (second is)
+content_fault : (task : Task) (is_first : Bool) (name : List ℕ) (content : Option Content) → (of_content task is_first name content).failed ≡ true → HasFault task.tool (of_content task is_first name content).messages
+content_fault task is_first name None failed = only_fault task.tool (Open 0) name
+content_fault task is_first name (Some content) failed = fault_by task (is_enough task.work content) (task.work.verdict content.bytes) name failed
 
-inputs_text : (task : Task) (is_first : Bool) (inputs : List Input) → (of_inputs task is_first inputs).failed ≡ true → HasText (of_inputs task is_first inputs).messages
-inputs_text task is_first [] failed = absurd (cc)
-inputs_text task is_first (input ∷ inputs) failed =
+or_fault : (tool : Tool) (one other : Bool) (front back : List (List ℕ)) → (one || other) ≡ true → (one ≡ true → HasFault tool front) → (other ≡ true → HasFault tool back) → HasFault tool (front ++ back)
+or_fault tool true other front back is first second = fault_before tool front back (first refl)
+or_fault tool false other front back is first second = fault_after tool front back (second is)
+
+inputs_fault : (task : Task) (is_first : Bool) (inputs : List Input) → (of_inputs task is_first inputs).failed ≡ true → HasFault task.tool (of_inputs task is_first inputs).messages
+inputs_fault task is_first [] failed = absurd (cc)
+inputs_fault task is_first (input ∷ inputs) failed =
     let first = of_content task is_first input.name input.content in
     let next = of_inputs task (is_first && is_missing input.content) inputs in
-    or_text first.failed next.failed first.messages next.messages failed (content_text task is_first input.name input.content) (inputs_text task (is_first && is_missing input.content) inputs)
+    or_fault task.tool first.failed next.failed first.messages next.messages failed (content_fault task is_first input.name input.content) (inputs_fault task (is_first && is_missing input.content) inputs)
 
 -- Standard error stays the slot after the first.
 
-swept_error : (clears : Bool) (old new : List Slot) → Swept clears 2 old new → slot_at new 1 ≡ slot_at old 1
+pub swept_error : (clears : Bool) (old new : List Slot) → Swept clears 2 old new → slot_at new 1 ≡ slot_at old 1
 swept_error false old new swept = ap (λ slots. slot_at slots 1) swept
 swept_error true old new swept = swept.before 1 (omega arith)
 
-broken_some : (slot : ℕ) (output error : Slot) (since : List Slot) → SaysSome error → SaysSome (slot_at (changed_at slot breaks (output ∷ error ∷ since)) 1)
-broken_some zero output error since some = some
-broken_some (suc zero) output error since some = inr refl
-broken_some (suc (suc slot)) output error since some = some
+broken_other : (slot place : ℕ) (output error : Slot) (since : List Slot) → (slot ≡ 0) ⊎ (slot ≡ 2 + place) → slot_at (changed_at slot breaks (output ∷ error ∷ since)) 1 ≡ error
+broken_other zero place output error since from = refl
+broken_other (suc zero) place output error since (inl from) = absurd (omega (arith, from))
+broken_other (suc zero) place output error since (inr from) = absurd (omega (arith, from))
+broken_other (suc (suc slot)) place output error since from = refl
 
-still_some : (output error : Slot) (since after : List Slot) → after ≡ output ∷ error ∷ since → SaysSome error → SaysSome (slot_at after 1)
-still_some output error since after same some = subst (λ slots. SaysSome (slot_at slots 1)) (sym same) some
+marked_error : (IsDue : List ℕ → Type 0) (fault : Fault) (place count : ℕ) (output error : Slot) (since after : List Slot) → IsAt fault 2 place count → Marks IsDue fault (output ∷ error ∷ since) after → slot_at after 1 ≡ error
+marked_error IsDue (Write slot) place count output error since after from marks = ap (λ slots. slot_at slots 1) marks.1 ∙ broken_other slot place output error since from
+marked_error IsDue (Open slot) place count output error since after from (number, (name, kept, due, is, slots)) = ap (λ those. slot_at those 1) slots
+marked_error IsDue Memory place count output error since after from marks = ap (λ slots. slot_at slots 1) marks
+marked_error IsDue (Read slot) place count output error since after from marks = ap (λ slots. slot_at slots 1) marks
+marked_error IsDue Suffixes place count output error since after from marks = ap (λ slots. slot_at slots 1) marks
+marked_error IsDue (NoMatch operand repetition) place count output error since after from marks = ap (λ slots. slot_at slots 1) marks
+marked_error IsDue (Range operand repetition) place count output error since after from marks = ap (λ slots. slot_at slots 1) marks
+marked_error IsDue (Usage kind word) place count output error since after from marks = ap (λ slots. slot_at slots 1) marks
+marked_error IsDue Failed place count output error since after from marks = ap (λ slots. slot_at slots 1) marks
+marked_error IsDue TooLong place count output error since after from marks = ap (λ slots. slot_at slots 1) marks
 
-marked_some : (IsDue : List ℕ → Type 0) (fault : Fault) (output error : Slot) (since after : List Slot) → Marks IsDue fault (output ∷ error ∷ since) after → SaysSome error → SaysSome (slot_at after 1)
-marked_some IsDue (Write slot) output error since after marks some = subst (λ slots. SaysSome (slot_at slots 1)) (sym marks.1) (broken_some slot output error since some)
-marked_some IsDue (Open slot) output error since after (number, (name, kept, due, is, slots)) some = subst (λ those. SaysSome (slot_at those 1)) (sym slots) some
-marked_some IsDue Memory output error since after marks some = still_some output error since after marks some
-marked_some IsDue (Read slot) output error since after marks some = still_some output error since after marks some
-marked_some IsDue Suffixes output error since after marks some = still_some output error since after marks some
-marked_some IsDue (NoMatch operand repetition) output error since after marks some = still_some output error since after marks some
-marked_some IsDue (Range operand repetition) output error since after marks some = still_some output error since after marks some
-marked_some IsDue (Usage kind word) output error since after marks some = still_some output error since after marks some
-marked_some IsDue Failed output error since after marks some = still_some output error since after marks some
-marked_some IsDue TooLong output error since after marks some = still_some output error since after marks some
+-- that of a run which was stopped
+pub stopped_error : (clears : Bool) (error : Slot) (low high : Part) (fault : Fault) (reached new : List Slot) → StoppedBetween true (streams_with error) low high fault reached → Swept clears 2 reached new → slot_at new 1 ≡ error
+stopped_error clears error low high fault reached new between swept =
+    swept_error clears reached new swept
+    ∙ marked_error (IsNext between.part high) fault between.place (length between.part.files) _ error between.outputs.since reached between.from
+    (subst (λ slots. Marks (IsNext between.part high) fault slots reached) between.outputs.slots between.marks)
+
+-- A run over inputs
 
 has_failed : (failed : Bool) (status : ℕ) → status ≡ cond failed 1 0 → status ≡ 1 → failed ≡ true
 has_failed true status is one = refl
 has_failed false status is one = absurd (omega (arith, is, one))
 
-ends_told : (task : Task) (inputs : List Input) (sources : List Source) (new : List Slot) (status : ℕ) → status ≡ 1 → EndsAs true true task inputs sources new status → SaysSome (slot_at new 1)
+ends_told : (task : Task) (inputs : List Input) (sources : List Source) (new : List Slot) (status : ℕ) → status ≡ 1 → EndsAs true true task inputs sources new status → TellsFault task.tool (slot_at new 1)
 ends_told task inputs sources new status one (as_defined error reached says outputs swept done is) =
-    subst SaysSome (sym (swept_error _ reached new swept ∙ ap (λ slots. slot_at slots 1) outputs.slots))
-    (all_told task.tool _ standard_error error (inputs_text task true inputs (has_failed _ status is one)) says)
+    subst (TellsFault task.tool) (sym (swept_error _ reached new swept ∙ ap (λ slots. slot_at slots 1) outputs.slots))
+    (tells_fault task.tool _ error (inputs_fault task true inputs (has_failed _ status is one)) says)
 ends_told task inputs sources new status one (stopped fault before input after error step reached are done untouched at stops between swept says is) =
-    subst SaysSome (sym (swept_error _ reached new swept))
-    (marked_some (IsNext between.part step.high) fault _ error between.outputs.since reached (subst (λ slots. Marks (IsNext between.part step.high) fault slots reached) between.outputs.slots between.marks)
-    (all_told task.tool _ standard_error error (has_after (made_by task before).messages _ (inl (message_some task.tool fault _))) says))
+    subst (TellsFault task.tool) (sym (stopped_error task.work.clears error step.low step.high fault reached new between swept))
+    (tells_fault task.tool _ error (fault_after task.tool (made_by task before).messages _ (only_fault task.tool fault (output_named new fault))) says)
 ends_told task inputs sources new status one (no_room error says slots untouched count is) =
-    subst (λ those. SaysSome (slot_at those 1)) (sym slots) (all_told task.tool (message_of task.tool Memory [] ∷ []) standard_error error (inl (message_some task.tool Memory [])) says)
+    subst (λ those. TellsFault task.tool (slot_at those 1)) (sym slots) (tells_fault task.tool _ error (only_fault task.tool Memory []) says)
 
-refused_told : (tool : Tool) (text : List ℕ) (new : List Slot) (status : ℕ) → 0 < length text → Refuses true tool text new status → SaysSome (slot_at new 1)
-refused_told tool text new status some refuses =
-    subst (λ those. SaysSome (slot_at those 1)) (sym refuses.slots) (said_told tool text standard_error refuses.error some refuses.says)
+-- `tee`: an output that broke has its line, after the call in which it did.
 
-csplit_told : (asked : CsplitAsked) (inputs : List Input) (sources : List Source) (new : List Slot) (status : ℕ) → status ≡ 1 → CsplitEndsAs true true asked inputs sources new status → SaysSome (slot_at new 1)
-csplit_told asked inputs sources new status one does = ends_told (csplit_task asked does.operands) inputs sources new status one does.ends
-
--- `tee`: an output that broke has its message, after the call in which it did.
-
-pub record HasSaid (names : List (List ℕ)) (broke : List (Option ℕ)) (last : ℕ) : Type 0 where
+pub record HasSaid (names : List (List ℕ)) (broke : List (Option ℕ)) (last : ℕ) (output : Slot) (place : ℕ) : Type 0 where
+  pub name : List ℕ
+  pub called : IsCalled output name
   pub call : ℕ
   pub within : call ≤ last
-  pub text : HasText (said_in call names broke)
+  pub line : HasLine (message_of tool.Tee (failing place output.state) name) (said_in call names broke)
 
-said_here : (name : List ℕ) (names : List (List ℕ)) (broke : List (Option ℕ)) (last call : ℕ) → call ≤ last → HasSaid (name ∷ names) (Some call ∷ broke) last
-said_here name names broke last call within = record {
+said_here : (name : List ℕ) (names : List (List ℕ)) (broke : List (Option ℕ)) (last call place : ℕ) (output : Slot) → call ≤ last → IsCalled output name → message_of tool.Tee (fault_in call) name ≡ message_of tool.Tee (failing place output.state) name
+    → HasSaid (name ∷ names) (Some call ∷ broke) last output place
+said_here name names broke last call place output within called same = record {
+  name = name;
+  called = called;
   call = call;
   within = within;
-  text = subst (λ is. HasText (cond is (message_of tool.Tee (fault_in call) name ∷ said_in call names broke) (said_in call names broke))) (sym (eq-eqb call call refl)) (inl (message_some tool.Tee (fault_in call) name));
+  line = subst (λ is. HasLine (message_of tool.Tee (failing place output.state) name) (cond is (message_of tool.Tee (fault_in call) name ∷ said_in call names broke) (said_in call names broke))) (sym (eq-eqb call call refl))
+      ([], said_in call names broke, ap (λ line. line ∷ said_in call names broke) same);
 }
 
-said_past : (name : List ℕ) (names : List (List ℕ)) (broke : List (Option ℕ)) (last : ℕ) → HasSaid names broke last → HasSaid (name ∷ names) (None ∷ broke) last
-said_past name names broke last has = record { call = has.call; within = has.within; text = has.text }
+said_by : (is : Bool) (line other : List ℕ) (lines : List (List ℕ)) → HasLine line lines → HasLine line (cond is (other ∷ lines) lines)
+said_by true line other lines has = has_after line (other ∷ []) lines has
+said_by false line other lines has = has
+
+said_past : (name : List ℕ) (names : List (List ℕ)) (first : Option ℕ) (broke : List (Option ℕ)) (last place : ℕ) (output : Slot) → HasSaid names broke last output place → HasSaid (name ∷ names) (first ∷ broke) last output place
+said_past name names first broke last place output has = record {
+  name = has.name;
+  called = has.called;
+  call = has.call;
+  within = has.within;
+  line = said_by (tee.broke_in has.call first) _ (message_of tool.Tee (fault_in has.call) name) (said_in has.call names broke) has.line;
+}
 
 in_piece : (pieces before : List (List ℕ)) (piece : List ℕ) (after : List (List ℕ)) → pieces ≡ before ++ piece ∷ after → suc (length before) ≤ suc (length pieces)
 in_piece pieces before piece after is = let size = ap length is in let sum = length-append before (piece ∷ after) in omega (arith, size, sum)
 
-files_said : (mode : Mode) (pieces names : List (List ℕ)) (broke : List (Option ℕ)) (files : List Slot) → FilesLeft true mode pieces names broke files → are_sound broke ≡ false → HasSaid names broke (suc (length pieces))
-files_said mode pieces _ _ _ tee.no_file sound = absurd (cc)
-files_said mode pieces _ _ _ (tee.one_file name names _ broke _ files tee.file_whole rest) sound = said_past name names broke _ (files_said mode pieces names broke files rest sound)
-files_said mode pieces _ _ _ (tee.one_file name names _ broke _ files (tee.file_unopened kept is) rest) sound = said_here name names broke _ 0 (omega arith)
-files_said mode pieces _ _ _ (tee.one_file name names _ broke _ files (tee.file_cut before piece after n is few) rest) sound = said_here name names broke _ (suc (length before)) (in_piece pieces before piece after is)
-files_said mode pieces _ _ _ (tee.one_file name names _ broke _ files tee.file_unclosed rest) sound = said_here name names broke _ (suc (length pieces)) (omega arith)
+-- the place of a file among the outputs that are there, and among those of the run
+files_said : (mode : Mode) (pieces names : List (List ℕ)) (broke : List (Option ℕ)) (files : List Slot) (at place : ℕ) → FilesLeft true mode pieces names broke files → (slot_at files at).is_broken ≡ true
+    → HasSaid names broke (suc (length pieces)) (slot_at files at) place
+files_said mode pieces _ _ _ at place tee.no_file broken = absurd (cc)
+files_said mode pieces _ _ _ (suc at) place (tee.one_file name names first broke file files left rest) broken = said_past name names first broke _ place (slot_at files at) (files_said mode pieces names broke files at place rest broken)
+files_said mode pieces _ _ _ zero place (tee.one_file name names _ broke _ files tee.file_whole rest) broken = absurd (cc)
+files_said mode pieces _ _ _ zero place (tee.one_file name names _ broke _ files (tee.file_unopened kept is) rest) broken = said_here name names broke _ 0 place _ (omega arith) (called is) refl where
+  called : (kept ≡ name) ⊎ (kept ≡ []) → (kept ≡ name) ⊎ ((kept ≡ []) × (state.Unopened ≡ state.Unopened))
+  called (inl same) = inl same
+  called (inr lost) = inr (lost, refl)
+files_said mode pieces _ _ _ zero place (tee.one_file name names _ broke _ files (tee.file_cut before piece after n is few) rest) broken =
+    said_here name names broke _ (suc (length before)) place _ (in_piece pieces before piece after is) (inl refl) refl
+files_said mode pieces _ _ _ zero place (tee.one_file name names _ broke _ files tee.file_unclosed rest) broken = said_here name names broke _ (suc (length pieces)) place _ (omega arith) (inl refl) refl
 
-outputs_said : (mode : Mode) (pieces names : List (List ℕ)) (first : Option ℕ) (broke : List (Option ℕ)) (output : Slot) (files : List Slot) → OutputLeft true pieces first output → FilesLeft true mode pieces names broke files → are_sound (first ∷ broke) ≡ false
-    → HasSaid (output_names names) (first ∷ broke) (suc (length pieces))
-outputs_said mode pieces names _ broke _ files tee.output_whole rest sound = said_past _ names broke _ (files_said mode pieces names broke files rest sound)
-outputs_said mode pieces names _ broke _ files (tee.output_cut before piece after n is few) rest sound = said_here _ names broke _ (suc (length before)) (in_piece pieces before piece after is)
+outputs_said : (mode : Mode) (pieces names : List (List ℕ)) (first : Option ℕ) (broke : List (Option ℕ)) (output error : Slot) (files : List Slot) (place : ℕ) → OutputLeft true pieces first output → FilesLeft true mode pieces names broke files
+    → (place ≡ 1 → ⊥) → (slot_at (output ∷ error ∷ files) place).is_broken ≡ true → HasSaid (output_names names) (first ∷ broke) (suc (length pieces)) (slot_at (output ∷ error ∷ files) place) place
+outputs_said mode pieces names first broke output error files (suc zero) left rest differs broken = absurd (differs refl)
+outputs_said mode pieces names first broke output error files (suc (suc at)) left rest differs broken = said_past _ names first broke _ (suc (suc at)) _ (files_said mode pieces names broke files at (suc (suc at)) rest broken)
+outputs_said mode pieces names _ broke _ error files zero tee.output_whole rest differs broken = absurd (cc)
+outputs_said mode pieces names _ broke _ error files zero (tee.output_cut before piece after n is few) rest differs broken = said_here _ names broke _ (suc (length before)) 0 _ (in_piece pieces before piece after is) (inl refl) refl
 
-before_text : (last call : ℕ) (names : List (List ℕ)) (broke : List (Option ℕ)) → call < last → HasText (said_in call names broke) → HasText (said_before last names broke)
-before_text zero call names broke less has = absurd (omega (arith, less))
-before_text (suc last) call names broke less has = elim (cases_lt call last) [
-  | inl before ↦ has_before (said_before last names broke) (said_in last names broke) (before_text last call names broke before has)
+before_line : (line : List ℕ) (last call : ℕ) (names : List (List ℕ)) (broke : List (Option ℕ)) → call < last → HasLine line (said_in call names broke) → HasLine line (said_before last names broke)
+before_line line zero call names broke less has = absurd (omega (arith, less))
+before_line line (suc last) call names broke less has = elim (cases_lt call last) [
+  | inl before ↦ has_before line (said_before last names broke) (said_in last names broke) (before_line line last call names broke before has)
   | inr past ↦ let same : call ≡ last = omega (arith, less, past) in
-      has_after (said_before last names broke) (said_in last names broke) (subst (λ those. HasText (said_in those names broke)) same has)
+      has_after line (said_before last names broke) (said_in last names broke) (subst (λ those. HasLine line (said_in those names broke)) same has)
 ]
 
-sound_text : (names : List (List ℕ)) (broke : List (Option ℕ)) (pieces : ℕ) (fault : Option Fault) → HasSaid (output_names names) broke (suc pieces) → HasText (messages_of names broke pieces fault)
-sound_text names broke pieces fault has = elim (cases_lt has.call (suc pieces)) [
-  | inl before ↦ has_before _ _ (has_before _ _ (before_text (suc pieces) has.call (output_names names) broke before has.text))
-  | inr past ↦ let same : has.call ≡ suc pieces = (let within = has.within in omega (arith, within, past)) in
-      has_after _ _ (subst (λ call. HasText (said_in call (output_names names) broke)) same has.text)
+call_line : (line : List ℕ) (names : List (List ℕ)) (broke : List (Option ℕ)) (pieces call : ℕ) (fault : Option Fault) → call ≤ suc pieces → HasLine line (said_in call (output_names names) broke) → HasLine line (messages_of names broke pieces fault)
+call_line line names broke pieces call fault within has = elim (cases_lt call (suc pieces)) [
+  | inl before ↦ has_before line _ _ (has_before line _ _ (before_line line (suc pieces) call (output_names names) broke before has))
+  | inr past ↦ let same : call ≡ suc pieces = omega (arith, within, past) in
+      has_after line _ _ (subst (λ those. HasLine line (said_in those (output_names names) broke)) same has)
 ]
 
-status_text : (names : List (List ℕ)) (broke : List (Option ℕ)) (pieces : ℕ) (fault : Option Fault) (sound : Bool) → are_sound broke ≡ sound → (are_sound broke ≡ false → HasSaid (output_names names) broke (suc pieces))
-    → ◌≡◌ {A = ℕ} (cond (sound && is_none fault) 0 1) 1 → HasText (messages_of names broke pieces fault)
-status_text names broke pieces fault false is said one = sound_text names broke pieces fault (said is)
-status_text names broke pieces None true is said one = absurd (omega (arith, one))
-status_text names broke pieces (Some fault) true is said one =
-    has_before _ _ (has_after (said_before (suc pieces) (output_names names) broke) (said_of_input (Some fault)) (inl (message_some tool.Tee fault _)))
+-- some output is broken, unless all are sound
 
-tee_told : (mode : Mode) (names : List (List ℕ)) (content : Content) (source : Source) (new : List Slot) (status : ℕ) → status ≡ 1 → tee.EndsAs true true mode names content source new status → SaysSome (slot_at new 1)
+abbrev SomeBroke : List Slot → Type 0
+SomeBroke files = (at : ℕ) × ((slot_at files at).is_broken ≡ true)
+
+next_broke : (file : Slot) (files : List Slot) → SomeBroke files → SomeBroke (file ∷ files)
+next_broke file files (at, broken) = (suc at, broken)
+
+files_broke : (mode : Mode) (pieces names : List (List ℕ)) (broke : List (Option ℕ)) (files : List Slot) → FilesLeft true mode pieces names broke files → are_sound broke ≡ false → SomeBroke files
+files_broke mode pieces _ _ _ tee.no_file sound = absurd (cc)
+files_broke mode pieces _ _ _ (tee.one_file name names _ broke _ files tee.file_whole rest) sound = next_broke _ files (files_broke mode pieces names broke files rest sound)
+files_broke mode pieces _ _ _ (tee.one_file name names _ broke _ files (tee.file_unopened kept is) rest) sound = (0, refl)
+files_broke mode pieces _ _ _ (tee.one_file name names _ broke _ files (tee.file_cut before piece after n is few) rest) sound = (0, refl)
+files_broke mode pieces _ _ _ (tee.one_file name names _ broke _ files tee.file_unclosed rest) sound = (0, refl)
+
+unsound_said : (mode : Mode) (pieces names : List (List ℕ)) (first : Option ℕ) (broke : List (Option ℕ)) (output error : Slot) (files : List Slot) → OutputLeft true pieces first output → FilesLeft true mode pieces names broke files → are_sound (first ∷ broke) ≡ false
+    → (name : List ℕ) × (fault : Fault) × (call : ℕ) × (call ≤ suc (length pieces)) × HasLine (message_of tool.Tee fault name) (said_in call (output_names names) (first ∷ broke))
+unsound_said mode pieces names _ broke _ error files tee.output_whole rest sound =
+    let (at, broken) = files_broke mode pieces names broke files rest sound in
+    let said = outputs_said mode pieces names None broke _ error files (suc (suc at)) tee.output_whole rest (λ is. omega (arith, is)) broken in (said.name, failing (suc (suc at)) (slot_at files at).state, said.call, said.within, said.line)
+unsound_said mode pieces names _ broke _ error files (tee.output_cut before piece after n is few) rest sound =
+    let said = outputs_said mode pieces names _ broke _ error files 0 (tee.output_cut before piece after n is few) rest (λ is. omega (arith, is)) refl in (said.name, failing 0 state.Open, said.call, said.within, said.line)
+
+status_fault : (mode : Mode) (pieces names : List (List ℕ)) (first : Option ℕ) (broke : List (Option ℕ)) (output error : Slot) (files : List Slot) (fault : Option Fault) (sound : Bool) → OutputLeft true pieces first output → FilesLeft true mode pieces names broke files
+    → are_sound (first ∷ broke) ≡ sound → ◌≡◌ {A = ℕ} (cond (sound && is_none fault) 0 1) 1 → HasFault tool.Tee (messages_of names (first ∷ broke) (length pieces) fault)
+status_fault mode pieces names first broke output error files fault false left rest is one =
+    let (name, why, call, within, line) = unsound_said mode pieces names first broke output error files left rest is in
+    (why, name, call_line (message_of tool.Tee why name) names (first ∷ broke) (length pieces) call fault within line)
+status_fault mode pieces names first broke output error files None true left rest is one = absurd (omega (arith, one))
+status_fault mode pieces names first broke output error files (Some fault) true left rest is one =
+    fault_before tool.Tee _ _ (fault_after tool.Tee (said_before (suc (length pieces)) (output_names names) (first ∷ broke)) (said_of_input (Some fault)) (only_fault tool.Tee fault _))
+
+tee_told : (mode : Mode) (names : List (List ℕ)) (content : Content) (source : Source) (new : List Slot) (status : ℕ) → status ≡ 1 → tee.EndsAs true true mode names content source new status → TellsFault tool.Tee (slot_at new 1)
 tee_told mode names content source new status one (tee.no_room error says leaves slots is) =
-    subst (λ those. SaysSome (slot_at those 1)) (sym slots) (all_told tool.Tee (message_of tool.Tee Memory [] ∷ []) standard_error error (inl (message_some tool.Tee Memory [])) says)
+    subst (λ those. TellsFault tool.Tee (slot_at those 1)) (sym slots) (tells_fault tool.Tee _ error (only_fault tool.Tee Memory []) says)
 tee_told mode names content source new status one (tee.copied pieces fault first broke output error files comes going out_left files_left says slots is) =
-    subst (λ those. SaysSome (slot_at those 1)) (sym slots)
-    (all_told tool.Tee _ standard_error error (status_text names (first ∷ broke) (length pieces) fault _ refl (outputs_said mode pieces names first broke output files out_left files_left) (sym is ∙ one)) says)
+    subst (λ those. TellsFault tool.Tee (slot_at those 1)) (sym slots)
+    (tells_fault tool.Tee _ error (status_fault mode pieces names first broke output error files fault _ out_left files_left refl (sym is ∙ one)) says)
+
+-- the line of an output of `tee` that is broken
+pub tee_says : (mode : Mode) (pieces names : List (List ℕ)) (first : Option ℕ) (broke : List (Option ℕ)) (output error : Slot) (files : List Slot) (fault : Option Fault) (place : ℕ) → OutputLeft true pieces first output → FilesLeft true mode pieces names broke files
+    → SaysAll true tool.Tee (messages_of names (first ∷ broke) (length pieces) fault) standard_error error → (place ≡ 1 → ⊥) → (slot_at (output ∷ error ∷ files) place).is_broken ≡ true
+    → (name : List ℕ) × IsCalled (slot_at (output ∷ error ∷ files) place) name × SaysLine tool.Tee (message_of tool.Tee (failing place (slot_at (output ∷ error ∷ files) place).state) name) error
+tee_says mode pieces names first broke output error files fault place left rest says differs broken =
+    let said = outputs_said mode pieces names first broke output error files place left rest differs broken in
+    (said.name, said.called, says_line tool.Tee _ _ error (call_line _ names (first ∷ broke) (length pieces) said.call fault said.within said.line) says)
 
 -- All tools
 
-does_told : (asked : Settings) (inputs : List Input) (sources : List Source) (new : List Slot) (status : ℕ) → status ≡ 1 → DoesAsked true true asked inputs sources new status → SaysSome (slot_at new 1)
+does_told : (asked : Settings) (inputs : List Input) (sources : List Source) (new : List Slot) (status : ℕ) → status ≡ 1 → DoesAsked true true asked inputs sources new status → TellsFault (tool_of asked) (slot_at new 1)
 does_told (Head asked) inputs sources new status one does = ends_told (head_task asked) inputs sources new status one does
 does_told (Tail asked) inputs sources new status one does = ends_told (tail_task asked.ends) inputs sources new status one does
 does_told (Split asked) inputs sources new status one does = ends_told (split_task asked) inputs sources new status one does
-does_told (Csplit asked) inputs sources new status one does = csplit_told asked inputs sources new status one does
+does_told (Csplit asked) inputs sources new status one does = ends_told (csplit_task asked does.operands) inputs sources new status one does.ends
 does_told (Tee asked) inputs sources new status one does = tee_told asked.mode asked.names does.content _ new status one does.ends
 
-by_either : (run : Run) (asked : Settings) (found : List Input) → run.status ≡ 1 → DoesAsked true true asked found run.inputs run.outputs run.status ⊎ RefusesOperands true run.words asked run.outputs run.status → IsTold run
-by_either run asked found one (inl does) = does_told asked found run.inputs run.outputs run.status one does
-by_either run asked found one (inr (fault, bad, refuses)) = refused_told _ _ run.outputs run.status (message_some _ fault _) refuses
+by_either : (run : Run) (asked : Settings) (found : List Input) → Ran run asked → run.status ≡ 1 → DoesAsked true true asked found run.inputs run.outputs run.status ⊎ RefusesOperands true run.words asked run.outputs run.status → IsTold run asked
+by_either run asked found ran one (inl does) = does_told asked found run.inputs run.outputs run.status one does
+by_either run asked found ran one (inr (fault, bad, refuses)) =
+    subst (λ those. TellsFault (tool_of asked) (slot_at those 1)) (sym refuses.slots)
+    (subst (λ which. TellsFault which refuses.error) (runs_as_named run.words asked ran.read)
+    (tells_fault (outcome.speaker run.words) _ refuses.error (only_fault (outcome.speaker run.words) fault (outcome.word_of run.words fault)) (refuses.error, refuses.says, refl)))
 
-pub is_told : (run : Run) (asked : Settings) → Ran run asked → run.status ≡ 1 → IsTold run
-is_told run asked ran one = by_either run asked _ one (ran_over run asked ran)
+pub is_told : (run : Run) (asked : Settings) → Ran run asked → run.status ≡ 1 → IsTold run asked
+is_told run asked ran one = by_either run asked _ ran one (ran_over run asked ran)

@@ -1,17 +1,26 @@
 -- What people rest on, in a manual's words: what a run leaves, over inputs and outputs that tell their bytes, as those
 -- in memory do.
-use Rattle.std.specs.Prelude.{◌≡◌, ℕ, ◌+◌, ◌^◌, ◌/◌, ◌%◌, ◌<◌, ◌≤◌, ◌==◌, suc, Bool, true, false, List, [], ◌∷◌, ◌++◌, length, map, drop, All, slice_index_or, ◌⊎◌, Option, Some, None, Ok, if◌then◌else◌}
+use Rattle.std.specs.Prelude.{◌≡◌, ℕ, ◌+◌, ◌^◌, ◌/◌, ◌%◌, ◌<◌, ◌≤◌, ◌==◌, suc, Bool, true, false, not, List, [], ◌∷◌, ◌++◌, length, map, drop, All, slice_index_or, ◌⊎◌, Option, Some, None, Ok, if◌then◌else◌}
+use Rattle.std.specs.List.{concat}
 use Rattle.std.specs.declared.cmp.Ordering.TheVariants.{Less}
 use Rattle.std.specs.Ordering.{nat_cmp}
 use Rattle.std.specs.Cmp.Lexicographic.{slice_cmp}
 use Rattle.seg_core.specs.Line.{delimiters, ends_with, first_lines, joined, lines_of}
+use Rattle.ports_core.specs.Message.{SaysAll}
 use Rattle.ports_core.specs.Name.{name_at, numbered_name}
 use Rattle.ports_core.specs.Part.{File, IsBeginning}
 use Rattle.ports_core.specs.Slot.{Slot, slot_at}
 use Rattle.ports_core.specs.Source.{Content, Source, source_of}
+use Rattle.ports_core.specs.Streams.{standard_error}
+use Rattle.ports_core.specs.Text.{message_of}
+use Rattle.ports_core.specs.declared.fault.Fault.{Fault}
+use Rattle.ports_core.specs.declared.fault.Fault.TheVariants as fault
 use Rattle.ports_core.specs.declared.slot.Mode.{Mode}
 use Rattle.ports_core.specs.declared.slot.Mode.TheVariants.{Fresh}
+use Rattle.ports_core.specs.declared.slot.State.{State}
+use Rattle.ports_core.specs.declared.slot.State.TheVariants as state
 use Rattle.ports_core.specs.declared.slot.State.TheVariants.{Closed}
+use Rattle.ports_core.specs.declared.tool.Tool.{Tool}
 use Rattle.seg_core.specs.declared.count.Sign.{Sign}
 use Rattle.operand_core.specs.Style.{Style}
 use Rattle.operand_core.specs.declared.operand.Operand.{Operand}
@@ -21,10 +30,12 @@ use Rattle.csplit_core.specs.Output.{contents_of as contents_in, files_of as fil
 use Rattle.csplit_core.specs.Plan.{Step}
 use Rattle.csplit_core.specs.Planned.{Plan, plan}
 use Rattle.csplit_core.specs.Section.{lines_between, section_of, whole_end, whole_sections}
-use Rattle.run_core.specs.Input.{World, inputs_at, is_dash}
-use Rattle.run_core.specs.RunEnds.{RunsOver}
+use Rattle.run_core.specs.Input.{Input, World, inputs_at, is_dash}
+use Rattle.run_core.specs.RunEnds.{EndsAs, RunsOver, as_defined, no_room, stopped}
+use Rattle.run_core.specs.Task.{Task}
+use Rattle.tee_core.specs.Run.{EndsAs as TeeCopies, are_sound, copied, no_room as no_memory}
 use Rattle.words_core.specs.declared.settings.Settings.{Settings}
-use Rattle.words_core.specs.declared.settings.Settings.TheVariants.{Head, Tail}
+use Rattle.words_core.specs.declared.settings.Settings.TheVariants.{Head, Tail, Split, Csplit, Tee}
 use Rattle.words_core.specs.EndsAsked.{EndsAsked}
 use Rattle.words_core.specs.declared.value.Followed.{Followed}
 use Rattle.words_core.specs.SplitAsked.{SplitAsked}
@@ -32,11 +43,11 @@ use Rattle.words_core.specs.Words.{settings_of}
 use Rattle.watch_core.specs.Snapshot.{Snapshot}
 use Rattle.watch_core.specs.Watched.{Watched}
 use Rattle.tools_core.specs.Following.{FollowingEnds}
-use Rattle.tools_core.specs.Outcome.{RunEnds, names_read}
-use Rattle.tools_core.specs.Tasks.{has_headers}
+use Rattle.tools_core.specs.Outcome.{DoesAsked, RunEnds, names_read}
+use Rattle.tools_core.specs.Tasks.{has_headers, names_of, tool_of}
 
--- One run: its words, what it found, and what it left. Where words ask `tail` to follow files, the program has another,
--- a `FollowRun`.
+-- One run: its words, what it found, and what it left. Where words ask `tail` to follow files, the program makes another
+-- kind of run, a `FollowRun`.
 pub record Run : Type 0 where
   -- the first is the tool's name
   pub words : List (List ℕ)
@@ -48,7 +59,8 @@ pub record Run : Type 0 where
   pub outputs : List Slot
   pub status : ℕ
 
--- its words are read as these settings, and it ended as `run` ensures, whether it met a fault or not
+-- Its words are read as these settings, it began with standard input unread, and it ended as `run` ensures, whether it
+-- met a fault or not.
 pub record Ran (run : Run) (asked : Settings) : Type 0 where
   pub read : settings_of run.words ≡ Ok asked
   pub ends : RunsOver true run.world (names_read run.words)
@@ -60,7 +72,7 @@ pub record Does (run : Run) (asked : Settings) : Type 0 where
   pub ran : Ran run asked
   pub well : run.status ≡ 0
 
--- what lies at a name; that of standard input is `-`, and the first file that is opened has the number 1
+-- What lies at a name that is the only one: at `-` standard input, at any other a file, which is opened as input 1.
 abbrev pub lying_at : World → List ℕ → Option Content
 lying_at world name = if is_dash name then Some world.standard else world.laid 1 name
 
@@ -70,7 +82,8 @@ pub record HasInput (run : Run) (bytes : List ℕ) : Type 0 where
   pub only : names_read run.words ≡ name ∷ []
   pub holds : lying_at run.world name ≡ Some (record { bytes = bytes; breaks_off = false })
 
--- At the names that they read two runs find the same bytes. In how many reads those come is no part of what lies there.
+-- Under the names that they read two runs find the same: there the same bytes lie, which end or break off alike, or
+-- nothing does. In how many reads bytes come is no part of what lies there.
 abbrev pub FindAlike : Run → Run → Type 0
 FindAlike one other = inputs_at one.world (names_read one.words) ≡ inputs_at other.world (names_read other.words)
 
@@ -91,7 +104,7 @@ abbrev pub IsTail : Run → EndsAsked → Sign → ℕ → Type 0
 IsTail run options sign n = (looks : ℕ)
     × Does run (Tail (record { ends = counted options sign n; followed = None; looks = looks }))
 
--- no header is asked for
+-- no header is written: an option says so, or there is one input and none asks for headers
 abbrev pub IsBare : EndsAsked → Type 0
 IsBare options = has_headers options.headers options.names ≡ false
 
@@ -174,7 +187,7 @@ pub record AreDealt (delim n : ℕ) (elide : Bool) (input : List ℕ) (contents 
   pub count : elide ≡ false → length contents ≡ n
   pub left_out : elide ≡ true → All (λ bytes. 0 < length bytes) contents
 
--- An operand of `csplit` that begins with `%` (37) is a pattern whose section is skipped, since its words were read.
+-- of the operands of a `csplit` that ran one that begins with `%` (37) is a pattern whose section is skipped
 abbrev pub skips : List ℕ → Bool
 skips [] = false
 skips (byte ∷ word) = byte == 37
@@ -230,9 +243,94 @@ abbrev pub BeginsEach : Run → Run → Type 0
 BeginsEach run other =
     (place : ℕ) → (place ≡ 1 → ⊥) → BeginsAs (slot_at run.outputs place) (slot_at other.outputs place)
 
--- standard error has something, or broke itself
-abbrev pub IsTold : Run → Type 0
-IsTold run = (0 < length (slot_at run.outputs 1).written) ⊎ ((slot_at run.outputs 1).is_broken ≡ true)
+-- The run told this fault of this name by a line on standard error, perhaps among others: as far as that takes lines,
+-- and where there was no memory for one, the line that says so stands in its place.
+abbrev pub Tells : Run → Settings → Fault → List ℕ → Type 0
+Tells run asked fault name = (before : List (List ℕ)) × (after : List (List ℕ)) × SaysAll true (tool_of asked)
+    (before ++ message_of (tool_of asked) fault name ∷ after) standard_error (slot_at run.outputs 1)
+
+-- it told some fault
+abbrev pub IsTold : Run → Settings → Type 0
+IsTold run asked = (fault : Fault) × (name : List ℕ) × Tells run asked fault name
+
+-- an output's name, which is lost where a file could not be opened and there was no memory to keep it
+abbrev pub IsCalled : Slot → List ℕ → Type 0
+IsCalled output name = (output.name ≡ name) ⊎ ((output.name ≡ []) × (output.state ≡ state.Unopened))
+
+-- what could not be done with an output that is broken and in this state
+abbrev pub failing : ℕ → State → Fault
+failing place state.Unopened = fault.Open place
+failing place state.Open = fault.Write place
+failing place state.Closed = fault.Write place
+failing place state.Removed = fault.Write place
+
+-- its files are removed after a fault: those of a `csplit` that isn't to keep them
+abbrev pub removes_files : Settings → Bool
+removes_files (Head asked) = false
+removes_files (Tail asked) = false
+removes_files (Split asked) = false
+removes_files (Csplit asked) = not asked.style.keep
+removes_files (Tee asked) = false
+
+-- Why an output is broken: it could not be opened or written, which was told by its name; or it is a file that was to be
+-- removed after some fault and could not be, of which no line speaks.
+pub data IsBroken (run : Run) (asked : Settings) (place : ℕ) : Type 0 where
+  told : (name : List ℕ) → IsCalled (slot_at run.outputs place) name
+      → Tells run asked (failing place (slot_at run.outputs place).state) name → IsBroken run asked place
+  unremoved : removes_files asked ≡ true → (slot_at run.outputs place).state ≡ Closed → IsBroken run asked place
+
+-- No fault stopped a run over its inputs. It went on where one was missing or broke off, and where the tool's own work
+-- ended with a fault: no match, a line out of range, names that ran out. These are told, and its status is 1.
+abbrev pub IsUnstopped : {told_in told : Bool} {task : Task} {inputs : List Input} {sources : List Source}
+    {new : List Slot} {status : ℕ} → EndsAs told_in told task inputs sources new status → Type 0
+IsUnstopped (as_defined error reached says outputs swept done is) = Unit {0}
+IsUnstopped (stopped fault before input after error step reached are done untouched at stops between swept says is) = ⊥
+IsUnstopped (no_room error says slots untouched count is) = ⊥
+
+-- `tee` copied all that its input has, and none of its outputs broke
+abbrev pub IsCopied : {told_in told : Bool} {mode : Mode} {names : List (List ℕ)} {content : Content} {source : Source}
+    {new : List Slot} {status : ℕ} → TeeCopies told_in told mode names content source new status → Type 0
+IsCopied {content = content} (copied pieces fault first broke output error files comes left out_left files_left says
+    slots is) = (are_sound (first ∷ broke) ≡ true) × (concat pieces ≡ content.bytes)
+IsCopied (no_memory error says leaves slots is) = ⊥
+
+-- no fault stopped what was asked for
+abbrev pub Unstopped : (asked : Settings) (inputs : List Input) (sources : List Source) (new : List Slot) (status : ℕ)
+    → DoesAsked true true asked inputs sources new status → Type 0
+Unstopped (Head asked) inputs sources new status does = IsUnstopped does
+Unstopped (Tail asked) inputs sources new status does = IsUnstopped does
+Unstopped (Split asked) inputs sources new status does = IsUnstopped does
+Unstopped (Csplit asked) inputs sources new status does = IsUnstopped does.ends
+Unstopped (Tee asked) inputs sources new status does = IsCopied does.ends
+
+-- The run did what was asked for, over what it found, and no fault stopped it, whatever its status.
+pub record Completes (run : Run) (asked : Settings) : Type 0 where
+  pub read : settings_of run.words ≡ Ok asked
+  pub does : DoesAsked true true asked (inputs_at run.world (names_of asked)) run.inputs run.outputs run.status
+  pub unstopped : Unstopped asked (inputs_at run.world (names_of asked)) run.inputs run.outputs run.status does
+
+-- An output got the same in two runs, under the same name. It is left the same in both, unless it is a file that was to
+-- be removed and in one of them could not be: there it is broken.
+pub record IsAlike (output other : Slot) : Type 0 where
+  pub name : output.name ≡ other.name
+  pub mode : output.mode ≡ other.mode
+  pub written : output.written ≡ other.written
+  pub left : output.is_broken ≡ false → other.is_broken ≡ false → output ≡ other
+
+-- Two runs said the same lines on standard error, as far as that took them in each; where there was no memory for a line,
+-- the one that says so stands in its place.
+pub record SayAlike (one other : Run) : Type 0 where
+  pub tool : Tool
+  pub lines : List (List ℕ)
+  pub says : SaysAll true tool lines standard_error (slot_at one.outputs 1)
+  pub says_too : SaysAll true tool lines standard_error (slot_at other.outputs 1)
+
+-- two runs left the same status, as many outputs, the same in each, and said the same
+pub record LeaveAlike (one other : Run) : Type 0 where
+  pub status : one.status ≡ other.status
+  pub count : length one.outputs ≡ length other.outputs
+  pub outputs : (place : ℕ) → (place ≡ 1 → ⊥) → IsAlike (slot_at one.outputs place) (slot_at other.outputs place)
+  pub said : SayAlike one other
 
 -- one run of `tail` that follows: its words, in how many looks, what each look would see, and what it left
 pub record FollowRun : Type 0 where

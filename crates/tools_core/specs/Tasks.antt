@@ -5,6 +5,7 @@ use Rattle.std.specs.Prelude.{ℕ, nat_lt, Bool, true, false, not, List, [], ◌
 use Rattle.ports_core.specs.Name.{Naming}
 use Rattle.ports_core.specs.declared.fault.Fault.{Fault}
 use Rattle.ports_core.specs.declared.fault.Fault.TheVariants.{NoMatch, Range}
+use Rattle.ports_core.specs.declared.tool.Tool.{Tool}
 use Rattle.ports_core.specs.declared.tool.Tool.TheVariants as tool
 use Rattle.seg_core.specs.declared.count.Sign.{Sign}
 use Rattle.seg_core.specs.declared.count.Sign.TheVariants.{Plain, Minus, Plus}
@@ -109,3 +110,11 @@ names_of (Tail asked) = asked.ends.names
 names_of (Split asked) = asked.input ∷ []
 names_of (Csplit asked) = asked.input ∷ []
 names_of (Tee asked) = codes "-" ∷ []
+
+-- the tool that settings are for
+abbrev pub tool_of : Settings → Tool
+tool_of (Head asked) = tool.Head
+tool_of (Tail asked) = tool.Tail
+tool_of (Split asked) = tool.Split
+tool_of (Csplit asked) = tool.Csplit
+tool_of (Tee asked) = tool.Tee

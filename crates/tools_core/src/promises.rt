@@ -1,6 +1,6 @@
 //! What people rest on, as laws of runs, with no code: each stands on the contract of a function whose body is empty. They
 //! speak of runs over inputs and outputs that tell their bytes, as those in memory do, and of what `run` ensures of each.
-ghost use Rattle.std.specs.Prelude.{◌≡◌, ◌+◌, ◌++◌, ◌∷◌, [], ℕ, List, false, length};
+ghost use Rattle.std.specs.Prelude.{◌≡◌, ◌+◌, ◌++◌, ◌∷◌, [], ℕ, List, true, false, length};
 ghost use Rattle.ends_core.specs.Ends.{tail_of};
 ghost use Rattle.follow_core.specs.Run.{AreKept, name_text};
 ghost use Rattle.follow_core.specs.Version.{entries_of};
@@ -11,7 +11,7 @@ ghost use Rattle.seg_core.specs.declared.cut.Cut.TheVariants.{Bytes, LineBytes, 
 ghost use Rattle.operand_core.specs.Reading.{Asks};
 ghost use Rattle.operand_core.specs.declared.operand.Operand.{Operand};
 ghost use Rattle.tools_core.specs.Following.{is_name};
-ghost use Rattle.tools_core.specs.Promises.{AreCopies, AreDealt, AreLinePieces, AreListed, AreNumbered, ArePieces, AreSections, AreUncut, BeginsEach, CountAlike, Does, FindAlike, FollowRun, Follows, HasInput, IsBare, IsHead, IsTail, IsTold, OnlyGrows, Ran, Run, SkipNothing, contents_of, files_of, output_of};
+ghost use Rattle.tools_core.specs.Promises.{AreCopies, AreDealt, AreLinePieces, AreListed, AreNumbered, ArePieces, AreSections, AreUncut, BeginsEach, Completes, CountAlike, Does, FindAlike, FollowRun, Follows, HasInput, IsBare, IsBroken, IsHead, IsTail, IsTold, LeaveAlike, OnlyGrows, Ran, Run, SkipNothing, contents_of, files_of, output_of};
 ghost use Rattle.tools_core.specs.Tasks.{is_plus};
 ghost use Rattle.words_core.specs.CsplitAsked.{CsplitAsked};
 ghost use Rattle.words_core.specs.EndsAsked.{EndsAsked};
@@ -38,9 +38,13 @@ pub fn tee_copies()
 {}
 
 /// How an input comes changes nothing: two runs that are asked for the same, over inputs of the same bytes, leave the same
-/// outputs, whether a read gives one byte or all of them: a run's end doesn't say how large the reads were.
+/// outputs, whether a read gives one byte or all of them: a run's end doesn't say how large the reads were. Where the status is
+/// 1 and no fault stopped them, as of an input that breaks off or a pattern that isn't found, they leave the same status too, and
+/// the same bytes under the same names, and say the same lines; but a file that was to be removed may stay in one of them.
 pub fn cutting_changes_nothing()
-    ensures { (one other : Run) (asked : Settings) → Does one asked → Does other asked → FindAlike one other → one.outputs ≡ other.outputs }
+    ensures same { (one other : Run) (asked : Settings) → Does one asked → Does other asked → FindAlike one other → one.outputs ≡ other.outputs }
+    ensures unstopped { (run : Run) (asked : Settings) → Does run asked → Completes run asked }
+    ensures alike { (one other : Run) (asked : Settings) → Completes one asked → Completes other asked → FindAlike one other → LeaveAlike one other }
 {}
 
 /// `split` loses nothing. Its files have the names that were asked for, and a shell's `*` gives them in the order of the
@@ -68,10 +72,13 @@ pub fn csplit_loses_nothing()
 
 /// Nothing after a fault but a beginning. Over one input that ends, whatever else a run met, standard output and each file
 /// have a beginning of what they have after a run that met no fault, which is asked for the same, over the same input. A run
-/// whose status is 1 said something, as far as standard error takes lines.
+/// whose status is 1 told a fault, as far as standard error takes lines. So it did where standard output or a file broke: that
+/// it can't be written, or not be opened, is told by its name. One thing isn't: that a file of `csplit` couldn't be removed, after
+/// another fault.
 pub fn faults_leave_a_beginning()
     ensures begins { (run well : Run) (asked : Settings) (input : List ℕ) → Ran run asked → Does well asked → run.world ≡ well.world → HasInput run input → BeginsEach run well }
-    ensures told { (run : Run) (asked : Settings) → Ran run asked → run.status ≡ 1 → IsTold run }
+    ensures told { (run : Run) (asked : Settings) → Ran run asked → run.status ≡ 1 → IsTold run asked }
+    ensures broken { (run : Run) (asked : Settings) (place : ℕ) → Ran run asked → (place ≡ 1 → ⊥) → (slot_at run.outputs place).is_broken ≡ true → (run.status ≡ 1) × IsBroken run asked place }
 {}
 
 /// `tail -f` tells all, once. Of one file that only grows it writes the last lines or bytes that the file has at the first
