@@ -27,7 +27,7 @@ use Rattle.words_core.specs.declared.settings.Settings.{Settings}
 use Rattle.words_core.specs.declared.settings.Settings.TheVariants.{Head, Tail, Split, Csplit, Tee}
 use Rattle.tools_core.specs.Outcome.{DoesAsked, RefusesOperands}
 use Rattle.tools_core.specs.Tasks.{csplit_task, head_task, is_minus, is_plus, plan_of, split_task, tail_task, tool_of}
-use Rattle.tools_core.specs.Promises.{IsBroken, IsCalled, Ran, Run, failing, removes_files, told, unremoved}
+use Rattle.tools_core.specs.Promises.{WhyBroken, IsCalled, Ran, Run, failing, removes_files, told, unremoved}
 use Rattle.tools_core.proofs.BeginLemmas.{slots_at}
 use Rattle.tools_core.proofs.LiveLemmas.{AreLive, IsLiving, csplit_living, head_living, inputs_live, live_begin, outputs_have, outputs_sound, split_living, step_live, tail_living}
 use Rattle.tools_core.proofs.PromiseLemmas.{ran_over}
@@ -281,10 +281,10 @@ by_either : (run : Run) (asked : Settings) (found : List Input) (place : ℕ) �
 by_either run asked found place differs broken (inl does) = does_due asked found run.inputs run.outputs run.status place differs broken does
 by_either run asked found place differs broken (inr (fault, bad, refuses)) = refused_due run.outputs run.status place refuses.error asked refuses.slots differs broken
 
-why_broken : (run : Run) (asked : Settings) (place : ℕ) → IsToldOf (tool_of asked) run.outputs place ⊎ IsStuck (removes_files asked) (slot_at run.outputs place) → IsBroken run asked place
+why_broken : (run : Run) (asked : Settings) (place : ℕ) → IsToldOf (tool_of asked) run.outputs place ⊎ IsStuck (removes_files asked) (slot_at run.outputs place) → WhyBroken run asked place
 why_broken run asked place (inl (name, called, line)) = told name called line
 why_broken run asked place (inr (removes, closed)) = unremoved removes closed
 
-pub is_broken : (run : Run) (asked : Settings) (place : ℕ) → Ran run asked → (place ≡ 1 → ⊥) → (slot_at run.outputs place).is_broken ≡ true → (run.status ≡ 1) × IsBroken run asked place
+pub is_broken : (run : Run) (asked : Settings) (place : ℕ) → Ran run asked → (place ≡ 1 → ⊥) → (slot_at run.outputs place).is_broken ≡ true → (run.status ≡ 1) × WhyBroken run asked place
 is_broken run asked place ran differs broken =
     let due = by_either run asked _ place differs broken (ran_over run asked ran) in (due.0, why_broken run asked place due.1)

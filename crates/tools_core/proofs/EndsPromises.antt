@@ -1,8 +1,10 @@
 -- What `head` and `tail` leave of one input.
-use Rattle.std.proofs.Common.{◌≡◌, ℕ, ◌+◌, ◌-◌, true, List, ◌++◌, None, sym, ◌∙◌, ap, arith}
+use Rattle.std.proofs.Common.{◌≡◌, ℕ, ◌+◌, ◌-◌, Bool, true, List, ◌++◌, None, refl, sym, ◌∙◌, ap, arith}
 use Rattle.ports_core.specs.Slot.{slot_at}
 use Rattle.seg_core.specs.declared.count.Sign.{Sign}
 use Rattle.seg_core.specs.declared.count.Sign.TheVariants.{Plain, Minus, Plus}
+use Rattle.seg_core.specs.declared.unit.Unit.{Unit as Counted}
+use Rattle.seg_core.specs.declared.unit.Unit.TheVariants.{Lines, Bytes}
 use Rattle.ends_core.specs.Ends.{head_of, tail_of, after_of, first_of}
 use Rattle.ends_core.specs.laws.EndsLaws.{first_then_after, ends_together}
 use Rattle.run_core.specs.Task.{header_text}
@@ -24,9 +26,15 @@ tail_output run options sign n input bare (looks, does) has =
     let made = one_done (tail_task (counted options sign n)) one.input input run.inputs run.outputs one.content one.does in
     ap (λ slots. (slot_at slots 0).written) made.slots ∙ ap (λ with_header. header_text with_header true one.input.name ++ tail_of options.delim options.unit (is_plus sign) n input) bare
 
+-- whatever byte lines end with, bytes are counted alike
+tail_counted : (delim other : ℕ) (unit : Counted) (from_nth : Bool) (n : ℕ) (input : List ℕ) → (unit ≡ Lines → delim ≡ other) → tail_of delim unit from_nth n input ≡ tail_of other unit from_nth n input
+tail_counted delim other Lines from_nth n input same = ap (λ delim. tail_of delim Lines from_nth n input) (same refl)
+tail_counted delim other Bytes from_nth n input same = refl
+
 tail_alike : (run : Run) (first rest : EndsAsked) (sign : Sign) (n : ℕ) (input : List ℕ) → CountAlike first rest → IsTail run rest sign n → HasInput run input → output_of run ≡ tail_of first.delim first.unit (is_plus sign) n input
 tail_alike run first rest sign n input alike does has =
-    tail_output run rest sign n input alike.bare.1 does has ∙ ap (λ delim. tail_of delim rest.unit (is_plus sign) n input) (sym alike.delim) ∙ ap (λ unit. tail_of first.delim unit (is_plus sign) n input) (sym alike.unit)
+    tail_output run rest sign n input alike.bare.1 does has ∙ ap (λ unit. tail_of rest.delim unit (is_plus sign) n input) (sym alike.unit)
+    ∙ tail_counted rest.delim first.delim first.unit (is_plus sign) n input (λ lines. sym (alike.delim lines))
 
 pub first_meet : (head tail : Run) (first rest : EndsAsked) (n : ℕ) (input : List ℕ) → CountAlike first rest → IsHead head first Plain n → IsTail tail rest Plus (n + 1) → HasInput head input → HasInput tail input → output_of head ++ output_of tail ≡ input
 first_meet head tail first rest n input alike one other has has_too =

@@ -22,6 +22,7 @@ use Rattle.ports_core.specs.declared.slot.State.TheVariants as state
 use Rattle.ports_core.specs.declared.slot.State.TheVariants.{Closed}
 use Rattle.ports_core.specs.declared.tool.Tool.{Tool}
 use Rattle.seg_core.specs.declared.count.Sign.{Sign}
+use Rattle.seg_core.specs.declared.unit.Unit.TheVariants.{Lines}
 use Rattle.operand_core.specs.Style.{Style}
 use Rattle.operand_core.specs.declared.operand.Operand.{Operand}
 use Rattle.csplit_core.specs.Input.{all_lines}
@@ -82,8 +83,8 @@ pub record HasInput (run : Run) (bytes : List ℕ) : Type 0 where
   pub only : names_read run.words ≡ name ∷ []
   pub holds : lying_at run.world name ≡ Some (record { bytes = bytes; breaks_off = false })
 
--- Under the names that they read two runs find the same: there the same bytes lie, which end or break off alike, or
--- nothing does. In how many reads bytes come is no part of what lies there.
+-- Two runs read inputs of the same names, in order, and find the same under each: the same bytes, which end or break off
+-- alike, or nothing. In how many reads bytes come is no part of what lies there.
 abbrev pub FindAlike : Run → Run → Type 0
 FindAlike one other = inputs_at one.world (names_read one.words) ≡ inputs_at other.world (names_read other.words)
 
@@ -108,10 +109,10 @@ IsTail run options sign n = (looks : ℕ)
 abbrev pub IsBare : EndsAsked → Type 0
 IsBare options = has_headers options.headers options.names ≡ false
 
--- both count lines, which end with the same byte, or both count bytes; neither asks for a header
+-- both count lines, which end with the same byte, or both count bytes; neither writes a header
 pub record CountAlike (one other : EndsAsked) : Type 0 where
   pub unit : one.unit ≡ other.unit
-  pub delim : one.delim ≡ other.delim
+  pub delim : one.unit ≡ Lines → one.delim ≡ other.delim
   pub bare : IsBare one × IsBare other
 
 -- The files that it opened. One that was opened twice, under the same name or another, stands here twice.
@@ -122,7 +123,7 @@ files_of run = drop 2 run.outputs
 abbrev pub IsSound : Mode → Slot → Type 0
 IsSound mode file = (file.mode ≡ mode) × (file.state ≡ Closed) × (file.is_broken ≡ false)
 
--- a file was opened in this mode for each name, in their order, and these bytes were written to each
+-- a file was opened in this mode for each name, in their order; it is sound, and these bytes were written to it
 pub record AreCopies (mode : Mode) (names : List (List ℕ)) (bytes : List ℕ) (files : List Slot) : Type 0 where
   pub named : map (λ (file : Slot). file.name) files ≡ names
   pub each : All (λ (file : Slot). IsSound mode file × (file.written ≡ bytes)) files
@@ -208,6 +209,7 @@ in_turn suppress lines [] last = last
 in_turn suppress lines (step ∷ steps) last =
     (section_of lines step).lines ++ (left_out suppress lines step ++ in_turn suppress lines steps last)
 
+-- the lines of the last section: all that are left, but none where the plan ends with a cut below the current line
 abbrev pub last_section : List Line → Plan → List Line
 last_section lines plan = lines_between plan.last.current (whole_end (length lines) plan.ending) lines
 
@@ -232,7 +234,7 @@ pub record AreNumbered (prefix : List ℕ) (digits : ℕ) (files : List Slot) : 
       → AreInOrder (map (λ (file : Slot). file.name) files)
   pub sound : All (IsSound Fresh) files
 
--- an output has a beginning of what another has, under its name
+-- an output has a beginning of what another has, under its name, or it has nothing
 pub record BeginsAs (output other : Slot) : Type 0 where
   pub bytes : IsBeginning output.written other.written
   pub named : (output.name ≡ other.name) ⊎ (output.written ≡ [])
@@ -274,10 +276,10 @@ removes_files (Tee asked) = false
 
 -- Why an output is broken: it could not be opened or written, which was told by its name; or it is a file that was to be
 -- removed after some fault and could not be, of which no line speaks.
-pub data IsBroken (run : Run) (asked : Settings) (place : ℕ) : Type 0 where
+pub data WhyBroken (run : Run) (asked : Settings) (place : ℕ) : Type 0 where
   told : (name : List ℕ) → IsCalled (slot_at run.outputs place) name
-      → Tells run asked (failing place (slot_at run.outputs place).state) name → IsBroken run asked place
-  unremoved : removes_files asked ≡ true → (slot_at run.outputs place).state ≡ Closed → IsBroken run asked place
+      → Tells run asked (failing place (slot_at run.outputs place).state) name → WhyBroken run asked place
+  unremoved : removes_files asked ≡ true → (slot_at run.outputs place).state ≡ Closed → WhyBroken run asked place
 
 -- No fault stopped a run over its inputs. It went on where one was missing or broke off, and where the tool's own work
 -- ended with a fault: no match, a line out of range, names that ran out. These are told, and its status is 1.

@@ -11,7 +11,7 @@ ghost use Rattle.seg_core.specs.declared.cut.Cut.TheVariants.{Bytes, LineBytes, 
 ghost use Rattle.operand_core.specs.Reading.{Asks};
 ghost use Rattle.operand_core.specs.declared.operand.Operand.{Operand};
 ghost use Rattle.tools_core.specs.Following.{is_name};
-ghost use Rattle.tools_core.specs.Promises.{AreCopies, AreDealt, AreLinePieces, AreListed, AreNumbered, ArePieces, AreSections, AreUncut, BeginsEach, Completes, CountAlike, Does, FindAlike, FollowRun, Follows, HasInput, IsBare, IsBroken, IsHead, IsTail, IsTold, LeaveAlike, OnlyGrows, Ran, Run, SkipNothing, contents_of, files_of, output_of};
+ghost use Rattle.tools_core.specs.Promises.{AreCopies, AreDealt, AreLinePieces, AreListed, AreNumbered, ArePieces, AreSections, AreUncut, BeginsEach, Completes, CountAlike, Does, FindAlike, FollowRun, Follows, HasInput, IsBare, WhyBroken, IsHead, IsTail, IsTold, LeaveAlike, OnlyGrows, Ran, Run, SkipNothing, contents_of, files_of, output_of};
 ghost use Rattle.tools_core.specs.Tasks.{is_plus};
 ghost use Rattle.words_core.specs.CsplitAsked.{CsplitAsked};
 ghost use Rattle.words_core.specs.EndsAsked.{EndsAsked};
@@ -78,7 +78,7 @@ pub fn csplit_loses_nothing()
 pub fn faults_leave_a_beginning()
     ensures begins { (run well : Run) (asked : Settings) (input : List ℕ) → Ran run asked → Does well asked → run.world ≡ well.world → HasInput run input → BeginsEach run well }
     ensures told { (run : Run) (asked : Settings) → Ran run asked → run.status ≡ 1 → IsTold run asked }
-    ensures broken { (run : Run) (asked : Settings) (place : ℕ) → Ran run asked → (place ≡ 1 → ⊥) → (slot_at run.outputs place).is_broken ≡ true → (run.status ≡ 1) × IsBroken run asked place }
+    ensures broken { (run : Run) (asked : Settings) (place : ℕ) → Ran run asked → (place ≡ 1 → ⊥) → (slot_at run.outputs place).is_broken ≡ true → (run.status ≡ 1) × WhyBroken run asked place }
 {}
 
 /// `tail -f` tells all, once. Of one file that only grows it writes the last lines or bytes that the file has at the first
