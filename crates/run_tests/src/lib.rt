@@ -16,6 +16,8 @@ mod follow_tests;
 #[cfg(test)]
 mod growth_tests;
 #[cfg(test)]
+mod law_tests;
+#[cfg(test)]
 mod left;
 #[cfg(test)]
 mod pages;

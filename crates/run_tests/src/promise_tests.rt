@@ -3,7 +3,7 @@
 ghost use Rattle.std.specs.Prelude.{IfOk};
 
 use crate::follow_tests::watch_of;
-use crate::left::{Plan, inputs_of, planned_outs};
+use crate::left::{NOTHING, Plan, Run, inputs_of, planned_inputs, planned_outs};
 use ports_core::{Fault, MemOut, Outs};
 use std::alloc::Global;
 use std::process::Abort;
@@ -141,6 +141,74 @@ fn leave_the_same(
 }
 
 #[test]
+fn cutting_changes_no_fault(rt: HostRuntime) -> Result<(), Fail> {
+    for row in FAULTY {
+        end_the_same(&rt, rt.alloc(), row, 1)?;
+        end_the_same(&rt, rt.alloc(), row, 3)?;
+    }
+    Ok(())
+}
+
+/// Words, and where an input breaks off: runs with status 1 that no fault stops.
+type Faulty<'a> = (&'a [&'a str], &'a [Plan]);
+
+const FAULTY: &[Faulty<'static>] = &[
+    (&["head", "-n", "-1"], &[Plan::Break(0, 11)]),
+    (&["tail", "-n", "2", "missing", "-"], &[Plan::Break(0, 11)]),
+    (&["split", "-C", "4"], &[Plan::Break(0, 11)]),
+    (&["split", "-n", "r/2"], &[Plan::Break(0, 11)]),
+    (&["split", "-d", "-a", "1", "-b", "1"], &[]),
+    (&["csplit", "-", "/c/", "/z/"], &[]),
+    (&["csplit", "-k", "-", "/c/", "99"], &[]),
+    (&["csplit", "-", "3"], &[Plan::Break(0, 11)]),
+    (&["tee", "s"], &[Plan::Break(0, 11)]),
+];
+
+/// What is left of an input that comes by this many bytes at once is left of one that comes whole, with status 1.
+fn end_the_same(
+    rt: &impl Abort,
+    alloc: Global,
+    row: &Faulty<'_>,
+    pieces: usize,
+) -> Result<(), Fault> {
+    let words = row.0;
+    let one = faulty_left(rt, alloc, row, pieces)?;
+    let other = faulty_left(rt, alloc, row, 64)?;
+    for slot in 0..14 {
+        assert_eq!(rt; one.name(slot), other.name(slot), "of {words:?}");
+        assert_eq!(rt; one.bytes(slot), other.bytes(slot), "of {words:?}");
+        assert_eq!(rt; one.removed(slot), other.removed(slot), "of {words:?}");
+    }
+    Ok(())
+}
+
+/// What the words leave of the five lines, where the input comes by this many bytes at once.
+fn faulty_left(
+    rt: &impl Abort,
+    alloc: Global,
+    row: &Faulty<'_>,
+    pieces: usize,
+) -> Result<MemOut, Fault> {
+    let words = row.0;
+    let mut inputs = planned_inputs(alloc, &faulty_run(row))?;
+    inputs.pieces(pieces.max(1));
+    let mut outs = MemOut::new(alloc)?;
+    let status = run(alloc, words, &mut inputs, &mut outs);
+    assert_eq!(rt; status, 1, "of {words:?}");
+    Ok(outs)
+}
+
+fn faulty_run<'a>(row: &Faulty<'a>) -> Run<'a> {
+    Run {
+        words: row.0,
+        files: &[],
+        input: TEXT,
+        plans: row.1,
+        left: NOTHING,
+    }
+}
+
+#[test]
 fn split_loses_nothing(rt: HostRuntime) -> Result<(), Fail> {
     for words in SPLIT {
         lose_nothing(&rt, rt.alloc(), words)?;
@@ -265,7 +333,8 @@ fn faults_leave_a_beginning(rt: HostRuntime) -> Result<(), Fail> {
     Ok(())
 }
 
-/// Each output has a beginning of what it has where no call fails, and a status that isn't 0 has its message.
+/// Each output has a beginning of what it has where no call fails, one that broke has its message, and so has a status that isn't
+/// 0.
 fn leave_a_beginning(
     rt: &impl Abort,
     alloc: Global,
@@ -281,7 +350,36 @@ fn leave_a_beginning(
     for slot in [0, 2, 3, 4, 5, 6, 7] {
         let begins = well.bytes(slot).starts_with(outs.bytes(slot));
         assert_eq!(rt; begins, true, "in {slot} of {words:?}");
+        assert_eq!(rt; outs.broken(slot) && status == 0, false, "of {words:?}");
+        let is_named = has_part(outs.bytes(1), outs.name(slot).as_bytes());
+        assert_eq!(rt;
+            outs.broken(slot) && !is_named,
+            false,
+            "in {slot} of {words:?}"
+        );
     }
+    Ok(())
+}
+
+/// Whether these bytes stand in the text.
+fn has_part(text: &[u8], part: &[u8]) -> bool {
+    for at in 0..text.len() {
+        if text[at..].starts_with(part) {
+            return true;
+        }
+    }
+    false
+}
+
+#[test]
+fn file_that_stays_is_not_named(rt: HostRuntime) -> Result<(), Fail> {
+    let words: [&str; 3] = ["csplit", "-", "/c/"];
+    let mut inputs = inputs_of(rt.alloc(), &[], TEXT)?;
+    let mut outs = planned_outs(rt.alloc(), &[Plan::Limit(3, 4), Plan::FailAt(8)])?;
+    let status = run(rt.alloc(), &words, &mut inputs, &mut outs);
+    assert_eq!(rt; status, 1);
+    assert_eq!(rt; outs.bytes(1), b"csplit: cannot write 'xx01'\n".as_slice());
+    assert!(rt; outs.broken(2) && !outs.removed(2) && outs.removed(3));
     Ok(())
 }
 

@@ -1,0 +1,26 @@
+-- What these words ask for is what the table and the words' own definitions give, so that it is enough to compute it.
+use Rattle.std.proofs.Common.{◌≡◌, ◌^◌, ◌-◌, [], ◌∷◌, None, Ok, codes, refl}
+use Rattle.seg_core.specs.Count.{count_of, factor_of}
+use Rattle.seg_core.specs.declared.count.Sign.TheVariants.{Plain, Plus}
+use Rattle.seg_core.specs.declared.unit.Unit.TheVariants.{Lines}
+use Rattle.words_core.specs.EndsAsked.{EndsAsked}
+use Rattle.words_core.specs.Table.{tools}
+use Rattle.words_core.specs.Words.{settings_of}
+use Rattle.words_core.specs.declared.settings.Headers.TheVariants.{ForSeveral}
+use Rattle.words_core.specs.declared.settings.Settings.TheVariants.{Head, Tail}
+use Rattle.tools_core.specs.Promises.{counted}
+use Rattle.run_tests.proofs.law_tests.first_and_rest.Goals as goal
+
+abbrev options : EndsAsked
+options = record { unit = Lines; count = record { sign = Plain; amount = 10 }; headers = ForSeveral; delim = 10; names = codes "-" ∷ [] }
+
+head_read : settings_of (codes "head" ∷ codes "-n" ∷ codes "2" ∷ []) ≡ Ok (Head (counted options Plain 2))
+unfolding tools count_of factor_of
+head_read = refl
+
+tail_read : settings_of (codes "tail" ∷ codes "-n" ∷ codes "+3" ∷ []) ≡ Ok (Tail (record { ends = counted options Plus 3; followed = None; looks = 2 ^ 63 - 1 }))
+unfolding tools count_of factor_of
+tail_read = refl
+
+pub returns : goal.returns
+returns c = c.met.ensures options options 2 (2 ^ 63 - 1) head_read tail_read (record { unit = refl; delim = λ lines. refl; bare = (refl, refl) }) refl refl

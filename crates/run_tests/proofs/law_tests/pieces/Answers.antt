@@ -1,0 +1,18 @@
+use Rattle.std.proofs.Common.{◌≡◌, List, [], ◌∷◌, map, drop, Option, Some, None, Result, Ok, Err, sym, ◌∙◌, ap}
+use Rattle.std.specs.Prelude.{IfOk, IfSome}
+use Rattle.seg_core.specs.Line.{joined}
+use Rattle.ports_core.specs.Slot.{Slot}
+use Rattle.ports_core.specs.declared.fault.Fault.{Fault}
+use Rattle.words_core.specs.declared.settings.Settings.TheVariants.{Split}
+use Rattle.run_tests.proofs.law_tests.pieces.Goals as goal
+
+weaker : (result : Result (Option (List Slot)) Fault) (P Q : List Slot → Type 0) → ((outs : List Slot) → P outs → Q outs) → IfOk result (λ left. IfSome left P) → IfOk result (λ left. IfSome left Q)
+weaker (Ok (Some outs)) P Q more holds = more outs holds
+weaker (Ok None) P Q more holds = tt
+weaker (Err fault) P Q more holds = tt
+
+pub returns : goal.returns
+returns c asked n read only cut =
+    weaker c.left_of.result _ (λ outs. joined (map (λ (file : Slot). file.written) (drop 2 outs)) ≡ c.args.bytes.now)
+    (λ outs (one, does, has, words, same). ap (λ slots. joined (map (λ (file : Slot). file.written) (drop 2 slots))) (sym same) ∙ (c.split_loses_nothing.ensures.bytes one asked n c.args.bytes.now does has cut).all)
+    (c.left_of.ensures (Split asked) read (ap (λ name. name ∷ []) only))

@@ -1,0 +1,15 @@
+use Rattle.std.proofs.Common.{◌≡◌, ℕ, true, Result, Ok, Err, sym, ◌∙◌, ap, arith}
+use Rattle.std.specs.Prelude.{IfOk}
+use Rattle.ports_core.specs.Slot.{slot_at}
+use Rattle.ports_core.specs.declared.fault.Fault.{Fault}
+use Rattle.run_tests.proofs.law_tests.status_of.Goals as goal
+
+weaker : (result : Result ℕ Fault) (P Q : ℕ → Type 0) → ((status : ℕ) → P status → Q status) → IfOk result P → IfOk result Q
+weaker (Ok status) P Q more holds = more status holds
+weaker (Err fault) P Q more holds = tt
+
+pub returns : goal.returns
+returns c asked read only =
+    weaker c.ran.result _ (λ status. (slot_at c.ran.new.outs 0).is_broken ≡ true → status ≡ 1)
+    (λ status (one, ran, has, words, outs, is) broken. sym is ∙ (c.faults_leave_a_beginning.ensures.broken one asked 0 ran (λ at. omega (arith, at)) (ap (λ slots. (slot_at slots 0).is_broken) outs ∙ broken)).0)
+    (c.ran.ensures asked read only)

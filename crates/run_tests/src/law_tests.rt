@@ -1,0 +1,161 @@
+//! Callers of `run` that rest on the laws of `tools_core`: what each of them ensures follows by one law from what `run` ensures,
+//! and nothing is known here of what the tools do.
+ghost use Rattle.std.specs.Prelude.{◌≡◌, ◌+◌, ◌∷◌, [], ℕ, List, Option, None, map, drop, codes, true, false, IfOk, IfSome};
+ghost use Rattle.seg_core.specs.Line.{joined};
+ghost use Rattle.seg_core.specs.declared.count.Sign.TheVariants.{Plain, Plus};
+ghost use Rattle.seg_core.specs.declared.cut.Cut.TheVariants.{Bytes};
+ghost use Rattle.ports_core.specs.Slot.{Slot, slot_at, streams};
+ghost use Rattle.ports_core.specs.Source.{source_of};
+ghost use Rattle.tools_core.specs.Promises.{Does, CountAlike, HasInput, Ran, Run, counted};
+ghost use Rattle.tools_core.specs.Tasks.{names_of};
+ghost use Rattle.words_core.specs.EndsAsked.{EndsAsked};
+ghost use Rattle.words_core.specs.SplitAsked.{SplitAsked};
+ghost use Rattle.words_core.specs.Words.{settings_of};
+ghost use Rattle.words_core.specs.declared.settings.Settings.{Settings};
+ghost use Rattle.words_core.specs.declared.settings.Settings.TheVariants.{Head, Split, Tail};
+
+use ports_core::{Fault, MemIn, MemOut, Outs};
+use std::alloc::Global;
+use std::process::Abort;
+use std::test::Fail;
+use tools_core::run::run;
+use tools_core::{
+    cutting_changes_nothing, faults_leave_a_beginning, head_and_tail_meet, split_loses_nothing,
+};
+
+/// Standard input with these bytes, of which a read gives this many, and no files.
+fn standard_input(alloc: Global, bytes: &[u8], pieces: usize) -> Result<MemIn, Fault>
+    ensures { IfOk result (λ inputs. inputs.sources ≡ source_of (record { bytes = bytes.now; breaks_off = false }) ∷ []) }
+{
+    let mut inputs = MemIn::new(alloc)?;
+    inputs.input(bytes)?;
+    inputs.pieces(pieces.max(1));
+    Ok(inputs)
+}
+
+/// Runs the words over these bytes, which come by this many at once, and returns the status.
+fn ran(
+    alloc: Global,
+    words: &[&str],
+    bytes: &[u8],
+    pieces: usize,
+    outs: &mut MemOut,
+) -> Result<u8, Fault>
+    requires { outs.old ≡ streams }
+    ensures { (asked : Settings) → settings_of (map (λ word. word.now) words.now) ≡ Ok asked → names_of asked ≡ codes "-" ∷ []
+        → IfOk result (λ status. (one : Run) × Ran one asked × HasInput one bytes.now × (one.words ≡ map (λ word. word.now) words.now) × (one.outputs ≡ outs.new) × (one.status ≡ status)) }
+{
+    let mut inputs = standard_input(alloc, bytes, pieces)?;
+    Ok(run(alloc, words, &mut inputs, outs))
+}
+
+/// What a run of the words leaves of these bytes, if its status is 0.
+fn left_of(
+    alloc: Global,
+    words: &[&str],
+    bytes: &[u8],
+    pieces: usize,
+) -> Result<Option<MemOut>, Fault>
+    ensures { (asked : Settings) → settings_of (map (λ word. word.now) words.now) ≡ Ok asked → names_of asked ≡ codes "-" ∷ []
+        → IfOk result (λ left. IfSome left (λ outs. (one : Run) × Does one asked × HasInput one bytes.now × (one.words ≡ map (λ word. word.now) words.now) × (one.outputs ≡ outs))) }
+{
+    let mut outs = MemOut::new(alloc)?;
+    if ran(alloc, words, bytes, pieces, &mut outs)? != 0 {
+        return Ok(None);
+    }
+    Ok(Some(outs))
+}
+
+/// What `head` and then `tail` write of the same bytes, if both go well: all of them, where `tail` begins with the line or byte
+/// after those that `head` writes.
+fn met(alloc: Global, head: &[&str], tail: &[&str], bytes: &[u8]) -> Result<Option<Vec<u8>>, Fault>
+    ensures { (first rest : EndsAsked) (n looks : ℕ) → settings_of (map (λ word. word.now) head.now) ≡ Ok (Head (counted first Plain n))
+        → settings_of (map (λ word. word.now) tail.now) ≡ Ok (Tail (record { ends = counted rest Plus (n + 1); followed = None; looks = looks }))
+        → CountAlike first rest → first.names ≡ codes "-" ∷ [] → rest.names ≡ codes "-" ∷ []
+        → IfOk result (λ both. IfSome both (λ all. all.items ≡ bytes.now)) }
+{
+    head_and_tail_meet();
+    let Some(front) = left_of(alloc, head, bytes, 3)? else {
+        return Ok(None);
+    };
+    let Some(back) = left_of(alloc, tail, bytes, 64)? else {
+        return Ok(None);
+    };
+    let mut all = Vec::from_slice(alloc, front.bytes(0))?;
+    all.extend_from_slice(back.bytes(0))?;
+    Ok(Some(all))
+}
+
+/// The first two lines of these bytes and then those after them, if both can be had: the bytes.
+fn first_and_rest(alloc: Global, bytes: &[u8]) -> Result<Option<Vec<u8>>, Fault>
+    ensures { IfOk result (λ both. IfSome both (λ all. all.items ≡ bytes.now)) }
+{
+    met(alloc, &["head", "-n", "2"], &["tail", "-n", "+3"], bytes)
+}
+
+/// The files into which `split -b` cuts these bytes, if that goes well: joined they are the bytes.
+fn pieces(alloc: Global, words: &[&str], bytes: &[u8]) -> Result<Option<MemOut>, Fault>
+    ensures { (asked : SplitAsked) (n : ℕ) → settings_of (map (λ word. word.now) words.now) ≡ Ok (Split asked) → asked.input ≡ codes "-" → asked.cut ≡ Bytes n
+        → IfOk result (λ left. IfSome left (λ outs. joined (map (λ (file : Slot). file.written) (drop 2 outs)) ≡ bytes.now)) }
+{
+    split_loses_nothing();
+    left_of(alloc, words, bytes, 3)
+}
+
+/// What the words leave of these bytes where they come byte by byte, and where they come whole, if both go well: the same.
+fn both(alloc: Global, words: &[&str], bytes: &[u8]) -> Result<Option<(MemOut, MemOut)>, Fault>
+    ensures { (asked : Settings) → settings_of (map (λ word. word.now) words.now) ≡ Ok asked → names_of asked ≡ codes "-" ∷ []
+        → IfOk result (λ left. IfSome left (λ outs. outs.0 ≡ outs.1)) }
+{
+    cutting_changes_nothing();
+    let Some(one) = left_of(alloc, words, bytes, 1)? else {
+        return Ok(None);
+    };
+    let Some(other) = left_of(alloc, words, bytes, 64)? else {
+        return Ok(None);
+    };
+    Ok(Some((one, other)))
+}
+
+/// The status of a run of the words over these bytes, into outputs that may fail: it is 1 where standard output broke.
+fn status_of(alloc: Global, words: &[&str], bytes: &[u8], outs: &mut MemOut) -> Result<u8, Fault>
+    requires { outs.old ≡ streams }
+    ensures { (asked : Settings) → settings_of (map (λ word. word.now) words.now) ≡ Ok asked → names_of asked ≡ codes "-" ∷ []
+        → IfOk result (λ status. (slot_at outs.new 0).is_broken ≡ true → status ≡ 1) }
+{
+    faults_leave_a_beginning();
+    ran(alloc, words, bytes, 3, outs)
+}
+
+/// Three lines, the last of them open.
+const TEXT: &[u8] = b"a\nbb\nccc";
+
+#[test]
+fn ends_meet(rt: HostRuntime) -> Result<(), Fail> {
+    let found = first_and_rest(rt.alloc(), TEXT)?;
+    assert!(rt; found.is_some_and(|all| all.as_slice() == TEXT));
+    Ok(())
+}
+
+#[test]
+fn pieces_are_there(rt: HostRuntime) -> Result<(), Fail> {
+    let found = pieces(rt.alloc(), &["split", "-b", "5"], TEXT)?;
+    assert!(rt; found.is_some_and(|outs| outs.bytes(3) == b"ccc".as_slice()));
+    Ok(())
+}
+
+#[test]
+fn both_are_there(rt: HostRuntime) -> Result<(), Fail> {
+    let found = both(rt.alloc(), &["tail", "-n", "1"], TEXT)?;
+    assert!(rt; found.is_some_and(|outs| outs.0.bytes(0) == outs.1.bytes(0)));
+    Ok(())
+}
+
+#[test]
+fn broken_output_is_status_1(rt: HostRuntime) -> Result<(), Fail> {
+    let mut outs = MemOut::new(rt.alloc())?;
+    outs.limit(0, 3)?;
+    let status = status_of(rt.alloc(), &["head"], TEXT, &mut outs)?;
+    assert!(rt; outs.broken(0) && status == 1);
+    Ok(())
+}
