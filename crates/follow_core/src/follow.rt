@@ -187,10 +187,8 @@ impl Follow {
     {
         match self.stage {
             Stage::Fresh => {
-                match add_all(&self.names, watch) {
-                    Ok(first) => self.first = first,
-                    Err(fault) => return Err(fault),
-                }
+                let first = add_all(&self.names, watch)?;
+                self.first = first;
                 self.stage = Stage::Looking;
                 Ok(())
             }

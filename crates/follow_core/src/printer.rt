@@ -51,9 +51,7 @@ impl Printer {
         ensures last { OnOk result (self.new ≡ printer_under self.old name.now bytes.now) }
         ensures short { IfErr result (Short O.told (text_under self.old name.now bytes.now) (O.slots outs.old) (O.slots outs.new)) }
     {
-        if let Err(fault) = self.show_if_due(name, bytes, outs) {
-            return Err(fault);
-        }
+        self.show_if_due(name, bytes, outs)?;
         match write_whole(outs, 0, bytes) {
             Ok(()) => Ok(()),
             Err(_) => Err(Fault::Write(0)),

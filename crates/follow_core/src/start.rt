@@ -94,10 +94,7 @@ fn find_last_lines<W: Watch>(
     while 0 < end {
         let size = end.min(buffer.len() as u64) as usize;
         let from = end - size as u64;
-        let n = match read_block(watch, place, from, &mut buffer[..size]) {
-            Ok(n) => n,
-            Err(fault) => return Err(fault),
-        };
+        let n = read_block(watch, place, from, &mut buffer[..size])?;
         match reach_back(&buffer[..n], wanted, delim) {
             ReachBack::Begins(at) => return Ok(from + at as u64),
             ReachBack::Short(found) => wanted -= found as u64,
@@ -131,10 +128,7 @@ fn pass_lines<W: Watch>(
     let mut left = count;
     while at < len {
         let size = (len - at).min(buffer.len() as u64) as usize;
-        let n = match read_block(watch, place, at, &mut buffer[..size]) {
-            Ok(n) => n,
-            Err(fault) => return Err(fault),
-        };
+        let n = read_block(watch, place, at, &mut buffer[..size])?;
         match reach(&buffer[..n], left, delim) {
             Reach::Ends(end) => return Ok(at + end as u64),
             Reach::Short(found) => left -= found as u64,
