@@ -60,7 +60,7 @@ pub struct TailSettings<'a> {
 }
 
 /// When a header with its name goes before an input.
-#[derive(Clone, Copy, Debug, PartialEq, Eq)]
+#[derive(Clone, Copy)]
 pub enum Headers {
     /// Where there is more than one input.
     ForSeveral,

@@ -10,7 +10,7 @@ use std::alloc::Global;
 use std::marker::Model;
 
 /// An option that was given.
-#[derive(Clone, Copy, Debug, PartialEq, Eq)]
+#[derive(Clone, Copy, PartialEq, Eq)]
 pub struct Chosen<'a> {
     /// What the option chooses.
     pub choice: Choice,
@@ -21,7 +21,7 @@ pub struct Chosen<'a> {
 }
 
 /// An operand that was given.
-#[derive(Clone, Copy, Debug, PartialEq, Eq)]
+#[derive(Clone, Copy, PartialEq, Eq)]
 pub struct Operand<'a> {
     /// The word itself.
     pub text: &'a str,

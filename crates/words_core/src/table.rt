@@ -8,7 +8,7 @@ ghost use Rattle.words_core.specs.Table.{is_among, option_named, row_named, row_
 use ports_core::Tool;
 
 /// An option, by what it chooses. Options of several tools may choose alike.
-#[derive(Clone, Copy, Debug, PartialEq, Eq)]
+#[derive(Clone, Copy, PartialEq, Eq)]
 pub enum Choice {
     /// A number of lines.
     Lines,
@@ -57,7 +57,7 @@ pub enum Choice {
 }
 
 /// What the value of an option says.
-#[derive(Clone, Copy, Debug, PartialEq, Eq)]
+#[derive(Clone, Copy)]
 pub enum Kind {
     /// A count, with or without a sign.
     Count,
@@ -80,7 +80,7 @@ pub enum Kind {
 }
 
 /// Whether an option takes a value.
-#[derive(Clone, Copy, Debug, PartialEq, Eq)]
+#[derive(Clone, Copy)]
 pub enum Takes {
     /// It takes none.
     Nothing,

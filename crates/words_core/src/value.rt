@@ -11,7 +11,7 @@ use seg_core::count::{Count, CountFault, read_count};
 use seg_core::digits::{GREATEST, read_digits};
 
 /// The value of an option.
-#[derive(Clone, Copy, Debug, PartialEq, Eq)]
+#[derive(Clone, Copy, PartialEq, Eq)]
 pub enum Value<'a> {
     /// None was given.
     Nothing,
@@ -34,7 +34,7 @@ pub enum Value<'a> {
 }
 
 /// What `tail` follows.
-#[derive(Clone, Copy, Debug, PartialEq, Eq)]
+#[derive(Clone, Copy, PartialEq, Eq)]
 pub enum Followed {
     /// The files that were opened at first, wherever their names lead.
     Descriptor,

@@ -6,7 +6,7 @@ use std::process::Abort;
 use words_core::{CsplitSettings, Settings, read_words};
 
 /// What words are to ask of `csplit`.
-#[derive(Clone, Copy, Debug)]
+#[derive(Clone, Copy)]
 enum Wanted<'a> {
     /// What names begin with, and how many digits they have.
     Names(&'a str, u32),
@@ -53,7 +53,7 @@ fn check(rt: &impl Abort, alloc: Global, words: &[&str], wanted: Wanted<'_>) {
 
 fn check_settings(rt: &impl Abort, words: &[&str], settings: &Settings<'_>, wanted: Wanted<'_>) {
     match settings {
-        Settings::Csplit(found) => assert!(rt; has(found, wanted), "{wanted:?} at {words:?}"),
+        Settings::Csplit(found) => assert!(rt; has(found, wanted), "at {words:?}"),
         _ => assert!(rt; false, "another tool at {words:?}"),
     }
 }

@@ -8,7 +8,7 @@ use std::process::Abort;
 use words_core::{Settings, SplitSettings, read_words};
 
 /// What words are to ask of `split`.
-#[derive(Clone, Copy, Debug)]
+#[derive(Clone, Copy)]
 enum Wanted<'a> {
     /// The way to split.
     Cut(Cut),
@@ -42,7 +42,7 @@ fn check(rt: &impl Abort, alloc: Global, words: &[&str], wanted: Wanted<'_>) {
 
 fn check_settings(rt: &impl Abort, words: &[&str], settings: &Settings<'_>, wanted: Wanted<'_>) {
     match settings {
-        Settings::Split(found) => assert!(rt; has(found, wanted), "{wanted:?} at {words:?}"),
+        Settings::Split(found) => assert!(rt; has(found, wanted), "at {words:?}"),
         _ => assert!(rt; false, "another tool at {words:?}"),
     }
 }

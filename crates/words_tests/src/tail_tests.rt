@@ -6,7 +6,7 @@ use std::process::Abort;
 use words_core::{Followed, MOST_LOOKS, Settings, TailSettings, read_words};
 
 /// What is followed, and in how many looks.
-#[derive(Clone, Copy, Debug)]
+#[derive(Clone, Copy)]
 struct Wanted {
     followed: Option<Followed>,
     looks: u64,
@@ -25,7 +25,7 @@ fn check(rt: &impl Abort, alloc: Global, words: &[&str], wanted: Wanted) {
 
 fn check_settings(rt: &impl Abort, words: &[&str], settings: &Settings<'_>, wanted: Wanted) {
     match settings {
-        Settings::Tail(found) => assert!(rt; has(found, wanted), "{wanted:?} at {words:?}"),
+        Settings::Tail(found) => assert!(rt; has(found, wanted), "at {words:?}"),
         _ => assert!(rt; false, "another tool at {words:?}"),
     }
 }

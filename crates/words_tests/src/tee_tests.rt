@@ -6,7 +6,7 @@ use std::process::Abort;
 use words_core::{Settings, TeeSettings, read_words};
 
 /// How files are opened, and their names: two at the most.
-#[derive(Clone, Copy, Debug)]
+#[derive(Clone, Copy)]
 struct Wanted<'a> {
     mode: Mode,
     names: &'a [&'a str],
@@ -40,7 +40,7 @@ fn check(rt: &impl Abort, alloc: Global, words: &[&str], wanted: Wanted<'_>) {
 
 fn check_settings(rt: &impl Abort, words: &[&str], settings: &Settings<'_>, wanted: Wanted<'_>) {
     match settings {
-        Settings::Tee(found) => assert!(rt; has(found, wanted), "{wanted:?} at {words:?}"),
+        Settings::Tee(found) => assert!(rt; has(found, wanted), "at {words:?}"),
         _ => assert!(rt; false, "another tool at {words:?}"),
     }
 }
