@@ -1,10 +1,6 @@
 //! The engine beside the plain program: lists of operands on short texts, cut into pieces in each way.
-ghost use Rattle.std.specs.Prelude.{◌≤◌, length, IsTrue};
-ghost use Rattle.ports_core.specs.Slot.{is_writable};
-
 use crate::csplit_plain::{Made, plain};
-use crate::csplit_tests::open;
-use crate::play::{close, feed_all};
+use crate::csplit_tests::run;
 use crate::test_texts::{pieces_of, short_texts};
 use csplit_core::{Operands, Style, read_operands};
 use ports_core::{Fault, MemOut, Outs};
@@ -204,27 +200,12 @@ fn agrees_under(
     for pieces in cuttings {
         let mut outs = MemOut::new(alloc)?;
         let end = run(alloc, style, operands, pieces, &mut outs);
-        if end.err() != made.verdict || !has_made(alloc, &outs, &made, style.keep)? {
+        let is_made = has_made(alloc, &outs, &made, style.keep).unwrap_or(false);
+        if end.err() != made.verdict || !is_made {
             return Ok(false);
         }
     }
     Ok(true)
-}
-
-/// Cuts an input that comes in these pieces.
-fn run(
-    alloc: Global,
-    style: &Style,
-    operands: &Operands,
-    pieces: &[&[u8]],
-    outs: &mut MemOut,
-) -> Result<(), Fault>
-    requires streams { 2 ≤ length outs.old }
-    requires output { IsTrue (is_writable outs.old 0) }
-{
-    let mut engine = open(alloc, style.try_clone(alloc)?, operands, outs)?;
-    feed_all(&mut engine, outs, pieces)?;
-    close(&mut engine, outs)
 }
 
 /// Whether just these files were made, their sizes were written, and all of them were removed where a fault ended the

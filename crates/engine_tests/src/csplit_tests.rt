@@ -3,7 +3,7 @@ ghost use Rattle.std.specs.Prelude.{◌≤◌, length, IfOk, IsTrue};
 ghost use Rattle.ports_core.specs.Slot.{is_writable};
 ghost use Rattle.csplit_core.specs.CsplitState.{IsReady};
 
-use crate::play::{close, feed, has_files};
+use crate::play::{feed, feed_and_close, has_files};
 use csplit_core::{Csplitter, Operands, Style, read_operands};
 use ports_core::{Fault, Guarded, MemOut, Outs};
 use std::alloc::{AllocError, Global};
@@ -295,22 +295,21 @@ const FAULTS: [Row<'static>; 8] = [
 fn check_rows(rt: &impl Abort, alloc: Global, rows: &[Row<'_>]) -> Result<(), Fail> {
     for row in rows {
         for size in SIZES {
-            check_row(rt, alloc, row, size)?;
+            check_row(rt, alloc, row, size);
         }
     }
     Ok(())
 }
 
-fn check_row(rt: &impl Abort, alloc: Global, row: &Row<'_>, size: usize) -> Result<(), Fail> {
+fn check_row(rt: &impl Abort, alloc: Global, row: &Row<'_>, size: usize) {
     let (options, words, input, fault, sizes, files) = row;
-    let mut outs = MemOut::new(alloc)?;
-    let style = style_of(alloc, *options)?;
+    let pieces = chunks_of(rt, alloc, input, size);
+    let style = style_of(alloc, *options).expect(rt, "there is memory");
     let operands = read_operands(alloc, words).expect(rt, "these are operands");
-    let end = run(alloc, style, &operands, input, size, &mut outs);
-    assert!(rt; end.err() == *fault, "at {words:?} in pieces of {size}");
-    assert!(rt; has_left(&outs, files), "at {words:?} in pieces of {size}");
-    assert_eq!(rt; outs.bytes(0), *sizes, "at {words:?} in pieces of {size}");
-    Ok(())
+    let mut outs = MemOut::new(alloc).expect(rt, "there is memory");
+    let end = run(alloc, &style, &operands, &pieces, &mut outs);
+    let is_so = end.err() == *fault && has_left(&outs, files) && outs.bytes(0) == *sizes;
+    assert!(rt; is_so, "at {words:?} in pieces of {size}");
 }
 
 /// Operands, what comes in, how many bytes wait then, and the first file's bytes. A line that lacks its newline waits.
@@ -318,23 +317,30 @@ type Wait<'a> = (&'a [&'a str], &'a [u8], u64, &'a [u8]);
 
 #[test]
 fn holds_what_an_offset_may_take_back(rt: HostRuntime) -> Result<(), Fail> {
-    let rows: [Wait<'_>; 6] = [
-        (&["/c/-1"], b"a\nb\n", 2, b"a\n"),
-        (&["/c/-1"], b"a\nb\nc", 3, b"a\n"),
-        (&["/c/"], b"a\nb\n", 0, b"a\nb\n"),
-        (&["/c/-9223372036854775807"], b"a\nb\nd", 5, b""),
-        (&["3"], b"a\nb", 1, b"a\n"),
-        (&["/a/+2"], b"a\nb", 1, b"a\n"),
-    ];
-    for (words, input, held, first) in rows {
-        let mut outs = MemOut::new(rt.alloc())?;
-        let style = style_of(rt.alloc(), Options::Plain)?;
-        let operands = read_operands(rt.alloc(), words).expect(&rt, "these are operands");
-        let mut engine = open(rt.alloc(), style, &operands, &mut outs)?;
-        feed(&mut engine, &mut outs, input)?;
-        assert_eq!(rt; engine.held(), held, "at {words:?}");
-        assert_eq!(rt; outs.bytes(2), first, "at {words:?}");
+    for row in WAITS {
+        holds(&rt, rt.alloc(), row)?;
     }
+    Ok(())
+}
+
+const WAITS: &[Wait<'static>] = &[
+    (&["/c/-1"], b"a\nb\n", 2, b"a\n"),
+    (&["/c/-1"], b"a\nb\nc", 3, b"a\n"),
+    (&["/c/"], b"a\nb\n", 0, b"a\nb\n"),
+    (&["/c/-9223372036854775807"], b"a\nb\nd", 5, b""),
+    (&["3"], b"a\nb", 1, b"a\n"),
+    (&["/a/+2"], b"a\nb", 1, b"a\n"),
+];
+
+fn holds(rt: &impl Abort, alloc: Global, row: &Wait<'_>) -> Result<(), Fault> {
+    let (words, input, held, first) = row;
+    let style = style_of(alloc, Options::Plain)?;
+    let operands = read_operands(alloc, words).expect(rt, "these are operands");
+    let mut outs = MemOut::new(alloc).expect(rt, "there is memory");
+    let mut engine = open(alloc, style, &operands, &mut outs).expect(rt, "there is memory");
+    let is_fed = feed(&mut engine, &mut outs, input).is_ok();
+    let is_so = is_fed && engine.held() == *held && outs.bytes(2) == *first;
+    assert!(rt; is_so, "at {words:?}");
     Ok(())
 }
 
@@ -386,23 +392,28 @@ pub(crate) fn style_of(alloc: Global, options: Options) -> Result<Style, AllocEr
     })
 }
 
-/// Cuts an input that comes in pieces of this size.
-fn run(
+/// An input in pieces of this size.
+fn chunks_of<'a>(rt: &impl Abort, alloc: Global, input: &'a [u8], size: usize) -> Vec<&'a [u8]> {
+    let mut pieces = Vec::new(alloc);
+    for piece in input.chunks(size.max(1)) {
+        pieces.push(piece).expect(rt, "there is memory");
+    }
+    pieces
+}
+
+/// Cuts an input that comes in these pieces.
+pub(crate) fn run(
     alloc: Global,
-    style: Style,
+    style: &Style,
     operands: &Operands,
-    input: &[u8],
-    size: usize,
+    pieces: &[&[u8]],
     outs: &mut MemOut,
 ) -> Result<(), Fault>
     requires streams { 2 ≤ length outs.old }
     requires output { IsTrue (is_writable outs.old 0) }
 {
-    let mut engine = open(alloc, style, operands, outs)?;
-    for piece in input.chunks(size.max(1)) {
-        feed(&mut engine, outs, piece)?;
-    }
-    close(&mut engine, outs)
+    let mut engine = open(alloc, style.try_clone(alloc)?, operands, outs)?;
+    feed_and_close(&mut engine, outs, pieces)
 }
 
 pub(crate) fn open<'o>(

@@ -1,9 +1,12 @@
 //! The engines beside the plain programs: short texts, each cut into pieces in each way.
+ghost use Rattle.std.specs.Prelude.{IsTrue};
+ghost use Rattle.ports_core.specs.Slot.{is_writable};
+
 use crate::ends_plain::{Asked, Side, plain};
-use crate::play::{close, feed_all};
+use crate::play::{close, feed_all, open_ends};
 use crate::test_texts::{DELIMITERS, Short, short_texts};
-use ends_core::{Head, Tail, Unit};
-use ports_core::{Fault, MemOut};
+use ends_core::{Ends, Unit};
+use ports_core::{Fault, Guarded, MemOut};
 use std::alloc::Global;
 use std::test::Fail;
 
@@ -64,49 +67,36 @@ fn agree_on(
 ) -> Result<bool, Fault> {
     let wanted = plain(alloc, asked, text)?;
     for pieces in cuttings {
-        let agrees = match asked.side {
-            Side::First => head_agrees(alloc, asked, false, pieces, &wanted)?,
-            Side::ButLast => head_agrees(alloc, asked, true, pieces, &wanted)?,
-            Side::Last => tail_agrees(alloc, asked, false, pieces, &wanted)?,
-            Side::FromNth => tail_agrees(alloc, asked, true, pieces, &wanted)?,
-        };
-        if !agrees {
+        if !agrees(alloc, asked, pieces, &wanted)? {
             return Ok(false);
         }
     }
     Ok(true)
 }
 
-/// Whether all that is wanted is written before the end, and no more at the end.
-fn head_agrees(
-    alloc: Global,
-    asked: Asked,
-    but_last: bool,
-    pieces: &[&[u8]],
-    wanted: &[u8],
-) -> Result<bool, Fault> {
-    let mut outs = MemOut::new(alloc)?;
-    let mut head = Head::open(alloc, asked.unit, but_last, asked.count, asked.delim)?;
-    feed_all(&mut head, &mut outs, pieces)?;
-    let early = outs.bytes(0) == wanted;
-    close(&mut head, &mut outs)?;
-    Ok(early && outs.bytes(0) == wanted)
-}
-
 /// Whether all that is wanted is written at the end. Before it all is written too, or nothing where the last are
 /// wanted.
-fn tail_agrees(
-    alloc: Global,
-    asked: Asked,
-    from_nth: bool,
-    pieces: &[&[u8]],
-    wanted: &[u8],
-) -> Result<bool, Fault> {
+fn agrees(alloc: Global, asked: Asked, pieces: &[&[u8]], wanted: &[u8]) -> Result<bool, Fault> {
+    let settled: &[u8] = match asked.side {
+        Side::Last => &[],
+        _ => wanted,
+    };
     let mut outs = MemOut::new(alloc)?;
-    let mut tail = Tail::open(alloc, asked.unit, from_nth, asked.count, asked.delim)?;
-    feed_all(&mut tail, &mut outs, pieces)?;
-    let settled: &[u8] = if from_nth { wanted } else { &[] };
-    let early = outs.bytes(0) == settled;
-    close(&mut tail, &mut outs)?;
-    Ok(early && outs.bytes(0) == wanted)
+    let mut engine = open_ends(alloc, asked)?;
+    writes(&mut engine, &mut outs, pieces, settled, wanted)
+}
+
+fn writes(
+    engine: &mut Guarded<Ends>,
+    outs: &mut MemOut,
+    pieces: &[&[u8]],
+    settled: &[u8],
+    wanted: &[u8],
+) -> Result<bool, Fault>
+    requires { IsTrue (is_writable outs.old 0) }
+{
+    feed_all(engine, outs, pieces)?;
+    let is_early = outs.bytes(0) == settled;
+    close(engine, outs)?;
+    Ok(is_early && outs.bytes(0) == wanted)
 }

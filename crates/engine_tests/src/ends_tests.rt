@@ -1,7 +1,7 @@
 //! What is written after each piece. Contracts say it of any piece, and the rows here show it.
 use crate::ends_plain::{Asked, Side};
-use crate::play::{Step, play};
-use ends_core::{Head, Tail, Unit};
+use crate::play::{Step, open_ends, play};
+use ends_core::Unit;
 use ports_core::{Fault, MemOut};
 use std::alloc::Global;
 use std::process::Abort;
@@ -305,49 +305,16 @@ const FROM_NTH: &[Row<'static>] = &[
 
 /// Takes the steps of each row with an engine of its own.
 fn play_rows(rt: &impl Abort, alloc: Global, rows: &[Row<'_>]) -> Result<(), Fail> {
-    for (side, unit, count, delim, steps) in rows {
+    for (row, (side, unit, count, delim, steps)) in rows.iter().enumerate() {
         let asked = Asked {
             side: *side,
             unit: *unit,
             count: *count,
             delim: *delim,
         };
-        play_row(rt, alloc, asked, steps)?;
+        let mut outs = MemOut::new(alloc)?;
+        let mut engine = open_ends(alloc, asked)?;
+        play(rt, &mut engine, &mut outs, row, steps);
     }
-    Ok(())
-}
-
-fn play_row(rt: &impl Abort, alloc: Global, asked: Asked, steps: &[Step<'_>]) -> Result<(), Fault> {
-    match asked.side {
-        Side::First => play_head(rt, alloc, asked, false, steps),
-        Side::ButLast => play_head(rt, alloc, asked, true, steps),
-        Side::Last => play_tail(rt, alloc, asked, false, steps),
-        Side::FromNth => play_tail(rt, alloc, asked, true, steps),
-    }
-}
-
-fn play_head(
-    rt: &impl Abort,
-    alloc: Global,
-    asked: Asked,
-    but_last: bool,
-    steps: &[Step<'_>],
-) -> Result<(), Fault> {
-    let mut outs = MemOut::new(alloc)?;
-    let mut head = Head::open(alloc, asked.unit, but_last, asked.count, asked.delim)?;
-    play(rt, &mut head, &mut outs, steps);
-    Ok(())
-}
-
-fn play_tail(
-    rt: &impl Abort,
-    alloc: Global,
-    asked: Asked,
-    from_nth: bool,
-    steps: &[Step<'_>],
-) -> Result<(), Fault> {
-    let mut outs = MemOut::new(alloc)?;
-    let mut tail = Tail::open(alloc, asked.unit, from_nth, asked.count, asked.delim)?;
-    play(rt, &mut tail, &mut outs, steps);
     Ok(())
 }

@@ -8,9 +8,11 @@ ghost use Rattle.ports_core.specs.Slot.{is_writable};
 ghost use Rattle.split_core.specs.Ways.{Ready};
 
 use crate::csplit_tests::{Options, open as open_csplitter, style_of};
-use crate::play::{close, feed, feed_all};
+use crate::ends_plain::{Asked, Side};
+use crate::play::{close, feed, feed_all, open_ends, open_splitter};
+use crate::tee_tests::pass as pass_on;
 use csplit_core::{OperandFaultKind, read_operands};
-use ends_core::{Head, Tail, Unit};
+use ends_core::{Ends, Unit};
 use follow_core::{Follow, Notice, Start, notice_line};
 use ports_core::{Alphabet, Fault, Guarded, MemOut, Mode, Names, Outs, Stage};
 use split_core::{Cut, Splitter};
@@ -21,10 +23,9 @@ use tee_core::Tee;
 use watch_core::{Edit, MemWatch};
 
 /// An engine, as it is opened.
-#[derive(Clone, Copy, Debug)]
+#[derive(Clone, Copy)]
 enum Job<'a> {
-    Head(bool, Unit, u64),
-    Tail(bool, Unit, u64),
+    Ends(Side, Unit, u64),
     Split(Cut),
     Csplit(&'a [&'a str]),
 }
@@ -34,37 +35,37 @@ type Row<'a> = (Job<'a>, &'a [&'a [u8]], &'a [u8], &'a [&'a [u8]]);
 
 const ROWS: &[Row<'static>] = &[
     (
-        Job::Head(false, Unit::Lines, 2),
+        Job::Ends(Side::First, Unit::Lines, 2),
         &[b"a\n", b"b\nc"],
         b"a\nb\n",
         &[],
     ),
     (
-        Job::Head(true, Unit::Lines, 2),
+        Job::Ends(Side::ButLast, Unit::Lines, 2),
         &[b"a\nb", b"\nc", b"\nd"],
         b"a\nb\n",
         &[],
     ),
     (
-        Job::Head(true, Unit::Bytes, 3),
+        Job::Ends(Side::ButLast, Unit::Bytes, 3),
         &[b"ab", b"cde"],
         b"ab",
         &[],
     ),
     (
-        Job::Tail(false, Unit::Lines, 2),
+        Job::Ends(Side::Last, Unit::Lines, 2),
         &[b"a\nb", b"\nc"],
         b"b\nc",
         &[],
     ),
     (
-        Job::Tail(false, Unit::Bytes, 2),
+        Job::Ends(Side::Last, Unit::Bytes, 2),
         &[b"ab", b"cde"],
         b"de",
         &[],
     ),
     (
-        Job::Tail(true, Unit::Lines, 2),
+        Job::Ends(Side::FromNth, Unit::Lines, 2),
         &[b"a\nb", b"\nc"],
         b"b\nc",
         &[],
@@ -107,31 +108,29 @@ fn nothing() {}
 
 #[test]
 fn engines_write_their_rows(rt: HostRuntime) -> Result<(), Fail> {
-    for row in ROWS {
-        plays(&rt, rt.alloc(), row)?;
+    for (number, row) in ROWS.iter().enumerate() {
+        plays(&rt, rt.alloc(), number, row)?;
     }
     Ok(())
 }
 
 #[test]
 fn engines_write_their_rows_or_are_refused(rt: HostRuntime) {
-    for row in ROWS {
-        if let Err(fault) = plays(&rt, rt.alloc(), row) {
+    for (number, row) in ROWS.iter().enumerate() {
+        if let Err(fault) = plays(&rt, rt.alloc(), number, row) {
             let is_refusal = matches!(fault, Fault::Memory | Fault::Write(_) | Fault::Open(_));
-            assert!(rt; is_refusal, "of {:?}: {fault:?}", row.0);
+            assert!(rt; is_refusal, "of row {number}: {fault:?}");
         }
     }
 }
 
 /// Opens an engine, feeds it and closes it, and checks what was written.
-fn plays(rt: &impl Abort, alloc: Global, row: &Row<'_>) -> Result<(), Fault> {
+fn plays(rt: &impl Abort, alloc: Global, number: usize, row: &Row<'_>) -> Result<(), Fault> {
     let mut outs = MemOut::new(alloc)?;
     let ended = ends(rt, alloc, row, &mut outs);
-    let is_whole = ended.is_ok();
     assert!(rt;
-        has_written(&outs, row.2, row.3, is_whole),
-        "of {:?}",
-        row.0
+        has_written(&outs, row.2, row.3, ended.is_ok()),
+        "of row {number}"
     );
     ended
 }
@@ -142,46 +141,42 @@ fn ends(rt: &impl Abort, alloc: Global, row: &Row<'_>, outs: &mut MemOut) -> Res
 {
     let (job, pieces, _, _) = *row;
     match job {
-        Job::Head(but_last, unit, count) => {
-            let mut engine = Head::open(alloc, unit, but_last, count, b'\n')?;
-            goes(rt, &mut engine, outs, pieces)
-        }
-        Job::Tail(from_nth, unit, count) => {
-            let mut engine = Tail::open(alloc, unit, from_nth, count, b'\n')?;
+        Job::Ends(side, unit, count) => {
+            let mut engine = open_ends(alloc, asked(side, unit, count))?;
             goes(rt, &mut engine, outs, pieces)
         }
         Job::Split(cut) => {
-            let mut engine = open_splitter(alloc, cut, outs)?;
+            let mut engine = open_cut(alloc, cut, outs)?;
             goes(rt, &mut engine, outs, pieces)
         }
         Job::Csplit(words) => cuts(rt, alloc, words, outs, pieces),
     }
 }
 
-fn open_splitter(alloc: Global, cut: Cut, outs: &mut MemOut) -> Result<Guarded<Splitter>, Fault>
+/// Of lines that end with newlines.
+fn asked(side: Side, unit: Unit, count: u64) -> Asked {
+    Asked {
+        side,
+        unit,
+        count,
+        delim: b'\n',
+    }
+}
+
+fn open_cut(alloc: Global, cut: Cut, outs: &mut MemOut) -> Result<Guarded<Splitter>, Fault>
     requires { 2 ≤ length outs.old }
     ensures { IfOk result (λ splitter. Ready splitter.stage outs.new) }
 {
     let names = Names::new(alloc, "x", Alphabet::Letters, 2, true, "")?;
     match cut {
-        Cut::Lines(count) => Splitter::open(
-            alloc,
-            Cut::Lines(count.max(1)),
-            names,
-            false,
-            b'\n',
-            outs,
-        ),
-        Cut::Bytes(count) => Splitter::open(
-            alloc,
-            Cut::Bytes(count.max(1)),
-            names,
-            false,
-            b'\n',
-            outs,
-        ),
+        Cut::Lines(count) => {
+            open_splitter(alloc, Cut::Lines(count.max(1)), names, false, b'\n', outs)
+        }
+        Cut::Bytes(count) => {
+            open_splitter(alloc, Cut::Bytes(count.max(1)), names, false, b'\n', outs)
+        }
         Cut::LineBytes(count) => {
-            Splitter::open(
+            open_splitter(
                 alloc,
                 Cut::LineBytes(count.max(1)),
                 names,
@@ -190,14 +185,9 @@ fn open_splitter(alloc: Global, cut: Cut, outs: &mut MemOut) -> Result<Guarded<S
                 outs,
             )
         }
-        Cut::Round(count) => Splitter::open(
-            alloc,
-            Cut::Round(count.max(1)),
-            names,
-            false,
-            b'\n',
-            outs,
-        ),
+        Cut::Round(count) => {
+            open_splitter(alloc, Cut::Round(count.max(1)), names, false, b'\n', outs)
+        }
     }
 }
 
@@ -248,8 +238,8 @@ fn stays_over<S: Stage>(rt: &impl Abort, engine: &mut Guarded<S>, outs: &mut Mem
     requires { engine.old.is_over ≡ false → S.Ready engine.old.stage outs.old }
 {
     let before = sizes(outs);
-    assert_eq!(rt; feed(engine, outs, b"x\ny\n"), Err(Fault::Failed));
-    assert_eq!(rt; close(engine, outs), Err(Fault::Failed));
+    let is_over = feed(engine, outs, b"x\ny\n") == Err(Fault::Failed);
+    assert!(rt; is_over && close(engine, outs) == Err(Fault::Failed));
     assert!(rt; sizes(outs) == before);
 }
 
@@ -383,8 +373,8 @@ fn look(
     ensures { OnOk result (CanLook follow.new watch.new.watched outs.new) }
 {
     let looked = follow.look(watch, outs);
-    assert!(rt; agrees(outs.bytes(0), wanted, looked.is_ok()));
-    assert_eq!(rt; follow.failed(), looked.is_err());
+    let is_so = agrees(outs.bytes(0), wanted, looked.is_ok());
+    assert!(rt; is_so && follow.failed() == looked.is_err());
     looked
 }
 
@@ -397,28 +387,37 @@ fn is_told(outs: &MemOut) -> Result<(), Fault> {
 }
 
 /// A tail or a head whose window of bytes is full takes a further piece without memory, or isn't fed one.
-fn fill<S: Stage>(
+fn fill(
     rt: &impl Abort,
-    engine: &mut Guarded<S>,
+    alloc: Global,
+    asked: Asked,
+    first: &[u8],
+    more: &[u8],
+    held: u64,
+) -> Result<(), Fault> {
+    let mut outs = MemOut::new(alloc)?;
+    let mut engine = open_ends(alloc, asked)?;
+    feed_more(rt, &mut engine, &mut outs, first, more)?;
+    assert!(rt; engine.held() == held);
+    Ok(())
+}
+
+fn feed_more(
+    rt: &impl Abort,
+    engine: &mut Guarded<Ends>,
     outs: &mut MemOut,
     first: &[u8],
     more: &[u8],
 ) -> Result<(), Fault>
-    requires { engine.old.is_over ≡ false → S.Ready engine.old.stage outs.old }
+    requires { IsTrue (is_writable outs.old 0) }
 {
     feed(engine, outs, first)?;
-    if !more.is_empty() {
-        assert_eq!(rt; feed(engine, outs, more), Ok(()));
-    }
+    assert!(rt; more.is_empty() || feed(engine, outs, more).is_ok());
     Ok(())
 }
 
 fn fill_tail(rt: &impl Abort, alloc: Global, more: &[u8]) -> Result<(), Fault> {
-    let mut outs = MemOut::new(alloc)?;
-    let mut tail = Tail::open(alloc, Unit::Bytes, false, 2, b'\n')?;
-    fill(rt, &mut tail, &mut outs, b"ab", more)?;
-    assert_eq!(rt; tail.held(), 2);
-    Ok(())
+    fill(rt, alloc, asked(Side::Last, Unit::Bytes, 2), b"ab", more, 2)
 }
 
 #[test]
@@ -435,8 +434,8 @@ fn after_a_full_tail_is_fed(rt: HostRuntime) -> Result<(), Fail> {
 fn copy(rt: &impl Abort, alloc: Global, more: &[u8]) -> Result<(), Fault> {
     let mut outs = MemOut::new(alloc)?;
     let mut tee = Tee::open(alloc, &["s"], Mode::Fresh, &mut outs)?;
-    assert_eq!(rt; tee.feed(b"abcde", &mut outs), 0);
-    assert_eq!(rt; tee.feed(more, &mut outs), 0);
+    assert!(rt; pass_on(&mut tee, &mut outs, Some(b"abcde")) == 0);
+    assert!(rt; pass_on(&mut tee, &mut outs, Some(more)) == 0);
     assert!(rt; outs.bytes(0).ends_with(more) && outs.bytes(2).ends_with(more));
     Ok(())
 }
@@ -453,12 +452,22 @@ fn after_a_tee_is_fed(rt: HostRuntime) -> Result<(), Fail> {
 
 /// The same of a head from the front and of a tail from the nth on, which hold nothing.
 fn pass(rt: &impl Abort, alloc: Global, more: &[u8]) -> Result<(), Fault> {
-    let mut outs = MemOut::new(alloc)?;
-    let mut head = Head::open(alloc, Unit::Bytes, false, 9, b'\n')?;
-    fill(rt, &mut head, &mut outs, b"abcde", more)?;
-    let mut others = MemOut::new(alloc)?;
-    let mut tail = Tail::open(alloc, Unit::Lines, true, 2, b'\n')?;
-    fill(rt, &mut tail, &mut others, b"a\nbcde", more)
+    fill(
+        rt,
+        alloc,
+        asked(Side::First, Unit::Bytes, 9),
+        b"abcde",
+        more,
+        0,
+    )?;
+    fill(
+        rt,
+        alloc,
+        asked(Side::FromNth, Unit::Lines, 2),
+        b"a\nbcde",
+        more,
+        0,
+    )
 }
 
 #[test]

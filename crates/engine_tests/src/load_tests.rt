@@ -1,7 +1,12 @@
 //! What a tail takes in of an input from its end, by blocks that are shorter than the texts.
-use crate::play::{Step, play};
-use ends_core::{Tail, Unit};
-use ports_core::{Inputs, MemIn, MemOut};
+ghost use Rattle.std.specs.Prelude.{[]};
+ghost use Rattle.ends_core.specs.Stage.{Holds};
+ghost use Rattle.ports_core.specs.Guard.{HoldsIn};
+
+use crate::ends_plain::{Asked, Side};
+use crate::play::{Step, open_ends, play};
+use ends_core::{Ends, Unit};
+use ports_core::{Guarded, Inputs, MemIn, MemOut};
 use std::alloc::Global;
 use std::process::Abort;
 use std::test::Fail;
@@ -151,23 +156,44 @@ const BYTES: &[Row<'static>] = &[
 
 /// Lets a tail take in what it can of an input, and takes the steps that follow.
 fn load_rows(rt: &impl Abort, alloc: Global, rows: &[Row<'_>]) -> Result<(), Fail> {
-    for row in rows {
-        load_row(rt, alloc, row)?;
+    for (number, row) in rows.iter().enumerate() {
+        load_row(rt, alloc, number, row)?;
     }
     Ok(())
 }
 
-fn load_row(rt: &impl Abort, alloc: Global, row: &Row<'_>) -> Result<(), Fail> {
+fn load_row(rt: &impl Abort, alloc: Global, number: usize, row: &Row<'_>) -> Result<(), Fail> {
     let (unit, count, delim, text, taken, steps) = *row;
-    let mut inputs = MemIn::new(alloc)?;
-    inputs.file("f", text)?;
-    let slot = inputs.open("f")?;
-    let mut tail = Tail::open(alloc, unit, false, count, delim)?;
-    let mut buffer = [0u8; BLOCK];
-    assert_eq!(rt; tail.load(slot, &mut buffer, &mut inputs), taken);
-    let left = inputs.left(slot).unwrap_or(u64::MAX);
-    assert_eq!(rt; left.saturating_add(taken), text.len() as u64);
+    let asked = Asked {
+        side: Side::Last,
+        unit,
+        count,
+        delim,
+    };
     let mut outs = MemOut::new(alloc)?;
-    play(rt, &mut tail, &mut outs, steps);
+    let mut tail = open_ends(alloc, asked).expect(rt, "there is memory");
+    assert!(rt;
+        takes_in(rt, alloc, &mut tail, text, taken),
+        "in row {number}"
+    );
+    play(rt, &mut tail, &mut outs, number, steps);
     Ok(())
+}
+
+/// Whether a tail takes in this many bytes of a file with this text, and the file has the others left.
+fn takes_in(
+    rt: &impl Abort,
+    alloc: Global,
+    tail: &mut Guarded<Ends>,
+    text: &[u8],
+    taken: u64,
+) -> bool
+    requires { HoldsIn Holds tail.old [] }
+{
+    let mut inputs = MemIn::new(alloc).expect(rt, "there is memory");
+    inputs.file("f", text).expect(rt, "there is memory");
+    let slot = inputs.open("f").expect(rt, "there is memory");
+    let is_taken = tail.load(slot, &mut [0u8; BLOCK], &mut inputs) == taken;
+    let left = inputs.left(slot).unwrap_or(u64::MAX);
+    is_taken && left.saturating_add(taken) == text.len() as u64
 }

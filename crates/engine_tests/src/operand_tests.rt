@@ -1,10 +1,12 @@
 //! What words are read as, and which fault is given for those that can't be.
 
-use csplit_core::{Offset, OperandFault, OperandFaultKind, Target, Times, read_operands};
-use scan_core::{BreFault, matches_plain};
+use csplit_core::{Offset, Operand, OperandFault, OperandFaultKind, Target, Times, read_operands};
+use scan_core::{Bre, BreFault, matches_plain};
+use std::alloc::Global;
+use std::process::Abort;
 
 /// Words, and the fault that they give.
-const REFUSED: [(&[&str], OperandFaultKind, usize); 37] = [
+const REFUSED: &[(&[&str], OperandFaultKind, usize)] = &[
     (&[], OperandFaultKind::Missing, 0),
     (&["/"], OperandFaultKind::Unclosed, 0),
     (&["1", "%a"], OperandFaultKind::Unclosed, 1),
@@ -58,72 +60,80 @@ const REFUSED: [(&[&str], OperandFaultKind, usize); 37] = [
 
 #[test]
 fn refuses_what_is_no_operand(rt: HostRuntime) {
-    for (words, kind, index) in &REFUSED {
-        match read_operands(rt.alloc(), words) {
-            Ok(_) => assert!(rt; false, "{words:?} were read"),
-            Err(fault) => {
-                assert_eq!(rt;
-                    fault,
-                    OperandFault {
-                        kind: *kind,
-                        index: *index
-                    },
-                    "of {words:?}"
-                )
-            }
-        }
+    for (words, kind, index) in REFUSED {
+        assert!(rt;
+            is_refused(rt.alloc(), words, *kind, *index),
+            "of {words:?}"
+        );
+    }
+}
+
+fn is_refused(alloc: Global, words: &[&str], kind: OperandFaultKind, index: usize) -> bool {
+    match read_operands(alloc, words) {
+        Ok(_) => false,
+        Err(fault) => fault == OperandFault { kind, index },
     }
 }
 
 /// The numbers of the kinds, in their order.
 #[test]
 fn kinds_have_numbers(rt: HostRuntime) {
-    let kinds = [
-        OperandFaultKind::Missing,
-        OperandFaultKind::Unclosed,
-        OperandFaultKind::Offset,
-        OperandFaultKind::LineZero,
-        OperandFaultKind::RepeatFirst,
-        OperandFaultKind::RepeatText,
-        OperandFaultKind::Bre(BreFault::TooLarge),
-        OperandFaultKind::LineOrder,
-        OperandFaultKind::Memory,
-        OperandFaultKind::Number,
-    ];
-    for (place, kind) in kinds.iter().enumerate() {
+    for (place, kind) in KINDS.iter().enumerate() {
         assert_eq!(rt; kind.number() as usize, place + 1);
     }
 }
 
+const KINDS: &[OperandFaultKind] = &[
+    OperandFaultKind::Missing,
+    OperandFaultKind::Unclosed,
+    OperandFaultKind::Offset,
+    OperandFaultKind::LineZero,
+    OperandFaultKind::RepeatFirst,
+    OperandFaultKind::RepeatText,
+    OperandFaultKind::Bre(BreFault::TooLarge),
+    OperandFaultKind::LineOrder,
+    OperandFaultKind::Memory,
+    OperandFaultKind::Number,
+];
+
 #[test]
 fn reads_numbers_and_repetitions(rt: HostRuntime) {
-    let words = [
-        "2",
-        "{3}",
-        "2",
-        "9223372036854775807",
-        "{*}",
-        "9223372036854775807",
-        "{0}",
-    ];
-    let operands = read_operands(rt.alloc(), &words).expect(&rt, "these are operands");
-    let wanted = [
-        (0, 2, Times::Count(3)),
-        (2, 2, Times::Count(0)),
-        (3, 9_223_372_036_854_775_807, Times::Endless),
-        (5, 9_223_372_036_854_775_807, Times::Count(0)),
-    ];
+    let operands = read_operands(rt.alloc(), WORDS).expect(&rt, "these are operands");
     let read = operands.as_slice();
-    assert_eq!(rt; read.len(), wanted.len());
-    for (operand, (index, number, times)) in read.iter().zip(wanted.iter()) {
-        assert_eq!(rt; operand.index, *index);
-        assert_eq!(rt; operand.times, *times);
-        assert!(rt; matches!(&operand.target, Target::Number(n) if *n == *number));
+    assert!(rt; read.len() == NUMBERS.len());
+    for (operand, wanted) in read.iter().zip(NUMBERS.iter()) {
+        assert!(rt; is_number(operand, wanted));
     }
 }
 
+const WORDS: &[&str] = &[
+    "2",
+    "{3}",
+    "2",
+    "9223372036854775807",
+    "{*}",
+    "9223372036854775807",
+    "{0}",
+];
+
+/// The place of an operand, its line, and how often it is performed again.
+const NUMBERS: &[(usize, u64, Times)] = &[
+    (0, 2, Times::Count(3)),
+    (2, 2, Times::Count(0)),
+    (3, 9_223_372_036_854_775_807, Times::Endless),
+    (5, 9_223_372_036_854_775_807, Times::Count(0)),
+];
+
+fn is_number(operand: &Operand, wanted: &(usize, u64, Times)) -> bool {
+    let (index, number, times) = *wanted;
+    let is_there = matches!(&operand.target, Target::Number(found) if *found == number);
+    is_there && operand.index == index && operand.times == times
+}
+
 /// A pattern as a word, whether its section is kept, its offset, a line that it matches, and one that it doesn't.
-const PATTERNS: [(&str, bool, Offset, &[u8], &[u8]); 10] = [
+type Pattern<'a> = (&'a str, bool, Offset, &'a [u8], &'a [u8]);
+
+const PATTERNS: &[Pattern<'static>] = &[
     ("/b/", true, Offset::Plus(0), b"abc", b"ac"),
     ("%b%", false, Offset::Plus(0), b"abc", b"ac"),
     ("/b/+2", true, Offset::Plus(2), b"b", b"a"),
@@ -144,30 +154,34 @@ const PATTERNS: [(&str, bool, Offset, &[u8], &[u8]); 10] = [
 
 #[test]
 fn reads_patterns(rt: HostRuntime) {
-    for (word, kept, moved, line, other) in &PATTERNS {
-        let operands = read_operands(rt.alloc(), &[*word]).expect(&rt, "this is an operand");
-        let [operand] = operands.as_slice() else {
-            assert!(rt; false, "{word} is one operand");
-            continue;
-        };
-        match &operand.target {
-            Target::Number(_) => assert!(rt; false, "{word} is a pattern"),
-            Target::Search {
-                pattern,
-                is_kept,
-                offset,
-            } => {
-                assert_eq!(rt; *is_kept, *kept, "of {word}");
-                assert_eq!(rt; *offset, *moved, "of {word}");
-                assert!(rt;
-                    matches_plain(rt.alloc(), pattern, line).expect(&rt, "there is memory"),
-                    "{word}"
-                );
-                assert!(rt;
-                    !matches_plain(rt.alloc(), pattern, other).expect(&rt, "there is memory"),
-                    "{word}"
-                );
-            }
+    for row in PATTERNS {
+        assert!(rt; reads_pattern(&rt, rt.alloc(), row), "{}", row.0);
+    }
+}
+
+fn reads_pattern(rt: &impl Abort, alloc: Global, row: &Pattern<'_>) -> bool {
+    let operands = read_operands(alloc, &[row.0]).expect(rt, "this is an operand");
+    match operands.as_slice() {
+        [operand] => is_pattern(rt, alloc, operand, row),
+        _ => false,
+    }
+}
+
+fn is_pattern(rt: &impl Abort, alloc: Global, operand: &Operand, row: &Pattern<'_>) -> bool {
+    let (_, kept, moved, line, other) = *row;
+    match &operand.target {
+        Target::Number(_) => false,
+        Target::Search {
+            pattern,
+            is_kept,
+            offset,
+        } => {
+            let is_so = *is_kept == kept && *offset == moved;
+            is_so && finds(rt, alloc, pattern, line) && !finds(rt, alloc, pattern, other)
         }
     }
+}
+
+fn finds(rt: &impl Abort, alloc: Global, pattern: &Bre, line: &[u8]) -> bool {
+    matches_plain(alloc, pattern, line).expect(rt, "there is memory")
 }

@@ -5,7 +5,7 @@ ghost use Rattle.split_core.specs.Parts.{most};
 ghost use Rattle.split_core.specs.Ways.{Ready};
 
 use crate::part_plain::plain_parts;
-use crate::play::{Step, close, feed, has_files, play};
+use crate::play::{Step, close, feed, has_files, open_splitter, play};
 use crate::test_texts::{DELIMITERS, Short, pieces_of, short_texts};
 use ports_core::{Alphabet, Fault, Guarded, MemOut, Names, Outs};
 use split_core::{Cut, Limit, Splitter};
@@ -290,16 +290,11 @@ const AFTER: Step<'static> = Step::FeedFails(b"c", Fault::Failed);
 
 /// Takes the steps of each row with an engine of its own.
 fn play_rows(rt: &impl Abort, alloc: Global, rows: &[Row<'_>]) -> Result<(), Fail> {
-    for (limit, steps) in rows {
-        play_row(rt, alloc, *limit, steps)?;
+    for (row, (limit, steps)) in rows.iter().enumerate() {
+        let mut outs = MemOut::new(alloc)?;
+        let mut splitter = open(alloc, *limit, &mut outs)?;
+        play(rt, &mut splitter, &mut outs, row, steps);
     }
-    Ok(())
-}
-
-fn play_row(rt: &impl Abort, alloc: Global, limit: Limit, steps: &[Step<'_>]) -> Result<(), Fault> {
-    let mut outs = MemOut::new(alloc)?;
-    let mut splitter = open(alloc, limit, &mut outs)?;
-    play(rt, &mut splitter, &mut outs, steps);
     Ok(())
 }
 
@@ -308,8 +303,8 @@ type NamesRow<'a> = (Cut, Alphabet, bool, &'a [Step<'a>]);
 
 #[test]
 fn ends_where_no_name_is_left(rt: HostRuntime) -> Result<(), Fail> {
-    for (cut, alphabet, auto, steps) in NAMES {
-        play_names(&rt, rt.alloc(), *cut, *alphabet, *auto, steps)?;
+    for (number, row) in NAMES.iter().enumerate() {
+        play_names(&rt, rt.alloc(), number, row)?;
     }
     Ok(())
 }
@@ -371,16 +366,15 @@ const TEN_FILES: Step<'static> = Step::Files(&[
 fn play_names(
     rt: &impl Abort,
     alloc: Global,
-    cut: Cut,
-    alphabet: Alphabet,
-    auto: bool,
-    steps: &[Step<'_>],
+    number: usize,
+    row: &NamesRow<'_>,
 ) -> Result<(), Fault> {
+    let (cut, alphabet, auto, steps) = *row;
     let width = if auto { 2 } else { 1 };
     let mut outs = MemOut::new(alloc)?;
     let names = Names::new(alloc, "x", alphabet, width, auto, "")?;
     let mut splitter = open_with(alloc, cut, names, &mut outs)?;
-    play(rt, &mut splitter, &mut outs, steps);
+    play(rt, &mut splitter, &mut outs, number, steps);
     Ok(())
 }
 
@@ -397,10 +391,10 @@ fn open_with(
 {
     match cut {
         Cut::Lines(most) if most > 0 => {
-            Splitter::open(alloc, Cut::Lines(most), names, false, b'\n', outs)
+            open_splitter(alloc, Cut::Lines(most), names, false, b'\n', outs)
         }
         Cut::Bytes(most) if most > 0 => {
-            Splitter::open(alloc, Cut::Bytes(most), names, false, b'\n', outs)
+            open_splitter(alloc, Cut::Bytes(most), names, false, b'\n', outs)
         }
         _ => Err(Fault::Failed),
     }
@@ -426,11 +420,11 @@ fn open(alloc: Global, limit: Limit, outs: &mut MemOut) -> Result<Guarded<Splitt
     let names = Names::new(alloc, "x", Alphabet::Letters, 2, true, "")?;
     match limit {
         Limit::Lines(most, delim) => {
-            Splitter::open(alloc, Cut::Lines(most), names, false, delim, outs)
+            open_splitter(alloc, Cut::Lines(most), names, false, delim, outs)
         }
-        Limit::Bytes(most) => { Splitter::open(alloc, Cut::Bytes(most), names, false, b'\n', outs) }
+        Limit::Bytes(most) => { open_splitter(alloc, Cut::Bytes(most), names, false, b'\n', outs) }
         Limit::LineBytes(most, delim) => {
-            Splitter::open(alloc, Cut::LineBytes(most), names, false, delim, outs)
+            open_splitter(alloc, Cut::LineBytes(most), names, false, delim, outs)
         }
     }
 }
@@ -507,15 +501,26 @@ fn agrees_in_pieces(
     requires { 2 ≤ length outs.old }
 {
     let mut splitter = open(alloc, limit, outs)?;
+    fills(&mut splitter, outs, pieces, files)
+}
+
+fn fills(
+    splitter: &mut Guarded<Splitter>,
+    outs: &mut MemOut,
+    pieces: &[&[u8]],
+    files: &[&[u8]],
+) -> Result<bool, Fault>
+    requires { splitter.old.is_over ≡ false → Ready splitter.old.stage outs.old }
+{
     let mut size = 0usize;
     for piece in pieces {
-        feed(&mut splitter, outs, piece)?;
+        feed(splitter, outs, piece)?;
         size = size.saturating_add(piece.len());
         if !has_begun(outs, files, size.saturating_sub(splitter.held() as usize)) {
             return Ok(false);
         }
     }
-    close(&mut splitter, outs)?;
+    close(splitter, outs)?;
     Ok(has_files(outs, files))
 }
 

@@ -1,11 +1,19 @@
 //! Tests as tables: what is done with an engine step by step, and what must be so between.
-ghost use Rattle.std.specs.Prelude.{◌≡◌, false};
+ghost use Rattle.std.specs.Prelude.{◌≡◌, ◌≤◌, [], false, length, IfOk};
+ghost use Rattle.ends_core.specs.Stage.{Holds};
+ghost use Rattle.ports_core.specs.Guard.{HoldsIn};
+ghost use Rattle.split_core.specs.Splitter.{IsPositive, HasNames};
+ghost use Rattle.split_core.specs.Ways.{Ready};
 
-use ports_core::{Fault, Guarded, MemOut, Outs, Stage};
+use crate::ends_plain::{Asked, Side};
+use ends_core::{Ends, Head, Tail};
+use ports_core::{Fault, Guarded, MemOut, Names, Outs, Stage};
+use split_core::{Cut, Splitter};
+use std::alloc::Global;
 use std::process::Abort;
 
 /// Something that is done, or that must be so.
-#[derive(Clone, Copy, Debug)]
+#[derive(Clone, Copy)]
 pub(crate) enum Step<'a> {
     /// The engine is fed a piece.
     Feed(&'a [u8]),
@@ -33,38 +41,70 @@ pub(crate) enum Step<'a> {
     Broken(usize),
 }
 
-/// Takes all steps with an engine, one after another.
+/// Takes all steps of a row with an engine, one after another.
 pub(crate) fn play<S: Stage>(
     rt: &impl Abort,
     engine: &mut Guarded<S>,
     outs: &mut MemOut,
+    row: usize,
     steps: &[Step<'_>],
 )
     requires { engine.old.is_over ≡ false → S.Ready engine.old.stage outs.old }
 {
+    let mut number = 0usize;
     for step in steps {
-        take(rt, engine, outs, step);
+        assert!(rt; take(engine, outs, step), "in row {row}, at step {number}");
+        number = number.saturating_add(1);
     }
 }
 
-/// Takes a step with an engine.
-fn take<S: Stage>(rt: &impl Abort, engine: &mut Guarded<S>, outs: &mut MemOut, step: &Step<'_>)
+/// Takes a step with an engine, and returns whether that came of it which must.
+fn take<S: Stage>(engine: &mut Guarded<S>, outs: &mut MemOut, step: &Step<'_>) -> bool
     requires { engine.old.is_over ≡ false → S.Ready engine.old.stage outs.old }
     ensures { engine.new.is_over ≡ false → S.Ready engine.new.stage outs.new }
 {
     match step {
-        Step::Feed(piece) => assert_eq!(rt; feed(engine, outs, piece), Ok(()), "at {step:?}"),
-        Step::FeedFails(piece, fault) => {
-            assert_eq!(rt; feed(engine, outs, piece), Err(*fault), "at {step:?}")
+        Step::Feed(piece) => feed(engine, outs, piece).is_ok(),
+        Step::FeedFails(piece, fault) => feed(engine, outs, piece) == Err(*fault),
+        Step::Close => close(engine, outs).is_ok(),
+        Step::CloseFails(fault) => close(engine, outs) == Err(*fault),
+        Step::FailAt(call) => {
+            outs.fail_at(*call);
+            true
         }
-        Step::Close => assert_eq!(rt; close(engine, outs), Ok(()), "at {step:?}"),
-        Step::CloseFails(fault) => {
-            assert_eq!(rt; close(engine, outs), Err(*fault), "at {step:?}")
-        }
-        Step::FailAt(call) => outs.fail_at(*call),
-        Step::Limit(slot, bytes) => assert_eq!(rt; outs.limit(*slot, *bytes), Ok(())),
-        _ => assert!(rt; is_so(engine, outs, step), "at {step:?}"),
+        Step::Limit(slot, bytes) => outs.limit(*slot, *bytes).is_ok(),
+        _ => is_so(engine, outs, step),
     }
+}
+
+/// Opens an engine of `head` or `tail`.
+pub(crate) fn open_ends(alloc: Global, asked: Asked) -> Result<Guarded<Ends>, Fault>
+    ensures { IfOk result (λ ends. HoldsIn Holds ends []) }
+{
+    match asked.side {
+        Side::First => Head::open(alloc, asked.unit, false, asked.count, asked.delim),
+        Side::ButLast => Head::open(alloc, asked.unit, true, asked.count, asked.delim),
+        Side::Last => Tail::open(alloc, asked.unit, false, asked.count, asked.delim),
+        Side::FromNth => Tail::open(alloc, asked.unit, true, asked.count, asked.delim),
+    }
+}
+
+/// Opens an engine of `split`.
+pub(crate) fn open_splitter(
+    alloc: Global,
+    cut: Cut,
+    names: Names,
+    elide: bool,
+    delim: u8,
+    outs: &mut MemOut,
+) -> Result<Guarded<Splitter>, Fault>
+    requires some { IsPositive cut }
+    requires fresh { names.drawn ≡ 0 }
+    requires enough { HasNames cut names }
+    requires streams { 2 ≤ length outs.old }
+    ensures { IfOk result (λ splitter. Ready splitter.stage outs.new) }
+{
+    Splitter::open(alloc, cut, names, elide, delim, outs)
 }
 
 /// Feeds an engine a piece, also one that is over.
@@ -92,6 +132,18 @@ pub(crate) fn feed_all<S: Stage>(
         feed(engine, outs, piece)?;
     }
     Ok(())
+}
+
+/// Feeds an engine these pieces, and closes it.
+pub(crate) fn feed_and_close<S: Stage>(
+    engine: &mut Guarded<S>,
+    outs: &mut MemOut,
+    pieces: &[&[u8]],
+) -> Result<(), Fault>
+    requires { engine.old.is_over ≡ false → S.Ready engine.old.stage outs.old }
+{
+    feed_all(engine, outs, pieces)?;
+    close(engine, outs)
 }
 
 /// Closes an engine, also one that is over.

@@ -1,9 +1,9 @@
 //! Lines dealt in turn, row by row, and the engine beside the plain program on each short text, cut into pieces in
 //! each way.
-ghost use Rattle.std.specs.Prelude.{◌<◌, ◌≤◌, length, IfOk};
+ghost use Rattle.std.specs.Prelude.{◌≡◌, ◌<◌, ◌≤◌, false, length, IfOk};
 ghost use Rattle.split_core.specs.Ways.{Ready};
 
-use crate::play::{Step, close, feed_all, play};
+use crate::play::{Step, close, feed_all, open_splitter, play};
 use crate::round_plain::plain;
 use crate::test_texts::{DELIMITERS, Short, pieces_of, short_texts};
 use ports_core::{Alphabet, Fault, Guarded, MemOut, Names, Outs};
@@ -21,8 +21,8 @@ type Row<'a> = (u64, bool, u8, &'a [Step<'a>]);
 
 #[test]
 fn deals_in_turn(rt: HostRuntime) -> Result<(), Fail> {
-    for (count, elide, delim, steps) in ROWS {
-        play_row(&rt, rt.alloc(), *count, *elide, *delim, steps)?;
+    for (number, row) in ROWS.iter().enumerate() {
+        play_row(&rt, rt.alloc(), number, row)?;
     }
     Ok(())
 }
@@ -105,20 +105,14 @@ const ROWS: &[Row<'static>] = &[
 ];
 
 /// Takes the steps with an engine of its own.
-fn play_row(
-    rt: &impl Abort,
-    alloc: Global,
-    count: u64,
-    elide: bool,
-    delim: u8,
-    steps: &[Step<'_>],
-) -> Result<(), Fault> {
+fn play_row(rt: &impl Abort, alloc: Global, number: usize, row: &Row<'_>) -> Result<(), Fault> {
+    let (count, elide, delim, steps) = *row;
     if count == 0 {
         return Err(Fault::Failed);
     }
     let mut outs = MemOut::new(alloc)?;
     let mut engine = start(alloc, count, elide, delim, &mut outs)?;
-    play(rt, &mut engine, &mut outs, steps);
+    play(rt, &mut engine, &mut outs, number, steps);
     Ok(())
 }
 
@@ -141,14 +135,12 @@ fn deals_many_lines_of_a_piece(rt: HostRuntime) -> Result<(), Fail> {
         }
     }
     for count in [1, 2, 5, 64, 65] {
-        assert!(rt;
-            agree_on_pieces(rt.alloc(), count, &text, b'\n')?,
-            "for {count}"
-        );
-        assert!(rt;
-            agree_on_pieces(rt.alloc(), count, &text, b'x')?,
-            "for {count}"
-        );
+        for delim in [b'\n', b'x'] {
+            assert!(rt;
+                agree_on_pieces(rt.alloc(), count, &text, delim)?,
+                "for {count}"
+            );
+        }
     }
     Ok(())
 }
@@ -218,10 +210,25 @@ fn agrees(alloc: Global, job: Job, text: &[u8], pieces: &[&[u8]]) -> Result<bool
 {
     let mut outs = MemOut::new(alloc)?;
     let mut engine = start(alloc, job.count, job.elide, job.delim, &mut outs)?;
-    feed_all(&mut engine, &mut outs, pieces)?;
-    let early = has_all(alloc, job, text, &outs)?;
-    close(&mut engine, &mut outs)?;
-    Ok(early && has_all(alloc, job, text, &outs)?)
+    deals(alloc, job, text, pieces, &mut engine, &mut outs)
+}
+
+fn deals(
+    alloc: Global,
+    job: Job,
+    text: &[u8],
+    pieces: &[&[u8]],
+    engine: &mut Guarded<Splitter>,
+    outs: &mut MemOut,
+) -> Result<bool, Fault>
+    requires { engine.old.is_over ≡ false → Ready engine.old.stage outs.old }
+{
+    feed_all(engine, outs, pieces)?;
+    if !has_all(alloc, job, text, outs)? {
+        return Ok(false);
+    }
+    close(engine, outs)?;
+    has_all(alloc, job, text, outs)
 }
 
 /// Whether the files are those that are wanted: with `elide` none that is empty.
@@ -260,5 +267,5 @@ fn start(
     ensures ready { IfOk result (λ engine. Ready engine.stage outs.new) }
 {
     let names = Names::new(alloc, "x", Alphabet::Letters, 2, true, "")?;
-    Splitter::open(alloc, Cut::Round(count), names, elide, delim, outs)
+    open_splitter(alloc, Cut::Round(count), names, elide, delim, outs)
 }

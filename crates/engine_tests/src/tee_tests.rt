@@ -1,7 +1,8 @@
 //! Whole runs over memory, which no clause can show to succeed: the outputs, messages and status.
-ghost use Rattle.std.specs.Prelude.{◌≡◌, ◌<◌, IfOk, OnOk};
+ghost use Rattle.std.specs.Prelude.{◌≡◌, ◌<◌, false, IfOk, OnOk};
 ghost use Rattle.ports_core.specs.Slot.{streams};
 ghost use Rattle.ports_core.specs.Source.{IsFresh};
+ghost use Rattle.tee_core.specs.Outputs.{IsReady};
 
 use crate::play::has_files;
 use ports_core::{Fault, Inputs, MemIn, MemOut, Mode, Outs};
@@ -68,9 +69,17 @@ fn check(rt: &impl Abort, alloc: Global, case: &Case<'_>) -> Result<(), Fault> {
     plan_break(&mut inputs, case.breaks_at)?;
     let mut outs = outs_of(alloc, case.limits)?;
     plan_refusal(&mut outs, case.refused);
-    let status = run_tee(alloc, case.names, Mode::Fresh, &mut inputs, &mut outs);
+    let status = run(alloc, case.names, Mode::Fresh, &mut inputs, &mut outs);
     check_left(rt, &outs, case, status);
     Ok(())
+}
+
+/// Runs `tee`.
+fn run(alloc: Global, names: &[&str], mode: Mode, inputs: &mut MemIn, outs: &mut MemOut) -> u8
+    requires inputs { IsFresh inputs.old.sources }
+    requires outputs { outs.old ≡ streams }
+{
+    run_tee(alloc, names, mode, inputs, outs)
 }
 
 /// Has standard input break off there, if it is to.
@@ -170,9 +179,9 @@ const WHOLE: &[Case<'static>] = &[
 fn short_writes_are_gone_on_with(rt: HostRuntime) -> Result<(), Fail> {
     let alloc = rt.alloc();
     let mut inputs = inputs_of(alloc, INPUT, 4)?;
-    let mut outs = outs_of(alloc, &[])?;
+    let mut outs = outs_of(alloc, &[]).expect(&rt, "there is memory");
     outs.short(1);
-    let status = run_tee(alloc, &["s", "t"], Mode::Fresh, &mut inputs, &mut outs);
+    let status = run(alloc, &["s", "t"], Mode::Fresh, &mut inputs, &mut outs);
     check_left(&rt, &outs, &SOUND, status);
     Ok(())
 }
@@ -181,14 +190,19 @@ fn short_writes_are_gone_on_with(rt: HostRuntime) -> Result<(), Fail> {
 fn hyphen_is_a_file(rt: HostRuntime) -> Result<(), Fail> {
     let alloc = rt.alloc();
     let mut inputs = inputs_of(alloc, b"ab", 1)?;
-    let mut outs = outs_of(alloc, &[])?;
-    let status = run_tee(alloc, &["-"], Mode::Append, &mut inputs, &mut outs);
-    assert_eq!(&rt; outs.bytes(0), b"ab".as_slice());
-    assert_eq!(&rt; outs.bytes(2), b"ab".as_slice());
-    assert_eq!(&rt; outs.name(2), "-");
-    assert_eq!(&rt; status, 0);
+    let mut outs = outs_of(alloc, &[]).expect(&rt, "there is memory");
+    let status = run(alloc, &["-"], Mode::Append, &mut inputs, &mut outs);
+    assert!(rt; has_left(&outs, &HYPHEN, status) && outs.name(2) == "-");
     Ok(())
 }
+
+/// What `tee -` leaves of two bytes.
+const HYPHEN: Left<'static> = Left {
+    output: b"ab",
+    files: &[b"ab"],
+    messages: b"",
+    status: 0,
+};
 
 #[test]
 fn broken_output_alone_suffers(rt: HostRuntime) -> Result<(), Fail> {
@@ -415,7 +429,7 @@ fn run_refused(rt: &impl Abort, alloc: Global, call: u64) -> Result<bool, Fault>
     let mut inputs = inputs_of(alloc, INPUT, 1)?;
     let mut outs = outs_of(alloc, &[])?;
     outs.fail_at(call);
-    let status = run_tee(alloc, &["s", "t"], Mode::Fresh, &mut inputs, &mut outs);
+    let status = run(alloc, &["s", "t"], Mode::Fresh, &mut inputs, &mut outs);
     Ok(check_sound(rt, &outs, status))
 }
 
@@ -435,19 +449,34 @@ fn check_sound(rt: &impl Abort, outs: &MemOut, status: u8) -> bool {
 /// How many outputs broke at each call, and what they have in the end.
 #[test]
 fn counts_what_broke(rt: HostRuntime) -> Result<(), Fail> {
-    let alloc = rt.alloc();
-    let mut outs = outs_of(alloc, &[(0, 1), (2, 3)])?;
-    let mut tee = Tee::open(alloc, &["s", "t"], Mode::Fresh, &mut outs)?;
-    assert_eq!(&rt; tee.feed(b"a", &mut outs), 0);
-    assert_eq!(&rt; tee.feed(b"bcdef", &mut outs), 2);
-    assert_eq!(&rt; tee.feed(b"g", &mut outs), 0);
-    assert_eq!(&rt; tee.close(&mut outs), 0);
-    assert_eq!(&rt; tee.close(&mut outs), 0);
-    assert_eq!(&rt; tee.feed(b"h", &mut outs), 0);
-    assert_eq!(&rt; outs.bytes(0), b"a".as_slice());
-    assert_eq!(&rt; outs.bytes(2), b"abc".as_slice());
-    assert_eq!(&rt; outs.bytes(3), b"abcdefg".as_slice());
+    let mut outs = outs_of(rt.alloc(), &[(0, 1), (2, 3)])?;
+    let mut tee = Tee::open(rt.alloc(), &["s", "t"], Mode::Fresh, &mut outs)?;
+    for (piece, count) in BREAKS {
+        assert!(rt; pass(&mut tee, &mut outs, *piece) == *count, "at {piece:?}");
+    }
+    assert!(rt; outs.bytes(0) == b"a".as_slice() && has_files(&outs, &[b"abc", b"abcdefg"]));
     Ok(())
+}
+
+/// A piece, or none where it is closed, and how many outputs break.
+const BREAKS: &[(Option<&[u8]>, u64)] = &[
+    (Some(b"a"), 0),
+    (Some(b"bcdef"), 2),
+    (Some(b"g"), 0),
+    (None, 0),
+    (None, 0),
+    (Some(b"h"), 0),
+];
+
+/// Feeds a piece, or closes where there is none.
+pub(crate) fn pass(tee: &mut Tee, outs: &mut MemOut, piece: Option<&[u8]>) -> u64
+    requires { tee.old.is_over ≡ false → IsReady tee.old outs.old }
+    ensures { tee.new.is_over ≡ false → IsReady tee.new outs.new }
+{
+    match piece {
+        Some(piece) => tee.feed(piece, outs),
+        None => tee.close(outs),
+    }
 }
 
 /// Whether nothing was opened, since there was no memory for the run.
@@ -462,10 +491,9 @@ fn want_of_memory_harms_no_sound_output(rt: HostRuntime) -> Result<(), Fail> {
     let (Ok(mut inputs), Ok(mut outs)) = (inputs_of(alloc, INPUT, 1), outs_of(alloc, &[])) else {
         return Ok(());
     };
-    let status = run_tee(alloc, &["s", "t"], Mode::Fresh, &mut inputs, &mut outs);
+    let status = run(alloc, &["s", "t"], Mode::Fresh, &mut inputs, &mut outs);
     if is_unopened(&outs) {
-        assert_eq!(&rt; outs.bytes(0), b"".as_slice());
-        assert_eq!(&rt; status, 1);
+        assert!(rt; outs.bytes(0).is_empty() && status == 1);
         return Ok(());
     }
     let _ = check_sound(&rt, &outs, status);
