@@ -20,6 +20,7 @@ pub mod BeginPromises
 pub mod ToldLemmas
 pub mod LiveLemmas
 pub mod BrokenPromises
+pub mod StoppedPromises
 pub mod FollowText
 pub mod GrowingText
 pub mod FollowPromises

@@ -19,7 +19,7 @@ use Rattle.run_core.specs.Task.{Task, made_by}
 use Rattle.operand_core.proofs.OneReading.{asks_once}
 use Rattle.tee_core.specs.Run as tee
 use Rattle.tee_core.specs.Run.{IsRead, all_copied, are_sound, broke_before, messages_of, none_left, output_names, said_in, said_of_input}
-use Rattle.tee_core.proofs.EndLemmas.{nothing_before, nothing_in, read_whole, sound_first, status_zero, whole_files, whole_output}
+use Rattle.tee_core.proofs.EndLemmas.{nothing_before, nothing_in, sound_first, whole_files, whole_output}
 use Rattle.words_core.specs.CsplitAsked.{CsplitAsked}
 use Rattle.words_core.specs.declared.settings.Settings.{Settings}
 use Rattle.words_core.specs.declared.settings.Settings.TheVariants.{Head, Tail, Split, Csplit, Tee}
@@ -28,7 +28,7 @@ use Rattle.tools_core.specs.Outcome.{CsplitEndsAs, DoesAsked, names_at}
 use Rattle.tools_core.specs.Tasks.{csplit_task, head_task, split_task, tail_task, names_of, tool_of}
 use Rattle.tools_core.specs.Promises.{Completes, Does, FindAlike, IsAlike, IsCopied, IsUnstopped, LeaveAlike, Run, Unstopped}
 use Rattle.tools_core.proofs.BeginLemmas.{slots_at}
-use Rattle.tools_core.proofs.PromiseLemmas.{did, not_one, well_done}
+use Rattle.tools_core.proofs.PromiseLemmas.{did, well_done}
 use Rattle.tools_core.proofs.TeePromises.{bytes_at}
 use Rattle.tools_core.proofs.ToldLemmas.{swept_error}
 
@@ -60,35 +60,9 @@ leave_same one other asked does does_too same =
     does_same asked (inputs_at other.world (names_of asked)) one.inputs other.inputs one.outputs other.outputs
     (subst (λ (inputs : List Input). DoesAsked true true asked inputs one.inputs one.outputs 0) (found_same one other asked does.ran.read does_too.ran.read same) (did one asked does)) (did other asked does_too)
 
--- They are runs that no fault stopped.
-
-well_unstopped : (task : Task) (inputs : List Input) (sources : List Source) (new : List Slot) → (ends : EndsAs true true task inputs sources new 0) → IsUnstopped ends
-well_unstopped task inputs sources new (as_defined error reached says outputs swept done is) = tt
-well_unstopped task inputs sources new (stopped fault before input after error step reached are done untouched at stops between swept says is) = absurd (not_one is)
-well_unstopped task inputs sources new (no_room error says slots untouched count is) = absurd (not_one is)
-
 -- no output is left only where the first broke
-some_left : (call : ℕ) (first : Option ℕ) (broke : List (Option ℕ)) → first ≡ None → none_left call (first ∷ broke) ≡ false
+pub some_left : (call : ℕ) (first : Option ℕ) (broke : List (Option ℕ)) → first ≡ None → none_left call (first ∷ broke) ≡ false
 some_left call first broke none = ap (λ those. broke_before call those && none_left call broke) none
-
-well_copied : (mode : Mode) (names : List (List ℕ)) (content : Content) (source : Source) (new : List Slot) → (ends : tee.EndsAs true true mode names content source new 0) → IsCopied ends
-well_copied mode names content source new (tee.copied pieces fault first broke output error files comes some left rest says slots is) =
-    let good = status_zero (is_none fault) (are_sound (first ∷ broke)) (sym is) in
-    (good.0, sym (read_whole content _ _ (concat pieces) fault (some_left (suc (length pieces)) first broke (sound_first first (are_sound broke) good.0).0) good.1 comes.read))
-well_copied mode names content source new (tee.no_room error says leaves slots is) = absurd (not_one is)
-
-well_does : (asked : Settings) (inputs : List Input) (sources : List Source) (new : List Slot) → (does : DoesAsked true true asked inputs sources new 0) → Unstopped asked inputs sources new 0 does
-well_does (Head asked) inputs sources new does = well_unstopped (head_task asked) inputs sources new does
-well_does (Tail asked) inputs sources new does = well_unstopped (tail_task asked.ends) inputs sources new does
-well_does (Split asked) inputs sources new does = well_unstopped (split_task asked) inputs sources new does
-well_does (Csplit asked) inputs sources new does = well_unstopped (csplit_task asked does.operands) inputs sources new does.ends
-well_does (Tee asked) inputs sources new does = well_copied asked.mode asked.names does.content _ new does.ends
-
-pub well_completes : (run : Run) (asked : Settings) → Does run asked → Completes run asked
-well_completes run asked does =
-    let found = inputs_at run.world (names_of asked) in
-    let (here, unstopped) = subst (λ status. (done : DoesAsked true true asked found run.inputs run.outputs status) × Unstopped asked found run.inputs run.outputs status done) (sym does.well)
-    (did run asked does, well_does asked found run.inputs run.outputs (did run asked does)) in record { read = does.ran.read; does = here; unstopped = unstopped }
 
 -- Outputs that were left alike
 

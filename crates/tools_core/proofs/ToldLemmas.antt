@@ -34,10 +34,10 @@ use Rattle.tools_core.proofs.SpeakerLemmas.{runs_as_named}
 abbrev pub HasLine : List ℕ → List (List ℕ) → Type 0
 HasLine line lines = (before : List (List ℕ)) × (after : List (List ℕ)) × (lines ≡ before ++ line ∷ after)
 
-has_after : (line : List ℕ) (front back : List (List ℕ)) → HasLine line back → HasLine line (front ++ back)
+pub has_after : (line : List ℕ) (front back : List (List ℕ)) → HasLine line back → HasLine line (front ++ back)
 has_after line front back (before, after, is) = (front ++ before, after, ap (λ those. front ++ those) is ∙ sym (append_assoc front before (line ∷ after)))
 
-has_before : (line : List ℕ) (front back : List (List ℕ)) → HasLine line front → HasLine line (front ++ back)
+pub has_before : (line : List ℕ) (front back : List (List ℕ)) → HasLine line front → HasLine line (front ++ back)
 has_before line front back (before, after, is) = (before, after ++ back, ap (λ those. those ++ back) is ∙ append_assoc before (line ∷ after) back)
 
 -- it is said, where all are
@@ -223,19 +223,17 @@ files_broke mode pieces _ _ _ (tee.one_file name names _ broke _ files (tee.file
 files_broke mode pieces _ _ _ (tee.one_file name names _ broke _ files (tee.file_cut before piece after n is few) rest) sound = (0, refl)
 files_broke mode pieces _ _ _ (tee.one_file name names _ broke _ files tee.file_unclosed rest) sound = (0, refl)
 
-unsound_said : (mode : Mode) (pieces names : List (List ℕ)) (first : Option ℕ) (broke : List (Option ℕ)) (output error : Slot) (files : List Slot) → OutputLeft true pieces first output → FilesLeft true mode pieces names broke files → are_sound (first ∷ broke) ≡ false
-    → (name : List ℕ) × (fault : Fault) × (call : ℕ) × (call ≤ suc (length pieces)) × HasLine (message_of tool.Tee fault name) (said_in call (output_names names) (first ∷ broke))
-unsound_said mode pieces names _ broke _ error files tee.output_whole rest sound =
-    let (at, broken) = files_broke mode pieces names broke files rest sound in
-    let said = outputs_said mode pieces names None broke _ error files (suc (suc at)) tee.output_whole rest (λ is. omega (arith, is)) broken in (said.name, failing (suc (suc at)) (slot_at files at).state, said.call, said.within, said.line)
-unsound_said mode pieces names _ broke _ error files (tee.output_cut before piece after n is few) rest sound =
-    let said = outputs_said mode pieces names _ broke _ error files 0 (tee.output_cut before piece after n is few) rest (λ is. omega (arith, is)) refl in (said.name, failing 0 state.Open, said.call, said.within, said.line)
+pub unsound_broke : (mode : Mode) (pieces names : List (List ℕ)) (first : Option ℕ) (broke : List (Option ℕ)) (output error : Slot) (files : List Slot) → OutputLeft true pieces first output → FilesLeft true mode pieces names broke files → are_sound (first ∷ broke) ≡ false
+    → (place : ℕ) × (place ≡ 1 → ⊥) × ((slot_at (output ∷ error ∷ files) place).is_broken ≡ true)
+unsound_broke mode pieces names _ broke _ error files tee.output_whole rest sound = let (at, broken) = files_broke mode pieces names broke files rest sound in (suc (suc at), λ is. omega (arith, is), broken)
+unsound_broke mode pieces names _ broke _ error files (tee.output_cut before piece after n is few) rest sound = (0, λ is. omega (arith, is), refl)
 
 status_fault : (mode : Mode) (pieces names : List (List ℕ)) (first : Option ℕ) (broke : List (Option ℕ)) (output error : Slot) (files : List Slot) (fault : Option Fault) (sound : Bool) → OutputLeft true pieces first output → FilesLeft true mode pieces names broke files
     → are_sound (first ∷ broke) ≡ sound → ◌≡◌ {A = ℕ} (cond (sound && is_none fault) 0 1) 1 → HasFault tool.Tee (messages_of names (first ∷ broke) (length pieces) fault)
 status_fault mode pieces names first broke output error files fault false left rest is one =
-    let (name, why, call, within, line) = unsound_said mode pieces names first broke output error files left rest is in
-    (why, name, call_line (message_of tool.Tee why name) names (first ∷ broke) (length pieces) call fault within line)
+    let (place, differs, broken) = unsound_broke mode pieces names first broke output error files left rest is in
+    let said = outputs_said mode pieces names first broke output error files place left rest differs broken in
+    (failing place (slot_at (output ∷ error ∷ files) place).state, said.name, call_line _ names (first ∷ broke) (length pieces) said.call fault said.within said.line)
 status_fault mode pieces names first broke output error files None true left rest is one = absurd (omega (arith, one))
 status_fault mode pieces names first broke output error files (Some fault) true left rest is one =
     fault_before tool.Tee _ _ (fault_after tool.Tee (said_before (suc (length pieces)) (output_names names) (first ∷ broke)) (said_of_input (Some fault)) (only_fault tool.Tee fault _))

@@ -1,6 +1,6 @@
 //! What people rest on, as laws of runs, with no code: each stands on the contract of a function whose body is empty. They
 //! speak of runs over inputs and outputs that tell their bytes, as those in memory do, and of what `run` ensures of each.
-ghost use Rattle.std.specs.Prelude.{◌≡◌, ◌+◌, ◌++◌, ◌∷◌, [], ℕ, List, true, false, length};
+ghost use Rattle.std.specs.Prelude.{◌≡◌, ◌⊎◌, ◌+◌, ◌++◌, ◌∷◌, [], ℕ, List, true, false, length};
 ghost use Rattle.ends_core.specs.Ends.{tail_of};
 ghost use Rattle.follow_core.specs.Run.{AreKept, name_text};
 ghost use Rattle.follow_core.specs.Version.{entries_of};
@@ -11,7 +11,7 @@ ghost use Rattle.seg_core.specs.declared.cut.Cut.TheVariants.{Bytes, LineBytes, 
 ghost use Rattle.operand_core.specs.Reading.{Asks};
 ghost use Rattle.operand_core.specs.declared.operand.Operand.{Operand};
 ghost use Rattle.tools_core.specs.Following.{is_name};
-ghost use Rattle.tools_core.specs.Promises.{AreCopies, AreDealt, AreLinePieces, AreListed, AreNumbered, ArePieces, AreSections, AreUncut, BeginsEach, Completes, CountAlike, Does, FindAlike, FollowRun, Follows, HasInput, IsBare, WhyBroken, IsHead, IsTail, IsTold, LeaveAlike, OnlyGrows, Ran, Run, SkipNothing, contents_of, files_of, output_of};
+ghost use Rattle.tools_core.specs.Promises.{AreCopies, AreDealt, AreLinePieces, AreListed, AreNumbered, ArePieces, AreSections, AreUncut, BeginsEach, Completes, CountAlike, Does, FindAlike, FollowRun, Follows, HasInput, IsBare, IsHead, IsStopped, IsTail, IsTold, LeaveAlike, OnlyGrows, Ran, Run, SkipNothing, WhyBroken, contents_of, files_of, output_of};
 ghost use Rattle.tools_core.specs.Tasks.{is_plus};
 ghost use Rattle.words_core.specs.CsplitAsked.{CsplitAsked};
 ghost use Rattle.words_core.specs.EndsAsked.{EndsAsked};
@@ -40,10 +40,12 @@ pub fn tee_copies()
 /// How an input comes changes nothing: two runs that are asked for the same, over inputs of the same bytes, leave the same
 /// outputs, whether a read gives one byte or all of them: a run's end doesn't say how large the reads were. Where the status is
 /// 1 and no fault stopped them, as of an input that breaks off or a pattern that isn't found, they leave the same status too, and
-/// the same bytes under the same names, and say the same lines; but a file that was to be removed may stay in one of them.
+/// the same bytes under the same names, and say the same lines; but a file that was to be removed may stay in one of them. A
+/// fault that stops a run is told, and its status is 1: no memory, too much input, operands that can't be read, or an output that
+/// broke.
 pub fn cutting_changes_nothing()
     ensures same { (one other : Run) (asked : Settings) → Does one asked → Does other asked → FindAlike one other → one.outputs ≡ other.outputs }
-    ensures unstopped { (run : Run) (asked : Settings) → Does run asked → Completes run asked }
+    ensures ended { (run : Run) (asked : Settings) → Ran run asked → Completes run asked ⊎ IsStopped run asked }
     ensures alike { (one other : Run) (asked : Settings) → Completes one asked → Completes other asked → FindAlike one other → LeaveAlike one other }
 {}
 
