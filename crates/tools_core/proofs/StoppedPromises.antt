@@ -32,7 +32,7 @@ use Rattle.words_core.specs.declared.settings.Settings.{Settings}
 use Rattle.words_core.specs.declared.settings.Settings.TheVariants.{Head, Tail, Split, Csplit, Tee}
 use Rattle.tools_core.specs.Outcome.{DoesAsked, RefusesOperands, word_of}
 use Rattle.tools_core.specs.Tasks.{csplit_task, head_task, names_of, split_task, tail_task, tool_of}
-use Rattle.tools_core.specs.Promises.{Completes, IsCopied, IsStopped, IsUnstopped, Ran, Run, StopsRun, Unstopped, failing}
+use Rattle.tools_core.specs.Promises.{Completes, IsCalled, IsCopied, IsStopped, IsUnstopped, Ran, Run, StopsRun, Unstopped, failing}
 use Rattle.tools_core.proofs.PromiseLemmas.{ran_over}
 use Rattle.tools_core.proofs.SamePromises.{some_left}
 use Rattle.tools_core.proofs.SpeakerLemmas.{runs_as_named}
@@ -56,10 +56,12 @@ last_broke : (kept : List ℕ) (slots : List Slot) → (slot_at (slots ++ unopen
 last_broke kept [] = refl
 last_broke kept (slot ∷ slots) = last_broke kept slots
 
-stops_run : (IsDue : List ℕ → Type 0) (step : Step) (clears : Bool) (before reached new : List Slot) (fault : Fault) → Stops step reached fault → Marks IsDue fault before reached → Swept clears 2 reached new → StopsRun new fault
-stops_run IsDue step clears before reached new (Write slot) stops marks swept = swept_still clears reached new slot swept stops.2
-stops_run IsDue step clears before reached new (Open slot) stops (number, (name, kept, due, is, slots)) swept =
-    swept_still clears reached new slot swept (ap (λ those. (slot_at those slot).is_broken) slots ∙ ap (λ place. (slot_at (before ++ unopened kept ∷ []) place).is_broken) number ∙ last_broke kept before)
+stops_run : (IsDue : List ℕ → Type 0) (step : Step) (clears : Bool) (before reached new : List Slot) (fault : Fault) → Stops step reached fault → Marks IsDue fault before reached → Swept clears 2 reached new → StopsRun new (output_named new fault) fault
+stops_run IsDue step clears before reached new (Write slot) stops marks swept = (inl refl, swept_still clears reached new slot swept stops.2)
+stops_run IsDue step clears before reached new (Open slot) stops (number, (name, kept, due, is, slots)) swept = (
+  inl refl,
+  swept_still clears reached new slot swept (ap (λ those. (slot_at those slot).is_broken) slots ∙ ap (λ place. (slot_at (before ++ unopened kept ∷ []) place).is_broken) number ∙ last_broke kept before),
+)
 stops_run IsDue step clears before reached new Memory stops marks swept = tt
 stops_run IsDue step clears before reached new TooLong stops marks swept = tt
 stops_run IsDue step clears before reached new (Usage kind word) stops marks swept = tt
@@ -74,7 +76,7 @@ record IsStop (which : Tool) (new : List Slot) (status : ℕ) : Type 0 where
   pub failed : status ≡ 1
   pub why : Fault
   pub name : List ℕ
-  pub stops : StopsRun new why
+  pub stops : StopsRun new name why
   pub line : SaysLine which (message_of which why name) (slot_at new 1)
 
 ends_or : (task : Task) (inputs : List Input) (sources : List Source) (new : List Slot) (status : ℕ) → (ends : EndsAs true true task inputs sources new status) → IsUnstopped ends ⊎ IsStop task.tool new status
@@ -102,11 +104,11 @@ read_or content Leaves _ _ _ left (tee.to_break x is breaks leaves) = inl (sym i
 read_or content Leaves _ _ _ left (tee.to_limit x piece rest is many within leaves) = inr refl
 read_or content Leaves _ _ _ left (tee.to_last_output x rest is leaves) = absurd (false≢true (sym left))
 
-failing_stops : (new : List Slot) (place : ℕ) (which : State) → (slot_at new place).is_broken ≡ true → StopsRun new (failing place which)
-failing_stops new place state.Open broken = broken
-failing_stops new place state.Closed broken = broken
-failing_stops new place state.Removed broken = broken
-failing_stops new place state.Unopened broken = broken
+failing_stops : (new : List Slot) (name : List ℕ) (place : ℕ) (which : State) → IsCalled (slot_at new place) name → (slot_at new place).is_broken ≡ true → StopsRun new name (failing place which)
+failing_stops new name place state.Open called broken = (called, broken)
+failing_stops new name place state.Closed called broken = (called, broken)
+failing_stops new name place state.Removed called broken = (called, broken)
+failing_stops new name place state.Unopened called broken = (called, broken)
 
 broke_stop : (mode : Mode) (pieces names : List (List ℕ)) (first : Option ℕ) (broke : List (Option ℕ)) (output error : Slot) (files : List Slot) (fault : Option Fault) → are_sound (first ∷ broke) ≡ false → OutputLeft true pieces first output
     → FilesLeft true mode pieces names broke files → SaysAll true tool.Tee (messages_of names (first ∷ broke) (length pieces) fault) standard_error error → IsStop tool.Tee (output ∷ error ∷ files) (cond (are_sound (first ∷ broke) && is_none fault) 0 1)
@@ -116,7 +118,7 @@ broke_stop mode pieces names first broke output error files fault unsound left r
       failed = ap (λ flag. cond (flag && is_none fault) 0 1) unsound;
       why = failing place (slot_at (output ∷ error ∷ files) place).state;
       name = name;
-      stops = failing_stops (output ∷ error ∷ files) place (slot_at (output ∷ error ∷ files) place).state broken;
+      stops = failing_stops (output ∷ error ∷ files) name place (slot_at (output ∷ error ∷ files) place).state called broken;
       line = line;
     }
 
@@ -168,31 +170,31 @@ does_or (Tee asked) inputs sources new status does = tee_or asked.mode asked.nam
 
 -- operands that can't be read
 
-operand_stops : (new : List Slot) (word : ℕ) (which : OperandFaultKind) → StopsRun new (fault_in word which)
-operand_stops new word kind.Memory = tt
-operand_stops new word (kind.Bre fault) = tt
-operand_stops new word kind.Missing = tt
-operand_stops new word kind.Unclosed = tt
-operand_stops new word kind.Offset = tt
-operand_stops new word kind.LineZero = tt
-operand_stops new word kind.RepeatFirst = tt
-operand_stops new word kind.RepeatText = tt
-operand_stops new word kind.LineOrder = tt
-operand_stops new word kind.Number = tt
+operand_stops : (new : List Slot) (name : List ℕ) (word : ℕ) (which : OperandFaultKind) → StopsRun new name (fault_in word which)
+operand_stops new name word kind.Memory = tt
+operand_stops new name word (kind.Bre fault) = tt
+operand_stops new name word kind.Missing = tt
+operand_stops new name word kind.Unclosed = tt
+operand_stops new name word kind.Offset = tt
+operand_stops new name word kind.LineZero = tt
+operand_stops new name word kind.RepeatFirst = tt
+operand_stops new name word kind.RepeatText = tt
+operand_stops new name word kind.LineOrder = tt
+operand_stops new name word kind.Number = tt
 
-bad_stops : (asked : Settings) (new : List Slot) (fault : Fault) → HasBadOperands asked fault → StopsRun new fault
-bad_stops (Head asked) new fault bad = absurd bad
-bad_stops (Tail asked) new fault bad = absurd bad
-bad_stops (Split asked) new fault bad = absurd bad
-bad_stops (Csplit asked) new fault (found, is, same) = subst (StopsRun new) (sym same) (operand_stops new _ found.kind)
-bad_stops (Tee asked) new fault bad = absurd bad
+bad_stops : (asked : Settings) (new : List Slot) (name : List ℕ) (fault : Fault) → HasBadOperands asked fault → StopsRun new name fault
+bad_stops (Head asked) new name fault bad = absurd bad
+bad_stops (Tail asked) new name fault bad = absurd bad
+bad_stops (Split asked) new name fault bad = absurd bad
+bad_stops (Csplit asked) new name fault (found, is, same) = subst (StopsRun new name) (sym same) (operand_stops new name _ found.kind)
+bad_stops (Tee asked) new name fault bad = absurd bad
 
 refused_stop : (run : Run) (asked : Settings) → Ran run asked → RefusesOperands true run.words asked run.outputs run.status → IsStop (tool_of asked) run.outputs run.status
 refused_stop run asked ran (fault, bad, refuses) = record {
   failed = refuses.failed;
   why = fault;
   name = word_of run.words fault;
-  stops = bad_stops asked run.outputs fault bad;
+  stops = bad_stops asked run.outputs (word_of run.words fault) fault bad;
   line = subst (λ those. SaysLine (tool_of asked) (message_of (tool_of asked) fault (word_of run.words fault)) (slot_at those 1)) (sym refuses.slots)
       (subst (λ which. SaysLine which (message_of which fault (word_of run.words fault)) refuses.error) (runs_as_named run.words asked ran.read) ([], [], (refuses.error, refuses.says, refl)));
 }

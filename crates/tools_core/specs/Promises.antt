@@ -311,26 +311,28 @@ pub record Completes (run : Run) (asked : Settings) : Type 0 where
   pub does : DoesAsked true true asked (inputs_at run.world (names_of asked)) run.inputs run.outputs run.status
   pub unstopped : Unstopped asked (inputs_at run.world (names_of asked)) run.inputs run.outputs run.status does
 
--- A fault that stops a run: there was no memory, more came than any tool takes, its words can't be read, or this output
--- broke.
-abbrev pub StopsRun : List Slot → Fault → Type 0
-StopsRun outputs fault.Memory = Unit {0}
-StopsRun outputs fault.TooLong = Unit {0}
-StopsRun outputs (fault.Usage kind word) = Unit {0}
-StopsRun outputs (fault.Write place) = (slot_at outputs place).is_broken ≡ true
-StopsRun outputs (fault.Open place) = (slot_at outputs place).is_broken ≡ true
-StopsRun outputs (fault.Read slot) = ⊥
-StopsRun outputs fault.Suffixes = ⊥
-StopsRun outputs (fault.NoMatch operand repetition) = ⊥
-StopsRun outputs (fault.Range operand repetition) = ⊥
-StopsRun outputs fault.Failed = ⊥
+-- A fault that stops a run, and the name that its line has: there was no memory, more came than any tool takes, its words
+-- can't be read, or the output of this name broke.
+abbrev pub StopsRun : List Slot → List ℕ → Fault → Type 0
+StopsRun outputs name fault.Memory = Unit {0}
+StopsRun outputs name fault.TooLong = Unit {0}
+StopsRun outputs name (fault.Usage kind word) = Unit {0}
+StopsRun outputs name (fault.Write place) = IsCalled (slot_at outputs place) name
+    × ((slot_at outputs place).is_broken ≡ true)
+StopsRun outputs name (fault.Open place) = IsCalled (slot_at outputs place) name
+    × ((slot_at outputs place).is_broken ≡ true)
+StopsRun outputs name (fault.Read slot) = ⊥
+StopsRun outputs name fault.Suffixes = ⊥
+StopsRun outputs name (fault.NoMatch operand repetition) = ⊥
+StopsRun outputs name (fault.Range operand repetition) = ⊥
+StopsRun outputs name fault.Failed = ⊥
 
 -- such a fault stopped the run, which told it
 pub record IsStopped (run : Run) (asked : Settings) : Type 0 where
   pub failed : run.status ≡ 1
   pub why : Fault
   pub name : List ℕ
-  pub stops : StopsRun run.outputs why
+  pub stops : StopsRun run.outputs name why
   pub told : Tells run asked why name
 
 -- An output got the same in two runs, under the same name. It is left the same in both, unless it is a file that was to

@@ -42,7 +42,7 @@ pub fn tee_copies()
 /// 1 and no fault stopped them, as of an input that breaks off or a pattern that isn't found, they leave the same status too, and
 /// the same bytes under the same names, and say the same lines; but a file that was to be removed may stay in one of them. A
 /// fault that stops a run is told, and its status is 1: no memory, too much input, operands that can't be read, or an output that
-/// broke.
+/// broke, by its name.
 pub fn cutting_changes_nothing()
     ensures same { (one other : Run) (asked : Settings) → Does one asked → Does other asked → FindAlike one other → one.outputs ≡ other.outputs }
     ensures ended { (run : Run) (asked : Settings) → Ran run asked → Completes run asked ⊎ IsStopped run asked }
