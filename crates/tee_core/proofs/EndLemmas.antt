@@ -89,13 +89,13 @@ whole_files told mode pieces _ _ _ sound (one_file name names _ broke _ files (f
 whole_files told mode pieces _ _ _ sound (one_file name names _ broke _ files (file_cut before that after n is within) rest) = absurd (false≢true sound)
 whole_files told mode pieces _ _ _ sound (one_file name names _ broke _ files file_unclosed rest) = absurd (false≢true sound)
 
-pub status_zero : (sound whole : Bool) → ◌≡◌ {A = ℕ} (if whole && sound then 0 else 1) 0 → (whole ≡ true) × (sound ≡ true)
+status_zero : (sound whole : Bool) → ◌≡◌ {A = ℕ} (if whole && sound then 0 else 1) 0 → (whole ≡ true) × (sound ≡ true)
 status_zero true true is = (refl, refl)
 status_zero true false is = absurd (omega (arith, is))
 status_zero false true is = absurd (omega (arith, is))
 status_zero false false is = absurd (omega (arith, is))
 
-pub read_whole : (content : Content) (Leaves : List ℕ → Type 0) (is_vain : Bool) (x : List ℕ) (fault : Option Fault) → is_vain ≡ false → is_none fault ≡ true → IsRead content Leaves is_vain x fault → content.bytes ≡ x
+read_whole : (content : Content) (Leaves : List ℕ → Type 0) (is_vain : Bool) (x : List ℕ) (fault : Option Fault) → is_vain ≡ false → is_none fault ≡ true → IsRead content Leaves is_vain x fault → content.bytes ≡ x
 read_whole content Leaves _ _ _ left sound (to_end x is ended leaves) = is
 read_whole content Leaves _ _ _ left sound (to_break x is breaks leaves) = absurd (false≢true sound)
 read_whole content Leaves _ _ _ left sound (to_limit x piece rest is many within leaves) = absurd (false≢true sound)
