@@ -15,11 +15,11 @@ fn agree(rt: &impl Abort, alloc: Global, cases: &[Case]) {
     for (pattern, line, want) in cases {
         let bre = Expression::read(alloc, pattern).expect(rt, "a pattern of the table reads");
         let found = matches_plain(alloc, &bre, line).expect(rt, "there is memory");
-        assert_eq!(rt; found, *want, "{pattern:?} in {line:?}");
+        assert!(rt; found == *want, "{pattern:?} in {line:?}");
     }
 }
 
-const CASES_1: [Case; 84] = [
+const CASES_1: &[Case] = &[
     (b"a*ab", b"aaab", true),
     (b"a*ab", b"ab", true),
     (b"a*ab", b"b", false),
@@ -108,10 +108,10 @@ const CASES_1: [Case; 84] = [
 
 #[test]
 fn agrees_with_grep_1(rt: HostRuntime) {
-    agree(&rt, rt.alloc(), &CASES_1);
+    agree(&rt, rt.alloc(), CASES_1);
 }
 
-const CASES_2: [Case; 84] = [
+const CASES_2: &[Case] = &[
     (b"[^abc]", b"b", false),
     (b"[^abc]", b"d", true),
     (b"[^abc]", b"", false),
@@ -200,10 +200,10 @@ const CASES_2: [Case; 84] = [
 
 #[test]
 fn agrees_with_grep_2(rt: HostRuntime) {
-    agree(&rt, rt.alloc(), &CASES_2);
+    agree(&rt, rt.alloc(), CASES_2);
 }
 
-const CASES_3: [Case; 84] = [
+const CASES_3: &[Case] = &[
     (b"[[:cntrl:]]", b"\x7f", true),
     (b"[[:cntrl:]]", b"a", false),
     (b"[[:graph:]]", b"!", true),
@@ -292,10 +292,10 @@ const CASES_3: [Case; 84] = [
 
 #[test]
 fn agrees_with_grep_3(rt: HostRuntime) {
-    agree(&rt, rt.alloc(), &CASES_3);
+    agree(&rt, rt.alloc(), CASES_3);
 }
 
-const CASES_4: [Case; 79] = [
+const CASES_4: &[Case] = &[
     (b"[\xe0-\xe9]", b"e", false),
     (b"\\(^a\\)[^a].", b"a", false),
     (b"\\(^a\\)[^a].", b"*a", false),
@@ -391,5 +391,5 @@ const CASES_4: [Case; 79] = [
 
 #[test]
 fn agrees_with_grep_4(rt: HostRuntime) {
-    agree(&rt, rt.alloc(), &CASES_4);
+    agree(&rt, rt.alloc(), CASES_4);
 }

@@ -98,7 +98,7 @@ fn byte_put(rt: &impl Abort, alloc: Global) -> bool {
     }
     assert!(rt; window.is_empty() && !window.grown());
     assert!(rt; keep_bytes(&mut window, b"abcd").is_ok());
-    assert_eq!(rt; window.front(), b"abcd".as_slice());
+    assert!(rt; window.front() == b"abcd".as_slice());
     false
 }
 
@@ -111,7 +111,7 @@ fn line_put(rt: &impl Abort, alloc: Global) -> bool {
     }
     assert!(rt; window.is_empty());
     assert!(rt; keep_lines(&mut window, b"a\nb").is_ok());
-    assert_eq!(rt; window.front(), b"a\nb".as_slice());
+    assert!(rt; window.front() == b"a\nb".as_slice());
     false
 }
 
@@ -156,11 +156,9 @@ fn fill_bytes(rt: &impl Abort, alloc: Global, again: bool) {
     }
     window.drop_front(2);
     assert!(rt; keep_bytes(&mut window, b"ef").is_ok());
-    assert!(rt; window.grown());
-    assert_eq!(rt; window.over(3), 3);
+    assert!(rt; window.grown() && window.over(3) == 3);
     let mut out = [0; 4];
-    assert_eq!(rt; window.take_front(&mut out), 4);
-    assert_eq!(rt; out, *b"cdef");
+    assert!(rt; window.take_front(&mut out) == 4 && out == *b"cdef");
 }
 
 #[test]
@@ -180,10 +178,10 @@ fn fill_lines(rt: &impl Abort, alloc: Global, again: bool) {
     if !again || window.len() < 2 {
         return;
     }
-    assert_eq!(rt; window.over(b"c\nd\n"), 4);
+    assert!(rt; window.over(b"c\nd\n") == 4);
     window.drop_front(2);
     let mut out = [0; 4];
-    assert_eq!(rt; window.take_front(&mut out), 2);
+    assert!(rt; window.take_front(&mut out) == 2);
 }
 
 #[test]
@@ -201,8 +199,7 @@ fn keep_nothing(rt: &impl Abort, alloc: Global, again: bool) {
     let mut window = ByteWindow::new(alloc, 0).expect(rt, "room");
     assert!(rt; window.grown());
     if again {
-        assert_eq!(rt; window.over(9), 9);
-        assert!(rt; keep_bytes(&mut window, b"abc").is_ok());
+        assert!(rt; window.over(9) == 9 && keep_bytes(&mut window, b"abc").is_ok());
         assert!(rt; window.is_empty() && window.grown());
     }
 }
@@ -224,13 +221,12 @@ fn before_lines_and_counts() {}
 #[test]
 fn after_lines_and_counts(rt: HostRuntime) {
     let (first, rest) = next_line(b"ab\nc", NEWLINE);
-    assert_eq!(rt; first, b"ab\n".as_slice());
-    assert_eq!(rt; rest, b"c".as_slice());
+    assert!(rt; first == b"ab\n".as_slice() && rest == b"c".as_slice());
     let mut last = first;
     for line in lines(b"ab\nc", NEWLINE) {
         last = line;
     }
-    assert_eq!(rt; last, b"c".as_slice());
+    assert!(rt; last == b"c".as_slice());
     assert!(rt; read_count(b"2k").is_ok() && read_count(b"k").is_err());
 }
 

@@ -16,6 +16,8 @@ mod line_tests;
 #[cfg(test)]
 mod pages;
 #[cfg(test)]
+mod parts;
+#[cfg(test)]
 mod pattern_tests;
 #[cfg(test)]
 mod scan_tests;

@@ -1,5 +1,6 @@
 //! Rows that pin the grammar, the faults and their offsets, and the counts of positions.
 
+use crate::parts::{Part, joined};
 use bre_core::{BreFault, Expression, matches_plain};
 use std::alloc::Global;
 use std::process::Abort;
@@ -46,9 +47,8 @@ const ROWS: [(&[u8], &[u8], bool); 24] = [
 #[test]
 fn rows_match(rt: HostRuntime) {
     for (pattern, line, want) in &ROWS {
-        assert_eq!(rt;
-            contains(&rt, rt.alloc(), pattern, line),
-            *want,
+        assert!(rt;
+            contains(&rt, rt.alloc(), pattern, line) == *want,
             "{pattern:?} in {line:?}"
         );
     }
@@ -72,19 +72,31 @@ const CLASSES: [(&[u8], &[u8], &[u8]); 12] = [
 #[test]
 fn classes_have_their_bytes(rt: HostRuntime) {
     for (pattern, members, others) in &CLASSES {
-        for byte in *members {
-            assert!(rt;
-                contains(&rt, rt.alloc(), pattern, &[*byte]),
-                "{byte} in {pattern:?}"
-            );
-        }
-        for byte in *others {
-            assert!(rt;
-                !contains(&rt, rt.alloc(), pattern, &[*byte]),
-                "{byte} in {pattern:?}"
-            );
+        assert!(rt;
+            have_match(&rt, rt.alloc(), pattern, members, true),
+            "{pattern:?}"
+        );
+        assert!(rt;
+            have_match(&rt, rt.alloc(), pattern, others, false),
+            "{pattern:?}"
+        );
+    }
+}
+
+/// Whether each of these bytes, as a line, contains a match, or none does.
+fn have_match(
+    rt: &impl Abort,
+    alloc: Global,
+    pattern: &[u8],
+    bytes: &[u8],
+    is_wanted: bool,
+) -> bool {
+    for byte in bytes {
+        if contains(rt, alloc, pattern, &[*byte]) != is_wanted {
+            return false;
         }
     }
+    true
 }
 
 const POSITIONS: [(&[u8], u64); 9] = [
@@ -102,9 +114,8 @@ const POSITIONS: [(&[u8], u64); 9] = [
 #[test]
 fn positions_are_counted(rt: HostRuntime) {
     for (pattern, want) in &POSITIONS {
-        assert_eq!(rt;
-            read(&rt, rt.alloc(), pattern).positions(),
-            *want,
+        assert!(rt;
+            read(&rt, rt.alloc(), pattern).positions() == *want,
             "{pattern:?}"
         );
     }
@@ -174,9 +185,8 @@ const FAULTS: [(&[u8], BreFault); 58] = [
 #[test]
 fn faults_have_their_kind_and_offset(rt: HostRuntime) {
     for (pattern, want) in &FAULTS {
-        assert_eq!(rt;
-            Expression::read(rt.alloc(), pattern).err(),
-            Some(*want),
+        assert!(rt;
+            Expression::read(rt.alloc(), pattern).err() == Some(*want),
             "{pattern:?}"
         );
     }
@@ -184,75 +194,73 @@ fn faults_have_their_kind_and_offset(rt: HostRuntime) {
 
 #[test]
 fn faults_have_their_number(rt: HostRuntime) {
-    let numbers = [
-        BreFault::Empty(3),
-        BreFault::BackReference(3),
-        BreFault::Escape(3),
-        BreFault::OpenGroup(3),
-        BreFault::CloseGroup(3),
-        BreFault::Interval(3),
-        BreFault::Bracket(3),
-        BreFault::Range(3),
-        BreFault::Class(3),
-        BreFault::TooLarge,
-        BreFault::Memory,
-    ];
-    for (i, fault) in numbers.iter().enumerate() {
-        assert_eq!(rt; fault.number() as usize, i + 1);
-        assert_eq!(rt; fault.offset(), if i < 9 { Some(3) } else { None });
+    for (place, fault) in NUMBERED.iter().enumerate() {
+        let offset = if place < 9 { Some(3) } else { None };
+        assert!(rt; fault.number() as usize == place + 1 && fault.offset() == offset);
     }
 }
 
-fn times(rt: &impl Abort, alloc: Global, piece: &[u8], count: usize) -> Vec<u8> {
-    let mut text = Vec::new(alloc);
-    for _ in 0..count {
-        text.extend_from_slice(piece).expect(rt, "there is memory");
-    }
-    text
-}
+const NUMBERED: &[BreFault] = &[
+    BreFault::Empty(3),
+    BreFault::BackReference(3),
+    BreFault::Escape(3),
+    BreFault::OpenGroup(3),
+    BreFault::CloseGroup(3),
+    BreFault::Interval(3),
+    BreFault::Bracket(3),
+    BreFault::Range(3),
+    BreFault::Class(3),
+    BreFault::TooLarge,
+    BreFault::Memory,
+];
 
-fn nested(rt: &impl Abort, alloc: Global, depth: usize) -> Vec<u8> {
-    let mut text = times(rt, alloc, b"\\(", depth);
-    let closed = times(rt, alloc, b"\\)", depth);
-    text.extend_from_slice(b"a").expect(rt, "there is memory");
-    text.extend_from_slice(&closed)
-        .expect(rt, "there is memory");
-    text
-}
+/// The parts of a pattern, how many positions it has, if it isn't too large, and lines, with whether they contain a match.
+type Large<'a> = (&'a [Part<'a>], Option<u64>, &'a [(&'a [u8], bool)]);
 
 #[test]
 fn limits_are_reached_and_not_passed(rt: HostRuntime) {
-    let alloc = rt.alloc();
-    let deepest = nested(&rt, alloc, 255);
-    assert_eq!(rt; read(&rt, alloc, &deepest).positions(), 2);
-    assert!(rt; contains(&rt, alloc, &deepest, b"ba"));
-    assert!(rt; !contains(&rt, alloc, &deepest, b"b"));
-    let deeper = nested(&rt, alloc, 256);
-    assert_eq!(rt;
-        Expression::read(alloc, &deeper).err(),
-        Some(BreFault::TooLarge)
-    );
-    let open = times(&rt, alloc, b"\\(", 256);
-    assert_eq!(rt;
-        Expression::read(alloc, &open).err(),
-        Some(BreFault::TooLarge)
-    );
-    let side_by_side = times(&rt, alloc, b"\\(a\\)", 300);
-    assert_eq!(rt; read(&rt, alloc, &side_by_side).positions(), 301);
-    let longest = times(&rt, alloc, b"a", 65_534);
-    assert_eq!(rt; read(&rt, alloc, &longest).positions(), 65_535);
-    assert!(rt; !contains(&rt, alloc, &longest, b"aa"));
-    let longer = times(&rt, alloc, b"a", 65_535);
-    assert_eq!(rt;
-        Expression::read(alloc, &longer).err(),
-        Some(BreFault::TooLarge)
-    );
+    for (number, row) in LIMITS.iter().enumerate() {
+        let pattern = joined(&rt, rt.alloc(), row.0);
+        assert!(rt;
+            is_as_large(&rt, rt.alloc(), &pattern, row),
+            "in row {number}"
+        );
+    }
+}
+
+const LIMITS: &[Large<'static>] = &[
+    (
+        &[(b"\\(", 255), (b"a", 1), (b"\\)", 255)],
+        Some(2),
+        &[(b"ba", true), (b"b", false)],
+    ),
+    (&[(b"\\(", 256), (b"a", 1), (b"\\)", 256)], None, &[]),
+    (&[(b"\\(", 256)], None, &[]),
+    (&[(b"\\(a\\)", 300)], Some(301), &[]),
+    (&[(b"a", 65_534)], Some(65_535), &[(b"aa", false)]),
+    (&[(b"a", 65_535)], None, &[]),
+];
+
+fn is_as_large(rt: &impl Abort, alloc: Global, pattern: &[u8], row: &Large<'_>) -> bool {
+    match Expression::read(alloc, pattern) {
+        Ok(read) => row.1 == Some(read.positions()) && has_all(rt, alloc, &read, row.2),
+        Err(fault) => row.1.is_none() && fault == BreFault::TooLarge,
+    }
+}
+
+fn has_all(rt: &impl Abort, alloc: Global, read: &Expression, lines: &[(&[u8], bool)]) -> bool {
+    for (line, wanted) in lines {
+        if matches_plain(alloc, read, line).expect(rt, "there is memory") != *wanted {
+            return false;
+        }
+    }
+    true
 }
 
 #[test]
 fn nested_repeats_end(rt: HostRuntime) {
     let alloc = rt.alloc();
-    let line = times(&rt, alloc, b"a", 30);
+    let line = [b'a'; 30];
     assert!(rt; !contains(&rt, alloc, b"\\(\\(a*\\)\\{1,255\\}\\)\\{1,9\\}b", &line));
     assert!(rt; contains(&rt, alloc, b"^\\(a*\\)\\{255\\}$", &line));
 }

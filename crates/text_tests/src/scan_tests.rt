@@ -1,6 +1,7 @@
 //! Rows of steps, patterns at the limits, and the matcher beside the plain one.
 
-use scan_core::{Bre, BreFault, Scan, matches_plain};
+use crate::parts::{Part, joined};
+use scan_core::{Bre, BreFault, Outcome, Scan, matches_plain};
 use std::alloc::Global;
 use std::process::Abort;
 
@@ -29,9 +30,8 @@ const STEPS: [(&[u8], &[u8], u128); 6] = [
 #[test]
 fn steps_are_counted(rt: HostRuntime) {
     for (pattern, line, want) in &STEPS {
-        let (found, steps) = search(&rt, rt.alloc(), pattern, line);
-        assert!(rt; !found, "{pattern:?} in {line:?}");
-        assert_eq!(rt; steps, *want, "{pattern:?} in {line:?}");
+        let is_so = search(&rt, rt.alloc(), pattern, line) == (false, *want);
+        assert!(rt; is_so, "{pattern:?} in {line:?}");
     }
 }
 
@@ -54,12 +54,10 @@ const FOUND: [(&[u8], &[u8], u128); 8] = [
 fn steps_are_counted_where_the_line_matches(rt: HostRuntime) {
     for (pattern, line, least) in &FOUND {
         let (found, steps) = search(&rt, rt.alloc(), pattern, line);
-        assert!(rt; found, "{pattern:?} in {line:?}");
-        assert!(rt; steps >= *least, "{pattern:?} in {line:?}: {steps}");
         let by_sets = steps_by_sets(&rt, rt.alloc(), pattern, line);
         assert!(rt;
-            by_sets >= *least,
-            "{pattern:?} in {line:?}, by sets: {by_sets}"
+            found && steps >= *least && by_sets >= *least,
+            "{pattern:?} in {line:?}: {steps}, by sets {by_sets}"
         );
     }
 }
@@ -78,93 +76,81 @@ fn no_search_no_steps(rt: HostRuntime) {
     assert_eq!(rt; scan.steps(), 0);
 }
 
-/// A pattern of a text that is repeated, between two others.
-fn repeated(
-    rt: &impl Abort,
-    alloc: Global,
-    front: &[u8],
-    text: &[u8],
-    count: usize,
-    back: &[u8],
-) -> Vec<u8> {
-    let mut all = Vec::new(alloc);
-    all.extend_from_slice(front).expect(rt, "there is memory");
-    for _done in 0..count {
-        all.extend_from_slice(text).expect(rt, "there is memory");
+/// The parts of a pattern, how many positions it has, if it isn't too large, and lines, with whether they match.
+type Large<'a> = (&'a [Part<'a>], Option<u64>, &'a [(&'a [u8], bool)]);
+
+#[test]
+fn large_patterns(rt: HostRuntime) {
+    for (number, row) in LARGE.iter().enumerate() {
+        let pattern = joined(&rt, rt.alloc(), row.0);
+        assert!(rt;
+            is_as_large(&rt, rt.alloc(), &pattern, row),
+            "in row {number}"
+        );
     }
-    all.extend_from_slice(back).expect(rt, "there is memory");
-    all
 }
 
-#[test]
-fn many_stars_over_one_byte(rt: HostRuntime) {
-    let alloc = rt.alloc();
-    let pattern = repeated(&rt, alloc, b"a", b"*", 65_533, b"");
-    let bre = read(&rt, alloc, &pattern);
-    assert_eq!(rt; bre.positions(), 65_535);
-    let mut scan = Scan::new(alloc, &bre).expect(&rt, "there is memory");
-    assert!(rt; scan.matches(&bre, b"b"));
-    let more = repeated(&rt, alloc, b"a", b"*", 65_534, b"");
-    assert!(rt; matches!(Bre::read(alloc, &more), Err(BreFault::TooLarge)));
+const LARGE: &[Large<'static>] = &[
+    // Many stars over one byte.
+    (&[(b"a", 1), (b"*", 65_533)], Some(65_535), &[(b"b", true)]),
+    (&[(b"a", 1), (b"*", 65_534)], None, &[]),
+    // Nested groups.
+    (
+        &[(b"\\(", 255), (b"a", 1), (b"\\)", 255)],
+        Some(2),
+        &[(b"a", true)],
+    ),
+    (&[(b"\\(", 256), (b"a", 1), (b"\\)", 255)], None, &[]),
+    // As many positions as may be.
+    (
+        &[(b"a\\{255\\}\\{255\\}", 1)],
+        Some(65_026),
+        &[(&[b'a'; 255], false)],
+    ),
+    // A group that stands no time.
+    (
+        &[
+            (b"x\\(\\(a*b\\)\\{3\\}", 1),
+            (b"\\{255\\}", 1000),
+            (b"\\)\\{0\\}*y", 1),
+        ],
+        Some(4),
+        &[(b"axyb", true), (b"xay", false)],
+    ),
+];
+
+fn is_as_large(rt: &impl Abort, alloc: Global, pattern: &[u8], row: &Large<'_>) -> bool {
+    match Bre::read(alloc, pattern) {
+        Ok(bre) => row.1 == Some(bre.positions()) && matches_all(rt, alloc, &bre, row.2),
+        Err(fault) => row.1.is_none() && fault == BreFault::TooLarge,
+    }
 }
 
-#[test]
-fn nested_groups(rt: HostRuntime) {
-    let alloc = rt.alloc();
-    let front = repeated(&rt, alloc, b"", b"\\(", 255, b"a");
-    let pattern = repeated(&rt, alloc, &front, b"\\)", 255, b"");
-    let bre = read(&rt, alloc, &pattern);
-    assert_eq!(rt; bre.positions(), 2);
-    let mut scan = Scan::new(alloc, &bre).expect(&rt, "there is memory");
-    assert!(rt; scan.matches(&bre, b"a"));
-    let front = repeated(&rt, alloc, b"", b"\\(", 256, b"a");
-    let pattern = repeated(&rt, alloc, &front, b"\\)", 256, b"");
-    assert!(rt; matches!(Bre::read(alloc, &pattern), Err(BreFault::TooLarge)));
+fn matches_all(rt: &impl Abort, alloc: Global, bre: &Bre, lines: &[(&[u8], bool)]) -> bool {
+    for (line, wanted) in lines {
+        if matches(rt, alloc, bre, line) != *wanted {
+            return false;
+        }
+    }
+    true
+}
+
+fn matches(rt: &impl Abort, alloc: Global, bre: &Bre, line: &[u8]) -> bool {
+    let mut scan = Scan::new(alloc, bre).expect(rt, "there is memory");
+    scan.matches(bre, line)
 }
 
 #[test]
 fn stars_within_stars(rt: HostRuntime) {
-    let alloc = rt.alloc();
-    let line = repeated(&rt, alloc, b"", b"a", 1000, b"");
-    assert_eq!(rt;
-        search(&rt, alloc, b"\\(\\(a*\\)*\\)*b", &line),
-        (false, 5005)
-    );
+    let line = [b'a'; 1000];
+    let found = search(&rt, rt.alloc(), b"\\(\\(a*\\)*\\)*b", &line);
+    assert!(rt; found == (false, 5005));
 }
 
 #[test]
-fn as_many_positions_as_may_be(rt: HostRuntime) {
-    let alloc = rt.alloc();
-    let bre = read(&rt, alloc, b"a\\{255\\}\\{255\\}");
-    assert_eq!(rt; bre.positions(), 65_026);
-    let mut scan = Scan::new(alloc, &bre).expect(&rt, "there is memory");
-    let short = repeated(&rt, alloc, b"", b"a", 255, b"");
-    assert!(rt; !scan.matches(&bre, &short));
-    let bre = read(&rt, alloc, b"a\\{1,255\\}\\{0,127\\}");
-    assert!(rt; matches_short(&rt, alloc, &bre));
-}
-
-fn matches_short(rt: &impl Abort, alloc: Global, bre: &Bre) -> bool {
-    let mut scan = Scan::new(alloc, bre).expect(rt, "there is memory");
-    scan.matches(bre, b"")
-}
-
-#[test]
-fn a_group_that_stands_no_time(rt: HostRuntime) {
-    let alloc = rt.alloc();
-    let pattern = repeated(
-        &rt,
-        alloc,
-        b"x\\(\\(a*b\\)\\{3\\}",
-        b"\\{255\\}",
-        1000,
-        b"\\)\\{0\\}*y",
-    );
-    let bre = read(&rt, alloc, &pattern);
-    assert_eq!(rt; bre.positions(), 4);
-    let mut scan = Scan::new(alloc, &bre).expect(&rt, "there is memory");
-    assert!(rt; scan.matches(&bre, b"axyb"));
-    assert!(rt; !scan.matches(&bre, b"xay"));
+fn repeats_an_empty_line(rt: HostRuntime) {
+    let bre = read(&rt, rt.alloc(), b"a\\{1,255\\}\\{0,127\\}");
+    assert!(rt; matches_all(&rt, rt.alloc(), &bre, &[(b"", true)]));
 }
 
 /// Patterns that read, of each form.
@@ -242,11 +228,9 @@ fn line_of(rt: &impl Abort, alloc: Global, number: usize) -> Vec<u8> {
 
 /// What is passed over without matching has no match: a line that ends before `clear_before`, here by its newline.
 fn stays_clear(rt: &impl Abort, alloc: Global, bre: &Bre, line: &[u8], plain: bool) {
-    let text = repeated(rt, alloc, line, b"\n", 1, b"ab");
-    assert!(rt;
-        !(plain && bre.clear_before(&text) > line.len()),
-        "passed over: {line:?}"
-    );
+    let text = joined(rt, alloc, &[(line, 1), (b"\nab", 1)]);
+    let is_clear = bre.clear_before(&text) > line.len();
+    holds(rt, !(plain && is_clear), "passed over", line);
 }
 
 /// Compares the table, the sets, the search that counts nothing and the plain matcher; where the line doesn't match, the steps of the first two as well.
@@ -255,21 +239,34 @@ fn agree(rt: &impl Abort, alloc: Global, bre: &Bre, line: &[u8]) {
     let size = 2 * bre.positions() as usize / 64 + 1;
     let mut words = vec![in alloc; u64::MAX; size].expect(rt, "there is memory");
     let by_sets = bre.search(line, &mut words);
-    assert_eq!(rt; by_sets.found, plain, "by sets: {line:?}");
-    if !line.is_empty() {
-        if let Some(outcome) = bre.walk(line) {
-            assert_eq!(rt; outcome.found, plain, "by the table: {line:?}");
-            assert!(rt;
-                outcome.found || outcome.steps == by_sets.steps,
-                "steps: {line:?}"
-            );
-        }
-    }
+    holds(rt, by_sets.found == plain, "by sets", line);
+    walks(rt, bre, line, by_sets);
     let mut scan = Scan::new(alloc, bre).expect(rt, "there is memory");
-    assert_eq!(rt; scan.matches(bre, line), plain, "{line:?}");
-    assert!(rt; plain || scan.steps() == by_sets.steps, "steps: {line:?}");
-    assert_eq!(rt; scan.contains(bre, line), plain, "uncounted: {line:?}");
+    holds(rt, scan.matches(bre, line) == plain, "counted", line);
+    holds(rt, plain || scan.steps() == by_sets.steps, "steps", line);
+    holds(rt, scan.contains(bre, line) == plain, "uncounted", line);
     stays_clear(rt, alloc, bre, line, plain);
+}
+
+/// Compares the table, if there is one, with the sets.
+fn walks(rt: &impl Abort, bre: &Bre, line: &[u8], by_sets: Outcome) {
+    if line.is_empty() {
+        return;
+    }
+    if let Some(outcome) = bre.walk(line) {
+        holds(rt, outcome.found == by_sets.found, "by the table", line);
+        holds(
+            rt,
+            outcome.found || outcome.steps == by_sets.steps,
+            "steps of the table",
+            line,
+        );
+    }
+}
+
+/// Checks what must be so of a line.
+fn holds(rt: &impl Abort, is_so: bool, what: &str, line: &[u8]) {
+    assert!(rt; is_so, "{what}: {line:?}");
 }
 
 #[test]
@@ -364,6 +361,18 @@ fn next_number(state: &mut u64) -> usize {
     (*state >> 33) as usize
 }
 
+/// A pattern of up to six tokens.
+fn random_pattern(rt: &impl Abort, alloc: Global, state: &mut u64) -> Vec<u8> {
+    let mut pattern = Vec::new(alloc);
+    for _token in 0..1 + next_number(state) % 6 {
+        let token = TOKENS[next_number(state) % 18];
+        pattern
+            .extend_from_slice(token)
+            .expect(rt, "there is memory");
+    }
+    pattern
+}
+
 #[test]
 fn random_pairs(rt: HostRuntime) {
     let alloc = rt.alloc();
@@ -373,18 +382,12 @@ fn random_pairs(rt: HostRuntime) {
         if pairs == 5000 {
             break;
         }
-        let mut pattern = Vec::new(alloc);
-        for _token in 0..1 + next_number(&mut state) % 6 {
-            let token = TOKENS[next_number(&mut state) % 18];
-            pattern
-                .extend_from_slice(token)
-                .expect(&rt, "there is memory");
-        }
+        let pattern = random_pattern(&rt, alloc, &mut state);
         if let Ok(bre) = Bre::read(alloc, &pattern) {
             let line = line_of(&rt, alloc, next_number(&mut state) % 625);
             agree(&rt, alloc, &bre, &line);
             pairs = pairs.wrapping_add(1);
         }
     }
-    assert_eq!(rt; pairs, 5000);
+    assert!(rt; pairs == 5000);
 }

@@ -44,61 +44,73 @@ pub(crate) fn keep_bytes(window: &mut ByteWindow, piece: &[u8]) -> Result<(), Fa
 #[test]
 fn keeps_bytes(rt: HostRuntime) {
     let mut window = ByteWindow::new(rt.alloc(), 4).expect(&rt, "room");
-    assert!(rt; window.is_empty());
-    assert!(rt; !window.grown());
+    assert!(rt; window.is_empty() && !window.grown());
     keep_bytes(&mut window, b"abcd").expect(&rt, "room");
-    assert!(rt; window.grown());
-    assert_eq!(rt; window.over(3), 3);
-    assert_eq!(rt; window.over(9), 9);
-    assert_eq!(rt; window.front(), b"abcd".as_slice());
+    assert!(rt; window.grown() && window.over(3) == 3 && window.over(9) == 9);
+    assert!(rt; window.front() == b"abcd".as_slice());
     assert!(rt; 2 <= window.len());
     window.drop_front(2);
     keep_bytes(&mut window, b"ef").expect(&rt, "room");
-    assert_eq!(rt; window.len(), 4);
+    assert!(rt; window.len() == 4);
     let mut out = [0; 6];
-    assert_eq!(rt; window.take_front(&mut out[..3]), 3);
-    assert_eq!(rt; window.take_front(&mut out[3..]), 1);
-    assert_eq!(rt; out, [b'c', b'd', b'e', b'f', 0, 0]);
+    assert!(rt; window.take_front(&mut out[..3]) == 3);
+    assert!(rt; window.take_front(&mut out[3..]) == 1);
+    assert!(rt; out == *b"cdef\0\0");
+}
+
+/// Puts pieces into a window of lines, and looks how many bytes it holds after each.
+fn put_all(rt: &impl Abort, window: &mut LineWindow, pieces: &[(&str, u64)]) {
+    for (piece, len) in pieces {
+        keep_lines(window, piece.as_bytes()).expect(rt, "room");
+        assert!(rt; window.len() == *len, "after {piece}");
+    }
+}
+
+/// Whether this many bytes would be over with a piece.
+fn is_over(window: &LineWindow, piece: &[u8], over: u64) -> bool {
+    window.over(piece) == over
+}
+
+/// Whether it counts this many delimiters with a piece.
+fn counts(window: &LineWindow, piece: &[u8], delimiters: usize) -> bool {
+    window.count_over(piece).delimiters == Some(delimiters)
 }
 
 #[test]
 fn keeps_lines(rt: HostRuntime) {
     let mut window = LineWindow::new(rt.alloc(), 2, NEWLINE).expect(&rt, "room");
     assert!(rt; window.is_empty());
-    for (piece, len) in [
-        ("a", 1),
-        ("b\nc", 4),
-        ("\n", 5),
-        ("d", 3),
-        ("", 3),
-        ("e\n\n", 4),
-        ("1\n2\n3\n4", 3),
-    ] {
-        keep_lines(&mut window, piece.as_bytes()).expect(&rt, "room");
-        assert_eq!(rt; window.len(), len, "after {piece}");
-    }
-    assert_eq!(rt; window.over(b"\n5\n"), 2);
-    assert_eq!(rt; window.over(b"\n5\n6"), 4);
-    assert_eq!(rt; window.count_over(b"\n5\n").delimiters, Some(2));
-    assert_eq!(rt; window.front(), b"3\n4".as_slice());
+    put_all(&rt, &mut window, PIECES);
+    assert!(rt; is_over(&window, b"\n5\n", 2) && is_over(&window, b"\n5\n6", 4));
+    assert!(rt; counts(&window, b"\n5\n", 2) && window.front() == b"3\n4".as_slice());
     assert!(rt; 1 <= window.len());
     window.drop_front(1);
     let mut out = [0; 4];
-    assert_eq!(rt; window.take_front(&mut out), 2);
-    assert_eq!(rt; out, [b'\n', b'4', 0, 0]);
+    assert!(rt; window.take_front(&mut out) == 2);
+    assert!(rt; out == *b"\n4\0\0");
 }
+
+/// Pieces, and how many bytes the last two lines have after each.
+const PIECES: &[(&str, u64)] = &[
+    ("a", 1),
+    ("b\nc", 4),
+    ("\n", 5),
+    ("d", 3),
+    ("", 3),
+    ("e\n\n", 4),
+    ("1\n2\n3\n4", 3),
+];
 
 #[test]
 fn keeps_lines_that_end_with_another_byte(rt: HostRuntime) {
     let mut window = LineWindow::new(rt.alloc(), 2, 0).expect(&rt, "room");
-    for (piece, len) in [("a\n", 2), ("b\0c", 5), ("\0d\n", 4), ("\0\0", 4)] {
-        keep_lines(&mut window, piece.as_bytes()).expect(&rt, "room");
-        assert_eq!(rt; window.len(), len, "after {piece}");
-    }
-    assert_eq!(rt; window.over(b"\n"), 3);
-    assert_eq!(rt; window.count_over(b"\n\n\0").delimiters, Some(1));
-    assert_eq!(rt; window.front(), b"d\n\0\0".as_slice());
+    put_all(&rt, &mut window, BY_ZERO);
+    assert!(rt; is_over(&window, b"\n", 3) && counts(&window, b"\n\n\0", 1));
+    assert!(rt; window.front() == b"d\n\0\0".as_slice());
 }
+
+/// The same where lines end with byte 0.
+const BY_ZERO: &[(&str, u64)] = &[("a\n", 2), ("b\0c", 5), ("\0d\n", 4), ("\0\0", 4)];
 
 // Lines of 0 to 99 bytes, but for one of 70,000 bytes in the middle. The last line is open. Where
 // the delimiter is a letter, it stands within these lines too.
@@ -148,10 +160,10 @@ fn same_lines(rt: &impl Abort, alloc: Global, text: &[u8], lines: u64, delim: u8
     for _ in 0..201 {
         let count = window.take_front(&mut out);
         assert!(rt; at <= text.len() && count <= text.len() - at && count <= out.len());
-        assert_eq!(rt; &out[..count], &text[at..at + count]);
+        assert!(rt; out[..count] == text[at..at + count]);
         at += count;
     }
-    assert_eq!(rt; at, text.len());
+    assert!(rt; at == text.len());
 }
 
 fn keeps_lines_of_long_text(rt: &impl Abort, alloc: Global, delim: u8) {
@@ -193,10 +205,10 @@ fn same_bytes(rt: &impl Abort, alloc: Global, text: &[u8], most: u64, size: usiz
     for _ in 0..201 {
         let count = window.take_front(&mut out);
         assert!(rt; at <= text.len() && count <= text.len() - at && count <= out.len());
-        assert_eq!(rt; &out[..count], &text[at..at + count]);
+        assert!(rt; out[..count] == text[at..at + count]);
         at += count;
     }
-    assert_eq!(rt; at, text.len());
+    assert!(rt; at == text.len());
 }
 
 #[test]
