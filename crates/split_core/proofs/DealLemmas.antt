@@ -1,5 +1,5 @@
 -- Lemmas on gathering the lines of a piece.
-use Rattle.std.proofs.Common.{◌≡◌, ◌≢◌, ℕ, ◌+◌, ◌%◌, ◌<◌, ◌≤◌, zero, suc, min, max, Bool, true, false, cond, eqb, List, [], ◌∷◌, ◌++◌, length, get_or, set, take, drop, length-append, Ok, Err, Result, OnOk, inl, inr, refl, sym, ◌∙◌, ap, subst, arith, append_assoc}
+use Rattle.std.proofs.Common.{◌≡◌, ◌≢◌, ℕ, ◌+◌, ◌%◌, ◌<◌, ◌≤◌, zero, suc, min, max, Bool, true, false, cond, eqb, List, [], ◌∷◌, ◌++◌, length, get_or, set, take, drop, Ok, Err, Result, OnOk, inl, inr, refl, sym, ◌∙◌, ap, subst, arith, append_assoc}
 use Rattle.std.proofs.Math.Nat.{mod-add-mod, mod-eq_of_lt, mod-mod, mod_self, mod-le}
 use Rattle.std.proofs.lemmas.Bool.{cases_eq, eq-eqb, ne_eqb, eqb-true, eqb-false, false≢true}
 use Rattle.std.proofs.lemmas.List.{append-nil, ext_get_or, take_at, take-append-le, take-take, length-take-le}
@@ -97,6 +97,20 @@ pub line_more : (delim n start : ℕ) (piece : List ℕ) (gathered now : List (L
 line_more delim n start piece gathered now next reached reached_now size place left line rest so_far cut is reached_is same goes =
     rw (goes, same) (complete_line delim n start piece gathered now next reached reached_now left line rest so_far cut.first cut.counted is reached_is)
 
+-- the place after the last is the first again: then all files are reached
+pub line_goes_round : (delim n start : ℕ) (piece : List ℕ) (gathered now : List (List ℕ)) (next reached count : ℕ) (left line rest : List ℕ) → Dealing delim n start piece gathered next (max reached next) left
+    → IsFirstLine delim left line rest → now ≡ changed_at next (λ had. had ++ line) gathered → count ≡ n → count ≤ next + 1 → Dealing delim n start piece now 0 (max count 0) rest
+line_goes_round delim n start piece gathered now next reached count left line rest so_far cut is same last =
+    let few : max reached next ≤ n = so_far.few in
+    let inside : next < n = so_far.within in
+    let all : next + 1 ≡ n = omega (arith, inside, same, last) in
+    line_more delim n start piece gathered now next (max reached next) (max count 0) n 0 left line rest so_far cut is (omega (arith, few, all, same)) refl (sym (ap (λ k. k % n) all ∙ mod_self n))
+
+pub line_goes_on : (delim n start : ℕ) (piece : List ℕ) (gathered now : List (List ℕ)) (next reached count : ℕ) (left line rest : List ℕ) → Dealing delim n start piece gathered next (max reached next) left
+    → IsFirstLine delim left line rest → now ≡ changed_at next (λ had. had ++ line) gathered → count ≡ n → next + 1 < count → Dealing delim n start piece now (next + 1) (max reached (next + 1)) rest
+line_goes_on delim n start piece gathered now next reached count left line rest so_far cut is same more =
+    line_more delim n start piece gathered now next (max reached next) (max reached (next + 1)) n (next + 1) left line rest so_far cut is (omega arith) refl (sym (mod-eq_of_lt (omega (arith, same, more))))
+
 -- no complete line is left: there is nothing after the open line
 open_line : (delim n start : ℕ) (piece : List ℕ) (gathered now : List (List ℕ)) (next reached reached_now : ℕ) (line : List ℕ) → Dealing delim n start piece gathered next reached line
     → delimiters delim line ≡ 0 → 0 < length line → now ≡ changed_at next (λ had. had ++ line) gathered → reached_now ≡ max reached (next + 1) → Dealing delim n start piece now next reached_now []
@@ -171,9 +185,6 @@ first_taken delim left x line rest cut same = ap (take (length line)) (same ∙ 
 
 pub by_delimiter : (one other : ℕ) (x line rest : List ℕ) → one ≡ other → IsFirstLine one x line rest → IsFirstLine other x line rest
 by_delimiter one other x line rest same first = subst (λ delim. IsFirstLine delim x line rest) same first
-
-pub line_within : (delim : ℕ) (left x line rest : List ℕ) → IsFirstLine delim x line rest → left ≡ x → length line ≤ length left
-line_within delim left x line rest cut same = let long = ap length (same ∙ cut.whole) ∙ length-append line rest in omega arith
 
 -- of a chunk that was copied the first bytes count
 pub chunk_taken : (room new text : List ℕ) (at n chunk : ℕ) → new ≡ take at room ++ (take chunk text ++ drop (at + chunk) room) → at ≤ length room → n ≤ chunk → chunk ≤ length text → take (at + n) new ≡ take at room ++ take n text

@@ -121,6 +121,7 @@ fn mask_of(bytes: &[u8], delim: u8) -> u64
 }
 
 /// The bytes, with another one after them as often as fits.
+#[inline(never)]
 fn padded(bytes: &[u8], other: u8) -> [u8; STEP]
     requires { length bytes.now < STEP }
     ensures { result ≡ bytes.now ++ replicate (STEP - length bytes.now) other }

@@ -69,21 +69,28 @@ impl Deal {
     {
         clear(&mut self.gathered);
         let count = self.gathered.len();
-        let mut reached = self.next;
+        let mut next = self.next;
+        // Files before `next` are reached, and all of them once the last one got a line.
+        let mut reached = next;
         let mut lines = CompleteLines::new(piece, self.delim);
         let mut left = piece;
         'lines: while let Some(line) = lines.next() {
-            append_to(&mut self.gathered, self.next, left, line.len())?;
+            append_to(&mut self.gathered, next, left, line.len())?;
             left = lines.rest();
-            reached = reached.max(self.next + 1);
-            self.next = after(self.next, count);
+            if next + 1 < count {
+                next += 1;
+                continue;
+            }
+            next = 0;
+            reached = count;
         }
+        self.next = next;
         let open = lines.rest();
         if open.is_empty() {
-            return Ok(reached);
+            return Ok(reached.max(next));
         }
-        append_to(&mut self.gathered, self.next, open, open.len())?;
-        Ok(reached.max(self.next + 1))
+        append_to(&mut self.gathered, next, open, open.len())?;
+        Ok(reached.max(next + 1))
     }
 }
 
@@ -110,12 +117,4 @@ fn append_to(
     ensures ok { OnOk result (gathered.new.items ≡ changed_at place (λ had. had ++ take count text.now) gathered.old.items) }
 {
     gathered[place].append(text, count)
-}
-
-/// The place after this one, of `count` places in turn.
-fn after(place: usize, count: usize) -> usize
-    requires { place < count }
-    ensures { result ≡ (place + 1) % count }
-{
-    if place + 1 == count { 0 } else { place + 1 }
 }

@@ -2,6 +2,7 @@ ghost use Rattle.std.specs.Prelude.{◌≡◌, ℕ, ◌+◌, ◌≤◌, List, []
 
 use std::alloc::{AllocError, Global};
 use std::marker::Model;
+use std::simd::prelude::*;
 
 /// How many bytes are copied at once: a short line takes one step of a fixed size, whatever its length.
 const CHUNK: usize = 16;
@@ -55,6 +56,8 @@ impl Gathered {
         self.append_all(&text[..count])
     }
 
+    // Compiled by itself, so that what is seldom done takes no registers from the loop over short lines.
+    #[inline(never)]
     fn append_all(&mut self, bytes: &[u8]) -> Result<(), AllocError>
         ensures { OnOk result (self.new ≡ self.old ++ bytes.now) }
     {
@@ -86,15 +89,16 @@ fn make_room(room: &mut Vec<u8>, count: usize) -> Result<(), AllocError>
     room.resize(count.saturating_mul(2).max(CHUNK), 0)
 }
 
-/// Copies a chunk to a place. Which of its bytes count is up to the caller.
+/// Copies a chunk to a place. Which of its bytes count is up to the caller. As a vector it is read as a whole before it is
+/// written, so the two places aren't compared.
 #[inline(always)]
-fn copy_chunk(room: &mut Vec<u8>, at: usize, text: &[u8])
-    requires within { at + CHUNK ≤ length room.old.items }
+fn copy_chunk(room: &mut [u8], at: usize, text: &[u8])
+    requires within { at + CHUNK ≤ length room.old }
     requires enough { CHUNK ≤ length text.now }
-    ensures size { length room.new.items ≡ length room.old.items }
-    ensures copied { room.new.items ≡ take at room.old.items ++ (take CHUNK text.now ++ drop (at + CHUNK) room.old.items) }
+    ensures size { length room.new ≡ length room.old }
+    ensures copied { room.new ≡ take at room.old ++ (take CHUNK text.now ++ drop (at + CHUNK) room.old) }
 {
-    room[at..at + CHUNK].copy_from_slice(&text[..CHUNK]);
+    u8x16::from_slice(text).copy_to_slice(&mut room[at..]);
 }
 
 fn copy_all(room: &mut [u8], at: usize, bytes: &[u8])

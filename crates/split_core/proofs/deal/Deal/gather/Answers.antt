@@ -1,46 +1,45 @@
-use Rattle.std.proofs.Common.{ℕ, List, ◌++◌, length, sym, ap, ◌∙◌, ◌≡◌, subst, arith}
+use Rattle.std.proofs.Common.{List, ℕ, ◌++◌, length, max, sym, ap, ◌∙◌, ◌≡◌, subst, arith}
 use Rattle.std.proofs.lemmas.List.{take_all}
 use Rattle.ports_core.specs.Slot.{changed_at}
 use Rattle.seg_core.specs.Line.{LinesLeft, delimiters}
 use Rattle.split_core.specs.inner.DealState.{DealState}
-use Rattle.split_core.proofs.DealLemmas.{by_delimiter, line_more, line_within, first_taken, ends_here, ends_open, Gathers}
+use Rattle.split_core.proofs.DealLemmas.{by_delimiter, line_goes_on, line_goes_round, first_taken, ends_here, ends_open, Gathers}
 use Rattle.split_core.proofs.deal.Deal.gather.Goals as goal
 
-pub append_to-requires-clause-enough : goal.append_to-requires-clause-enough
-append_to-requires-clause-enough c = line_within _ _ _ _ _ (by_delimiter _ _ _ _ _ c.lines.invariant.2 c.in-Some.ensures.some) c.lines.invariant.1
-
-pub lines-preserved : goal.lines-preserved
-lines-preserved c = (
-  line_more _ _ _ _ c.lines.self-inside.gathered.items _ _ _ _ c.len-count.result c.after-self-inside.result _ _ _ c.lines.invariant.0 (by_delimiter _ _ _ _ _ c.lines.invariant.2 c.in-Some.ensures.some)
-      (c.in_ok-append_to.ensures.ok ∙ ap (λ (line : List ℕ). changed_at c.lines.self-inside.next (λ had. had ++ line) c.lines.self-inside.gathered.items) (first_taken _ _ _ _ _ (by_delimiter _ _ _ _ _ c.lines.invariant.2 c.in-Some.ensures.some) c.lines.invariant.1))
-      c.max-reached.ensures
-      (let ok = c.clear.new.gathered.ok in let view : length c.self.inside.gathered.items ≡ length c.args.self.now.gathered = ap (λ (deal : DealState). length deal.gathered) c.self.view_is in omega (arith, c.len-count.ensures, c.clear.ensures.count)) c.after-self-inside.ensures,
+pub lines-preserved-then-next-count : goal.lines-preserved-then-next-count
+lines-preserved-then-next-count c = (
+  line_goes_on _ _ _ _ c.lines.self-inside.gathered.items _ c.lines.next c.lines.reached c.len-count.result _ _ _ c.lines.invariant.0 (by_delimiter _ _ _ _ _ c.lines.invariant.2 c.in-Some.ensures.some)
+      (c.in_ok-append_to.ensures.ok ∙ ap (λ (line : List ℕ). changed_at c.lines.next (λ had. had ++ line) c.lines.self-inside.gathered.items) (first_taken _ _ _ _ _ (by_delimiter _ _ _ _ _ c.lines.invariant.2 c.in-Some.ensures.some) c.lines.invariant.1))
+      (let view : length c.self.inside.gathered.items ≡ length c.args.self.now.gathered = ap (λ (deal : DealState). length deal.gathered) c.self.view_is in omega (arith, view, c.len-count.ensures, c.clear.ensures.count)) c.if-next-count.true,
   c.rest-left.ensures,
   c.next.ensures.same ∙ c.lines.invariant.2,
   c.lines.invariant.3,
+  c.lines.invariant.4,
 )
 
-at_end : (c : goal.Then-is_empty) → Gathers c.args.self.now.delim (length c.args.self.now.gathered) c.args.self.now.next c.args.piece.now c.lines.self-inside.gathered.items c.lines.self-inside.next c.lines.reached
+pub lines-preserved : goal.lines-preserved
+lines-preserved c = (
+  line_goes_round _ _ _ _ c.lines.self-inside.gathered.items _ c.lines.next c.lines.reached c.len-count.result _ _ _ c.lines.invariant.0 (by_delimiter _ _ _ _ _ c.lines.invariant.2 c.in-Some.ensures.some)
+      (c.in_ok-append_to.ensures.ok ∙ ap (λ (line : List ℕ). changed_at c.lines.next (λ had. had ++ line) c.lines.self-inside.gathered.items) (first_taken _ _ _ _ _ (by_delimiter _ _ _ _ _ c.lines.invariant.2 c.in-Some.ensures.some) c.lines.invariant.1))
+      (let view : length c.self.inside.gathered.items ≡ length c.args.self.now.gathered = ap (λ (deal : DealState). length deal.gathered) c.self.view_is in omega (arith, view, c.len-count.ensures, c.clear.ensures.count)) (omega (arith, c.if-next-count.false)),
+  c.rest-left.ensures,
+  c.next.ensures.same ∙ c.lines.invariant.2,
+  c.lines.invariant.3,
+  c.lines.invariant.4,
+)
+
+at_end : (c : goal.After-max) → Gathers c.args.self.now.delim (length c.args.self.now.gathered) c.args.self.now.next c.args.piece.now c.lines.self-inside.gathered.items c.lines.next (max c.lines.reached c.lines.next)
 at_end c = ends_here _ _ _ _ _ _ _ _ _ c.lines.invariant.0 (c.rest-open.ensures ∙ ap (λ (left : LinesLeft). left.text) c.in_default.ensures.stays) (sym c.if-is_empty.ensures)
 
-at_open : (c : goal.After-max) → Gathers c.args.self.now.delim (length c.args.self.now.gathered) c.args.self.now.next c.args.piece.now c.append_to-2.new.gathered.items c.lines.self-inside.next c.max.result
-at_open c = ends_open _ _ _ _ c.lines.self-inside.gathered.items _ _ _ _ _ _ c.lines.invariant.0 (c.rest-open.ensures ∙ ap (λ (left : LinesLeft). left.text) c.in_default.ensures.stays) (subst (λ d. delimiters d c.lines.lines.text ≡ 0) c.lines.invariant.2 c.in_default.ensures.none) (sym c.if-is_empty.ensures)
-    (c.in_ok-append_to-2.ensures.ok ∙ ap (λ (line : List ℕ). changed_at c.lines.self-inside.next (λ had. had ++ line) c.lines.self-inside.gathered.items) (take_all (length c.rest-open.result.now) c.rest-open.result.now (omega arith))) c.max.ensures
+at_open : (c : goal.After-max-2) → Gathers c.args.self.now.delim (length c.args.self.now.gathered) c.args.self.now.next c.args.piece.now c.append_to-2.new.gathered.items c.lines.next c.max-2.result
+at_open c = ends_open _ _ _ _ c.lines.self-inside.gathered.items _ _ (max c.lines.reached c.lines.next) _ _ _ c.lines.invariant.0 (c.rest-open.ensures ∙ ap (λ (left : LinesLeft). left.text) c.in_default.ensures.stays) (subst (λ d. delimiters d c.lines.lines.text ≡ 0) c.lines.invariant.2 c.in_default.ensures.none) (sym c.if-is_empty.ensures)
+    (c.in_ok-append_to-2.ensures.ok ∙ ap (λ (line : List ℕ). changed_at c.lines.next (λ had. had ++ line) c.lines.self-inside.gathered.items) (take_all (length c.rest-open.result.now) c.rest-open.result.now (omega arith))) (omega (arith, c.max-2.ensures))
 
 pub returns-then-is_empty-clause-gathered : goal.returns-then-is_empty-clause-gathered
 returns-then-is_empty-clause-gathered c = (at_end c).gathered_is
 
-pub returns-then-is_empty-clause-next : goal.returns-then-is_empty-clause-next
-returns-then-is_empty-clause-next c = (at_end c).next_is
-
-pub returns-then-is_empty-clause-reached : goal.returns-then-is_empty-clause-reached
-returns-then-is_empty-clause-reached c = (at_end c).reached_is
-
 pub returns-clause-gathered : goal.returns-clause-gathered
 returns-clause-gathered c = (at_open c).gathered_is
-
-pub returns-clause-next : goal.returns-clause-next
-returns-clause-next c = (at_open c).next_is
 
 pub returns-clause-reached : goal.returns-clause-reached
 returns-clause-reached c = (at_open c).reached_is
