@@ -1,16 +1,22 @@
 //! Matching lines against a pattern.
 
-ghost use Rattle.std.specs.Prelude.{◌≡◌, ◌≤◌, ◌+◌, ◌*◌, IsFalse, IsTrue, IfOk, IfErr, length};
+ghost use Rattle.std.specs.Prelude.{◌≡◌, ◌<◌, ◌≤◌, ◌+◌, ◌-◌, ◌*◌, IsFalse, IsTrue, IfOk, IfErr, length};
 ghost use Rattle.bre_core.specs.Pattern.{positions_of};
 ghost use Rattle.bre_core.specs.Search.{contains};
 ghost use Rattle.bre_core.specs.declared.fault.BreFault.TheVariants.{Memory};
+ghost use Rattle.memchr.specs.Find.{Passes, is_byte};
+ghost use Rattle.scan_core.specs.Clear.{IsClear};
 ghost use Rattle.scan_core.specs.Code.{code_of};
 ghost use Rattle.scan_core.specs.Counted.{HasStepsBefore, IsStepCount};
 
 use crate::bre::Bre;
 use bre_core::BreFault;
+use memchr::memrchr;
 use std::alloc::Global;
 use std::marker::Model;
+
+/// What a line ends with.
+const NEWLINE: u8 = b'\n';
 
 /// Room for matching lines against patterns with a given number of positions.
 #[derive(Drop)]
@@ -21,6 +27,10 @@ pub struct Scan {
     words: Vec<u64>,
     /// The steps of the last search.
     steps: u128,
+    /// How many of the next calls of `clear_lines` return 0 without a look.
+    resting: u8,
+    /// How many of them were to do so after the last look.
+    rest: u8,
 }
 
 impl Model for Scan {
@@ -52,6 +62,8 @@ impl Scan {
             positions,
             words,
             steps: 0,
+            resting: 0,
+            rest: 0,
         })
     }
 
@@ -95,10 +107,42 @@ impl Scan {
         bre.search(line, &mut self.words).found
     }
 
+    /// How many bytes the lines at the beginning of a text are that are seen to have no match without matching them, by
+    /// `Bre::clear_before`. It is meant to be called line after line: the more often in turn it looked in vain, since what each
+    /// line with a match has stands in nearly every line, the longer it rests, up to 255 calls, in which it returns 0.
+    pub fn clear_lines(&mut self, bre: &Bre, text: &[u8]) -> usize
+        ensures within { result ≤ length text.now }
+        ensures clear { IsClear bre.now text.now result }
+        ensures whole { 0 < result → Passes (is_byte NEWLINE) text.now (result - 1) }
+        ensures same { self.new ≡ self.old }
+    {
+        if self.resting > 0 {
+            self.resting -= 1;
+            return 0;
+        }
+        let size = clear_lines(bre, text);
+        self.rest = if size == 0 { self.rest << 1 | 1 } else { 0 };
+        self.resting = self.rest;
+        size
+    }
+
     /// The steps of the last `matches`, 0 before the first.
     pub fn steps(&self) -> u128
         ensures { result ≡ self.now.steps }
     {
         self.steps
+    }
+}
+
+/// How many bytes the lines at the beginning of a text are that are seen to have no match without matching them.
+fn clear_lines(bre: &Bre, text: &[u8]) -> usize
+    ensures within { result ≤ length text.now }
+    ensures clear { IsClear bre.now text.now result }
+    ensures whole { 0 < result → Passes (is_byte NEWLINE) text.now (result - 1) }
+{
+    let place = bre.clear_before(text);
+    match memrchr(NEWLINE, &text[..place]) {
+        Some(end) => end + 1,
+        None => 0,
     }
 }

@@ -331,6 +331,31 @@ fn lines_are_passed_over(rt: HostRuntime) {
     }
 }
 
+/// Texts in turn, and how much of each is passed over as lines without an `x`. A look in vain is followed by one rest, and the
+/// next such by three.
+const RESTS: [(&[u8], usize); 10] = [
+    (b"x1\nb\n", 0),
+    (b"b\nx1\n", 0),
+    (b"b\nx1\n", 2),
+    (b"x1\nb\n", 0),
+    (b"b\nx1\n", 0),
+    (b"x1\nb\n", 0),
+    (b"b\nx1\n", 0),
+    (b"b\nx1\n", 0),
+    (b"b\nx1\n", 0),
+    (b"b\nc\nx1\n", 4),
+];
+
+/// No contract says when lines are looked at.
+#[test]
+fn looking_rests_where_it_is_in_vain(rt: HostRuntime) {
+    let bre = read(&rt, rt.alloc(), b"x$");
+    let mut scan = Scan::new(rt.alloc(), &bre).expect(&rt, "there is memory");
+    for (text, want) in &RESTS {
+        assert_eq!(rt; scan.clear_lines(&bre, text), *want, "{text:?}");
+    }
+}
+
 /// Tokens that random patterns are made of; what they make may not read.
 const TOKENS: [&[u8]; 18] = [
     b"a",
