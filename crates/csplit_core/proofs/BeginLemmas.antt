@@ -1,5 +1,5 @@
 -- A file is made for the open section, and a section begins.
-use Rattle.std.proofs.Common.{◌≡◌, ℕ, ◌+◌, ◌≤◌, suc, Bool, true, false, not, ◌&&◌, List, [], ◌∷◌, ◌++◌, length, Result, Ok, Err, IsTrue, refl, sym, ◌∙◌, ap, subst, arith, length-append}
+use Rattle.std.proofs.Common.{◌≡◌, ℕ, ◌+◌, ◌≤◌, Bool, true, false, not, ◌&&◌, List, [], ◌∷◌, ◌++◌, length, Result, Ok, Err, IsTrue, refl, sym, ◌∙◌, ap, subst, arith, length-append}
 use Rattle.ports_core.specs.Name.{numbered_name}
 use Rattle.ports_core.specs.Part.{Part, OutputsAt, IsNext}
 use Rattle.ports_core.specs.Swept.{is_among}
@@ -12,7 +12,7 @@ use Rattle.csplit_core.specs.Output.{Style, Contents, is_empty, makes_file, file
 use Rattle.csplit_core.specs.Draft.{Draft, draft_part, last_contents, AreClosed}
 use Rattle.csplit_core.specs.inner.Draft.{first_draft, with_bytes}
 use Rattle.csplit_core.specs.Writer.{WriterState, Writes, OwnsFiles, IsReady, IsLast, IsOpenAt, size_of}
-use Rattle.csplit_core.specs.inner.Writer.{KeepsFiles, Pauses, Went, Stopped, Goes, Begun, BegunNot, new_writer}
+use Rattle.csplit_core.specs.inner.Writer.{KeepsFiles, Pauses, Stopped, Goes, Begun, BegunNot, new_writer}
 use Rattle.csplit_core.specs.inner.WriterSteps.{MakesNone, Made, Makes, Appends, Started, StartedNot, next_name, begun_after}
 use Rattle.csplit_core.specs.declared.section_writer.Current.{Current}
 use Rattle.csplit_core.specs.declared.section_writer.Current.TheVariants.{Skipped, Unmade, File}

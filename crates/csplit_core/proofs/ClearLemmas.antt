@@ -1,7 +1,7 @@
 -- Lines of a text that is seen to have no match up to a place, and lines without their newlines.
 use Rattle.std.proofs.Common.{◌≡◌, inl, inr, ℕ, zero, suc, ◌+◌, ◌-◌, ◌<◌, ◌≤◌, cond, true, false, List, [], ◌∷◌, ◌++◌, length, take, drop, get_or, refl, sym, ap, ◌∙◌, subst, arith, length-append, append_assoc}
-use Rattle.std.proofs.lemmas.Bool.{ne_eqb, false≢true}
-use Rattle.std.proofs.lemmas.List.{append-nil, take-append-drop, length-take-le, take_at, get_or-take}
+use Rattle.std.proofs.lemmas.Bool.{ne_eqb, false≢true, cases_lt}
+use Rattle.std.proofs.lemmas.List.{append-nil, take-append-drop, length-take-le, take_at}
 use Rattle.bre_core.specs.Pattern.{Pattern}
 use Rattle.bre_core.specs.Search.{contains}
 use Rattle.scan_core.specs.Clear.{IsClear}
@@ -107,15 +107,15 @@ text_open line last d one read differs = by (one_line line one) where
       absurd (differs (read ∙ ap (λ n. get_or line n d) (let e : length line - 1 ≡ length bytes = omega (arith, long) in e) ∙ ap (λ those. get_or those (length bytes) d) whole ∙ last_is bytes newline d))
   by (inr unended) = sym (without_none line unended.1)
 
--- where the last newline before a place ends, lines end
+-- where a text ends after a newline, lines end
 
-pub ends_there : (text : List ℕ) (place end : ℕ) → place ≤ length text → end < length (take place text) → Passes (is_byte newline) (take place text) end → IsWhole (take (end + 1) text)
-ends_there text place end within low here =
-    let long : length (take place text) ≡ place = length-take-le place text within in
-    let one : suc end ≡ end + 1 = omega arith in
-    inr (subst (λ n. ends_with newline (take n text) ≡ true) one (first_ends text end (omega (arith, long, low, within)) (subst (λ byte. is_byte newline byte ≡ true) (get_or-take place text end _ (omega (arith, long, low))) here)))
-
-pub clear_there : (pattern : Pattern) (text : List ℕ) (place end : ℕ) → IsClear pattern text place → place ≤ length text → end < length (take place text) → Passes (is_byte newline) (take place text) end → AreClear pattern (take (end + 1) text)
-clear_there pattern text place end clear within low here =
-    let long : length (take place text) ≡ place = length-take-le place text within in
-    clear_front pattern text place (end + 1) clear (omega (arith, long, low)) (omega (arith, long, low, within)) (ends_there text place end within low here)
+pub ends_there : (text : List ℕ) (n : ℕ) → n ≤ length text → (0 < n → Passes (is_byte newline) text (n - 1)) → IsWhole (take n text)
+ends_there text n within here = elim (cases_lt 0 n) [
+  | inl some ↦
+      let one : suc (n - 1) ≡ n = omega (arith, some) in
+      inr (subst (λ k. ends_with newline (take k text) ≡ true) one (first_ends text (n - 1) (omega (arith, some, within)) (here some)))
+  | inr none ↦ inl (ap (λ k. take k text) (let e : n ≡ 0 = omega (arith, none) in e) ∙ none_taken text)
+] where
+  none_taken : (x : List ℕ) → take 0 x ≡ []
+  none_taken [] = refl
+  none_taken (byte ∷ x) = refl

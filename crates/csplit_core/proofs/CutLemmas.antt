@@ -2,7 +2,7 @@
 use Rattle.std.proofs.Common.{◌≡◌, ℕ, suc, ◌+◌, ◌-◌, ◌<◌, ◌≤◌, max, eqb, ◌&&◌, cond, Bool, true, false, List, [], ◌∷◌, ◌++◌, length, map, refl, sym, ◌∙◌, ap, subst, arith, append_assoc}
 use Rattle.std.proofs.lemmas.List.{map-append, append-nil}
 use Rattle.seg_core.specs.Line.{first_lines, after_lines}
-use Rattle.seg_core.proofs.FirstLines.{first_lines-zero}
+use Rattle.seg_core.proofs.FirstLines.{first_lines-zero, first_lines_then_rest}
 use Rattle.ports_core.specs.Part.{Begins}
 use Rattle.ports_core.specs.Slot.{Slot}
 use Rattle.ports_core.specs.declared.fault.Fault.{Fault}
@@ -26,7 +26,7 @@ use Rattle.csplit_core.specs.Writer.{WriterState, Writes, size_of}
 use Rattle.csplit_core.specs.inner.Writer.{KeepsFiles, Went, Stopped}
 use Rattle.csplit_core.specs.declared.line_cutter.Cut.{Cut}
 use Rattle.csplit_core.specs.Cutter.{CutterState, suppress_in, state_in, kept_by, text_from, Leads, draft_by, IsFit, IsAt}
-use Rattle.csplit_core.specs.inner.Cutter.{settled_part, part_at, search_after, CutsNow, PassesOn, IsAfter, CutAt, CutNot, WillCut}
+use Rattle.csplit_core.specs.inner.Cutter.{settled_part, part_at, search_after, CutsNow, PassesOn, IsAfter, CutAt, CutNot, WillCut, IsEnd}
 use Rattle.csplit_core.proofs.HoldLemmas.{memory_halts}
 use Rattle.csplit_core.proofs.LastSectionLemmas.{after_within}
 use Rattle.csplit_core.proofs.LineLemmas.{bytes_between, first_further, from_further}
@@ -259,6 +259,16 @@ after_at told cutter mid writer next cut place x left line before rest all kept 
           (second.moves (with_bytes before (draft_at cutter x left at)) (went.writes (draft_at cutter x left at) at.writes)));
     }
 
+-- What is left is the end of the lines.
+end_of : (suppress : Bool) (left rest all : List ℕ) (n : ℕ) → all ≡ after_lines newline n left → (suppress ≡ true → rest ≡ after_lines newline 1 all) → (suppress ≡ false → rest ≡ all) → IsEnd rest left
+end_of true left rest all n all_is skipped whole = (
+  first_lines newline n left ++ first_lines newline 1 all,
+  sym (first_lines_then_rest newline n left)
+      ∙ ap (λ those. first_lines newline n left ++ those) (sym all_is ∙ sym (first_lines_then_rest newline 1 all) ∙ ap (λ those. first_lines newline 1 all ++ those) (sym (skipped refl)))
+      ∙ sym (append_assoc (first_lines newline n left) (first_lines newline 1 all) rest),
+)
+end_of false left rest all n all_is skipped whole = (first_lines newline n left, sym (first_lines_then_rest newline n left) ∙ ap (λ those. first_lines newline n left ++ those) (sym all_is ∙ sym (whole refl)))
+
 cut_went : (told : Bool) (cutter mid : CutterState) (writer next : WriterState) (cut : Cut) (place : ℕ) (left before rest all : List ℕ) (kept : Bool) (old between new : List Slot) → IsFit cutter → WillCut cutter cut → before ≡ first_lines newline (cut.line - place) left
     → all ≡ after_lines newline (cut.line - place) left → (next.style.suppress ≡ true → rest ≡ after_lines newline 1 all) → (next.style.suppress ≡ false → rest ≡ all)
     → Went told cutter.writer (with_bytes before) old between writer → Passed cutter mid writer cut → kept ≡ kept_by (state_in mid).operands → Went told mid.writer (with_section kept) between new next → size_of next.current ≡ 0 → length rest ≤ length left
@@ -276,6 +286,7 @@ cut_went told cutter mid writer next cut place left before rest all kept old bet
       owns = owns_again cutter.writer writer next old between new went.owns second.owns;
       ready = second.ready;
       size = omega (arith, empty, shorter);
+      end = end_of next.style.suppress left rest all (cut.line - place) all_is skipped whole;
     }
 
 -- The same of a cutter that is known by its fields.

@@ -1,7 +1,7 @@
 -- Cutting the lines that wait and one more.
 use Rattle.std.proofs.Common.{◌≡◌, ℕ, suc, ◌+◌, ◌-◌, Bool, true, eqb, Result, Ok, Err, List, [], ◌∷◌, ◌++◌, length, take, refl, sym, ◌∙◌, ap, subst, arith, length-append}
 use Rattle.std.proofs.lemmas.Bool.{eqb-true}
-use Rattle.std.proofs.lemmas.List.{take_at}
+use Rattle.std.proofs.lemmas.List.{append-nil, take_at}
 use Rattle.seg_core.specs.Line.{delimiters, first_lines}
 use Rattle.seg_core.specs.Window.{Window}
 use Rattle.ports_core.specs.Slot.{Slot}
@@ -13,6 +13,7 @@ use Rattle.csplit_core.specs.inner.Draft.{with_bytes}
 use Rattle.csplit_core.specs.Input.{newline, all_lines}
 use Rattle.csplit_core.specs.declared.line_cutter.Cut.{Cut}
 use Rattle.csplit_core.specs.Cutter.{CutterState, state_in, kept_by, draft_by, IsFit, IsAt}
+use Rattle.csplit_core.specs.inner.Writer.{Halts}
 use Rattle.csplit_core.specs.inner.Cutter.{settled_part, CutsNow, CutAllNot, CutsAll, WillCut}
 use Rattle.csplit_core.proofs.CutLemmas.{before_begins}
 use Rattle.csplit_core.proofs.HoldLemmas.{memory_halts}
@@ -67,16 +68,17 @@ cut_drained told cutter start next window cut place waiting line old new result 
     (subst (λ n. CutsAll told (record start { window = window }) cut n waiting line old new next result) place_is cuts)))
 
 pub cut_lacks : (told : Bool) (cutter start : CutterState) (window : Window) (cut : Cut) (line : List ℕ) (slots : List Slot) (fault : Fault) → start ≡ cutter → IsFit cutter → WillCut cutter cut → fault ≡ Memory
-    → CutAllNot told cutter cut (cutter.lines - delimiters newline cutter.window.held) (cutter.window.held ++ line) line slots slots (record start { window = window }) fault
+    → CutAllNot told cutter cut (cutter.lines - delimiters newline cutter.window.held) (cutter.window.held ++ line) line [] slots slots (record start { window = window }) fault
 cut_lacks told cutter start window cut line slots fault same fit will lacks =
-    subst (λ why. CutAllNot told cutter cut (cutter.lines - delimiters newline cutter.window.held) (cutter.window.held ++ line) line slots slots (record start { window = window }) why) (sym lacks) (record {
+    subst (λ why. CutAllNot told cutter cut (cutter.lines - delimiters newline cutter.window.held) (cutter.window.held ++ line) line [] slots slots (record start { window = window }) why) (sym lacks) (record {
       same = record { operands = ap (λ (c : CutterState). c.operands) same; style = ap (λ (c : CutterState). c.writer.style) same };
       halts = λ x at now.
           let draft = draft_by (all_lines x) at.steps (kept_by (state_in cutter).operands) at.written in
           let before = first_lines newline (cut.line - (cutter.lines - delimiters newline cutter.window.held)) (cutter.window.held ++ line) in
-          halts_wider told (draft_part cutter.writer.style draft) (draft_part cutter.writer.style draft) (settled_part cutter x) slots slots Memory (memory_halts told cutter.writer.style draft slots at.writes.closed)
+          subst (λ those. Halts told cutter.writer (draft_part cutter.writer.style draft) (settled_part cutter those) slots slots Memory) (sym (append-nil x))
+          (halts_wider told (draft_part cutter.writer.style draft) (draft_part cutter.writer.style draft) (settled_part cutter x) slots slots Memory (memory_halts told cutter.writer.style draft slots at.writes.closed)
           (part_trans (draft_part cutter.writer.style draft) (draft_part cutter.writer.style (with_bytes before draft)) (settled_part cutter x) (bytes_begin cutter.writer.style before draft)
-          (before_begins cutter x (cutter.window.held ++ line) line before at cut (cutter.lines - delimiters newline cutter.window.held) now fit will refl));
+          (before_begins cutter x (cutter.window.held ++ line) line before at cut (cutter.lines - delimiters newline cutter.window.held) now fit will refl)));
       breaks = tt;
       owns = subst (λ w. Rattle.csplit_core.specs.inner.Writer.KeepsFiles cutter.writer w slots slots) (sym (ap (λ (c : CutterState). c.writer) same)) (owns_still cutter.writer slots);
     })

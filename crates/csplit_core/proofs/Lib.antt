@@ -34,6 +34,7 @@ pub mod EndedLemmas
 pub mod OpenLemmas
 pub mod CutLineLemmas
 pub mod StretchLemmas
+pub mod GoLemmas
 pub mod ByteLemmas
 pub mod StageLemmas
 pub mod StageSteps

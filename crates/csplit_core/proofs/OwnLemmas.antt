@@ -7,7 +7,7 @@ use Rattle.ports_core.specs.declared.fault.Fault.{Fault}
 use Rattle.ports_core.specs.declared.fault.Fault.TheVariants as fault
 use Rattle.ports_core.specs.declared.slot.Mode.TheVariants.{Fresh}
 use Rattle.csplit_core.specs.Output.{Style}
-use Rattle.csplit_core.specs.Writer.{WriterState, IsReady, IsOpenAt, IsLast, OwnsFiles, Breaks}
+use Rattle.csplit_core.specs.Writer.{WriterState, IsReady, IsOpenAt, IsLast, Breaks}
 use Rattle.csplit_core.specs.inner.Writer.{KeepsFiles}
 use Rattle.csplit_core.specs.inner.WriterSteps.{MakesNone, unnamed, failed, Made, next_name}
 use Rattle.ports_core.specs.inner.Write as short

@@ -145,19 +145,18 @@ passes cutter text lines n sound within whole count stays = record {
     };
     aim = aim_more cutter (take n text) lines cutter.aim (omega (arith, count)) sound.aim stays;
   };
-  ends = λ x before live.
-      let counted : cutter.lines ≡ line_count newline x = live.at.counted in
+  ends = λ x before counted ends.
       let sum : line_count newline (x ++ take n text) ≡ line_count newline x + line_count newline (take n text) = count-append x (take n text) before in
       let here : length (all_lines x) ≡ line_count newline x = length-all_lines x in
       let there : length (all_lines (take n text)) ≡ line_count newline (take n text) = length-all_lines (take n text) in
       let both : length (all_lines x ++ all_lines (take n text)) ≡ length (all_lines x) + length (all_lines (take n text)) = length-append (all_lines x) (all_lines (take n text)) in (
         omega (arith, count, counted, sum),
         record {
-          ending = live.ends.ending;
-          runs = subst (λ those. Runs (suppress_in cutter) those (state_in cutter) [] (state_in cutter) live.ends.ending) (sym (all_lines-append x (take n text) before))
-              (ends_still (suppress_in cutter) (all_lines x) (all_lines (take n text)) _ _ _ live.ends.ending live.ends.runs
-              (still_by cutter x (take n text) lines cutter.aim live.ends.ending sound.fit (omega (arith, counted, here)) (omega (arith, count, counted, here, there, both)) live.ends.aims stays));
-          aims = live.ends.aims;
+          ending = ends.ending;
+          runs = subst (λ those. Runs (suppress_in cutter) those (state_in cutter) [] (state_in cutter) ends.ending) (sym (all_lines-append x (take n text) before))
+              (ends_still (suppress_in cutter) (all_lines x) (all_lines (take n text)) _ _ _ ends.ending ends.runs
+              (still_by cutter x (take n text) lines cutter.aim ends.ending sound.fit (omega (arith, counted, here)) (omega (arith, count, counted, here, there, both)) ends.aims stays));
+          aims = ends.aims;
         },
       );
 }

@@ -4,10 +4,10 @@ use Rattle.std.proofs.lemmas.Bool.Decides.{nat_tests}
 use Rattle.csplit_core.specs.Operand.{Operand, Line}
 use Rattle.csplit_core.specs.Plan.{State, start, Step, Ending, used_up, missed, above, below, line_after, state_after, step_of, Runs, is_used_up, misses, is_above, is_below, cuts}
 use Rattle.csplit_core.specs.Planned.{plan}
-use Rattle.csplit_core.specs.Section.{Section, section, section_of, lines_between, is_last_kept, whole_end, sections_by, is_final}
+use Rattle.csplit_core.specs.Section.{Section, lines_between, whole_end, sections_by, is_final}
 use Rattle.csplit_core.specs.Place.{Place, in_section, left_out, nowhere, place_from, place_of, is_in, lines_into, ArePlaced}
 use Rattle.csplit_core.specs.laws.PlanLaws.{line_some, plan_runs, from_not_less, less_test, not_less_test}
-use Rattle.csplit_core.proofs.PlaceLemmas.{left_by, not_left, in_later, from_le_false}
+use Rattle.csplit_core.proofs.PlaceLemmas.{left_by, not_left, in_later}
 use Rattle.csplit_core.proofs.WholeLemmas.{between_rest}
 
 -- Which lines go into a section

@@ -1,9 +1,9 @@
 -- Cutting as often as operands cut the lines that are left.
-use Rattle.std.proofs.Common.{◌≡◌, inl, ℕ, ◌+◌, ◌<◌, ◌≤◌, Bool, Result, Ok, Err, Some, None, List, [], ◌++◌, length, refl, sym, ◌∙◌, ap, subst, arith}
+use Rattle.std.proofs.Common.{◌≡◌, inl, ℕ, ◌+◌, ◌<◌, ◌≤◌, Bool, Result, Ok, Err, Some, None, List, [], ◌++◌, length, refl, sym, ◌∙◌, ap, subst, arith, append_assoc}
+use Rattle.std.proofs.lemmas.List.{append-nil}
 use Rattle.seg_core.specs.Window.{Window}
 use Rattle.ports_core.specs.Part.{Part}
 use Rattle.ports_core.specs.Slot.{Slot}
-use Rattle.ports_core.specs.inner.Slot.{KeepsBroken}
 use Rattle.ports_core.specs.declared.fault.Fault.{Fault}
 use Rattle.ports_core.proofs.PartLemmas.{part_trans}
 use Rattle.ports_core.proofs.SlotSteps.{keeps_again}
@@ -11,11 +11,11 @@ use Rattle.csplit_core.specs.Input.{all_lines}
 use Rattle.csplit_core.specs.Output.{Style}
 use Rattle.csplit_core.specs.inner.PlanLaws.{needed}
 use Rattle.csplit_core.specs.Writer.{IsReady, size_of}
-use Rattle.csplit_core.specs.inner.Writer.{KeepsFiles}
+use Rattle.csplit_core.specs.inner.Writer.{Halts, Moves as Gets}
 use Rattle.csplit_core.specs.declared.line_cutter.Cut.{Cut}
 use Rattle.csplit_core.specs.declared.progress.Turn.{Turn}
-use Rattle.csplit_core.specs.Cutter.{CutterState, state_in, AimHolds, IsFit, IsSound, IsAt, EndsNow}
-use Rattle.csplit_core.specs.inner.Cutter.{settled_part, IsSame, part_at, Arrives, Held, HeldNot, Holds, Tries, CutsNow, IsAfter, CutAt, CutNot, CutAll, CutAllNot, CutsAll, WillCut}
+use Rattle.csplit_core.specs.Cutter.{CutterState, state_in, AimHolds, IsFit, IsSound, IsAt, EndsNow, Stands}
+use Rattle.csplit_core.specs.inner.Cutter.{settled_part, IsSame, IsEnd, part_at, Arrives, Held, HeldNot, Holds, Tries, CutsNow, IsAfter, CutAt, CutNot, CutAll, CutAllNot, CutsAll, WillCut, Spreading, Spread}
 use Rattle.csplit_core.proofs.WriterLemmas.{moves_again, moves_as, halts_after, halts_as, breaks_later, owns_again}
 
 -- What is said of the sections and of where the run stands doesn't depend on the aim or the lines that wait.
@@ -29,18 +29,6 @@ at_alike cutter aim window x left at = record { steps = at.steps; leads = at.lea
 pub fit_alike : (cutter : CutterState) (aim : Turn) → IsFit cutter → IsFit (record cutter { aim = aim })
 fit_alike cutter aim fit = record { fits = fit.fits; most = fit.most; delim = fit.delim; sought = fit.sought }
 
--- The lines that are left have been cut so often.
-pub record Spreading (told : Bool) (cutter : CutterState) (cut : Cut) (place : ℕ) (waiting line : List ℕ) (old new : List Slot) (now : CutterState) (left : List ℕ) : Type 0 where
-  pub same : IsSame cutter now
-  pub lines : now.lines ≡ cutter.lines
-  pub fit : IsFit now
-  pub held : now.window.held ≡ []
-  pub after : (x : List ℕ) (at : IsAt cutter x waiting) → CutsNow cutter x waiting line cut place at → IsAfter told cutter x line now left (part_at cutter x waiting at) old new
-  pub keeps : KeepsBroken old new
-  pub owns : KeepsFiles cutter.writer now.writer old new
-  pub ready : IsReady now.writer new
-  pub size : size_of now.writer.current + length left ≤ size_of cutter.writer.current + length waiting
-
 pub spread_once : (told : Bool) (cutter next : CutterState) (cut : Cut) (place : ℕ) (waiting line left : List ℕ) (old new : List Slot) → CutAt told cutter cut place waiting old new next left → Spreading told cutter cut place waiting line old new next left
 spread_once told cutter next cut place waiting line left old new at_cut = record {
   same = at_cut.same;
@@ -52,6 +40,7 @@ spread_once told cutter next cut place waiting line left old new at_cut = record
   owns = at_cut.owns;
   ready = at_cut.ready;
   size = at_cut.size;
+  end = at_cut.end;
 }
 
 -- the next operand cuts as well
@@ -73,6 +62,9 @@ cuts_again told cutter now aim cut x line left low old new after tries will =
       before = will.from;
       goes = both.0;
     }
+
+end_again : (left rest waiting : List ℕ) → IsEnd left waiting → IsEnd rest left → IsEnd rest waiting
+end_again left rest waiting (front, is) (more, rest_is) = (front ++ more, is ∙ ap (λ those. front ++ those) rest_is ∙ sym (append_assoc front more rest))
 
 more_with : (told : Bool) (cutter now next : CutterState) (aim : Turn) (cut cut' : Cut) (place : ℕ) (waiting line left rest : List ℕ) (old between new : List Slot) → Spreading told cutter cut place waiting line old between now left
     → Tries now line (record now { aim = aim }) (Some cut') → WillCut now cut' → CutAt told (record now { aim = aim }) cut' now.progress.current left between new next rest → Spreading told cutter cut place waiting line old new next rest
@@ -96,6 +88,7 @@ more_with told cutter now next aim cut cut' place waiting line left rest old bet
   owns = owns_again cutter.writer now.writer next.writer old between new so_far.owns at_cut.owns;
   ready = at_cut.ready;
   size = (let one = at_cut.size in let two = so_far.size in omega (arith, one, two));
+  end = end_again left rest waiting so_far.end at_cut.end;
 }
 
 pub spread_more : (told : Bool) (cutter now mid next : CutterState) (cut cut' : Cut) (place : ℕ) (waiting line left rest : List ℕ) (old between new : List Slot) → Spreading told cutter cut place waiting line old between now left → mid ≡ record now { aim = mid.aim }
@@ -105,27 +98,33 @@ spread_more told cutter now mid next cut cut' place waiting line left rest old b
     (subst (λ (m : CutterState). CutAt told m cut' m.progress.current left between new next rest) is at_cut)
 
 stopped_with : (told : Bool) (cutter now next : CutterState) (aim : Turn) (cut cut' : Cut) (place : ℕ) (waiting line left : List ℕ) (old between new : List Slot) (fault : Fault) → Spreading told cutter cut place waiting line old between now left
-    → Tries now line (record now { aim = aim }) (Some cut') → WillCut now cut' → CutNot told (record now { aim = aim }) cut' now.progress.current left between new next fault → CutAllNot told cutter cut place waiting line old new next fault
+    → Tries now line (record now { aim = aim }) (Some cut') → WillCut now cut' → CutNot told (record now { aim = aim }) cut' now.progress.current left between new next fault → CutAllNot told cutter cut place waiting line [] old new next fault
 unfolding at_alike
 stopped_with told cutter now next aim cut cut' place waiting line left old between new fault so_far tries will not_cut = record {
   same = same_again cutter now next so_far.same (record { operands = not_cut.same.operands; style = not_cut.same.style });
   halts = λ x at here.
       let after = so_far.after x at here in
-      halts_after told (part_at cutter x waiting at) (part_at now x left after.now) (settled_part cutter x) old between new fault after.grows after.moves
-      (halts_as told _ _ _ _ between new fault refl (sym (settled_same cutter now x so_far.same)) (not_cut.halts x line (at_alike now aim now.window x left after.now) (cuts_again told cutter now aim cut' x line left (part_at cutter x waiting at) old between after tries will)));
+      subst (λ those. Halts told cutter.writer (part_at cutter x waiting at) (settled_part cutter those) old new fault) (sym (append-nil x))
+      (halts_after told (part_at cutter x waiting at) (part_at now x left after.now) (settled_part cutter x) old between new fault after.grows after.moves
+      (halts_as told _ _ _ _ between new fault refl (sym (settled_same cutter now x so_far.same)) (not_cut.halts x line (at_alike now aim now.window x left after.now) (cuts_again told cutter now aim cut' x line left (part_at cutter x waiting at) old between after tries will))));
   breaks = breaks_later cutter.writer.style old between new fault so_far.keeps (subst (λ (s : Style). Rattle.csplit_core.specs.Writer.Breaks s between new fault) so_far.same.style not_cut.breaks);
   owns = owns_again cutter.writer now.writer next.writer old between new so_far.owns not_cut.owns;
 }
 
 pub spread_stopped : (told : Bool) (cutter now mid next : CutterState) (cut cut' : Cut) (place : ℕ) (waiting line left : List ℕ) (old between new : List Slot) (fault : Fault) → Spreading told cutter cut place waiting line old between now left → mid ≡ record now { aim = mid.aim }
-    → Tries now line mid (Some cut') → WillCut now cut' → CutNot told mid cut' mid.progress.current left between new next fault → CutAllNot told cutter cut place waiting line old new next fault
+    → Tries now line mid (Some cut') → WillCut now cut' → CutNot told mid cut' mid.progress.current left between new next fault → CutAllNot told cutter cut place waiting line [] old new next fault
 spread_stopped told cutter now mid next cut cut' place waiting line left old between new fault so_far is tries will not_cut =
     stopped_with told cutter now next mid.aim cut cut' place waiting line left old between new fault so_far (subst (λ (m : CutterState). Tries now line m (Some cut')) is tries) will
     (subst (λ (m : CutterState). CutNot told m cut' m.progress.current left between new next fault) is not_cut)
 
 -- a fault at the first cut
-pub first_stopped : (told : Bool) (cutter next : CutterState) (cut : Cut) (place : ℕ) (waiting line : List ℕ) (old new : List Slot) (fault : Fault) → CutNot told cutter cut place waiting old new next fault → CutAllNot told cutter cut place waiting line old new next fault
-first_stopped told cutter next cut place waiting line old new fault not_cut = record { same = not_cut.same; halts = λ x at now. not_cut.halts x line at now; breaks = not_cut.breaks; owns = not_cut.owns }
+pub first_stopped : (told : Bool) (cutter next : CutterState) (cut : Cut) (place : ℕ) (waiting line : List ℕ) (old new : List Slot) (fault : Fault) → CutNot told cutter cut place waiting old new next fault → CutAllNot told cutter cut place waiting line [] old new next fault
+first_stopped told cutter next cut place waiting line old new fault not_cut = record {
+  same = not_cut.same;
+  halts = λ x at now. subst (λ those. Halts told cutter.writer (part_at cutter x waiting at) (settled_part cutter those) old new fault) (sym (append-nil x)) (not_cut.halts x line at now);
+  breaks = not_cut.breaks;
+  owns = not_cut.owns;
+}
 
 -- Then no operand cuts any more, and the lines that are left are held.
 
@@ -135,11 +134,11 @@ unfolding at_alike
 arrives_there told cutter now aim x line left low old new after ends = record { ends = ends; low = λ past. after.none; enough = inl after.none }
 
 held_with : (told : Bool) (cutter now next : CutterState) (aim : Turn) (cut : Cut) (place : ℕ) (waiting line left : List ℕ) (old between new : List Slot) → Spreading told cutter cut place waiting line old between now left
-    → Tries now line (record now { aim = aim }) None → AimHolds now.operands now.lines now.progress aim → Held told (record now { aim = aim }) left between new next → CutAll told cutter cut place waiting line old new next
+    → Tries now line (record now { aim = aim }) None → AimHolds now.operands now.lines now.progress aim → Held told (record now { aim = aim }) left between new next → CutAll told cutter cut place waiting line [] old new next
 unfolding at_alike
 held_with told cutter now next aim cut place waiting line left old between new so_far tries holds held = record {
   same = same_again cutter now next so_far.same (record { operands = ap (λ (c : CutterState). c.operands) held.same; style = held.style });
-  lines = ap (λ (c : CutterState). c.lines) held.same ∙ so_far.lines;
+  lines = (let l : next.lines ≡ cutter.lines = ap (λ (c : CutterState). c.lines) held.same ∙ so_far.lines in omega (arith, l));
   sound = subst IsSound (sym held.same) (record {
     fit = record {
       fits = so_far.fit.fits;
@@ -149,11 +148,14 @@ held_with told cutter now next aim cut place waiting line left old between new s
     };
     aim = holds;
   });
-  stands = λ x at here. let after = so_far.after x at here in held.stands x (at_alike now aim now.window x left after.now) (arrives_there told cutter now aim x line left (part_at cutter x waiting at) old between after (tries x after.looked));
+  stands = λ x at here.
+      let after = so_far.after x at here in
+      subst (Stands next) (sym (append-nil x)) (held.stands x (at_alike now aim now.window x left after.now) (arrives_there told cutter now aim x line left (part_at cutter x waiting at) old between after (tries x after.looked)));
   moves = λ x at here.
       let after = so_far.after x at here in
-      moves_again told (part_at cutter x waiting at) (part_at now x left after.now) (settled_part cutter x) old between new after.moves
-      (moves_as told _ _ _ _ between new refl (sym (settled_same cutter now x so_far.same)) (held.moves x (at_alike now aim now.window x left after.now) (arrives_there told cutter now aim x line left (part_at cutter x waiting at) old between after (tries x after.looked))));
+      subst (λ those. Gets told cutter.writer next.writer (part_at cutter x waiting at) (settled_part cutter those) old new) (sym (append-nil x))
+      (moves_again told (part_at cutter x waiting at) (part_at now x left after.now) (settled_part cutter x) old between new after.moves
+      (moves_as told _ _ _ _ between new refl (sym (settled_same cutter now x so_far.same)) (held.moves x (at_alike now aim now.window x left after.now) (arrives_there told cutter now aim x line left (part_at cutter x waiting at) old between after (tries x after.looked)))));
   keeps = keeps_again old between new so_far.keeps held.keeps;
   owns = owns_again cutter.writer now.writer next.writer old between new so_far.owns held.owns;
   ready = held.ready;
@@ -161,14 +163,15 @@ held_with told cutter now next aim cut place waiting line left old between new s
 }
 
 not_held_with : (told : Bool) (cutter now next : CutterState) (aim : Turn) (cut : Cut) (place : ℕ) (waiting line left : List ℕ) (old between new : List Slot) (fault : Fault) → Spreading told cutter cut place waiting line old between now left
-    → Tries now line (record now { aim = aim }) None → HeldNot told (record now { aim = aim }) left between new next fault → CutAllNot told cutter cut place waiting line old new next fault
+    → Tries now line (record now { aim = aim }) None → HeldNot told (record now { aim = aim }) left between new next fault → CutAllNot told cutter cut place waiting line [] old new next fault
 unfolding at_alike
 not_held_with told cutter now next aim cut place waiting line left old between new fault so_far tries held = record {
   same = same_again cutter now next so_far.same (record { operands = held.same.operands; style = held.same.style });
   halts = λ x at here.
       let after = so_far.after x at here in
-      halts_after told (part_at cutter x waiting at) (part_at now x left after.now) (settled_part cutter x) old between new fault after.grows after.moves
-      (halts_as told _ _ _ _ between new fault refl (sym (settled_same cutter now x so_far.same)) (held.halts x (at_alike now aim now.window x left after.now) (arrives_there told cutter now aim x line left (part_at cutter x waiting at) old between after (tries x after.looked))));
+      subst (λ those. Halts told cutter.writer (part_at cutter x waiting at) (settled_part cutter those) old new fault) (sym (append-nil x))
+      (halts_after told (part_at cutter x waiting at) (part_at now x left after.now) (settled_part cutter x) old between new fault after.grows after.moves
+      (halts_as told _ _ _ _ between new fault refl (sym (settled_same cutter now x so_far.same)) (held.halts x (at_alike now aim now.window x left after.now) (arrives_there told cutter now aim x line left (part_at cutter x waiting at) old between after (tries x after.looked)))));
   breaks = breaks_later cutter.writer.style old between new fault so_far.keeps (subst (λ (s : Style). Rattle.csplit_core.specs.Writer.Breaks s between new fault) so_far.same.style held.breaks);
   owns = owns_again cutter.writer now.writer next.writer old between new so_far.owns held.owns;
 }
@@ -176,15 +179,19 @@ not_held_with told cutter now next aim cut place waiting line left old between n
 none_held : (mid : CutterState) (left : List ℕ) → mid.window.held ≡ [] → mid.window.held ++ left ≡ left
 none_held mid left none = ap (λ those. those ++ left) none
 
-pub spread_held : (told : Bool) (cutter now mid next : CutterState) (cut : Cut) (place : ℕ) (waiting line left : List ℕ) (old between new : List Slot) (result : Result (Unit {0}) Fault) → Spreading told cutter cut place waiting line old between now left → mid ≡ record now { aim = mid.aim }
-    → Tries now line mid None → AimHolds mid.operands mid.lines mid.progress mid.aim → Holds told mid (mid.window.held ++ left) between new next result → CutsAll told cutter cut place waiting line old new next result
-spread_held told cutter now mid next cut place waiting line left old between new (Ok done) so_far is tries holds held =
-    let none : mid.window.held ≡ [] = ap (λ (c : CutterState). c.window.held) is ∙ so_far.held in
-    held_with told cutter now next mid.aim cut place waiting line left old between new so_far (subst (λ (m : CutterState). Tries now line m None) is tries) (subst (λ (m : CutterState). AimHolds m.operands m.lines m.progress mid.aim) is holds)
+pub spread_held : (told : Bool) (cutter mid next : CutterState) (cut : Cut) (place : ℕ) (waiting line left : List ℕ) (old between new : List Slot) (result : Result (Unit {0}) Fault) → Spread told cutter cut place waiting line old between mid left
+    → Holds told mid (mid.window.held ++ left) between new next result → CutsAll told cutter cut place waiting line old new next result
+spread_held told cutter mid next cut place waiting line left old between new (Ok done) spread held =
+    let now = spread.now in
+    let is = spread.is in
+    let none : mid.window.held ≡ [] = ap (λ (c : CutterState). c.window.held) is ∙ spread.so_far.held in
+    held_with told cutter now next mid.aim cut place waiting line left old between new spread.so_far (subst (λ (m : CutterState). Tries now line m None) is spread.tries) (subst (λ (m : CutterState). AimHolds m.operands m.lines m.progress mid.aim) is spread.aim)
     (subst (λ (m : CutterState). Held told m left between new next) is (subst (λ those. Held told mid those between new next) (none_held mid left none) held))
-spread_held told cutter now mid next cut place waiting line left old between new (Err fault) so_far is tries holds held =
-    let none : mid.window.held ≡ [] = ap (λ (c : CutterState). c.window.held) is ∙ so_far.held in
-    not_held_with told cutter now next mid.aim cut place waiting line left old between new fault so_far (subst (λ (m : CutterState). Tries now line m None) is tries)
+spread_held told cutter mid next cut place waiting line left old between new (Err fault) spread held =
+    let now = spread.now in
+    let is = spread.is in
+    let none : mid.window.held ≡ [] = ap (λ (c : CutterState). c.window.held) is ∙ spread.so_far.held in
+    not_held_with told cutter now next mid.aim cut place waiting line left old between new fault spread.so_far (subst (λ (m : CutterState). Tries now line m None) is spread.tries)
     (subst (λ (m : CutterState). HeldNot told m left between new next fault) is (subst (λ those. HeldNot told mid those between new next fault) (none_held mid left none) held))
 
 -- What the calls in the loop need: trying the next operand changes the aim alone.
@@ -211,6 +218,18 @@ spread_ready now mid slots is ready = subst (λ (c : CutterState). IsReady c.wri
 pub spread_fewer : (now mid : CutterState) (less : ℕ) → mid ≡ record now { aim = mid.aim } → less < needed mid.lines (state_in mid) → less < needed now.lines (state_in now)
 spread_fewer now mid less is fewer = subst (λ (c : CutterState). less < needed c.lines (state_in c)) is fewer
 
+-- What holding what is left needs, once no operand cuts any more.
+
+pub spread_ends_fit : (told : Bool) (cutter mid : CutterState) (cut : Cut) (place : ℕ) (waiting line left : List ℕ) (old new : List Slot) → Spread told cutter cut place waiting line old new mid left → IsFit mid
+spread_ends_fit told cutter mid cut place waiting line left old new spread = spread_fit spread.now mid spread.is spread.so_far.fit
+
+pub spread_ends_size : (told : Bool) (cutter mid : CutterState) (cut : Cut) (place : ℕ) (waiting line left : List ℕ) (old new : List Slot) (most : ℕ) → Spread told cutter cut place waiting line old new mid left → size_of cutter.writer.current + length waiting < most
+    → size_of mid.writer.current + length mid.window.held + length left < most
+spread_ends_size told cutter mid cut place waiting line left old new most spread few = spread_held_size spread.now mid (length left) most spread.is spread.so_far.held (let s = spread.so_far.size in omega (arith, s, few))
+
+pub spread_ends_ready : (told : Bool) (cutter mid : CutterState) (cut : Cut) (place : ℕ) (waiting line left : List ℕ) (old new : List Slot) → Spread told cutter cut place waiting line old new mid left → IsReady mid.writer new
+spread_ends_ready told cutter mid cut place waiting line left old new spread = spread_ready spread.now mid new spread.is spread.so_far.ready
+
 -- The same with the place as it is computed.
 
 pub spread_more_at : (told : Bool) (cutter now mid next : CutterState) (cut cut' : Cut) (place at : ℕ) (waiting line left rest : List ℕ) (old between new : List Slot) → at ≡ mid.progress.current → Spreading told cutter cut place waiting line old between now left → mid ≡ record now { aim = mid.aim }
@@ -219,6 +238,6 @@ spread_more_at told cutter now mid next cut cut' place at waiting line left rest
     spread_more told cutter now mid next cut cut' place waiting line left rest old between new so_far is tries will (subst (λ n. CutAt told mid cut' n left between new next rest) at_is at_cut)
 
 pub spread_stopped_at : (told : Bool) (cutter now mid next : CutterState) (cut cut' : Cut) (place at : ℕ) (waiting line left : List ℕ) (old between new : List Slot) (fault : Fault) → at ≡ mid.progress.current → Spreading told cutter cut place waiting line old between now left → mid ≡ record now { aim = mid.aim }
-    → Tries now line mid (Some cut') → WillCut now cut' → CutNot told mid cut' at left between new next fault → CutAllNot told cutter cut place waiting line old new next fault
+    → Tries now line mid (Some cut') → WillCut now cut' → CutNot told mid cut' at left between new next fault → CutAllNot told cutter cut place waiting line [] old new next fault
 spread_stopped_at told cutter now mid next cut cut' place at waiting line left old between new fault at_is so_far is tries will not_cut =
     spread_stopped told cutter now mid next cut cut' place waiting line left old between new fault so_far is tries will (subst (λ n. CutNot told mid cut' n left between new next fault) at_is not_cut)

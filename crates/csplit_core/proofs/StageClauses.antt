@@ -3,7 +3,7 @@ use Rattle.std.proofs.Common.{◌≡◌, ◌⊎◌, inl, inr, ℕ, ◌+◌, ◌^
 use Rattle.std.proofs.lemmas.Bool.{false≢true}
 use Rattle.ports_core.specs.Swept.{AreThere, Swept}
 use Rattle.ports_core.specs.Slot.{Slot, is_writable}
-use Rattle.ports_core.specs.Part.{Part, OutputsAt, StoppedBetween, nothing}
+use Rattle.ports_core.specs.Part.{OutputsAt, StoppedBetween, nothing}
 use Rattle.ports_core.specs.Engine.{TakesIn, PutsOut, CutsOff, EndsShort, EndsWith, EndsThere, Finishes, StandsAt, IsMet, KeepsOwn, is_verdict}
 use Rattle.ports_core.specs.Engine as engine
 use Rattle.ports_core.specs.declared.fault.Fault.{Fault}
@@ -18,7 +18,7 @@ use Rattle.csplit_core.specs.Cutter.{CutterState, Stands, suppress_in}
 use Rattle.csplit_core.specs.inner.Cutter.{Clears, IsSame, settled_part, whole_part}
 use Rattle.csplit_core.specs.Writer.{Breaks, OwnsFiles, WriterState}
 use Rattle.csplit_core.specs.declared.progress.Turn.TheVariants.{Below}
-use Rattle.csplit_core.specs.inner.CsplitState.{Closed, ClosedNot, Closes, ended_well, ended_short, ended_so, Judges, Passed, Passes, Sweeps}
+use Rattle.csplit_core.specs.inner.CsplitState.{Closed, ClosedNot, Closes, ended_well, ended_short, ended_so, Judges, Passed, Passes}
 use Rattle.csplit_core.specs.inner.Writer.{At, BegunNot, KeepsFiles, Moves, new_writer}
 use Rattle.csplit_core.proofs.BeginLemmas.{new_owns}
 use Rattle.csplit_core.proofs.EndLemmas.{files_cleared, files_left}

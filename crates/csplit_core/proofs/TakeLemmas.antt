@@ -1,5 +1,6 @@
 -- Taking lines in.
-use Rattle.std.proofs.Common.{◌≡◌, ◌⊎◌, inl, inr, ℕ, suc, ◌+◌, ◌-◌, ◌<◌, ◌≤◌, max, Bool, true, false, Result, Ok, Err, Some, None, List, [], ◌∷◌, ◌++◌, length, map, take, drop, refl, sym, ◌∙◌, ap, subst, arith, length-append}
+use Rattle.std.proofs.Common.{◌≡◌, ◌⊎◌, inl, inr, ℕ, suc, ◌+◌, ◌-◌, ◌<◌, ◌≤◌, max, Bool, true, false, Result, Ok, Err, Some, None, List, [], ◌∷◌, ◌++◌, length, map, take, drop, refl, sym, ◌∙◌, ap, subst, arith, append_assoc, length-append}
+use Rattle.std.proofs.lemmas.List.{append-nil}
 use Rattle.std.proofs.lemmas.Bool.{false≢true, cases_lt}
 use Rattle.seg_core.specs.Line.{line_count, delimiters}
 use Rattle.seg_core.specs.Window.{Window}
@@ -28,7 +29,7 @@ use Rattle.csplit_core.specs.declared.progress.Turn.TheVariants.{Below}
 use Rattle.csplit_core.specs.Cutter.{CutterState, suppress_in, state_in, settled_draft, draft_by, AimHolds, IsFit, IsSound, IsLive, IsPast, Stands, EndsNow}
 use Rattle.csplit_core.specs.inner.Cutter.{settled_part, IsWhole, IsLine, Arrives, Held, HeldNot, Holds, CutsNow, CutAll, CutAllNot, CutsAll, WillCut, TriesNext, search_after, Took, TookNot, Takes}
 use Rattle.csplit_core.proofs.CutterLemmas.{runs_to, at_more, part_more, live_part}
-use Rattle.csplit_core.proofs.LineLemmas.{all_lines-append, all_lines-line, length-all_lines, count-line, count_from, whole_count, whole_from}
+use Rattle.csplit_core.proofs.LineLemmas.{all_lines-append, all_lines-line, length-all_lines, count-line, count_from, whole_count, whole_from, whole-append}
 use Rattle.csplit_core.proofs.SettledLemmas.{settled_count, settled_part_is, most_is, aims_past}
 use Rattle.csplit_core.proofs.WriterLemmas.{moves_as, moves_same, halts_as, owns_still}
 use Rattle.csplit_core.proofs.StayLemmas.{StaysFor, stays}
@@ -192,26 +193,27 @@ cuts_there cutter lines aim x line cut live whole fit one count from goes near =
     let more : lines ≡ cutter.lines + 1 = (let l = count-line x line whole one in let c = live.at.counted in omega (arith, count, l, c)) in
     let few : cutter.progress.current + live.at.taken ≤ cutter.lines + 1 = (let f = live.at.few in let c = live.at.counted in omega (arith, f, c)) in
     let place : lines - delimiters newline cutter.window.held ≡ cutter.progress.current + live.at.taken = (let s = fit.fits.some in omega (arith, held, same, more, few, s)) in record {
-      last = (all_lines x, all_lines-line x line whole one);
+      last = (all_lines x, all_lines-line x line whole one, λ ends. whole-append x line whole (inr ends));
       near = near;
       place_is = place;
       before = (let b = place_before cutter x line cut.matched cut.line live whole goes fit from in omega (arith, b, place));
       goes = goes;
     }
 
-pub took_cut : (told : Bool) (cutter next : CutterState) (lines : ℕ) (aim : Turn) (line : List ℕ) (cut : Cut) (old new : List Slot) → IsFit cutter → (cutter.aim ≡ Below → ⊥) → IsLine line → lines ≡ cutter.lines + 1 → WillCut (more_lines cutter lines aim) cut
-    → TriesNext cutter line (more_lines cutter lines aim) (Some cut) → CutAll told (more_lines cutter lines aim) cut (lines - delimiters newline cutter.window.held) (cutter.window.held ++ line) line old new next → Took told cutter line old new next
+pub took_cut : (told : Bool) (cutter next : CutterState) (lines : ℕ) (aim : Turn) (line more : List ℕ) (cut : Cut) (old new : List Slot) → IsFit cutter → (cutter.aim ≡ Below → ⊥) → IsLine line → lines ≡ cutter.lines + 1 → WillCut (more_lines cutter lines aim) cut
+    → TriesNext cutter line (more_lines cutter lines aim) (Some cut) → CutAll told (more_lines cutter lines aim) cut (lines - delimiters newline cutter.window.held) (cutter.window.held ++ line) line more old new next → Took told cutter (line ++ more) old new next
 unfolding at_more
-took_cut told cutter next lines aim line cut old new fit differs one more will tries all = record {
+took_cut told cutter next lines aim line more cut old new fit differs one counted will tries all = record {
   same = record { operands = all.same.operands; style = all.same.style };
   stands = λ x whole stands.
       let live = live_of cutter x differs stands in
-      let count : lines ≡ line_count newline (x ++ line) = more ∙ ap (λ n. n + 1) live.at.counted ∙ sym (count-line x line whole one) in
-      all.stands (x ++ line) (at_more cutter lines aim x line cutter.window.held whole fit.fits.some live.at live.ends count) (cuts_there cutter lines aim x line cut live whole fit one count will.from (tries x whole live).0 (tries x whole live).1);
+      let count : lines ≡ line_count newline (x ++ line) = counted ∙ ap (λ n. n + 1) live.at.counted ∙ sym (count-line x line whole one) in
+      subst (Stands next) (append_assoc x line more)
+      (all.stands (x ++ line) (at_more cutter lines aim x line cutter.window.held whole fit.fits.some live.at live.ends count) (cuts_there cutter lines aim x line cut live whole fit one count will.from (tries x whole live).0 (tries x whole live).1));
   moves = λ x whole stands.
       let live = live_of cutter x differs stands in
-      let count : lines ≡ line_count newline (x ++ line) = more ∙ ap (λ n. n + 1) live.at.counted ∙ sym (count-line x line whole one) in
-      moves_as told _ _ _ _ old new (sym (live_part cutter x live) ∙ part_more cutter lines aim x line cutter.window.held whole fit.fits.some live.at live.ends count) refl
+      let count : lines ≡ line_count newline (x ++ line) = counted ∙ ap (λ n. n + 1) live.at.counted ∙ sym (count-line x line whole one) in
+      moves_as told _ _ _ _ old new (sym (live_part cutter x live) ∙ part_more cutter lines aim x line cutter.window.held whole fit.fits.some live.at live.ends count) (ap (settled_part cutter) (sym (append_assoc x line more)))
       (all.moves (x ++ line) (at_more cutter lines aim x line cutter.window.held whole fit.fits.some live.at live.ends count) (cuts_there cutter lines aim x line cut live whole fit one count will.from (tries x whole live).0 (tries x whole live).1));
   keeps = all.keeps;
   owns = all.owns;
@@ -219,19 +221,20 @@ took_cut told cutter next lines aim line cut old new fit differs one more will t
   sound = all.sound;
   size = (let some : 1 ≤ length line = (let l = line_count-le-length newline line in let e : line_count newline line ≡ 1 = ap length one in omega (arith, l, e)) in
       let joined : length (cutter.window.held ++ line) ≡ length cutter.window.held + length line = length-append cutter.window.held line in
+      let both : length (line ++ more) ≡ length line + length more = length-append line more in
       let n = all.lines in let s = all.size in
-      most_load cutter.lines (size_of next.writer.current + length next.window.held) (size_of cutter.writer.current + length cutter.window.held) next.lines (length line) 0 (omega (arith, n, more, some)) (omega (arith, joined, s)));
+      most_load cutter.lines (size_of next.writer.current + length next.window.held) (size_of cutter.writer.current + length cutter.window.held) next.lines (length (line ++ more)) 0 (omega (arith, n, counted, some, both)) (omega (arith, joined, both, s)));
 }
 
-pub took_not_cut : (told : Bool) (cutter next : CutterState) (lines : ℕ) (aim : Turn) (line : List ℕ) (cut : Cut) (old new : List Slot) (fault : Fault) → IsFit cutter → (cutter.aim ≡ Below → ⊥) → IsLine line → lines ≡ cutter.lines + 1 → WillCut (more_lines cutter lines aim) cut
-    → TriesNext cutter line (more_lines cutter lines aim) (Some cut) → CutAllNot told (more_lines cutter lines aim) cut (lines - delimiters newline cutter.window.held) (cutter.window.held ++ line) line old new next fault → TookNot told cutter line old new next fault
+pub took_not_cut : (told : Bool) (cutter next : CutterState) (lines : ℕ) (aim : Turn) (line more : List ℕ) (cut : Cut) (old new : List Slot) (fault : Fault) → IsFit cutter → (cutter.aim ≡ Below → ⊥) → IsLine line → lines ≡ cutter.lines + 1 → WillCut (more_lines cutter lines aim) cut
+    → TriesNext cutter line (more_lines cutter lines aim) (Some cut) → CutAllNot told (more_lines cutter lines aim) cut (lines - delimiters newline cutter.window.held) (cutter.window.held ++ line) line more old new next fault → TookNot told cutter (line ++ more) old new next fault
 unfolding at_more
-took_not_cut told cutter next lines aim line cut old new fault fit differs one more will tries all = record {
+took_not_cut told cutter next lines aim line more cut old new fault fit differs one counted will tries all = record {
   same = record { operands = all.same.operands; style = all.same.style };
   halts = λ x whole stands.
       let live = live_of cutter x differs stands in
-      let count : lines ≡ line_count newline (x ++ line) = more ∙ ap (λ n. n + 1) live.at.counted ∙ sym (count-line x line whole one) in
-      halts_as told _ _ _ _ old new fault (sym (live_part cutter x live) ∙ part_more cutter lines aim x line cutter.window.held whole fit.fits.some live.at live.ends count) refl
+      let count : lines ≡ line_count newline (x ++ line) = counted ∙ ap (λ n. n + 1) live.at.counted ∙ sym (count-line x line whole one) in
+      halts_as told _ _ _ _ old new fault (sym (live_part cutter x live) ∙ part_more cutter lines aim x line cutter.window.held whole fit.fits.some live.at live.ends count) (ap (settled_part cutter) (sym (append_assoc x line more)))
       (all.halts (x ++ line) (at_more cutter lines aim x line cutter.window.held whole fit.fits.some live.at live.ends count) (cuts_there cutter lines aim x line cut live whole fit one count will.from (tries x whole live).0 (tries x whole live).1));
   breaks = all.breaks;
   owns = all.owns;
@@ -258,11 +261,11 @@ take_none told cutter mid next line old new (Err fault) fit differs one is fit' 
 pub take_some : (told : Bool) (cutter mid next : CutterState) (line : List ℕ) (cut : Cut) (old new : List Slot) (result : Result (Unit {0}) Fault) → IsFit cutter → (cutter.aim ≡ Below → ⊥) → IsLine line → mid ≡ record cutter { lines = cutter.lines + 1; aim = mid.aim }
     → WillCut mid cut → TriesNext cutter line mid (Some cut) → CutsAll told mid cut (mid.lines - delimiters newline mid.window.held) (mid.window.held ++ line) line old new next result → Takes told cutter line old new next result
 take_some told cutter mid next line cut old new (Ok done) fit differs one is will tries all =
-    took_cut told cutter next (cutter.lines + 1) mid.aim line cut old new fit differs one refl (subst (λ (m : CutterState). WillCut m cut) is will) (subst (λ (m : CutterState). TriesNext cutter line m (Some cut)) is tries)
-    (subst (λ (m : CutterState). CutAll told m cut (m.lines - delimiters newline m.window.held) (m.window.held ++ line) line old new next) is all)
+    subst (λ those. Took told cutter those old new next) (append-nil line) (took_cut told cutter next (cutter.lines + 1) mid.aim line [] cut old new fit differs one refl (subst (λ (m : CutterState). WillCut m cut) is will) (subst (λ (m : CutterState). TriesNext cutter line m (Some cut)) is tries)
+    (subst (λ (m : CutterState). CutAll told m cut (m.lines - delimiters newline m.window.held) (m.window.held ++ line) line [] old new next) is all))
 take_some told cutter mid next line cut old new (Err fault) fit differs one is will tries all =
-    took_not_cut told cutter next (cutter.lines + 1) mid.aim line cut old new fault fit differs one refl (subst (λ (m : CutterState). WillCut m cut) is will) (subst (λ (m : CutterState). TriesNext cutter line m (Some cut)) is tries)
-    (subst (λ (m : CutterState). CutAllNot told m cut (m.lines - delimiters newline m.window.held) (m.window.held ++ line) line old new next fault) is all)
+    subst (λ those. TookNot told cutter those old new next fault) (append-nil line) (took_not_cut told cutter next (cutter.lines + 1) mid.aim line [] cut old new fault fit differs one refl (subst (λ (m : CutterState). WillCut m cut) is will) (subst (λ (m : CutterState). TriesNext cutter line m (Some cut)) is tries)
+    (subst (λ (m : CutterState). CutAllNot told m cut (m.lines - delimiters newline m.window.held) (m.window.held ++ line) line [] old new next fault) is all))
 
 -- Where the cut is below the current line, later lines go nowhere.
 

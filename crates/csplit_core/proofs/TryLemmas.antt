@@ -22,7 +22,7 @@ use Rattle.csplit_core.specs.Cutter.{CutterState, suppress_in, state_in, pattern
 use Rattle.csplit_core.specs.inner.Cutter.{IsWhole, IsLine, Looked, IsFound, IsNoCut, search_after, StaysNear, Tries, TriesNext}
 use Rattle.csplit_core.proofs.AdvanceLemmas.{advances}
 use Rattle.csplit_core.proofs.CutterLemmas.{runs_to}
-use Rattle.csplit_core.proofs.LineLemmas.{all_lines-line, length-all_lines, count-line}
+use Rattle.csplit_core.proofs.LineLemmas.{all_lines-line, length-all_lines, count-line, whole-append}
 use Rattle.csplit_core.proofs.StayLemmas.{search_grows, stays_by, StaysFor}
 use Rattle.csplit_core.proofs.TurnLemmas.{capped}
 
@@ -232,7 +232,7 @@ next_looked cutter x line live whole one aim =
     let count = lines_are cutter x live in
     let aims = subst (λ a. AimsAt a live.ends.ending) aim live.ends.aims in record {
       counted = ap (λ n. n + 1) live.at.counted ∙ sym (count-line x line whole one);
-      last = (all_lines x, all_lines-line x line whole one);
+      last = (all_lines x, all_lines-line x line whole one, λ ends. whole-append x line whole (inr ends));
       others = λ operand operands are other from less. ap (λ lines. is_match operand lines other) (all_lines-line x line whole one)
           ∙ missed_looked (suppress_in cutter) (all_lines x) (marked line) (state_in cutter) live.ends.ending ends aims operand operands are other from (omega (arith, less, count));
     }
@@ -256,15 +256,3 @@ next_tries cutter before mid next line (Some cut) same mid_is fit one aim next_i
       subst (λ (c : CutterState). GoesPast (suppress_in c) (all_lines (x ++ line)) (state_in c) cut.matched cut.line) mid_as both.0,
       (let lines' : next.lines ≡ cutter.lines + 1 = ap (λ (c : CutterState). c.lines) (next_is ∙ ap (λ (c : CutterState). record c { aim = next.aim }) mid_as) in omega (arith, near, lines')),
     )
-
--- a line in which the pattern was found is counted
-pub found_counted : (cutter before : CutterState) (text : List ℕ) (found : Bool) → before ≡ cutter → IsFound cutter text (cutter.lines + 1) found → IsFound (record before { lines = before.lines + 1 }) text (before.lines + 1) found
-found_counted cutter before text found same finds =
-    let here : IsFound before text (before.lines + 1) found = subst (λ (those : CutterState). IsFound those text (those.lines + 1) found) (sym same) finds in
-    record { none = here.none; before = here.before; some = here.some }
-
-pub missed_lives : (aim : Turn) → aim ≡ Missed → aim ≡ Below → ⊥
-missed_lives aim missed_is below_is = differs (sym missed_is ∙ below_is)
-  where
-    differs : Missed ≡ Below → ⊥
-    differs same = cc

@@ -1,7 +1,7 @@
 //! Cutting lines into sections as they come in: what is settled of them goes to the sections, and the others wait.
 ghost use Rattle.std.specs.Prelude.{◌≡◌, ◌≢◌, ◌+◌, ◌-◌, ◌<◌, ◌≤◌, ◌^◌, ◌++◌, List, ℕ, [], length, drop, take, Some, None, IfOk, IfErr, IfSome, IfNone, OnOk, IsTrue, true, false};
 ghost use Rattle.bre_core.specs.Pattern.{Pattern};
-ghost use Rattle.seg_core.specs.Line.{delimiters};
+ghost use Rattle.seg_core.specs.Line.{delimiters, ends_with};
 ghost use Rattle.ports_core.specs.Engine.{is_verdict};
 ghost use Rattle.ports_core.specs.Slot.{is_writable};
 ghost use Rattle.csplit_core.specs.Csplit.{verdict_of};
@@ -9,7 +9,7 @@ ghost use Rattle.csplit_core.specs.Plan.{above, missed};
 ghost use Rattle.csplit_core.specs.Planned.{plan};
 ghost use Rattle.ports_core.specs.Swept.{AreThere};
 ghost use Rattle.csplit_core.specs.Cutter.{AimHolds, IsFit, IsSound, load, most_by, pattern_by, state_in, suppress_in};
-ghost use Rattle.csplit_core.specs.inner.Cutter.{AreClear, Clears, CutAt, CutNot, CutsAll, EndsAll, IsJudged, Opens, Holds, IsFound, IsLine, IsNoCut, IsWhole, PassesClear, PassesOn, PassesOver, StopsAt, Stretches, Takes, Tries, TriesNext, WillCut};
+ghost use Rattle.csplit_core.specs.inner.Cutter.{AreClear, Clears, CutAllNot, CutAt, CutNot, CutsAll, CutsOn, EndsAll, GoesOn, IsJudged, Opens, Holds, IsFound, IsLine, IsNextFound, IsNoCut, IsWhole, PassesClear, PassesOn, PassesOver, Spread, StopsAt, Stretches, Takes, Tries, TriesNext, WillCut};
 ghost use Rattle.csplit_core.specs.Input.{all_lines, newline, without_newline};
 ghost use Rattle.csplit_core.specs.Measure.{Fits};
 ghost use Rattle.csplit_core.specs.Operand.{Line};
@@ -50,10 +50,6 @@ pub struct Passed {
     /// How many bytes the next line is, with its newline, where the pattern that is searched for was found in it.
     pub found: Option<usize>,
 }
-
-/// So often what each line with a match has may be looked for and be found in the very next line, which has no match; then
-/// the lines are matched one by one.
-const PATIENCE: u32 = 8;
 
 /// The sections of the lines that came in, and where the run stands.
 #[derive(Drop)]
@@ -189,9 +185,11 @@ impl<'o> LineCutter<'o> {
         ensures { Takes O.told self.old text.now (O.slots outs.old) (O.slots outs.new) self.new result }
     {
         let mut left = text;
+        let mut found = None;
         'stretches: while !left.is_empty() {
-            let n = self.stretch(left, outs)?;
-            left = &left[n..];
+            let passed = self.stretch(left, found, outs)?;
+            left = &left[passed.size..];
+            found = passed.found;
         }
         Ok(())
     }
@@ -204,37 +202,89 @@ impl<'o> LineCutter<'o> {
         matches!(self.aim, Turn::Below)
     }
 
-    /// Takes in a beginning of a text of complete lines, which isn't empty: a stretch that the next operand doesn't cut,
-    /// and the line after it. Returns how many bytes these are. Where lines go nowhere any more, that is all of it.
-    fn stretch<O: Outs>(&mut self, text: &[u8], outs: &mut O) -> Result<usize, Fault>
+    /// Takes in a beginning of a text of complete lines, which isn't empty: its first line, and the lines after it that the
+    /// next operand doesn't cut. `found` says how long the first line is where the pattern that is searched for was found
+    /// in it. Returns how far that is, and the same of the next line. Where lines go nowhere any more, that is all of it.
+    fn stretch<O: Outs>(
+        &mut self,
+        text: &[u8],
+        found: Option<usize>,
+        outs: &mut O,
+    ) -> Result<Passed, Fault>
         requires some { 0 < length text.now }
         requires whole { IsWhole text.now }
+        requires found { IfSome found (IsNextFound self.old text.now) }
         requires fits { load self.old + length text.now < 2 ^ 63 }
         requires sound { IsSound self.old }
         requires ready { IsReady self.old.writer (O.slots outs.old) }
         ensures { Stretches O.told self.old text.now (O.slots outs.old) (O.slots outs.new) self.new result }
     {
         if self.is_past() {
-            return Ok(text.len());
+            return Ok(unfound(text.len()));
         }
-        let passed = self.pass_over(text);
-        let n = passed.size;
-        self.hold(&text[..n], outs)?;
-        if n == text.len() {
-            return Ok(n);
+        let size = first_size(text, found);
+        let line = &text[..size];
+        let Some(cut) = self.try_line(line, found.is_some()) else {
+            return self.go_on(text, size, outs);
+        };
+        if self.window.is_empty() {
+            return self.cut_on(cut, text, size, outs);
         }
-        let (_, rest) = text.split_at(n);
-        match passed.found {
-            Some(size) => {
-                self.take_found(&rest[..size], outs)?;
-                Ok(n + size)
-            }
-            None => {
-                let (line, _) = next_line(rest, NEWLINE);
-                self.take_line(line, outs)?;
-                Ok(n + line.len())
-            }
-        }
+        self.cut_line(cut, line, outs)?;
+        Ok(unfound(size))
+    }
+
+    /// Cuts the first line of a text, which has `size` bytes, where no line waits, and holds what is left of it together
+    /// with the lines after it that the next operand doesn't cut. Returns how far that is, and how long the next line is
+    /// where the pattern that is searched for was found in it.
+    fn cut_on<O: Outs>(
+        &mut self,
+        cut: Cut,
+        text: &[u8],
+        size: usize,
+        outs: &mut O,
+    ) -> Result<Passed, Fault>
+        requires within { size ≤ length text.now }
+        requires line { IsLine (take size text.now) }
+        requires rest { IsWhole (drop size text.now) }
+        requires complete { ends_with newline (take size text.now) ≡ true }
+        requires lines { self.old.lines + (length text.now - size) < 2 ^ 63 }
+        requires fits { size_of self.old.writer.current + length text.now < 2 ^ 63 }
+        requires fit { IsFit self.old }
+        requires none { self.old.window.held ≡ [] }
+        requires cuts { WillCut self.old cut }
+        requires ready { IsReady self.old.writer (O.slots outs.old) }
+        ensures { CutsOn O.told self.old cut text.now size (O.slots outs.old) (O.slots outs.new) self.new result }
+    {
+        let line = &text[..size];
+        let left = self.cut_often(cut, self.lines, line, line, outs)?;
+        let kept = left.len();
+        let passed = self.go_on(&text[size - kept..], kept, outs)?;
+        Ok(Passed {
+            size: size - kept + passed.size,
+            found: passed.found,
+        })
+    }
+
+    /// Passes over the lines of a text after its first bytes, as far as the next operand stands as it does now, and holds
+    /// those bytes and these lines together: one write serves both. Returns how far that is, and how long the next line is
+    /// where the pattern that is searched for was found in it.
+    fn go_on<O: Outs>(&mut self, text: &[u8], kept: usize, outs: &mut O) -> Result<Passed, Fault>
+        requires within { kept ≤ length text.now }
+        requires rest { IsWhole (drop kept text.now) }
+        requires lines { self.old.lines + (length text.now - kept) < 2 ^ 63 }
+        requires fits { size_of self.old.writer.current + length self.old.window.held + length text.now < 2 ^ 63 }
+        requires sound { IsSound self.old }
+        requires ready { IsReady self.old.writer (O.slots outs.old) }
+        ensures { GoesOn O.told self.old text.now kept (O.slots outs.old) (O.slots outs.new) self.new result }
+    {
+        let passed = self.pass_over(&text[kept..]);
+        let size = kept + passed.size;
+        self.hold(&text[..size], outs)?;
+        Ok(Passed {
+            size,
+            found: passed.found,
+        })
     }
 
     /// Takes in one line, which may lack its newline.
@@ -248,23 +298,7 @@ impl<'o> LineCutter<'o> {
         if self.is_past() {
             return Ok(());
         }
-        match self.try_line(line) {
-            None => self.hold(line, outs),
-            Some(cut) => self.cut_line(cut, line, outs),
-        }
-    }
-
-    /// Takes in one line in which the pattern that is searched for was found.
-    fn take_found<O: Outs>(&mut self, line: &[u8], outs: &mut O) -> Result<(), Fault>
-        requires line { IsLine line.now }
-        requires found { IsFound self.old (without_newline line.now) (self.old.lines + 1) true }
-        requires aim { self.old.aim ≡ turn_is.Missed }
-        requires fits { load self.old + length line.now < 2 ^ 63 }
-        requires sound { IsSound self.old }
-        requires ready { IsReady self.old.writer (O.slots outs.old) }
-        ensures { Takes O.told self.old line.now (O.slots outs.old) (O.slots outs.new) self.new result }
-    {
-        match self.try_found() {
+        match self.try_line(line, false) {
             None => self.hold(line, outs),
             Some(cut) => self.cut_line(cut, line, outs),
         }
@@ -325,8 +359,7 @@ impl<'o> LineCutter<'o> {
         requires aim { self.old.aim ≡ turn_is.Missed }
         ensures { StopsAt self.old text.now self.new result }
     {
-        let mut patience = PATIENCE;
-        let clear = self.pass_clear(patience, text);
+        let clear = self.pass_clear(text);
         let mut left = &text[clear..];
         while let Some(end) = memchr(NEWLINE, left) {
             if self.is_match(&left[..end], self.lines + 1) {
@@ -337,23 +370,19 @@ impl<'o> LineCutter<'o> {
             }
             self.lines += 1;
             left = &left[end + 1..];
-            let clear = self.pass_clear(patience, left);
-            patience = patience.saturating_sub(u32::from(clear == 0));
+            let clear = self.pass_clear(left);
             left = &left[clear..];
         }
         unfound(text.len() - left.len())
     }
 
-    /// Counts the lines at the beginning of a text of complete lines that are seen to have no match without matching them,
-    /// if there is patience for it. Returns how many bytes they are.
-    fn pass_clear(&mut self, patience: u32, text: &[u8]) -> usize
+    /// Counts the lines at the beginning of a text of complete lines that are seen to have no match without matching them.
+    /// Returns how many bytes they are.
+    fn pass_clear(&mut self, text: &[u8]) -> usize
         requires whole { IsWhole text.now }
         requires fits { self.old.lines + length text.now < 2 ^ 64 }
         ensures { PassesClear self.old text.now self.new result }
     {
-        if patience == 0 {
-            return 0;
-        }
         let size = self.clear_lines(text);
         self.lines += count_delimiters(&text[..size], NEWLINE) as u64;
         size
@@ -361,21 +390,24 @@ impl<'o> LineCutter<'o> {
 
     /// How many bytes the lines at the beginning of a text of complete lines are that are seen to have no match without
     /// matching them.
-    fn clear_lines(&self, text: &[u8]) -> usize
+    fn clear_lines(&mut self, text: &[u8]) -> usize
         requires whole { IsWhole text.now }
         ensures within { result ≤ length text.now }
         ensures whole { IsWhole (take result text.now) }
-        ensures clear { (pattern : Pattern) → self.now.sought ≡ Some pattern → AreClear pattern (take result text.now) }
+        ensures clear { (pattern : Pattern) → self.old.sought ≡ Some pattern → AreClear pattern (take result text.now) }
+        ensures same { self.new ≡ self.old }
     {
-        match &self.matcher {
+        match &mut self.matcher {
             Some(matcher) => matcher.clear_lines(text),
             None => 0,
         }
     }
 
-    /// Counts one more line, and tries the next operand with it. Returns its cut, if it makes one.
-    fn try_line(&mut self, line: &[u8]) -> Option<Cut>
+    /// Counts one more line, and tries the next operand with it. `is_found` says that the pattern that is searched for was
+    /// found in it. Returns its cut, if it makes one.
+    fn try_line(&mut self, line: &[u8], is_found: bool) -> Option<Cut>
         requires line { IsLine line.now }
+        requires found { is_found ≡ true → IsFound self.old (without_newline line.now) (self.old.lines + 1) true }
         requires few { self.old.lines < 2 ^ 63 }
         requires sound { IsSound self.old }
         requires live { self.old.aim ≢ turn_is.Below }
@@ -393,33 +425,18 @@ impl<'o> LineCutter<'o> {
                 }
                 Some(Cut { matched, line })
             }
-            Turn::Missed => self.try_last(line),
+            Turn::Missed => self.try_last(line, is_found),
             Turn::UsedUp => None,
             Turn::Below => None,
             Turn::Cuts(_, _) => None,
         }
     }
 
-    /// Counts one more line, in which the pattern that is searched for was found, and tries the next operand with it.
-    /// Returns its cut, if it makes one.
-    fn try_found(&mut self) -> Option<Cut>
-        requires few { self.old.lines < 2 ^ 63 }
-        requires sound { IsSound self.old }
-        requires aim { self.old.aim ≡ turn_is.Missed }
-        ensures same { self.new ≡ record self.old { lines = self.old.lines + 1; aim = self.new.aim } }
-        ensures fit { IsFit self.new }
-        ensures aim { IfNone result (AimHolds self.new.operands self.new.lines self.new.progress self.new.aim) }
-        ensures cuts { IfSome result (WillCut self.new) }
-        ensures tries { (line : List ℕ) → IsLine line → IsFound self.old (without_newline line) (self.old.lines + 1) true → TriesNext self.old line self.new result }
-    {
-        self.lines += 1;
-        self.turn_last(true)
-    }
-
-    /// Tries the next operand, where this is the last line that came in, and none before it is to be looked at. Returns
-    /// its cut, if it makes one.
-    fn try_last(&mut self, line: &[u8]) -> Option<Cut>
+    /// Tries the next operand, where this is the last line that came in, and none before it is to be looked at. `is_found`
+    /// says that its pattern was found there. Returns its cut, if it makes one.
+    fn try_last(&mut self, line: &[u8], is_found: bool) -> Option<Cut>
         requires line { IsLine line.now }
+        requires found { is_found ≡ true → IsFound self.old (without_newline line.now) self.old.lines true }
         requires few { self.old.lines ≤ 2 ^ 63 }
         requires fit { IsFit self.old }
         ensures same { self.new ≡ record self.old { aim = self.new.aim } }
@@ -427,6 +444,9 @@ impl<'o> LineCutter<'o> {
         ensures cuts { IfSome result (WillCut self.old) }
         ensures tries { Tries self.old line.now self.new result }
     {
+        if is_found {
+            return self.turn_last(true);
+        }
         let found = self.is_match(text_of(line), self.lines);
         self.turn_last(found)
     }
@@ -521,11 +541,34 @@ impl<'o> LineCutter<'o> {
         requires ready { IsReady self.old.writer (O.slots outs.old) }
         ensures { CutsAll O.told self.old cut place waiting.now line.now (O.slots outs.old) (O.slots outs.new) self.new result }
     {
+        let left = self.cut_often(cut, place, waiting, line, outs)?;
+        self.hold(left, outs)
+    }
+
+    /// The same, but that what is left is returned, and isn't held yet.
+    fn cut_often<'l, O: Outs>(
+        &mut self,
+        cut: Cut,
+        place: u64,
+        waiting: &'l [u8],
+        line: &[u8],
+        outs: &mut O,
+    ) -> Result<&'l [u8], Fault>
+        requires line { IsLine line.now }
+        requires few { self.old.lines ≤ 2 ^ 63 }
+        requires fits { size_of self.old.writer.current + length waiting.now < 2 ^ 63 }
+        requires fit { IsFit self.old }
+        requires none { self.old.window.held ≡ [] }
+        requires cuts { WillCut self.old cut }
+        requires ready { IsReady self.old.writer (O.slots outs.old) }
+        ensures ok { IfOk result (λ left. Spread O.told self.old cut place waiting.now line.now (O.slots outs.old) (O.slots outs.new) self.new left.now) }
+        ensures err { IfErr result (CutAllNot O.told self.old cut place waiting.now line.now [] (O.slots outs.old) (O.slots outs.new) self.new) }
+    {
         let mut left = self.cut_at(cut, place, waiting, outs)?;
-        while let Some(cut) = self.try_last(line) {
+        while let Some(cut) = self.try_last(line, false) {
             left = self.cut_at(cut, self.progress.current, left, outs)?;
         }
-        self.hold(left, outs)
+        Ok(left)
     }
 
     /// Ends the open section before the line of the cut, and begins the next. Returns the lines that follow the cut. No
@@ -603,6 +646,26 @@ impl<'o> LineCutter<'o> {
             return Ok(());
         }
         hold_last(&mut self.window, text, &mut self.writer, outs)
+    }
+}
+
+/// How many bytes the first line of a text of complete lines is, which isn't empty: it is so long where that was found.
+fn first_size(text: &[u8], found: Option<usize>) -> usize
+    requires some { 0 < length text.now }
+    requires whole { IsWhole text.now }
+    requires found { IfSome found (λ size. (0 < size) × (size ≤ length text.now) × IsLine (take size text.now) × IsWhole (take size text.now)) }
+    ensures some { 0 < result }
+    ensures within { result ≤ length text.now }
+    ensures line { IsLine (take result text.now) }
+    ensures whole { IsWhole (take result text.now) }
+    ensures known { (size : ℕ) → found ≡ Some size → result ≡ size }
+{
+    match found {
+        Some(size) => size,
+        None => {
+            let (line, _) = next_line(text, NEWLINE);
+            line.len()
+        }
     }
 }
 

@@ -4,7 +4,6 @@ ghost use Rattle.bre_core.specs.Search.{contains};
 ghost use Rattle.csplit_core.specs.Input.{without_newline};
 ghost use Rattle.csplit_core.specs.inner.Cutter.{AreClear, IsLine, IsWhole};
 
-use memchr::memrchr;
 use ports_core::Fault;
 use scan_core::{Bre, Scan};
 use seg_core::line::NEWLINE;
@@ -57,18 +56,15 @@ impl<'o> Matcher<'o> {
     }
 
     /// How many bytes the lines at the beginning of a text of complete lines are that are seen to have no match without
-    /// matching them.
-    pub(crate) fn clear_lines(&self, text: &[u8]) -> usize
+    /// matching them; 0 where looking for what each has is of no use any more, and is tried again later.
+    pub(crate) fn clear_lines(&mut self, text: &[u8]) -> usize
         requires { IsWhole text.now }
         ensures within { result ≤ length text.now }
         ensures whole { IsWhole (take result text.now) }
-        ensures clear { AreClear self.now (take result text.now) }
+        ensures clear { AreClear self.old (take result text.now) }
+        ensures same { self.new ≡ self.old }
     {
-        let place = self.pattern.clear_before(text);
-        match memrchr(NEWLINE, &text[..place]) {
-            Some(end) => end + 1,
-            None => 0,
-        }
+        self.scan.clear_lines(self.pattern, text)
     }
 }
 

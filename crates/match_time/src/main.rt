@@ -3,10 +3,10 @@
 //! of each in nanoseconds, with how many lines match, each way, and the steps.
 #![tactic(auto)]
 
-ghost use Rattle.std.specs.Prelude.{◌≡◌, ◌≤◌, length};
+ghost use Rattle.std.specs.Prelude.{◌≡◌};
 ghost use Rattle.bre_core.specs.Pattern.{positions_of};
 
-use memchr::{memchr, memrchr};
+use memchr::memchr;
 use scan_core::{Bre, Scan};
 use std::env;
 use std::io::{self, Read};
@@ -53,17 +53,6 @@ fn each_line(scan: &mut Scan, bre: &Bre, text: &[u8], is_matched: bool) -> Found
     found
 }
 
-/// How many bytes the lines at the beginning of a text are that are seen to have no match.
-fn clear_lines(bre: &Bre, text: &[u8]) -> usize
-    ensures { result ≤ length text.now }
-{
-    let place = bre.clear_before(text);
-    match memrchr(b'\n', &text[..place]) {
-        Some(end) => end + 1,
-        None => 0,
-    }
-}
-
 /// How many lines of a text match, of which those that are seen to have no match are passed over.
 fn each_unclear(scan: &mut Scan, bre: &Bre, text: &[u8]) -> u64
     requires { scan.old.positions ≡ positions_of bre.now }
@@ -72,7 +61,7 @@ fn each_unclear(scan: &mut Scan, bre: &Bre, text: &[u8]) -> u64
     let mut lines: u64 = 0;
     let mut rest = text;
     while !rest.is_empty() {
-        let (_, left) = rest.split_at(clear_lines(bre, rest));
+        let (_, left) = rest.split_at(scan.clear_lines(bre, rest));
         let end = match memchr(b'\n', left) {
             Some(end) => end.min(left.len()),
             None => left.len(),

@@ -26,7 +26,7 @@ use Rattle.csplit_core.specs.declared.progress.Turn.{Turn}
 use Rattle.csplit_core.specs.declared.progress.Turn.TheVariants.{UsedUp, Missed, Above, Below, Cuts}
 use Rattle.csplit_core.specs.declared.line_cutter.Cut.{Cut}
 use Rattle.csplit_core.specs.declared.line_cutter.Passed.{Passed}
-use Rattle.csplit_core.specs.Cutter.{CutterState, suppress_in, state_in, kept_by, IsFit, IsSound, load, draft_by, IsAt, EndsNow, IsLive, Stands}
+use Rattle.csplit_core.specs.Cutter.{CutterState, AimHolds, suppress_in, state_in, kept_by, IsFit, IsSound, load, draft_by, IsAt, EndsNow, IsLive, Stands}
 
 -- a text of complete lines
 abbrev pub IsWhole : List ℕ → Type 0
@@ -111,9 +111,10 @@ abbrev pub Holds : Bool → CutterState → List ℕ → List Slot → List Slot
 Holds told cutter left old new next (Ok done) = Held told cutter left old new next
 Holds told cutter left old new next (Err fault) = HeldNot told cutter left old new next fault
 
--- a line stands last in x
+-- a line stands last in x, which ends with its newline where it has one
 abbrev pub IsLastLine : List ℕ → List ℕ → Type 0
 IsLastLine x line = (front : List Line) × (all_lines x ≡ front ++ marked line ∷ [])
+    × (ends_with newline line ≡ true → IsWhole x)
 
 -- whether a line of this number has the pattern that is searched for, if the search reaches it
 pub record IsFound (cutter : CutterState) (text : List ℕ) (number : ℕ) (found : Bool) : Type 0 where
@@ -190,6 +191,10 @@ PassesOn cutter cut next = (operand : Operand) (operands : List Operand)
     → (state_in cutter).operands ≡ operand ∷ operands
     → state_in next ≡ state_after (suppress_in cutter) operand operands cutter.progress.repetition cut.matched cut.line
 
+-- one text ends with another
+abbrev pub IsEnd : List ℕ → List ℕ → Type 0
+IsEnd end text = (front : List ℕ) × (text ≡ front ++ end)
+
 -- What is so after a cut: the open section has no line yet, and none before the last line is to be looked at again.
 pub record IsAfter (told : Bool) (cutter : CutterState) (x line : List ℕ) (next : CutterState) (rest : List ℕ)
     (low : Part) (old new : List Slot) : Type 0 where
@@ -214,6 +219,7 @@ pub record CutAt (told : Bool) (cutter : CutterState) (cut : Cut) (place : ℕ) 
   pub owns : KeepsFiles cutter.writer next.writer old new
   pub ready : IsReady next.writer new
   pub size : size_of next.writer.current + length rest ≤ size_of cutter.writer.current + length left
+  pub end : IsEnd rest left
 
 -- A fault came before that.
 pub record CutNot (told : Bool) (cutter : CutterState) (cut : Cut) (place : ℕ) (left : List ℕ) (old new : List Slot)
@@ -224,33 +230,59 @@ pub record CutNot (told : Bool) (cutter : CutterState) (cut : Cut) (place : ℕ)
   pub breaks : Breaks cutter.writer.style old new fault
   pub owns : KeepsFiles cutter.writer next.writer old new
 
--- What cutting as often as operands cut does, from the first cut on.
-pub record CutAll (told : Bool) (cutter : CutterState) (cut : Cut) (place : ℕ) (left line : List ℕ)
+-- The lines that are left have been cut so often.
+pub record Spreading (told : Bool) (cutter : CutterState) (cut : Cut) (place : ℕ) (waiting line : List ℕ)
+    (old new : List Slot) (now : CutterState) (left : List ℕ) : Type 0 where
+  pub same : IsSame cutter now
+  pub lines : now.lines ≡ cutter.lines
+  pub fit : IsFit now
+  pub held : now.window.held ≡ []
+  pub after : (x : List ℕ) (at : IsAt cutter x waiting) → CutsNow cutter x waiting line cut place at
+      → IsAfter told cutter x line now left (part_at cutter x waiting at) old new
+  pub keeps : KeepsBroken old new
+  pub owns : KeepsFiles cutter.writer now.writer old new
+  pub ready : IsReady now.writer new
+  pub size : size_of now.writer.current + length left ≤ size_of cutter.writer.current + length waiting
+  pub end : IsEnd left waiting
+
+-- No operand cuts any more what is left, and nothing of it is written or waits yet.
+pub record Spread (told : Bool) (cutter : CutterState) (cut : Cut) (place : ℕ) (waiting line : List ℕ)
+    (old new : List Slot) (next : CutterState) (left : List ℕ) : Type 0 where
+  pub now : CutterState
+  pub so_far : Spreading told cutter cut place waiting line old new now left
+  pub is : next ≡ record now { aim = next.aim }
+  pub tries : Tries now line next None
+  pub aim : AimHolds next.operands next.lines next.progress next.aim
+
+-- What cutting as often as operands cut does, from the first cut on, and then taking in more lines that aren't cut.
+pub record CutAll (told : Bool) (cutter : CutterState) (cut : Cut) (place : ℕ) (left line more : List ℕ)
     (old new : List Slot) (next : CutterState) : Type 0 where
   pub same : IsSame cutter next
-  pub lines : next.lines ≡ cutter.lines
+  pub lines : next.lines ≤ cutter.lines + length more
   pub sound : IsSound next
-  pub stands : (x : List ℕ) (at : IsAt cutter x left) → CutsNow cutter x left line cut place at → Stands next x
+  pub stands : (x : List ℕ) (at : IsAt cutter x left) → CutsNow cutter x left line cut place at
+      → Stands next (x ++ more)
   pub moves : (x : List ℕ) (at : IsAt cutter x left) → CutsNow cutter x left line cut place at
-      → Gets told cutter.writer next.writer (part_at cutter x left at) (settled_part cutter x) old new
+      → Gets told cutter.writer next.writer (part_at cutter x left at) (settled_part cutter (x ++ more)) old new
   pub keeps : KeepsBroken old new
   pub owns : KeepsFiles cutter.writer next.writer old new
   pub ready : IsReady next.writer new
-  pub size : size_of next.writer.current + length next.window.held ≤ size_of cutter.writer.current + length left
+  pub size : size_of next.writer.current + length next.window.held
+      ≤ size_of cutter.writer.current + length left + length more
 
-pub record CutAllNot (told : Bool) (cutter : CutterState) (cut : Cut) (place : ℕ) (left line : List ℕ)
+pub record CutAllNot (told : Bool) (cutter : CutterState) (cut : Cut) (place : ℕ) (left line more : List ℕ)
     (old new : List Slot) (next : CutterState) (fault : Fault) : Type 0 where
   pub same : IsSame cutter next
   pub halts : (x : List ℕ) (at : IsAt cutter x left) → CutsNow cutter x left line cut place at
-      → Halts told cutter.writer (part_at cutter x left at) (settled_part cutter x) old new fault
+      → Halts told cutter.writer (part_at cutter x left at) (settled_part cutter (x ++ more)) old new fault
   pub breaks : Breaks cutter.writer.style old new fault
   pub owns : KeepsFiles cutter.writer next.writer old new
 
 abbrev pub CutsAll : Bool → CutterState → Cut → ℕ → List ℕ → List ℕ → List Slot → List Slot → CutterState
     → Result (Unit {0}) Fault → Type 0
-CutsAll told cutter cut place left line old new next (Ok done) = CutAll told cutter cut place left line old new next
+CutsAll told cutter cut place left line old new next (Ok done) = CutAll told cutter cut place left line [] old new next
 CutsAll told cutter cut place left line old new next (Err fault) =
-    CutAllNot told cutter cut place left line old new next fault
+    CutAllNot told cutter cut place left line [] old new next fault
 
 -- What passing over lines says: the next operand stands as it did.
 pub record PassesOver (cutter : CutterState) (text : List ℕ) (next : CutterState) (n : ℕ) : Type 0 where
@@ -259,8 +291,8 @@ pub record PassesOver (cutter : CutterState) (text : List ℕ) (next : CutterSta
   pub whole : IsWhole (take n text)
   pub few : next.lines ≤ cutter.lines + n
   pub sound : IsSound next
-  pub ends : (x : List ℕ) → IsWhole x → IsLive cutter x → (next.lines ≡ line_count newline (x ++ take n text))
-      × EndsNow next (x ++ take n text)
+  pub ends : (x : List ℕ) → IsWhole x → cutter.lines ≡ line_count newline x → EndsNow cutter x
+      → (next.lines ≡ line_count newline (x ++ take n text)) × EndsNow next (x ++ take n text)
 
 -- the pattern that is searched for was found in the first of these lines, which is so long
 pub record IsNextFound (cutter : CutterState) (rest : List ℕ) (size : ℕ) : Type 0 where
@@ -290,10 +322,55 @@ pub record PassesClear (cutter : CutterState) (text : List ℕ) (next : CutterSt
   pub clear : (pattern : Pattern) → cutter.sought ≡ Some pattern → AreClear pattern (take n text)
 
 -- A stretch of the text was taken in, or a fault came.
-abbrev pub Stretches : Bool → CutterState → List ℕ → List Slot → List Slot → CutterState → Result ℕ Fault → Type 0
-Stretches told cutter text old new next (Ok n) = (0 < n) × (n ≤ length text) × IsWhole (take n text)
-    × Took told cutter (take n text) old new next
+pub record Stretched (told : Bool) (cutter : CutterState) (text : List ℕ) (old new : List Slot) (next : CutterState)
+    (passed : Passed) : Type 0 where
+  pub some : 0 < passed.size
+  pub within : passed.size ≤ length text
+  pub whole : IsWhole (take passed.size text)
+  pub took : Took told cutter (take passed.size text) old new next
+  pub found : IfSome passed.found (IsNextFound next (drop passed.size text))
+
+abbrev pub Stretches : Bool → CutterState → List ℕ → List Slot → List Slot → CutterState → Result Passed Fault → Type 0
+Stretches told cutter text old new next (Ok passed) = Stretched told cutter text old new next passed
 Stretches told cutter text old new next (Err fault) = TookNot told cutter text old new next fault
+
+-- The lines of a text after the first bytes were passed over, and then these bytes and those lines were held together.
+pub record GoneOn (told : Bool) (cutter : CutterState) (text : List ℕ) (kept : ℕ) (old new : List Slot)
+    (next : CutterState) (passed : Passed) : Type 0 where
+  pub mid : CutterState
+  pub n : ℕ
+  pub size : passed.size ≡ kept + n
+  pub over : PassesOver cutter (drop kept text) mid n
+  pub held : Held told mid (mid.window.held ++ take (kept + n) text) old new next
+  pub found : IfSome passed.found (IsNextFound mid (drop n (drop kept text)))
+
+-- A fault came while they were held.
+pub record NotGoneOn (told : Bool) (cutter : CutterState) (text : List ℕ) (kept : ℕ) (old new : List Slot)
+    (next : CutterState) (fault : Fault) : Type 0 where
+  pub mid : CutterState
+  pub n : ℕ
+  pub over : PassesOver cutter (drop kept text) mid n
+  pub held : HeldNot told mid (mid.window.held ++ take (kept + n) text) old new next fault
+
+-- The first line of a text, which has so many bytes, was cut, and the lines after it that aren't cut were taken in too.
+pub record CutOn (told : Bool) (cutter : CutterState) (cut : Cut) (text : List ℕ) (size : ℕ) (old new : List Slot)
+    (next : CutterState) (passed : Passed) : Type 0 where
+  pub n : ℕ
+  pub size_is : passed.size ≡ size + n
+  pub within : n ≤ length (drop size text)
+  pub whole : IsWhole (take n (drop size text))
+  pub all : CutAll told cutter cut cutter.lines (take size text) (take size text) (take n (drop size text)) old new next
+  pub found : IfSome passed.found (IsNextFound next (drop n (drop size text)))
+
+abbrev pub CutsOn : Bool → CutterState → Cut → List ℕ → ℕ → List Slot → List Slot → CutterState → Result Passed Fault
+    → Type 0
+CutsOn told cutter cut text size old new next (Ok passed) = CutOn told cutter cut text size old new next passed
+CutsOn told cutter cut text size old new next (Err fault) =
+    CutAllNot told cutter cut cutter.lines (take size text) (take size text) (drop size text) old new next fault
+
+abbrev pub GoesOn : Bool → CutterState → List ℕ → ℕ → List Slot → List Slot → CutterState → Result Passed Fault → Type 0
+GoesOn told cutter text kept old new next (Ok passed) = GoneOn told cutter text kept old new next passed
+GoesOn told cutter text kept old new next (Err fault) = NotGoneOn told cutter text kept old new next fault
 
 -- what is written where the input ends after these lines
 abbrev pub whole_part : CutterState → List ℕ → Part

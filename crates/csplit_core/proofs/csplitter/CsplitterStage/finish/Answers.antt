@@ -1,7 +1,7 @@
 use Rattle.std.proofs.Common.{ap, subst}
 use Rattle.ports_core.proofs.HandedOn.{result_is}
 use Rattle.csplit_core.specs.CsplitState.{CsplitState}
-use Rattle.csplit_core.specs.inner.CsplitState.{Closes, Judges, ended_well, ended_short, ended_so}
+use Rattle.csplit_core.specs.inner.CsplitState.{Closes, Judges, ended_well, ended_short}
 use Rattle.csplit_core.proofs.StageLemmas.{closed_short}
 use Rattle.csplit_core.proofs.StageSteps.{ends_by, ends_not, judged_by}
 use Rattle.csplit_core.proofs.csplitter.CsplitterStage.finish.Goals as goal
