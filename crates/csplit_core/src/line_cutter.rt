@@ -649,7 +649,7 @@ impl<'o> LineCutter<'o> {
     }
 }
 
-/// How many bytes the first line of a text of complete lines is, which isn't empty: it is so long where that was found.
+/// How many bytes the first line of a text of complete lines has, which isn't empty: those that were found, if any were.
 fn first_size(text: &[u8], found: Option<usize>) -> usize
     requires some { 0 < length text.now }
     requires whole { IsWhole text.now }

@@ -34,10 +34,10 @@ fn each_line(scan: &mut Scan, bre: &Bre, text: &[u8], is_matched: bool) -> Found
             Some(end) => end.min(rest.len()),
             None => rest.len(),
         };
-        let (line, behind) = rest.split_at(end);
-        rest = match behind {
+        let (line, after) = rest.split_at(end);
+        rest = match after {
             [_, more @ ..] => more,
-            [] => behind,
+            [] => after,
         };
         if is_matched {
             if scan.matches(bre, line) {
@@ -66,10 +66,10 @@ fn each_unclear(scan: &mut Scan, bre: &Bre, text: &[u8]) -> u64
             Some(end) => end.min(left.len()),
             None => left.len(),
         };
-        let (line, behind) = left.split_at(end);
-        rest = match behind {
+        let (line, after) = left.split_at(end);
+        rest = match after {
             [_, more @ ..] => more,
-            [] => behind,
+            [] => after,
         };
         if scan.contains(bre, line) {
             lines = lines.wrapping_add(1);

@@ -122,7 +122,7 @@ fn what_is_given_back_is_read_again(rt: HostRuntime) -> Result<(), Fail> {
     Ok(())
 }
 
-/// Reads once, and gives back as many of the bytes, if there were so many. Returns how many there were.
+/// Reads once, and gives back this many of the bytes, if there were as many. Returns how many there were.
 fn read_and_give_back(inputs: &mut MemIn, count: usize) -> Result<usize, Fault>
     requires { IsTrue (is_readable inputs.old.sources 0) }
     ensures { OnOk result (IsTrue (is_readable inputs.new.sources 0)) }

@@ -128,7 +128,7 @@ pub record Loads {E : Type 0} (Holds : E → List ℕ → Type 0) (Ready : E →
   pub idle : (work before).settled front ≡ (work before).settled []
   pub going : (front ≡ []) ⊎ ((work before).is_complete front ≡ false)
 
--- The next piece may have so many bytes: fed them after any x with which its output isn't complete, the engine leaves no
+-- The next piece may have this many bytes: fed them after any x with which its output isn't complete, the engine leaves no
 -- more than its work's `ahead` of them unused.
 abbrev pub MayGet : {E : Type 0} → (E → List ℕ → Type 0) → (E → Work) → E → ℕ → Type 0
 MayGet {E = E} Holds work engine most = (x piece : List ℕ) (after : E) (n : ℕ) → Holds engine x

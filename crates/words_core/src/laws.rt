@@ -125,7 +125,7 @@ pub fn values_are_spelled_alike()
 {}
 
 /// Letters in one word spell what they spell apart (POSIX.1-2017, XBD 12.2, guideline 5). A letter to which no value belongs
-/// gives its option, and what comes after it is read as if it weren't there: the other letters of its word, behind their
+/// gives its option, and what comes after it is read as if it weren't there: the other letters of its word, after a
 /// hyphen, and where it is the only one the words that follow.
 pub fn letters_stand_together()
     ensures together { (rows : List OptionRow) (letter next : ℕ) (choice : Choice) (rest : List ℕ) (words : List (List ℕ)) (place : ℕ)

@@ -230,7 +230,7 @@ pub record CutNot (told : Bool) (cutter : CutterState) (cut : Cut) (place : ℕ)
   pub breaks : Breaks cutter.writer.style old new fault
   pub owns : KeepsFiles cutter.writer next.writer old new
 
--- The lines that are left have been cut so often.
+-- Some cuts were made, and these lines are left.
 pub record Spreading (told : Bool) (cutter : CutterState) (cut : Cut) (place : ℕ) (waiting line : List ℕ)
     (old new : List Slot) (now : CutterState) (left : List ℕ) : Type 0 where
   pub same : IsSame cutter now
@@ -294,7 +294,7 @@ pub record PassesOver (cutter : CutterState) (text : List ℕ) (next : CutterSta
   pub ends : (x : List ℕ) → IsWhole x → cutter.lines ≡ line_count newline x → EndsNow cutter x
       → (next.lines ≡ line_count newline (x ++ take n text)) × EndsNow next (x ++ take n text)
 
--- the pattern that is searched for was found in the first of these lines, which is so long
+-- the pattern that is searched for was found in the first of these lines, which has this many bytes
 pub record IsNextFound (cutter : CutterState) (rest : List ℕ) (size : ℕ) : Type 0 where
   pub some : 0 < size
   pub within : size ≤ length rest
@@ -352,7 +352,7 @@ pub record NotGoneOn (told : Bool) (cutter : CutterState) (text : List ℕ) (kep
   pub over : PassesOver cutter (drop kept text) mid n
   pub held : HeldNot told mid (mid.window.held ++ take (kept + n) text) old new next fault
 
--- The first line of a text, which has so many bytes, was cut, and the lines after it that aren't cut were taken in too.
+-- The first line of a text, which has this many bytes, was cut, and the lines after it that aren't cut were taken in too.
 pub record CutOn (told : Bool) (cutter : CutterState) (cut : Cut) (text : List ℕ) (size : ℕ) (old new : List Slot)
     (next : CutterState) (passed : Passed) : Type 0 where
   pub n : ℕ

@@ -32,7 +32,7 @@ unused_of (ButLast kept) piece = []
 unused_of (FromNth count front) piece = []
 unused_of (Last kept) piece = []
 
--- how many bytes a piece may have of which so many lines or bytes are still to come
+-- how many bytes a piece may have where this many lines or bytes are still to come
 abbrev pub piece_for : Counted → ℕ → ℕ
 piece_for Lines left = max left 4096
 piece_for Bytes left = left
