@@ -18,7 +18,7 @@ pub data Fate : Type 0 where
 
 pub record Look : Type 0 where
   pub snapshot : Snapshot
-  -- of each name that is watched, by its number; one that is left out came through
+  -- of each name that is watched, by its number; one that is left out came through, and of others' nothing is said
   pub fates : List Fate
 
 abbrev pub fate_at : ℕ → Look → Fate

@@ -43,8 +43,8 @@ pub record BrokeIn (ways : Ways) (looks : List Look) (place : ℕ) (failed : Opt
   pub opened : ways.by_name ≡ false
       → (failed_in place (take 1 looks) ≡ failed_in place looks) ⊎ (failed_in place looks ≡ Some (Read place))
 
--- From the number of the first on these names are watched: all of them once a look was made; where the first look found
--- no memory to add them, perhaps only the first ones. Each that is broke just as these looks tell, if it did.
+-- From the number of the first on as many are watched as there are names, once a look was made; where the first look
+-- found no memory to add them, perhaps fewer. Each that is broke just as these looks tell, if it did.
 abbrev pub AreBroken : Ways → List Look → List (List ℕ) → List Watched → Type 0
 AreBroken ways looks names watched = (length watched ≤ ways.first + length names)
     × (0 < length looks → length watched ≡ ways.first + length names)
