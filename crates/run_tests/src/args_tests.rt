@@ -1,8 +1,6 @@
 //! Words that the system gives as bytes.
 use std::alloc::Global;
 use std::env::{Env, FillError};
-use std::process::Abort;
-use std::test::Fail;
 use tools_core::{ArgsFault, read_args};
 
 /// Arguments in memory.
@@ -35,85 +33,79 @@ impl<'a> Env for Args<'a> {
 /// Longer than the first room for a word.
 const LONG: &[u8] = &[b'a'; 1000];
 
-fn refuses(rt: &impl Abort, alloc: Global, words: &[&[u8]], place: usize) {
+/// Whether the words are refused, since the one at this place is no text.
+fn refuses(alloc: Global, words: &[&[u8]], place: usize) -> bool {
     match read_args(&Args { words }, alloc) {
-        Ok(_) => assert!(rt; false),
-        Err(fault) => assert_eq!(rt; fault, ArgsFault::NotUtf8(place)),
+        Ok(_) => false,
+        Err(fault) => fault == ArgsFault::NotUtf8(place),
     }
+}
+
+/// Whether the words are read as these.
+fn reads(alloc: Global, words: &[&[u8]], wanted: &[&[u8]]) -> bool {
+    match read_args(&Args { words }, alloc) {
+        Ok(found) => are(&found, wanted),
+        Err(_) => false,
+    }
+}
+
+fn are(found: &[String], wanted: &[&[u8]]) -> bool {
+    for (place, word) in wanted.iter().enumerate() {
+        match found.get(place) {
+            Some(read) if read.as_bytes() == *word => {}
+            _ => return false,
+        }
+    }
+    found.len() == wanted.len()
 }
 
 #[test]
-fn reads_words(rt: HostRuntime) -> Result<(), Fail> {
-    match read_args(
-        &Args {
-            words: &[b"cutters", b"head", b"", LONG],
-        },
-        rt.alloc(),
-    ) {
-        Ok(found) => {
-            assert_eq!(rt; found.len(), 3);
-            assert_eq!(rt; found[0].as_str(), "head");
-            assert_eq!(rt; found[1].as_str(), "");
-            assert_eq!(rt; found[2].as_bytes(), LONG);
-        }
-        Err(fault) => assert!(rt; false, "{fault:?}"),
+fn reads_words(rt: HostRuntime) {
+    for (words, wanted) in READ {
+        assert!(rt; reads(rt.alloc(), words, wanted), "{wanted:?}");
     }
-    match read_args(&Args { words: &[] }, rt.alloc()) {
-        Ok(found) => assert!(rt; found.is_empty()),
-        Err(fault) => assert!(rt; false, "{fault:?}"),
-    }
-    Ok(())
 }
 
-/// The program's own name, and the first of its words where `x` follows it.
-const CALLS: &[(&[u8], &str)] = &[
-    (b"cutters", "x"),
-    (b"head", "head"),
-    (b"/usr/bin/tail", "tail"),
-    (b"./split", "split"),
-    (b"no \xff text/csplit", "csplit"),
-    (b"//tee", "tee"),
-    (b"tee/", "x"),
-    (b"tee/cutters", "x"),
-    (b"header", "x"),
-    (b"a-head", "x"),
-    (b"", "x"),
-    (b"head\xff", "x"),
+/// What the system gives, and the words that it is read as.
+const READ: &[(&[&[u8]], &[&[u8]])] = &[
+    (&[b"cutters", b"head", b"", LONG], &[b"head", b"", LONG]),
+    (&[], &[]),
+];
+
+/// The program's own name, and its words where `x` follows it.
+const CALLS: &[(&[u8], &[&[u8]])] = &[
+    (b"cutters", &[b"x"]),
+    (b"head", &[b"head", b"x"]),
+    (b"/usr/bin/tail", &[b"tail", b"x"]),
+    (b"./split", &[b"split", b"x"]),
+    (b"no \xff text/csplit", &[b"csplit", b"x"]),
+    (b"//tee", &[b"tee", b"x"]),
+    (b"tee/", &[b"x"]),
+    (b"tee/cutters", &[b"x"]),
+    (b"header", &[b"x"]),
+    (b"a-head", &[b"x"]),
+    (b"", &[b"x"]),
+    (b"head\xff", &[b"x"]),
 ];
 
 #[test]
 fn is_called_by_a_tool(rt: HostRuntime) {
-    for (name, first) in CALLS {
-        begins(&rt, rt.alloc(), name, first);
-    }
-}
-
-fn begins(rt: &impl Abort, alloc: Global, name: &[u8], first: &str) {
-    match read_args(
-        &Args {
-            words: &[name, b"x"],
-        },
-        alloc,
-    ) {
-        Ok(words) => {
-            assert!(rt; !words.is_empty());
-            assert_eq!(rt; words[0].as_str(), first);
-            assert_eq!(rt; words[words.len() - 1].as_str(), "x");
-            assert_eq!(rt; words.len(), if first == "x" { 1 } else { 2 });
-        }
-        Err(fault) => assert!(rt; false, "{fault:?}"),
+    for (name, wanted) in CALLS {
+        assert!(rt; reads(rt.alloc(), &[*name, b"x"], wanted), "at {name:?}");
     }
 }
 
 #[test]
 fn tells_the_word_that_is_no_text(rt: HostRuntime) {
-    refuses(&rt, rt.alloc(), &[b"cutters", b"head\xff"], 0);
-    refuses(
-        &rt,
-        rt.alloc(),
-        &[b"cutters", b"head", b"-n", b"1", b"\xc3"],
-        3,
-    );
-    refuses(&rt, rt.alloc(), &[b"\xff", b"head", b"\xfe", b"\xff"], 1);
-    refuses(&rt, rt.alloc(), &[b"/bin/head", b"-n", b"\xfe"], 2);
+    for (words, place) in REFUSED {
+        assert!(rt; refuses(rt.alloc(), words, *place), "at {place}");
+    }
 }
+
+/// What the system gives, and the place of the word that is no text.
+const REFUSED: &[(&[&[u8]], usize)] = &[
+    (&[b"cutters", b"head\xff"], 0),
+    (&[b"cutters", b"head", b"-n", b"1", b"\xc3"], 3),
+    (&[b"\xff", b"head", b"\xfe", b"\xff"], 1),
+    (&[b"/bin/head", b"-n", b"\xfe"], 2),
+];

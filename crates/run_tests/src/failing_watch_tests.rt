@@ -228,20 +228,17 @@ const ROWS: &[Row<'static>] = &[
 #[test]
 fn fewer_looks_write_the_same(rt: HostRuntime) -> Result<(), Fail> {
     for looks in PLACED {
-        let mut watch = watch_of(rt.alloc(), looks)?;
-        let mut outs = MemOut::new(rt.alloc())?;
-        let words = ["tail", "-f", "-n", "1", "f"];
-        let status = run_follow(
-            rt.alloc(),
-            &words,
-            &mut watch,
-            &mut outs,
-            looks.len() as u64,
-        );
-        assert_eq!(rt; outs.bytes(0), b"a\nb\nc\n".as_slice());
-        assert_eq!(rt; status, 0);
+        assert!(rt; writes_three_lines(rt.alloc(), looks)?);
     }
     Ok(())
+}
+
+fn writes_three_lines(alloc: Global, looks: &[&[Edit<'_>]]) -> Result<bool, Fault> {
+    let mut watch = watch_of(alloc, looks)?;
+    let mut outs = MemOut::new(alloc)?;
+    let words = ["tail", "-f", "-n", "1", "f"];
+    let status = run_follow(alloc, &words, &mut watch, &mut outs, looks.len() as u64);
+    Ok(status == 0 && outs.bytes(0) == b"a\nb\nc\n".as_slice())
 }
 
 const PLACED: &[&[&[Edit<'static>]]] = &[

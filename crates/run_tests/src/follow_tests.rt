@@ -207,13 +207,13 @@ fn follows(rt: &impl Abort, alloc: Global, row: &Row<'_>, mut watch: MemWatch) -
 }
 
 fn check_left(rt: &impl Abort, outs: &MemOut, status: u8, row: &Row<'_>) {
-    check_written(rt, outs, status, row);
-    assert_eq!(rt; outs.bytes(1), row.messages, "of {:?}", row.words);
+    let is_so = is_written(outs, status, row) && outs.bytes(1) == row.messages;
+    assert!(rt; is_so, "of {:?}", row.words);
 }
 
-fn check_written(rt: &impl Abort, outs: &MemOut, status: u8, row: &Row<'_>) {
-    assert_eq!(rt; outs.bytes(0), row.output, "of {:?}", row.words);
-    assert_eq!(rt; status, row.status, "of {:?}", row.words);
+/// Whether standard output and the status are those of the row.
+fn is_written(outs: &MemOut, status: u8, row: &Row<'_>) -> bool {
+    outs.bytes(0) == row.output && status == row.status
 }
 
 /// Looks that come after the last edit change nothing, and no look writes nothing.
@@ -236,7 +236,7 @@ fn looks_on(rt: &impl Abort, alloc: Global, row: &Row<'_>, mut watch: MemWatch) 
 {
     let mut outs = MemOut::new(alloc)?;
     let status = run_follow(alloc, row.words, &mut watch, &mut outs, 20);
-    check_written(rt, &outs, status, row);
+    assert!(rt; is_written(&outs, status, row), "of {:?}", row.words);
     Ok(())
 }
 
@@ -266,13 +266,7 @@ fn each_call_on_files_fails(rt: HostRuntime) -> Result<(), Fail> {
     for row in &ROWS {
         let mut was_whole = false;
         for call in 1..=40 {
-            let mut watch = watch_of(rt.alloc(), row.looks)?;
-            watch.fail_at(call);
-            let mut outs = MemOut::new(rt.alloc())?;
-            let looks = row.looks.len() as u64;
-            let status = run_follow(rt.alloc(), row.words, &mut watch, &mut outs, looks);
-            let is_whole = is_left(&outs, status, row);
-            let is_sound = is_whole || has_dropped(&outs, status, row);
+            let (is_whole, is_sound) = end_where_a_call_fails(rt.alloc(), row, call)?;
             assert!(rt; is_sound, "where call {call} of {:?} fails", row.words);
             was_whole = is_whole;
         }
@@ -287,19 +281,35 @@ fn each_write_fails(rt: HostRuntime) -> Result<(), Fail> {
     for row in &ROWS {
         let mut was_whole = false;
         for call in 1..=40 {
-            let mut watch = watch_of(rt.alloc(), row.looks)?;
-            let mut outs = MemOut::new(rt.alloc())?;
-            outs.fail_at(call);
-            let looks = row.looks.len() as u64;
-            let status = run_follow(rt.alloc(), row.words, &mut watch, &mut outs, looks);
-            let is_whole = is_left(&outs, status, row);
-            let is_sound = is_whole || !was_whole && has_begun(&outs, status, row);
+            let (is_whole, has_begun) = end_where_a_write_fails(rt.alloc(), row, call)?;
+            let is_sound = is_whole || !was_whole && has_begun;
             assert!(rt; is_sound, "where write {call} of {:?} fails", row.words);
             was_whole = is_whole;
         }
         assert!(rt; was_whole, "{:?} makes more writes", row.words);
     }
     Ok(())
+}
+
+/// Whether a run of which a call on files fails left just what the row says, and whether what it left is sound.
+fn end_where_a_call_fails(alloc: Global, row: &Row<'_>, call: u64) -> Result<(bool, bool), Fault> {
+    let mut watch = watch_of(alloc, row.looks)?;
+    watch.fail_at(call);
+    let mut outs = MemOut::new(alloc)?;
+    let looks = row.looks.len() as u64;
+    let status = run_follow(alloc, row.words, &mut watch, &mut outs, looks);
+    let is_whole = is_left(&outs, status, row);
+    Ok((is_whole, is_whole || has_dropped(&outs, status, row)))
+}
+
+/// Whether a run of which a write fails left just what the row says, and whether it left beginnings.
+fn end_where_a_write_fails(alloc: Global, row: &Row<'_>, call: u64) -> Result<(bool, bool), Fault> {
+    let mut watch = watch_of(alloc, row.looks)?;
+    let mut outs = MemOut::new(alloc)?;
+    outs.fail_at(call);
+    let looks = row.looks.len() as u64;
+    let status = run_follow(alloc, row.words, &mut watch, &mut outs, looks);
+    Ok((is_left(&outs, status, row), has_begun(&outs, status, row)))
 }
 
 /// Whether a run left just what the row says, and no output broke.

@@ -9,7 +9,7 @@ ghost use Rattle.watch_core.specs.MemWatchState.{seen};
 use crate::args_tests::Args;
 use crate::follow_tests::{Row as Followed, TRUNCATED, TWO_FILES, watch_of};
 use crate::left::{
-    File, Left, NOTHING, Plan, Run as Planned, has_name, planned_inputs, planned_outs,
+    File, Left, NOTHING, Plan, Run as Planned, differs, planned_inputs, planned_outs,
 };
 use crate::refused_tests::{
     BEFORE_A_LINE, BEFORE_EACH_LINE, Ended, KEPT_SECTIONS, ONE_IS_MISSING, ROUND, Run, SECTIONS,
@@ -70,31 +70,13 @@ fn end_of(alloc: Global, row: &Row<'_>) -> Result<Ended, Fault> {
 }
 
 fn judged(outs: &MemOut, status: u8, row: &Row<'_>) -> Ended {
-    if is_left(outs, status, &row.run.left) {
+    if differs(outs, status, &row.run.left).is_empty() {
         return Ended::Whole;
     }
     if has_begun(outs, status, row) {
         return Ended::Begun;
     }
     Ended::Wrong
-}
-
-/// Whether a run left just this.
-fn is_left(outs: &MemOut, status: u8, left: &Left<'_>) -> bool {
-    let mut slot: usize = 2;
-    for file in left.files {
-        if !is_file(outs, slot, file, left) {
-            return false;
-        }
-        slot = slot.saturating_add(1);
-    }
-    let is_written = outs.bytes(0) == left.output && outs.bytes(1) == left.messages;
-    is_written && outs.name(slot).is_empty() && status == left.status
-}
-
-fn is_file(outs: &MemOut, slot: usize, file: &File<'_>, left: &Left<'_>) -> bool {
-    let is_removed = has_name(left.removed, file.0);
-    outs.name(slot) == file.0 && outs.bytes(slot) == file.1 && outs.removed(slot) == is_removed
 }
 
 /// Whether a run of which something was refused left each output as it is to.
@@ -396,7 +378,7 @@ fn args_are_read(rt: HostRuntime) {
 #[test]
 fn args_are_read_or_are_refused(rt: HostRuntime) {
     if let Err(fault) = read_args(&ARGS, rt.alloc()) {
-        assert_eq!(rt; fault, ArgsFault::Memory);
+        assert!(rt; fault == ArgsFault::Memory);
         assert!(rt; has_args(&read_args(&ARGS, rt.alloc())));
     }
 }

@@ -175,30 +175,35 @@ fn check_over(rt: &impl Abort, alloc: Global, row: &Run<'_>, mut inputs: MemIn) 
 
 /// Checks what a run of the words left.
 fn check_left(rt: &impl Abort, words: &[&str], outs: &MemOut, status: u8, left: &Left<'_>) {
-    let mut slot: usize = 2;
-    for file in left.files {
-        check_file(rt, words, outs, slot, file, left);
-        slot = slot.saturating_add(1);
-    }
-    assert_eq!(rt; outs.name(slot), "", "of {words:?}");
-    assert_eq!(rt; outs.bytes(0), left.output, "of {words:?}");
-    assert_eq!(rt; outs.bytes(1), left.messages, "of {words:?}");
-    assert_eq!(rt; status, left.status, "of {words:?}");
+    let other = differs(outs, status, left);
+    assert!(rt; other.is_empty(), "{other} of {words:?}");
 }
 
-fn check_file(
-    rt: &impl Abort,
-    words: &[&str],
-    outs: &MemOut,
-    slot: usize,
-    file: &File<'_>,
-    left: &Left<'_>,
-) {
-    let (name, bytes) = *file;
-    let is_removed = has_name(left.removed, name);
-    assert_eq!(rt; outs.name(slot), name, "of {words:?}");
-    assert_eq!(rt; outs.bytes(slot), bytes, "in {name} of {words:?}");
-    assert_eq!(rt; outs.removed(slot), is_removed, "of {name} of {words:?}");
+/// What isn't as a run is to leave it; the text is empty where all is.
+pub(crate) fn differs(outs: &MemOut, status: u8, left: &Left<'_>) -> &'static str {
+    let mut slot: usize = 2;
+    for file in left.files {
+        if !is_file(outs, slot, file, left) {
+            return "a file";
+        }
+        slot = slot.saturating_add(1);
+    }
+    if !outs.name(slot).is_empty() {
+        "the number of files"
+    } else if outs.bytes(0) != left.output {
+        "standard output"
+    } else if outs.bytes(1) != left.messages {
+        "standard error"
+    } else if status != left.status {
+        "the status"
+    } else {
+        ""
+    }
+}
+
+fn is_file(outs: &MemOut, slot: usize, file: &File<'_>, left: &Left<'_>) -> bool {
+    let is_removed = has_name(left.removed, file.0);
+    outs.name(slot) == file.0 && outs.bytes(slot) == file.1 && outs.removed(slot) == is_removed
 }
 
 pub(crate) fn has_name(names: &[&str], name: &str) -> bool {

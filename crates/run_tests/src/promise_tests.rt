@@ -35,7 +35,7 @@ fn left_of(
     inputs.pieces(pieces.max(1));
     let mut outs = MemOut::new(alloc)?;
     let status = run(alloc, words, &mut inputs, &mut outs);
-    assert_eq!(rt; status, 0, "of {words:?}");
+    assert!(rt; status == 0, "of {words:?}");
     Ok(outs)
 }
 
@@ -73,7 +73,7 @@ fn meet(rt: &impl Abort, alloc: Global, text: &[u8], pair: &Pair<'_>) -> Result<
     let tail = left_of(rt, alloc, pair.1, text, 64)?;
     let mut both = Vec::from_slice(alloc, head.bytes(0))?;
     both.extend_from_slice(tail.bytes(0))?;
-    assert_eq!(rt; both.as_slice(), text, "of {pair:?}");
+    assert!(rt; both.as_slice() == text, "of {pair:?}");
     Ok(())
 }
 
@@ -134,8 +134,8 @@ fn leave_the_same(
     let one = left_by(rt, alloc, words, pieces)?;
     let other = left_by(rt, alloc, words, 64)?;
     for slot in 0..12 {
-        assert_eq!(rt; one.name(slot), other.name(slot), "of {words:?}");
-        assert_eq!(rt; one.bytes(slot), other.bytes(slot), "of {words:?}");
+        let are_same = one.name(slot) == other.name(slot) && one.bytes(slot) == other.bytes(slot);
+        assert!(rt; are_same, "in {slot} of {words:?}");
     }
     Ok(())
 }
@@ -246,10 +246,10 @@ fn have_sizes(rt: &impl Abort, alloc: Global, row: &(&[&str], &[usize])) -> Resu
     let outs = left_by(rt, alloc, row.0, 4)?;
     let mut slot: usize = 2;
     for size in row.1 {
-        assert_eq!(rt; outs.bytes(slot).len(), *size, "in {slot} of {row:?}");
+        assert!(rt; outs.bytes(slot).len() == *size, "in {slot} of {row:?}");
         slot = slot.saturating_add(1);
     }
-    assert_eq!(rt; outs.name(slot).is_empty(), true, "of {row:?}");
+    assert!(rt; outs.name(slot).is_empty(), "of {row:?}");
     Ok(())
 }
 
@@ -315,10 +315,10 @@ fn lose_nothing(rt: &impl Abort, alloc: Global, words: &[&str]) -> Result<(), Fa
     for slot in 2..20 {
         let comes_after = outs.name(slot) > outs.name(slot.saturating_sub(1));
         let is_none = outs.name(slot).is_empty();
-        assert_eq!(rt; slot == 2 || comes_after || is_none, true, "of {words:?}");
+        assert!(rt; slot == 2 || comes_after || is_none, "of {words:?}");
         all.extend_from_slice(outs.bytes(slot))?;
     }
-    assert_eq!(rt; all.as_slice(), TEXT, "of {words:?}");
+    assert!(rt; all.as_slice() == TEXT, "of {words:?}");
     Ok(())
 }
 
@@ -346,17 +346,13 @@ fn leave_a_beginning(
     let mut outs = planned_outs(alloc, &[plan])?;
     let status = run(alloc, words, &mut inputs, &mut outs);
     let is_told = !outs.bytes(1).is_empty() || outs.broken(1);
-    assert_eq!(rt; status == 0 || is_told, true, "of {words:?}");
+    assert!(rt; status == 0 || is_told, "of {words:?}");
     for slot in [0, 2, 3, 4, 5, 6, 7] {
         let begins = well.bytes(slot).starts_with(outs.bytes(slot));
-        assert_eq!(rt; begins, true, "in {slot} of {words:?}");
-        assert_eq!(rt; outs.broken(slot) && status == 0, false, "of {words:?}");
+        assert!(rt; begins, "in {slot} of {words:?}");
+        assert!(rt; !outs.broken(slot) || status == 1, "of {words:?}");
         let is_named = has_part(outs.bytes(1), outs.name(slot).as_bytes());
-        assert_eq!(rt;
-            outs.broken(slot) && !is_named,
-            false,
-            "in {slot} of {words:?}"
-        );
+        assert!(rt; !outs.broken(slot) || is_named, "in {slot} of {words:?}");
     }
     Ok(())
 }
@@ -427,7 +423,9 @@ fn tell_all(
     let status = run_follow(alloc, words.0, &mut watch, &mut outs, 4);
     let mut all = Vec::from_slice(alloc, left_by(rt, alloc, words.1, 4)?.bytes(0))?;
     all.extend_from_slice(came)?;
-    assert_eq!(rt; status, 0, "of {words:?}");
-    assert_eq!(rt; outs.bytes(0), all.as_slice(), "of {words:?}");
+    assert!(rt;
+        status == 0 && outs.bytes(0) == all.as_slice(),
+        "of {words:?}"
+    );
     Ok(())
 }
