@@ -253,17 +253,38 @@ fn have_sizes(rt: &impl Abort, alloc: Global, row: &(&[&str], &[usize])) -> Resu
     Ok(())
 }
 
+/// Words, some of the files that they make, and the lines of the text that these are to have, as the files that they are alone in.
+type Lines<'a> = (&'a [&'a str], &'a [usize], &'a [usize]);
+
 #[test]
 fn lines_are_dealt_in_turn(rt: HostRuntime) -> Result<(), Fail> {
-    let lines = left_by(&rt, rt.alloc(), &["split", "-l", "1"], 4)?;
-    let dealt = left_by(&rt, rt.alloc(), &["split", "-n", "r/2"], 4)?;
-    same_bytes(
-        &rt,
-        dealt.bytes(2),
-        &joined(rt.alloc(), &lines, &[2, 4, 6])?,
-    );
-    same_bytes(&rt, dealt.bytes(3), &joined(rt.alloc(), &lines, &[3, 5])?);
+    for row in DEALT {
+        have_lines(&rt, rt.alloc(), row)?;
+    }
     Ok(())
+}
+
+const DEALT: &[Lines<'static>] = &[
+    (&["split", "-n", "r/2"], &[2], &[2, 4, 6]),
+    (&["split", "-n", "r/2"], &[3], &[3, 5]),
+];
+
+fn have_lines(rt: &impl Abort, alloc: Global, row: &Lines<'_>) -> Result<(), Fault> {
+    let found = joined_of(rt, alloc, row.0, row.1)?;
+    let wanted = joined_of(rt, alloc, &["split", "-l", "1"], row.2).expect(rt, "there is memory");
+    same_bytes(rt, &found, &wanted);
+    Ok(())
+}
+
+/// What these outputs of the words have, one after another.
+fn joined_of(
+    rt: &impl Abort,
+    alloc: Global,
+    words: &[&str],
+    slots: &[usize],
+) -> Result<Vec<u8>, Fault> {
+    let outs = left_by(rt, alloc, words, 4)?;
+    joined(alloc, &outs, slots)
 }
 
 /// What these outputs have, one after another.
@@ -291,22 +312,20 @@ const CSPLIT: &[&[&str]] = &[
 
 #[test]
 fn csplit_leaves_out_what_is_asked(rt: HostRuntime) -> Result<(), Fail> {
-    let alloc = rt.alloc();
-    let lines = left_by(&rt, alloc, &["split", "-l", "1"], 4)?;
-    let skips = left_by(&rt, alloc, &["csplit", "-", "%c%", "/d/"], 4)?;
-    let cuts = left_by(&rt, alloc, &["csplit", "--suppress-matched", "-", "/c/"], 4)?;
-    same_bytes(
-        &rt,
-        &joined(alloc, &skips, &[2, 3, 4])?,
-        &joined(alloc, &lines, &[4, 5, 6])?,
-    );
-    same_bytes(
-        &rt,
-        &joined(alloc, &cuts, &[2, 3, 4])?,
-        &joined(alloc, &lines, &[2, 3, 5, 6])?,
-    );
+    for row in LEFT_OUT {
+        have_lines(&rt, rt.alloc(), row)?;
+    }
     Ok(())
 }
+
+const LEFT_OUT: &[Lines<'static>] = &[
+    (&["csplit", "-", "%c%", "/d/"], &[2, 3, 4], &[4, 5, 6]),
+    (
+        &["csplit", "--suppress-matched", "-", "/c/"],
+        &[2, 3, 4],
+        &[2, 3, 5, 6],
+    ),
+];
 
 /// The files that the words make are joined the text, in the order of their names.
 fn lose_nothing(rt: &impl Abort, alloc: Global, words: &[&str]) -> Result<(), Fault> {
