@@ -167,7 +167,7 @@ const fn told<'a>(row: &Told<'a>, files: &'a [File<'a>], plans: &'a [Plan]) -> R
 }
 
 #[test]
-fn goes_on_behind_missing_files(rt: HostRuntime) -> Result<(), Fail> {
+fn goes_on_after_missing_files(rt: HostRuntime) -> Result<(), Fail> {
     for row in MISSING {
         check_twice(&rt, rt.alloc(), &told(row, TWO, &[]))?;
     }
@@ -213,7 +213,7 @@ const MISSING: &[Told<'static>] = &[
 ];
 
 #[test]
-fn goes_on_behind_broken_inputs(rt: HostRuntime) -> Result<(), Fail> {
+fn goes_on_after_broken_inputs(rt: HostRuntime) -> Result<(), Fail> {
     for row in BROKEN {
         check_run(&rt, rt.alloc(), &told(row, LONGER, &[Plan::Break(1, 4)]))?;
     }
@@ -322,7 +322,7 @@ const FAILING: &[Run<'static>] = &[
 ];
 
 #[test]
-fn breaks_behind_what_is_needed_stay_unseen(rt: HostRuntime) -> Result<(), Fail> {
+fn breaks_after_what_is_needed_stay_unseen(rt: HostRuntime) -> Result<(), Fail> {
     for row in UNSEEN {
         breaks_unseen(&rt, rt.alloc(), row, &[Plan::Break(1, 2)])?;
         breaks_unseen(&rt, rt.alloc(), row, &[Plan::Pieces(1), Plan::Break(1, 3)])?;
