@@ -18,6 +18,9 @@ use std::marker::Model;
 /// What a line ends with.
 const NEWLINE: u8 = b'\n';
 
+/// Eleven bits.
+const MOST_VAIN: u16 = 2047;
+
 /// Room for matching lines against patterns with a given number of positions.
 #[derive(Drop)]
 pub struct Scan {
@@ -28,9 +31,9 @@ pub struct Scan {
     /// The steps of the last search.
     steps: u128,
     /// How many of the next calls of `clear_lines` return 0 without a look.
-    resting: u8,
-    /// How many of them were to do so after the last look.
-    rest: u8,
+    resting: u16,
+    /// A bit for each of the last looks that were in vain in turn, at most eleven.
+    vain: u16,
 }
 
 impl Model for Scan {
@@ -63,7 +66,7 @@ impl Scan {
             words,
             steps: 0,
             resting: 0,
-            rest: 0,
+            vain: 0,
         })
     }
 
@@ -108,8 +111,9 @@ impl Scan {
     }
 
     /// How many bytes the lines at the beginning of a text are that are seen to have no match without matching them, by
-    /// `Bre::clear_before`. It is meant to be called line after line: the more often in turn it looked in vain, since what each
-    /// line with a match has stands in nearly every line, the longer it rests, up to 255 calls, in which it returns 0.
+    /// `Bre::clear_before`. It is meant to be called line after line: from the fourth look in turn that is in vain, since what
+    /// each line with a match has stands in nearly every line, it rests, each time about twice as long, for at most 255 calls, in
+    /// which it returns 0.
     pub fn clear_lines(&mut self, bre: &Bre, text: &[u8]) -> usize
         ensures within { result ≤ length text.now }
         ensures clear { IsClear bre.now text.now result }
@@ -121,8 +125,12 @@ impl Scan {
             return 0;
         }
         let size = clear_lines(bre, text);
-        self.rest = if size == 0 { self.rest << 1 | 1 } else { 0 };
-        self.resting = self.rest;
+        self.vain = if size == 0 {
+            (self.vain << 1 | 1) & MOST_VAIN
+        } else {
+            0
+        };
+        self.resting = self.vain >> 3;
         size
     }
 

@@ -331,12 +331,14 @@ fn lines_are_passed_over(rt: HostRuntime) {
     }
 }
 
-/// Texts in turn, and how much of each is passed over as lines without an `x`. A look in vain is followed by one rest, and the
-/// next such by three.
-const RESTS: [(&[u8], usize); 10] = [
+/// Texts in turn, and how much of each is passed over as lines without an `x`. The fourth look in vain is followed by one rest,
+/// the fifth by three.
+const RESTS: [(&[u8], usize); 12] = [
     (b"x1\nb\n", 0),
-    (b"b\nx1\n", 0),
     (b"b\nx1\n", 2),
+    (b"x1\nb\n", 0),
+    (b"x1\nb\n", 0),
+    (b"x1\nb\n", 0),
     (b"x1\nb\n", 0),
     (b"b\nx1\n", 0),
     (b"x1\nb\n", 0),
