@@ -47,8 +47,8 @@ use Rattle.tools_core.specs.Following.{FollowingEnds}
 use Rattle.tools_core.specs.Outcome.{DoesAsked, RunEnds, names_read}
 use Rattle.tools_core.specs.Tasks.{has_headers, names_of, tool_of}
 
--- One run: its words, what it found, and what it left. Where words ask `tail` to follow files, the program makes another
--- kind of run, a `FollowRun`.
+-- One run: its words, what it found, and what it left. Where words ask `tail` to follow files, the program makes
+-- another kind of run, a `FollowRun`.
 pub record Run : Type 0 where
   -- the first is the tool's name
   pub words : List (List ℕ)
@@ -83,8 +83,8 @@ pub record HasInput (run : Run) (bytes : List ℕ) : Type 0 where
   pub only : names_read run.words ≡ name ∷ []
   pub holds : lying_at run.world name ≡ Some (record { bytes = bytes; breaks_off = false })
 
--- Two runs read inputs of the same names, in order, and find the same under each: the same bytes, which end or break off
--- alike, or nothing. In how many reads bytes come is no part of what lies there.
+-- Two runs read inputs of the same names, in order, and find the same under each: the same bytes, which end or break
+-- off alike, or nothing. In how many reads bytes come is no part of what lies there.
 abbrev pub FindAlike : Run → Run → Type 0
 FindAlike one other = inputs_at one.world (names_read one.words) ≡ inputs_at other.world (names_read other.words)
 
@@ -142,8 +142,8 @@ AreInOrder (name ∷ next ∷ names) = (slice_cmp nat_cmp name next ≡ Less) ×
 abbrev pub text_at : List (List ℕ) → ℕ → List ℕ
 text_at texts place = slice_index_or texts place []
 
--- The file at a place has the name of this place: the prefix, letters or digits, and the ending. A shell's `*` gives the
--- files in this order. Each was made anew, and is sound.
+-- The file at a place has the name of this place: the prefix, letters or digits, and the ending. The files come in the
+-- order of their names, byte by byte, as a shell's `*` gives them where it sorts so. Each was made anew, and is sound.
 pub record AreListed (asked : SplitAsked) (files : List Slot) : Type 0 where
   pub named : (place : ℕ) → place < length files → text_at (map (λ (file : Slot). file.name) files) place
       ≡ name_at asked.prefix asked.alphabet asked.width asked.auto asked.ending place
@@ -180,20 +180,21 @@ pub record AreLinePieces (delim n : ℕ) (input : List ℕ) (pieces : List (List
   pub filled : (place : ℕ) → place + 1 < length pieces
       → IsFilled delim n (text_at pieces place) (text_at pieces (suc place))
 
--- Line i of the input, counted from 0, is line i / n of file i % n, and there is nothing else in the files. There are n,
--- or those that have a line, where the others are left out.
+-- Line i of the input, counted from 0, is line i / n of file i % n, and there is nothing else in the files. There are
+-- n, or those that have a line, where the others are left out.
 pub record AreDealt (delim n : ℕ) (elide : Bool) (input : List ℕ) (contents : List (List ℕ)) : Type 0 where
   pub lines : (i : ℕ) → text_at (lines_of delim input) i ≡ text_at (lines_of delim (text_at contents (i % n))) (i / n)
   pub all : length (joined contents) ≡ length input
   pub count : elide ≡ false → length contents ≡ n
   pub left_out : elide ≡ true → All (λ bytes. 0 < length bytes) contents
 
--- of the operands of a `csplit` that ran one that begins with `%` (37) is a pattern whose section is skipped
+-- This operand begins with `%` (37). One that does so is a pattern whose section is skipped, where the operands of a
+-- `csplit` are right.
 abbrev pub skips : List ℕ → Bool
 skips [] = false
 skips (byte ∷ word) = byte == 37
 
--- no operand is
+-- no operand begins so
 abbrev pub SkipNothing : List (List ℕ) → Type 0
 SkipNothing [] = Unit {0}
 SkipNothing (word ∷ words) = (skips word ≡ false) × SkipNothing words
@@ -225,8 +226,8 @@ pub record AreSections (style : Style) (operands : List Operand) (input : List �
       (whole_sections (all_lines input) (plan style.suppress operands (all_lines input)))))
 
 -- The files are numbered in their order: each name is the prefix and the file's number, from 0 on, filled with zeros to
--- this many digits. Where no number has more digits, a shell's `*` gives them in this order. Each file was made anew,
--- and is sound.
+-- this many digits. Where no number has more digits, this is the order of the names, byte by byte. Each file was made
+-- anew, and is sound.
 pub record AreNumbered (prefix : List ℕ) (digits : ℕ) (files : List Slot) : Type 0 where
   pub named : (place : ℕ) → place < length files
       → text_at (map (λ (file : Slot). file.name) files) place ≡ numbered_name prefix digits place
@@ -274,8 +275,8 @@ removes_files (Split asked) = false
 removes_files (Csplit asked) = not asked.style.keep
 removes_files (Tee asked) = false
 
--- Why an output is broken: it could not be opened or written, which was told by its name; or it is a file that was to be
--- removed after some fault and could not be, of which no line speaks.
+-- Why an output is broken: it could not be opened or written, which was told by its name; or it is a file of `csplit`
+-- that was to be removed after some fault and could not be. That need not be told, nor then what broke it before.
 pub data WhyBroken (run : Run) (asked : Settings) (place : ℕ) : Type 0 where
   told : (name : List ℕ) → IsCalled (slot_at run.outputs place) name
       → Tells run asked (failing place (slot_at run.outputs place).state) name → WhyBroken run asked place
@@ -289,7 +290,8 @@ IsUnstopped (as_defined error reached says outputs swept done is) = Unit {0}
 IsUnstopped (stopped fault before input after error step reached are done untouched at stops between swept says is) = ⊥
 IsUnstopped (no_room error says slots untouched count is) = ⊥
 
--- `tee` copied all that its input has, and none of its outputs broke
+-- `tee` copied all that its input has, and none of its outputs broke. Where one broke it went on with the others: that
+-- run counts as one that a fault stopped.
 abbrev pub IsCopied : {told_in told : Bool} {mode : Mode} {names : List (List ℕ)} {content : Content} {source : Source}
     {new : List Slot} {status : ℕ} → TeeCopies told_in told mode names content source new status → Type 0
 IsCopied {content = content} (copied pieces fault first broke output error files comes left out_left files_left says
@@ -311,8 +313,8 @@ pub record Completes (run : Run) (asked : Settings) : Type 0 where
   pub does : DoesAsked true true asked (inputs_at run.world (names_of asked)) run.inputs run.outputs run.status
   pub unstopped : Unstopped asked (inputs_at run.world (names_of asked)) run.inputs run.outputs run.status does
 
--- A fault that stops a run, and the name that its line has: there was no memory, more came than any tool takes, its words
--- can't be read, or the output of this name broke.
+-- A fault that stops a run, and the name that its line has: there was no memory, more came than any tool takes, the
+-- operands of `csplit` are wrong, or the output of this name broke.
 abbrev pub StopsRun : List Slot → List ℕ → Fault → Type 0
 StopsRun outputs name fault.Memory = Unit {0}
 StopsRun outputs name fault.TooLong = Unit {0}
@@ -327,7 +329,8 @@ StopsRun outputs name (fault.NoMatch operand repetition) = ⊥
 StopsRun outputs name (fault.Range operand repetition) = ⊥
 StopsRun outputs name fault.Failed = ⊥
 
--- such a fault stopped the run, which told it
+-- Such a fault stopped the run, which told it; or, of `tee`, an output broke: it went on with the others, and no more
+-- is said here of that run.
 pub record IsStopped (run : Run) (asked : Settings) : Type 0 where
   pub failed : run.status ≡ 1
   pub why : Fault
@@ -335,16 +338,16 @@ pub record IsStopped (run : Run) (asked : Settings) : Type 0 where
   pub stops : StopsRun run.outputs name why
   pub told : Tells run asked why name
 
--- An output got the same in two runs, under the same name. It is left the same in both, unless it is a file that was to
--- be removed and in one of them could not be: there it is broken.
+-- An output got the same in two runs, under the same name. It is left the same in both, unless it is broken in one of
+-- them, as a file that was to be removed and could not be.
 pub record IsAlike (output other : Slot) : Type 0 where
   pub name : output.name ≡ other.name
   pub mode : output.mode ≡ other.mode
   pub written : output.written ≡ other.written
   pub left : output.is_broken ≡ false → other.is_broken ≡ false → output ≡ other
 
--- Two runs said the same lines on standard error, as far as that took them in each; where there was no memory for a line,
--- the one that says so stands in its place.
+-- Two runs said the same lines on standard error, as far as that took them in each; where there was no memory for a
+-- line, the one that says so stands in its place.
 pub record SayAlike (one other : Run) : Type 0 where
   pub tool : Tool
   pub lines : List (List ℕ)
@@ -376,7 +379,7 @@ pub record Follows (run : FollowRun) (options : EndsAsked) (followed : Followed)
   pub ends : FollowingEnds true true run.words run.count run.shows run.seen run.watched run.outputs run.status
   pub well : run.status ≡ 0
 
--- at each of this many first looks the name leads to this file, which has all that it had at the look before, and
+-- at each of the first `count` looks the name leads to this file, which has all that it had at the look before, and
 -- perhaps more after it
 abbrev pub OnlyGrows : (count : ℕ) → (ℕ → Snapshot) → List ℕ → ℕ → Type 0
 OnlyGrows count shows name file = ((n : ℕ) → n < count → (shows n).leads name ≡ Some file)

@@ -1,5 +1,6 @@
 //! What people rest on, as laws of runs, with no code: each stands on the contract of a function whose body is empty. They
-//! speak of runs over inputs and outputs that tell their bytes, as those in memory do, and of what `run` ensures of each.
+//! speak of runs over inputs and outputs that tell their bytes, as those in memory do, and of what `run` ensures of each; where
+//! nothing else is said, of runs whose status is 0.
 ghost use Rattle.std.specs.Prelude.{◌≡◌, ◌⊎◌, ◌+◌, ◌++◌, ◌∷◌, [], ℕ, List, true, false, length};
 ghost use Rattle.ends_core.specs.Ends.{tail_of};
 ghost use Rattle.follow_core.specs.Run.{AreKept, name_text};
@@ -38,21 +39,22 @@ pub fn tee_copies()
 {}
 
 /// How an input comes changes nothing: two runs that are asked for the same, over inputs of the same bytes, leave the same
-/// outputs, whether a read gives one byte or all of them: a run's end doesn't say how large the reads were. Where the status is
-/// 1 and no fault stopped them, as of an input that breaks off or a pattern that isn't found, they leave the same status too, and
-/// the same bytes under the same names, and say the same lines; but a file that was to be removed may stay in one of them. A
-/// fault that stops a run is told, and its status is 1: no memory, too much input, operands that can't be read, or an output that
-/// broke, by its name.
+/// outputs, whether a read gives one byte or all of them. What lies at a name doesn't say how much a read gives. Where the
+/// status is 1 and no fault stopped them, as of an input that breaks off or a pattern that isn't found, they leave the same
+/// status too, and the same bytes under the same names, and say the same lines; but a file that was to be removed may stay in
+/// one of them. A fault that stops a run is told, as far as standard error takes lines, and the status is 1: no memory, too
+/// much input, operands of `csplit` that are wrong, or an output that broke, by its name. Where an output of `tee` breaks, it
+/// goes on with the others; then that is told, and this law says no more of that run.
 pub fn cutting_changes_nothing()
     ensures same { (one other : Run) (asked : Settings) → Does one asked → Does other asked → FindAlike one other → one.outputs ≡ other.outputs }
     ensures ended { (run : Run) (asked : Settings) → Ran run asked → Completes run asked ⊎ IsStopped run asked }
     ensures alike { (one other : Run) (asked : Settings) → Completes one asked → Completes other asked → FindAlike one other → LeaveAlike one other }
 {}
 
-/// `split` loses nothing. Its files have the names that were asked for, and a shell's `*` gives them in the order of the
-/// input. With `-l N` and `-b N` they are joined the input, and each but the last has N lines or bytes; `-l` cuts no line.
-/// With `-C N` they are joined the input, each has as many lines as fit into N bytes, where an open last line counts with
-/// its delimiter, and a line is cut only where it is longer than that. With `-n r/N` each line is in just one file, in turn.
+/// `split` loses nothing. Its files have the names that were asked for, and come in the order of these, byte by byte. With
+/// `-l N` and `-b N` they are joined the input, and each but the last has N lines or bytes; `-l` cuts no line. With `-C N`
+/// they are joined the input, each has as many lines as fit into N bytes, where an open last line counts with its delimiter,
+/// and a line is cut only where it is longer than that. With `-n r/N` each line is in just one file, in turn.
 pub fn split_loses_nothing()
     ensures listed { (split : Run) (asked : SplitAsked) (input : List ℕ) → Does split (Split asked) → HasInput split input → AreListed asked (files_of split) }
     ensures lines { (split : Run) (asked : SplitAsked) (n : ℕ) (input : List ℕ) → Does split (Split asked) → HasInput split input → asked.cut ≡ Lines n → ArePieces (line_count asked.delim) n input (contents_of split) }
@@ -62,32 +64,33 @@ pub fn split_loses_nothing()
     ensures dealt { (split : Run) (asked : SplitAsked) (n : ℕ) (input : List ℕ) → Does split (Split asked) → HasInput split input → asked.cut ≡ Round n → AreDealt asked.delim n asked.elide input (contents_of split) }
 {}
 
-/// `csplit` loses nothing. Its files are numbered in their order, in which a shell's `*` gives them while no number has more
-/// digits than were asked for. Where no section is skipped (`%`) and no line is left out at a cut (`--suppress-matched`),
-/// they are joined the input. In any case each line is in just one section, in the order of the input, or is left out at a
-/// cut, and the files have just the sections that are kept.
+/// `csplit` loses nothing. Its files are numbered in their order, which is that of their names, byte by byte, while no number
+/// has more digits than were asked for. Where no section is skipped (`%`) and no line is left out at a cut
+/// (`--suppress-matched`), they are joined the input. In any case each line is in just one section, in the order of the input,
+/// or is left out at a cut, and the files have just the sections that are kept; with `-z` an empty one has no file.
 pub fn csplit_loses_nothing()
     ensures numbered { (csplit : Run) (asked : CsplitAsked) (input : List ℕ) → Does csplit (Csplit asked) → HasInput csplit input → AreNumbered asked.style.prefix asked.style.digits (files_of csplit) }
     ensures joined { (csplit : Run) (asked : CsplitAsked) (input : List ℕ) → Does csplit (Csplit asked) → HasInput csplit input → asked.style.suppress ≡ false → SkipNothing asked.operands → joined (contents_of csplit) ≡ input }
     ensures sections { (csplit : Run) (asked : CsplitAsked) (input : List ℕ) → Does csplit (Csplit asked) → HasInput csplit input → (operands : List Operand) × Asks asked.operands operands × AreSections asked.style operands input (contents_of csplit) }
 {}
 
-/// Nothing after a fault but a beginning. Over one input that ends, whatever else a run met, standard output and each file
-/// have a beginning of what they have after a run that met no fault, which is asked for the same, over the same input. A run
-/// whose status is 1 told a fault, as far as standard error takes lines. So it did where standard output or a file broke: that
-/// it can't be written, or not be opened, is told by its name. One thing isn't: that a file of `csplit` couldn't be removed, after
-/// another fault.
+/// Nothing after a fault but a beginning. Over one input that ends, whatever else a run met, standard output and each file have
+/// a beginning of what they have after a run that met no fault, which is asked for the same, over the same input. A run whose
+/// status is 1 told a fault, as far as standard error takes lines. So it did where standard output or a file broke: that it
+/// can't be written, or not be opened, is told by its name. That a file of `csplit` couldn't be removed need not be told, nor
+/// then what broke it before.
 pub fn faults_leave_a_beginning()
     ensures begins { (run well : Run) (asked : Settings) (input : List ℕ) → Ran run asked → Does well asked → run.world ≡ well.world → HasInput run input → BeginsEach run well }
     ensures told { (run : Run) (asked : Settings) → Ran run asked → run.status ≡ 1 → IsTold run asked }
     ensures broken { (run : Run) (asked : Settings) (place : ℕ) → Ran run asked → (place ≡ 1 → ⊥) → (slot_at run.outputs place).is_broken ≡ true → (run.status ≡ 1) × WhyBroken run asked place }
 {}
 
-/// `tail -f` tells all, once. Of one file that only grows it writes the last lines or bytes that the file has at the first
-/// look, or all from the Nth on, and then all that came by the last look, in order, and nothing twice. It does so in as many
-/// looks as it is asked for, by descriptor and by name. Of a file that is truncated or replaced too it writes the text of its
-/// name: that of each stretch of looks in which it only grew, and from the second stretch on all that it came to have. What
-/// the file is at looks that were not made is no matter.
+/// `tail -f` tells all, once. Of one file that only grows, where no header is written, it writes the last lines or bytes that
+/// the file has at the first look, or all from the Nth on, and then all that came by the last look, in order, and nothing
+/// twice. It does so in as many looks as it is asked for, by descriptor and by name. Of a file that is truncated or replaced
+/// too, where one that is not seen shorter has kept its bytes, it writes the text of its name: that of each stretch of looks in
+/// which it only grew, and from the second stretch on all that it came to have. What the file is at looks that were not made is
+/// no matter.
 pub fn tail_follows()
     ensures grows { (run : FollowRun) (options : EndsAsked) (followed : Followed) (name came : List ℕ) (file n : ℕ) → Follows run options followed → IsBare options → options.names ≡ name ∷ [] → run.count ≡ n + 1 → OnlyGrows (length run.seen) run.shows name file
         → (run.shows n).holds file ≡ (run.shows 0).holds file ++ came
