@@ -40,7 +40,7 @@ use Rattle.words_core.specs.declared.settings.Settings.TheVariants.{Head, Tail, 
 use Rattle.words_core.specs.EndsAsked.{EndsAsked}
 use Rattle.words_core.specs.declared.value.Followed.{Followed}
 use Rattle.words_core.specs.SplitAsked.{SplitAsked}
-use Rattle.words_core.specs.Words.{settings_of}
+use Rattle.words_core.specs.Words.{HasBadOperands, settings_of}
 use Rattle.watch_core.specs.Snapshot.{Snapshot}
 use Rattle.watch_core.specs.Watched.{Watched}
 use Rattle.tools_core.specs.Following.{FollowingEnds}
@@ -313,21 +313,31 @@ pub record Completes (run : Run) (asked : Settings) : Type 0 where
   pub does : DoesAsked true true asked (inputs_at run.world (names_of asked)) run.inputs run.outputs run.status
   pub unstopped : Unstopped asked (inputs_at run.world (names_of asked)) run.inputs run.outputs run.status does
 
--- A fault that stops a run, and the name that its line has: there was no memory, more came than any tool takes, the
--- operands of `csplit` are wrong, or the output of this name broke.
-abbrev pub StopsRun : List Slot → List ℕ → Fault → Type 0
-StopsRun outputs name fault.Memory = Unit {0}
-StopsRun outputs name fault.TooLong = Unit {0}
-StopsRun outputs name (fault.Usage kind word) = Unit {0}
-StopsRun outputs name (fault.Write place) = IsCalled (slot_at outputs place) name
-    × ((slot_at outputs place).is_broken ≡ true)
-StopsRun outputs name (fault.Open place) = IsCalled (slot_at outputs place) name
-    × ((slot_at outputs place).is_broken ≡ true)
-StopsRun outputs name (fault.Read slot) = ⊥
-StopsRun outputs name fault.Suffixes = ⊥
-StopsRun outputs name (fault.NoMatch operand repetition) = ⊥
-StopsRun outputs name (fault.Range operand repetition) = ⊥
-StopsRun outputs name fault.Failed = ⊥
+-- one of the inputs that the run found has more bytes than any tool takes
+abbrev pub HasLong : Run → Settings → Type 0
+HasLong run asked = (before : List Input) × (input : Input) × (after : List Input) × (content : Content)
+    × (inputs_at run.world (names_of asked) ≡ before ++ input ∷ after) × (input.content ≡ Some content)
+    × (2 ^ 63 ≤ length content.bytes)
+
+-- the output at this place, which isn't standard error, broke, and has this name
+abbrev pub BrokeAt : Run → ℕ → List ℕ → Type 0
+BrokeAt run place name = (place ≡ 1 → ⊥) × IsCalled (slot_at run.outputs place) name
+    × ((slot_at run.outputs place).is_broken ≡ true)
+
+-- A fault that stops a run, and the name that its line has: there was no memory; an input has more than any tool takes;
+-- operands of `csplit` are wrong, the first of them this word; or the output of this name broke.
+abbrev pub StopsRun : Run → Settings → List ℕ → Fault → Type 0
+StopsRun run asked name fault.Memory = Unit {0}
+StopsRun run asked name fault.TooLong = HasLong run asked
+StopsRun run asked name (fault.Usage kind word) = HasBadOperands asked (fault.Usage kind word)
+    × (name ≡ text_at run.words word)
+StopsRun run asked name (fault.Write place) = BrokeAt run place name
+StopsRun run asked name (fault.Open place) = BrokeAt run place name
+StopsRun run asked name (fault.Read slot) = ⊥
+StopsRun run asked name fault.Suffixes = ⊥
+StopsRun run asked name (fault.NoMatch operand repetition) = ⊥
+StopsRun run asked name (fault.Range operand repetition) = ⊥
+StopsRun run asked name fault.Failed = ⊥
 
 -- Such a fault stopped the run, which told it; or, of `tee`, an output broke: it went on with the others, and no more
 -- is said here of that run.
@@ -335,7 +345,7 @@ pub record IsStopped (run : Run) (asked : Settings) : Type 0 where
   pub failed : run.status ≡ 1
   pub why : Fault
   pub name : List ℕ
-  pub stops : StopsRun run.outputs name why
+  pub stops : StopsRun run asked name why
   pub told : Tells run asked why name
 
 -- An output got the same in two runs, under the same name. It is left the same in both, unless it is broken in one of
