@@ -1,9 +1,9 @@
 -- What any run leaves is a beginning of what one leaves that met no fault.
-use Rattle.std.proofs.Common.{◌≡◌, ℕ, true, List, [], ◌∷◌, Some, None, inl, inr, ◌⊎◌, sym, ◌∙◌, ap, subst}
+use Rattle.std.proofs.Common.{◌≡◌, ℕ, true, List, [], ◌∷◌, Some, None, inl, inr, ◌⊎◌, sym, ◌∙◌, subst}
 use Rattle.ports_core.specs.Slot.{Slot, slot_at}
 use Rattle.ports_core.specs.Source.{Source}
 use Rattle.ports_core.specs.Streams.{streams_with}
-use Rattle.run_core.specs.Input.{Input, World, inputs_at}
+use Rattle.run_core.specs.Input.{Input}
 use Rattle.run_core.specs.RunEnds.{EndsAs}
 use Rattle.run_core.specs.Task.{Task}
 use Rattle.ends_core.specs.laws.WorkLaws.{head_lawful, tail_lawful}
@@ -13,10 +13,11 @@ use Rattle.words_core.specs.CsplitAsked.{CsplitAsked}
 use Rattle.words_core.specs.declared.settings.Settings.{Settings}
 use Rattle.words_core.specs.declared.settings.Settings.TheVariants.{Head, Tail, Split, Csplit, Tee}
 use Rattle.tools_core.specs.Outcome.{CsplitEndsAs, DoesAsked, RefusesOperands}
-use Rattle.tools_core.specs.Tasks.{csplit_task, head_task, naming_of, names_of, split_task, tail_task}
-use Rattle.tools_core.specs.Promises.{BeginsAs, BeginsEach, Does, HasInput, Ran, Run}
+use Rattle.tools_core.specs.Tasks.{csplit_task, head_task, naming_of, split_task, tail_task}
+use Rattle.tools_core.specs.Promises.{BeginsAs, BeginsEach, Does, FindAlike, HasInput, Ran, Run}
 use Rattle.tools_core.proofs.BeginLemmas.{IsGrowing, bare_begins, begins_whole, lawful_grows, split_grows, still_begins}
 use Rattle.tools_core.proofs.PromiseLemmas.{did, ending, has_one, one_done, ran_over}
+use Rattle.tools_core.proofs.SamePromises.{found_same}
 use Rattle.tools_core.proofs.TeeBegins.{tee_begins}
 use Rattle.tools_core.proofs.SplitPromises.{not_short}
 
@@ -55,9 +56,9 @@ by_either : (run : Run) (asked : Settings) (input : Input) (bytes : List ℕ) (t
 by_either run asked input bytes those other is (inl one) two = begin_at asked input bytes run.inputs those run.outputs other run.status is one two
 by_either run asked input bytes those other is (inr (fault, bad, refuses)) two = refused_begin run.outputs other refuses.error refuses.slots
 
-pub begins_each : (run well : Run) (asked : Settings) (input : List ℕ) → Ran run asked → Does well asked → run.world ≡ well.world → HasInput run input → BeginsEach run well
+pub begins_each : (run well : Run) (asked : Settings) (input : List ℕ) → Ran run asked → Does well asked → FindAlike run well → HasInput run input → BeginsEach run well
 begins_each run well asked input ran does same has =
     let one = has_one run asked input ran has in
     by_either run asked one.input input well.inputs well.outputs one.content
     (subst (λ found. DoesAsked true true asked found run.inputs run.outputs run.status ⊎ RefusesOperands true run.words asked run.outputs run.status) one.only (ran_over run asked ran))
-    (subst (λ found. DoesAsked true true asked found well.inputs well.outputs 0) (ap (λ (world : World). inputs_at world (names_of asked)) (sym same) ∙ one.only) (did well asked does))
+    (subst (λ found. DoesAsked true true asked found well.inputs well.outputs 0) (sym (found_same run well asked ran.read does.ran.read same) ∙ one.only) (did well asked does))

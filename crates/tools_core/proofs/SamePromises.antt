@@ -51,7 +51,7 @@ does_same (Tee asked) inputs these those new other one two =
     let same : one.content.bytes ≡ two.content.bytes = sym (ap bytes_at one.input) ∙ ap bytes_at two.input in
     one.whole refl refl ∙ ap (all_copied true asked.mode asked.names) same ∙ sym (two.whole refl refl)
 
-found_same : (one other : Run) (asked : Settings) → settings_of one.words ≡ Ok asked → settings_of other.words ≡ Ok asked → FindAlike one other → inputs_at one.world (names_of asked) ≡ inputs_at other.world (names_of asked)
+pub found_same : (one other : Run) (asked : Settings) → settings_of one.words ≡ Ok asked → settings_of other.words ≡ Ok asked → FindAlike one other → inputs_at one.world (names_of asked) ≡ inputs_at other.world (names_of asked)
 found_same one other asked read read_too same =
     sym (ap (λ (meant : Result Settings Fault). inputs_at one.world (names_at meant)) read) ∙ same ∙ ap (λ (meant : Result Settings Fault). inputs_at other.world (names_at meant)) read_too
 

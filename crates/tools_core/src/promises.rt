@@ -80,7 +80,7 @@ pub fn csplit_loses_nothing()
 /// can't be written, or not be opened, is told by its name. That a file of `csplit` couldn't be removed need not be told, nor
 /// then what broke it before.
 pub fn faults_leave_a_beginning()
-    ensures begins { (run well : Run) (asked : Settings) (input : List ℕ) → Ran run asked → Does well asked → run.world ≡ well.world → HasInput run input → BeginsEach run well }
+    ensures begins { (run well : Run) (asked : Settings) (input : List ℕ) → Ran run asked → Does well asked → FindAlike run well → HasInput run input → BeginsEach run well }
     ensures told { (run : Run) (asked : Settings) → Ran run asked → run.status ≡ 1 → IsTold run asked }
     ensures broken { (run : Run) (asked : Settings) (place : ℕ) → Ran run asked → (place ≡ 1 → ⊥) → (slot_at run.outputs place).is_broken ≡ true → (run.status ≡ 1) × WhyBroken run asked place }
 {}
