@@ -3,7 +3,7 @@ use Rattle.std.proofs.Common.{length, ◌≡◌, ℕ, zero, suc, List, [], ◌�
 use Rattle.std.specs.List.{concat}
 use Rattle.std.proofs.lemmas.Bool.{false≢true}
 use Rattle.ports_core.specs.Slot.{Slot, adds, closes, opened, streams, told_of}
-use Rattle.ports_core.specs.Source.{Content, Source, source_at}
+use Rattle.ports_core.specs.Source.{Content, IsFresh, Source, source_at}
 use Rattle.ports_core.specs.Text.{message_of}
 use Rattle.ports_core.specs.Message.{SaysAll, SaysOn, output_named}
 use Rattle.ports_core.specs.declared.slot.Mode.{Mode}
@@ -13,7 +13,7 @@ use Rattle.ports_core.specs.declared.fault.Fault.TheVariants.{Memory}
 use Rattle.ports_core.specs.Inputs.{BreaksOnly, OfContent, empty}
 use Rattle.ports_core.specs.Streams.{standard_output, standard_error}
 use Rattle.ports_core.proofs.InputsLemmas.{of_content}
-use Rattle.tee_core.specs.Run.{EndsAs, copied, no_room, file_whole, file_unopened, file_cut, file_unclosed, FilesLeft, no_file, one_file, ComesIn, IsRead, to_end, to_break, to_limit, to_last_output, LeavesOf, OutputLeft, output_whole, output_cut, all_copied, are_sound, broke_before, messages_of, none_left, output_names, said_before, said_in, status_of}
+use Rattle.tee_core.specs.Run.{EndsAs, copied, no_room, file_whole, file_unopened, file_cut, file_unclosed, FilesLeft, no_file, one_file, ComesIn, IsRead, to_end, to_break, to_limit, to_last_output, IsUnread, OutputLeft, output_whole, output_cut, all_copied, are_sound, broke_before, messages_of, none_left, output_names, said_before, said_in, status_of}
 use Rattle.std.specs.Prelude.{is_none}
 use Rattle.tee_core.specs.inner.Steps.{CopiesInput, any_of}
 
@@ -47,17 +47,18 @@ of_content_too told there P Q more (content, is, holds) = (content, is, more con
 
 -- there was no memory
 
-ends_nowhere : (told_in told : Bool) (mode : Mode) (names : List (List ℕ)) (content : Content) (source : Source) (mid new : List Slot) (fault : Fault) → fault ≡ Memory → mid ≡ streams → LeavesOf told_in source content.bytes → SaysOn told Tee (message_of Tee fault (output_named mid fault)) mid new → EndsAs told_in told mode names content source new 1
-ends_nowhere told_in told mode names content source mid new fault is at left says =
+ends_nowhere : (told_in told : Bool) (mode : Mode) (names : List (List ℕ)) (content : Content) (source : Source) (mid new : List Slot) (fault : Fault) → fault ≡ Memory → mid ≡ streams → IsUnread told_in content source → SaysOn told Tee (message_of Tee fault (output_named mid fault)) mid new → EndsAs told_in told mode names content source new 1
+ends_nowhere told_in told mode names content source mid new fault is at unread says =
     let said = subst (λ (those : Fault). SaysOn told Tee (message_of Tee those (output_named mid those)) mid new) is says standard_output standard_error [] at in
-    no_room said.0 (said.0, said.1, refl) left said.2 refl
+    no_room said.0 (said.0, said.1, refl) unread said.2 refl
 
-pub ends_at_once : (told_in told : Bool) (mode : Mode) (names : List (List ℕ)) (old new_sources : List Source) (first mid new : List Slot) (fault : Fault) → fault ≡ Memory → first ≡ streams → mid ≡ first → new_sources ≡ old → SaysOn told Tee (message_of Tee fault (output_named mid fault)) mid new
+pub ends_at_once : (told_in told : Bool) (mode : Mode) (names : List (List ℕ)) (old new_sources : List Source) (first mid new : List Slot) (fault : Fault) → fault ≡ Memory → IsFresh old → first ≡ streams → mid ≡ first → new_sources ≡ old → SaysOn told Tee (message_of Tee fault (output_named mid fault)) mid new
     → OfContent told_in (source_at old 0).left (λ content. EndsAs told_in told mode names content (source_at new_sources 0) new 1 × BreaksOnly told_in content (source_at new_sources 0))
-ends_at_once told_in told mode names old new_sources first mid new fault is at same sources says =
+ends_at_once told_in told mode names old new_sources first mid new fault is fresh at same sources says =
+    let unread = ap (λ those. source_at those 0) (sources ∙ fresh.only) in
     of_content told_in (source_at old 0).left empty (source_at new_sources 0) (λ content. EndsAs told_in told mode names content (source_at new_sources 0) new 1)
-    (λ _. ends_nowhere told_in told mode names _ (source_at new_sources 0) mid new fault is (same ∙ at) (λ _. ap (λ those. (source_at those 0).left.bytes) sources) says)
-    (λ untold. ends_nowhere told_in told mode names _ (source_at new_sources 0) mid new fault is (same ∙ at) (λ tells. absurd (false≢true (sym untold ∙ tells))) says)
+    (λ _. ends_nowhere told_in told mode names _ (source_at new_sources 0) mid new fault is (same ∙ at) (fresh.standard, unread, λ _. sym (ap (λ those. (source_at those 0).left) fresh.only)) says)
+    (λ untold. ends_nowhere told_in told mode names _ (source_at new_sources 0) mid new fault is (same ∙ at) (fresh.standard, unread, λ tells. absurd (false≢true (sym untold ∙ tells))) says)
     (λ breaks. absurd (false≢true breaks))
 
 -- nothing broke

@@ -3,7 +3,7 @@ use Rattle.std.specs.Prelude.{is_none, ◌≡◌, ℕ, ◌≤◌, ◌<◌, ◌^�
 use Rattle.std.specs.List.{concat}
 use Rattle.ports_core.specs.Slot.{Slot, opened, unopened, adds, breaks, closes, told_of}
 use Rattle.ports_core.specs.Inputs.{largest_piece}
-use Rattle.ports_core.specs.Source.{Content, Source}
+use Rattle.ports_core.specs.Source.{Content, Source, source_of}
 use Rattle.ports_core.specs.Text.{message_of}
 use Rattle.ports_core.specs.Message.{SaysAll}
 use Rattle.ports_core.specs.declared.slot.Mode.{Mode}
@@ -85,6 +85,10 @@ pub data IsRead (content : Content) (Leaves : List ℕ → Type 0) : (is_vain : 
 abbrev pub LeavesOf : Bool → Source → List ℕ → Type 0
 LeavesOf told source rest = told ≡ true → source.left.bytes ≡ rest
 
+-- no read was made of a source, and it didn't break; if it tells its bytes, it has this input
+abbrev pub IsUnread : Bool → Content → Source → Type 0
+IsUnread told content source = (there : Content) × (source ≡ source_of there) × (told ≡ true → there ≡ content)
+
 -- An input came in these pieces, each of a size that one read gives, and together no more bytes than any tool takes. A
 -- read failed only where that is the fault that is told.
 pub record ComesIn (told : Bool) (content : Content) (source : Source) (is_vain : Bool) (pieces : List (List ℕ))
@@ -138,7 +142,7 @@ pub data EndsAs (told_in told : Bool) (mode : Mode) (names : List (List ℕ)) (c
       → new ≡ output ∷ error ∷ files → status ≡ status_of (first ∷ broke) fault
       → EndsAs told_in told mode names content source new status
   no_room : (error : Slot) → SaysAll told Tee (message_of Tee Memory [] ∷ []) standard_error error
-      → LeavesOf told_in source content.bytes → new ≡ streams_with error → status ≡ 1
+      → IsUnread told_in content source → new ≡ streams_with error → status ≡ 1
       → EndsAs told_in told mode names content source new status
 
 -- where nothing breaks: standard output and every file have these bytes, the files are closed, and nothing was said

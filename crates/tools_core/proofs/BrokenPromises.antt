@@ -255,7 +255,7 @@ broken_status mode pieces names first broke output error files fault place true 
 
 tee_due : (mode : Mode) (names : List (List ℕ)) (content : Content) (source : Source) (new : List Slot) (status place : ℕ) → (place ≡ 1 → ⊥) → (slot_at new place).is_broken ≡ true → tee.EndsAs true true mode names content source new status
     → IsDueTo tool.Tee false new status place
-tee_due mode names content source new status place differs broken (tee.no_room error says leaves slots is) = still_sound (streams_with error) new place slots (streams_sound place error differs) broken
+tee_due mode names content source new status place differs broken (tee.no_room error says unread slots is) = still_sound (streams_with error) new place slots (streams_sound place error differs) broken
 tee_due mode names content source new status place differs broken (tee.copied pieces fault first broke output error files comes some left rest says slots is) =
     let there = subst (λ those. (slot_at those place).is_broken ≡ true) slots broken in (
       is ∙ broken_status mode pieces names first broke output error files fault place (are_sound (first ∷ broke)) refl left rest differs there,

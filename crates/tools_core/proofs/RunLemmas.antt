@@ -20,7 +20,7 @@ use Rattle.run_core.specs.Task.{Task}
 use Rattle.run_core.proofs.NamesLemmas.{none_touched}
 use Rattle.seg_core.specs.declared.count.Count.{Count}
 use Rattle.seg_core.specs.declared.unit.Unit.{Unit as Counted}
-use Rattle.tee_core.specs.Run.{LeavesOf, all_copied, EndsAs as TeeCopies}
+use Rattle.tee_core.specs.Run.{IsUnread, all_copied, EndsAs as TeeCopies}
 use Rattle.tee_core.specs.Run as copies
 use Rattle.words_core.specs.EndsAsked.{EndsAsked}
 use Rattle.words_core.specs.Spelling.{IsRefused}
@@ -95,9 +95,10 @@ tee_counts old new fresh keeps = omega (arith, keeps.count, ap length fresh.only
 -- words that weren't read for want of memory, where they ask for this
 
 -- an input that wasn't read, whether it tells its bytes or not
-unread_source : (told : Bool) (source : Source) → OfContent told source.left (λ content. LeavesOf told source content.bytes × BreaksOnly told content source)
-unread_source true source = (source.left, λ t. refl, (λ t. refl, λ untold. absurd (false≢true (sym untold))))
-unread_source false source = (empty, λ t. absurd (false≢true t), (λ t. absurd (false≢true t), λ untold breaks. absurd (false≢true breaks)))
+unread_source : (told : Bool) (sources : List Source) → IsFresh sources → OfContent told (source_at sources 0).left (λ content. IsUnread told content (source_at sources 0) × BreaksOnly told content (source_at sources 0))
+unread_source true sources fresh =
+    let is = ap (λ those. source_at those 0) fresh.only in ((source_at sources 0).left, λ t. refl, ((fresh.standard, is, λ t. sym (ap (λ (source : Source). source.left) is)), λ untold. absurd (false≢true (sym untold))))
+unread_source false sources fresh = (empty, λ t. absurd (false≢true t), ((fresh.standard, ap (λ those. source_at those 0) fresh.only, λ t. absurd (false≢true t)), λ untold breaks. absurd (false≢true breaks)))
 
 unread_task : (told_in told : Bool) (laid : ℕ → List ℕ → Option Content) (sources : List Source) (task : Task) (names : List (List ℕ)) (new : List Slot) (error : Slot) → IsFresh sources
     → Says told task.tool (message_of task.tool Memory []) standard_error error → new ≡ streams_with error
@@ -105,14 +106,14 @@ unread_task : (told_in told : Bool) (laid : ℕ → List ℕ → Option Content)
 unread_task told_in told laid sources task names new error fresh says slots =
     let untouched = none_touched told_in laid sources names fresh in (untouched.0, untouched.1, no_room error (error, says, refl) slots untouched.2 (ap length fresh.only) refl)
 
-unread_tee : (told_in told : Bool) (laid : ℕ → List ℕ → Option Content) (sources : List Source) (asked : TeeAsked) (new : List Slot) (error : Slot)
+unread_tee : (told_in told : Bool) (laid : ℕ → List ℕ → Option Content) (sources : List Source) (asked : TeeAsked) (new : List Slot) (error : Slot) → IsFresh sources
     → Says told tool.Tee (message_of tool.Tee Memory []) standard_error error → new ≡ streams_with error
     → RunsOver told_in (world_of laid sources) (codes "-" ∷ []) (λ found. TeeEndsAs told_in told asked found sources new 1)
-unread_tee told_in told laid sources asked new error says slots =
-    let (content, there, (leaves, breaks)) = unread_source told_in (source_at sources 0) in (
+unread_tee told_in told laid sources asked new error fresh says slots =
+    let (content, there, (unread, breaks)) = unread_source told_in sources fresh in (
       standard_input content ∷ [],
       finds_standard told_in laid sources content there,
-      record { content = content; input = refl; ends = copies.no_room error (error, says, refl) leaves slots refl; breaks = breaks; whole = λ t well. absurd (cc) },
+      record { content = content; input = refl; ends = copies.no_room error (error, says, refl) unread slots refl; breaks = breaks; whole = λ t well. absurd (cc) },
     )
 
 -- want of memory is one of the faults of operands
@@ -131,7 +132,7 @@ unread_settings told_in told laid sources words (Split asked) new error fresh re
 unread_settings told_in told laid sources words (Csplit asked) new error fresh refuses says slots =
     let untouched = none_touched told_in laid sources (asked.input ∷ []) fresh in (untouched.0, untouched.1, inr (refl, (Memory, lacks_memory asked, refuses)))
 unread_settings told_in told laid sources words (Tee asked) new error fresh refuses says slots =
-    let (found, finds, does) = unread_tee told_in told laid sources asked new error says slots in (found, finds, inl does)
+    let (found, finds, does) = unread_tee told_in told laid sources asked new error fresh says slots in (found, finds, inl does)
 
 -- words that are refused, or weren't read for want of memory
 

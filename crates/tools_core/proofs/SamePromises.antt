@@ -168,7 +168,7 @@ tee_left mode names content source new status (tee.copied pieces fault first bro
       says = subst (λ lines. SaysAll true tool.Tee lines standard_error error) (quiet_outputs names (first ∷ broke) (length pieces) fault sound ∙ ap said_of_input met) says;
       is = is ∙ ap (λ flag. cond (flag && is_none fault) 0 1) sound ∙ ap (λ why. cond (is_none why) 0 1) met;
     }
-tee_left mode names content source new status (tee.no_room error says leaves slots is) copied = absurd copied
+tee_left mode names content source new status (tee.no_room error says unread slots is) copied = absurd copied
 
 copies_alike : (mode : Mode) (names : List (List ℕ)) (content : Content) (new other : List Slot) (status status_too : ℕ) → IsLeft mode names content new status → IsLeft mode names content other status_too → AreAlike tool.Tee new other status status_too
 copies_alike mode names content new other status status_too one two = record {

@@ -177,7 +177,7 @@ tee_or : (run : Run) (asked : Settings) (mode : Mode) (names : List (List ℕ)) 
     → IsCopied ends ⊎ IsStop tool.Tee run asked
 tee_or run asked mode names content source only (tee.copied pieces fault first broke output error files comes some left rest says slots is) =
     tee_by run asked mode content _ _ pieces names first broke output error files fault (are_sound (first ∷ broke)) refl (λ many. ([], standard_input content, [], content, only, refl, many)) (λ none. some_left (suc (length pieces)) first broke none) comes.read left rest says slots is
-tee_or run asked mode names content source only (tee.no_room error says leaves slots is) = inr (record {
+tee_or run asked mode names content source only (tee.no_room error says unread slots is) = inr (record {
   failed = is;
   why = Memory;
   name = [];

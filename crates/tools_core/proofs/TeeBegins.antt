@@ -55,7 +55,7 @@ files_begin mode pieces bytes _ _ _ all (one_file name names first broke file fi
 files_begin mode pieces bytes _ _ _ all (one_file name names first broke file files left rest) (suc place) = files_begin mode pieces bytes names broke files all rest place
 
 copies_begin : (mode : Mode) (names : List (List ℕ)) (content : Content) (source : Source) (new : List Slot) (status : ℕ) (place : ℕ) → (place ≡ 1 → ⊥) → EndsAs true true mode names content source new status → BeginsAs (slot_at new place) (slot_at (all_copied true mode names content.bytes) place)
-copies_begin mode names content source new status place differs (no_room error says leaves slots failed) = still_begins _ new place _ slots (bare_begins error _ place differs)
+copies_begin mode names content source new status place differs (no_room error says unread slots failed) = still_begins _ new place _ slots (bare_begins error _ place differs)
 copies_begin mode names content source new status place differs (copied pieces fault first broke output error files comes going out_left files_left says slots is) =
     subst (λ those. BeginsAs (slot_at those place) (slot_at (all_copied true mode names content.bytes) place)) (sym slots) (at place differs) where
       all : IsBeginning (concat pieces) content.bytes

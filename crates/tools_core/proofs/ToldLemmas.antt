@@ -239,7 +239,7 @@ status_fault mode pieces names first broke output error files (Some fault) true 
     fault_before tool.Tee _ _ (fault_after tool.Tee (said_before (suc (length pieces)) (output_names names) (first ∷ broke)) (said_of_input (Some fault)) (only_fault tool.Tee fault _))
 
 tee_told : (mode : Mode) (names : List (List ℕ)) (content : Content) (source : Source) (new : List Slot) (status : ℕ) → status ≡ 1 → tee.EndsAs true true mode names content source new status → TellsFault tool.Tee (slot_at new 1)
-tee_told mode names content source new status one (tee.no_room error says leaves slots is) =
+tee_told mode names content source new status one (tee.no_room error says unread slots is) =
     subst (λ those. TellsFault tool.Tee (slot_at those 1)) (sym slots) (tells_fault tool.Tee _ error (only_fault tool.Tee Memory []) says)
 tee_told mode names content source new status one (tee.copied pieces fault first broke output error files comes going out_left files_left says slots is) =
     subst (λ those. TellsFault tool.Tee (slot_at those 1)) (sym slots)

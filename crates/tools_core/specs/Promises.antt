@@ -296,7 +296,7 @@ abbrev pub IsCopied : {told_in told : Bool} {mode : Mode} {names : List (List �
     {new : List Slot} {status : ℕ} → TeeCopies told_in told mode names content source new status → Type 0
 IsCopied {content = content} (copied pieces fault first broke output error files comes left out_left files_left says
     slots is) = (are_sound (first ∷ broke) ≡ true) × (concat pieces ≡ content.bytes)
-IsCopied (no_memory error says leaves slots is) = ⊥
+IsCopied (no_memory error says unread slots is) = ⊥
 
 -- no fault stopped what was asked for
 abbrev pub Unstopped : (asked : Settings) (inputs : List Input) (sources : List Source) (new : List Slot) (status : ℕ)
