@@ -1,5 +1,5 @@
 -- An output that is broken was told by its name, unless it is a file that was to be removed.
-use Rattle.std.proofs.Common.{◌≡◌, ℕ, ◌<◌, zero, suc, Bool, true, false, ◌||◌, ◌&&◌, cond, is_none, List, [], ◌∷◌, ◌++◌, length, map, Option, Some, None, inl, inr, ◌⊎◌, refl, sym, ◌∙◌, ap, subst, arith}
+use Rattle.std.proofs.Common.{◌≡◌, ℕ, ◌<◌, ◌≤◌, zero, suc, Bool, true, false, ◌||◌, ◌&&◌, cond, is_none, List, [], ◌∷◌, ◌++◌, length, map, Option, Some, None, inl, inr, ◌⊎◌, refl, sym, ◌∙◌, ap, subst, arith}
 use Rattle.std.specs.List.{concat}
 use Rattle.std.proofs.lemmas.Bool.{cases_lt, false≢true}
 use Rattle.ports_core.specs.Slot.{Slot, adds, breaks, changed_at, closes, has_file, opened, removes, slot_at, unopened}
@@ -27,7 +27,7 @@ use Rattle.words_core.specs.declared.settings.Settings.{Settings}
 use Rattle.words_core.specs.declared.settings.Settings.TheVariants.{Head, Tail, Split, Csplit, Tee}
 use Rattle.tools_core.specs.Outcome.{DoesAsked, RefusesOperands}
 use Rattle.tools_core.specs.Tasks.{csplit_task, head_task, is_minus, is_plus, plan_of, split_task, tail_task, tool_of}
-use Rattle.tools_core.specs.Promises.{WhyBroken, IsCalled, Ran, Run, failing, removes_files, told, unremoved}
+use Rattle.tools_core.specs.Promises.{WhyBroken, IsCalled, IsGone, Ran, Run, failing, removes_files, told, unremoved}
 use Rattle.tools_core.proofs.BeginLemmas.{slots_at}
 use Rattle.tools_core.proofs.LiveLemmas.{AreLive, IsLiving, csplit_living, head_living, inputs_live, live_begin, outputs_have, outputs_sound, split_living, step_live, tail_living}
 use Rattle.tools_core.proofs.PromiseLemmas.{ran_over}
@@ -122,8 +122,16 @@ removed_blamed TooLong old place has blamed = absurd blamed
 abbrev BrokeBefore : Slot → Slot → ℕ → Type 0
 BrokeBefore old output place = (old.is_broken ≡ true) × ((fault : Fault) → IsBlamed fault old place → IsBlamed fault output place)
 
-abbrev IsStuck : Bool → Slot → Type 0
-IsStuck clears output = (clears ≡ true) × (output.state ≡ state.Closed)
+abbrev AllGone : List Slot → Type 0
+AllGone new = (other : ℕ) → 2 ≤ other → IsGone (slot_at new other)
+
+abbrev IsStuck : Bool → List Slot → ℕ → Type 0
+IsStuck clears new place = (clears ≡ true) × ((slot_at new place).state ≡ state.Closed) × AllGone new
+
+cleared_gone : (old output : Slot) → Cleared old output → IsGone output
+cleared_gone old _ (swept_so.removed has) = inl refl
+cleared_gone old _ (swept_so.stuck has) = inr refl
+cleared_gone old _ (swept_so.none lacks) = inl lacks
 
 same_broke : (old output : Slot) (place : ℕ) → output ≡ old → output.is_broken ≡ true → BrokeBefore old output place
 same_broke old output place same broken = (sym (ap (λ (slot : Slot). slot.is_broken) same) ∙ broken, λ fault blamed. subst (λ slot. IsBlamed fault slot place) (sym same) blamed)
@@ -133,15 +141,15 @@ cleared_broke old _ place (swept_so.removed has) broken = inl (broken, λ fault 
 cleared_broke old _ place (swept_so.stuck has) broken = inr refl
 cleared_broke old _ place (swept_so.none has) broken = inl (broken, λ fault blamed. blamed)
 
-when_cleared : {A : Type 0} (output : Slot) → A ⊎ (output.state ≡ state.Closed) → A ⊎ IsStuck true output
-when_cleared output (inl before) = inl before
-when_cleared output (inr closed) = inr (refl, closed)
+when_cleared : {A : Type 0} (new : List Slot) (place : ℕ) → AllGone new → A ⊎ ((slot_at new place).state ≡ state.Closed) → A ⊎ IsStuck true new place
+when_cleared new place gone (inl before) = inl before
+when_cleared new place gone (inr closed) = inr (refl, closed, gone)
 
-swept_broke : (clears : Bool) (old new : List Slot) (place : ℕ) → Swept clears 2 old new → (slot_at new place).is_broken ≡ true → BrokeBefore (slot_at old place) (slot_at new place) place ⊎ IsStuck clears (slot_at new place)
+swept_broke : (clears : Bool) (old new : List Slot) (place : ℕ) → Swept clears 2 old new → (slot_at new place).is_broken ≡ true → BrokeBefore (slot_at old place) (slot_at new place) place ⊎ IsStuck clears new place
 swept_broke false old new place swept broken = inl (same_broke (slot_at old place) (slot_at new place) place (ap (λ slots. slot_at slots place) swept) broken)
 swept_broke true old new place swept broken = elim (cases_lt place 2) [
   | inl before ↦ inl (same_broke (slot_at old place) (slot_at new place) place (swept.before place before) broken)
-  | inr past ↦ when_cleared (slot_at new place) (cleared_broke (slot_at old place) (slot_at new place) place (swept.cleared place past) broken)
+  | inr past ↦ when_cleared new place (λ other past. cleared_gone (slot_at old other) (slot_at new other) (swept.cleared other past)) (cleared_broke (slot_at old place) (slot_at new place) place (swept.cleared place past) broken)
 ]
 
 -- files are removed only after a fault, and only if the work clears them
@@ -179,7 +187,7 @@ IsToldOf tool new place = (name : List ℕ) × IsCalled (slot_at new place) name
 
 -- the status is 1, and the break was told, or the file was to be removed
 abbrev IsDueTo : Tool → Bool → List Slot → ℕ → ℕ → Type 0
-IsDueTo tool clears new status place = (status ≡ 1) × (IsToldOf tool new place ⊎ IsStuck clears (slot_at new place))
+IsDueTo tool clears new status place = (status ≡ 1) × (IsToldOf tool new place ⊎ IsStuck clears new place)
 
 part_sound : (part : Part) (error : Slot) (now : List Slot) (place : ℕ) → AreLive part.files → OutputsAt true (streams_with error) part now → (place ≡ 1 → ⊥) → (slot_at now place).is_broken ≡ false
 part_sound part error now place live at differs = subst (λ slots. (slot_at slots place).is_broken ≡ false) (sym (slots_at part error now at)) (outputs_sound part error place live differs)
@@ -195,8 +203,8 @@ stopped_there low high error fault reached place live between differs broken =
     marked_there (IsNext between.part high) fault between.reached reached place between.marks (part_sound between.part error between.reached place part_live between.outputs differs)
     (part_has between.part error between.reached place part_live between.outputs differs) broken
 
-defined_due : (task : Task) (inputs : List Input) (new : List Slot) (status place : ℕ) → status ≡ cond (made_by task inputs).failed 1 0 → IsStuck (made_by task inputs).sweeps (slot_at new place) → IsDueTo task.tool task.work.clears new status place
-defined_due task inputs new status place is (sweeps, closed) = let why = inputs_sweep task true inputs sweeps in (is ∙ ap (λ failed. cond failed 1 0) why.1, inr (why.0, closed))
+defined_due : (task : Task) (inputs : List Input) (new : List Slot) (status place : ℕ) → status ≡ cond (made_by task inputs).failed 1 0 → IsStuck (made_by task inputs).sweeps new place → IsDueTo task.tool task.work.clears new status place
+defined_due task inputs new status place is (sweeps, closed, gone) = let why = inputs_sweep task true inputs sweeps in (is ∙ ap (λ failed. cond failed 1 0) why.1, inr (why.0, closed, gone))
 
 streams_sound : (place : ℕ) (error : Slot) → (place ≡ 1 → ⊥) → (slot_at (streams_with error) place).is_broken ≡ false
 streams_sound zero error differs = refl
@@ -213,7 +221,7 @@ blamed_told tool lines new place fault error is says blamed = (
 )
 
 stopped_due : (tool : Tool) (clears : Bool) (new : List Slot) (place : ℕ) (old : Slot) (fault : Fault) → (old.is_broken ≡ true → IsBlamed fault old place) → (IsBlamed fault (slot_at new place) place → IsToldOf tool new place)
-    → BrokeBefore old (slot_at new place) place ⊎ IsStuck clears (slot_at new place) → IsToldOf tool new place ⊎ IsStuck clears (slot_at new place)
+    → BrokeBefore old (slot_at new place) place ⊎ IsStuck clears new place → IsToldOf tool new place ⊎ IsStuck clears new place
 stopped_due tool clears new place old fault there tells (inl (was, same)) = inl (tells (same fault (there was)))
 stopped_due tool clears new place old fault there tells (inr stuck) = inr stuck
 
@@ -281,9 +289,9 @@ by_either : (run : Run) (asked : Settings) (found : List Input) (place : ℕ) �
 by_either run asked found place differs broken (inl does) = does_due asked found run.inputs run.outputs run.status place differs broken does
 by_either run asked found place differs broken (inr (fault, bad, refuses)) = refused_due run.outputs run.status place refuses.error asked refuses.slots differs broken
 
-why_broken : (run : Run) (asked : Settings) (place : ℕ) → IsToldOf (tool_of asked) run.outputs place ⊎ IsStuck (removes_files asked) (slot_at run.outputs place) → WhyBroken run asked place
+why_broken : (run : Run) (asked : Settings) (place : ℕ) → IsToldOf (tool_of asked) run.outputs place ⊎ IsStuck (removes_files asked) run.outputs place → WhyBroken run asked place
 why_broken run asked place (inl (name, called, line)) = told name called line
-why_broken run asked place (inr (removes, closed)) = unremoved removes closed
+why_broken run asked place (inr (removes, closed, gone)) = unremoved removes closed gone
 
 pub is_broken : (run : Run) (asked : Settings) (place : ℕ) → Ran run asked → (place ≡ 1 → ⊥) → (slot_at run.outputs place).is_broken ≡ true → (run.status ≡ 1) × WhyBroken run asked place
 is_broken run asked place ran differs broken =

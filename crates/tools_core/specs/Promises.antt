@@ -9,7 +9,7 @@ use Rattle.seg_core.specs.Line.{delimiters, ends_with, first_lines, joined, line
 use Rattle.ports_core.specs.Message.{SaysAll}
 use Rattle.ports_core.specs.Name.{name_at, numbered_name}
 use Rattle.ports_core.specs.Part.{File, IsBeginning}
-use Rattle.ports_core.specs.Slot.{Slot, slot_at}
+use Rattle.ports_core.specs.Slot.{Slot, has_file, slot_at}
 use Rattle.ports_core.specs.Source.{Content, Source, source_of}
 use Rattle.ports_core.specs.Streams.{standard_error}
 use Rattle.ports_core.specs.Text.{message_of}
@@ -275,12 +275,18 @@ removes_files (Split asked) = false
 removes_files (Csplit asked) = not asked.style.keep
 removes_files (Tee asked) = false
 
+-- an output that has no file any more, or never had, or is broken
+abbrev pub IsGone : Slot → Type 0
+IsGone output = (has_file output.state ≡ false) ⊎ (output.is_broken ≡ true)
+
 -- Why an output is broken: it could not be opened or written, which was told by its name; or it is a file of `csplit`
--- that was to be removed after some fault and could not be. That need not be told, nor then what broke it before.
+-- that was to be removed after some fault, with all others, and could not be: each of these is gone, or broken too.
+-- That need not be told, nor then what broke it before.
 pub data WhyBroken (run : Run) (asked : Settings) (place : ℕ) : Type 0 where
   told : (name : List ℕ) → IsCalled (slot_at run.outputs place) name
       → Tells run asked (failing place (slot_at run.outputs place).state) name → WhyBroken run asked place
-  unremoved : removes_files asked ≡ true → (slot_at run.outputs place).state ≡ Closed → WhyBroken run asked place
+  unremoved : removes_files asked ≡ true → (slot_at run.outputs place).state ≡ Closed
+      → ((other : ℕ) → 2 ≤ other → IsGone (slot_at run.outputs other)) → WhyBroken run asked place
 
 -- No fault stopped a run over its inputs. It went on where one was missing or broke off, and where the tool's own work
 -- ended with a fault: no match, a line out of range, names that ran out. These are told, and its status is 1.
