@@ -4,12 +4,12 @@ use Rattle.std.specs.List.{concat}
 use Rattle.std.proofs.lemmas.Bool.{cases_lt, false≢true}
 use Rattle.ports_core.specs.Slot.{Slot, adds, breaks, changed_at, closes, has_file, opened, removes, slot_at, unopened}
 use Rattle.ports_core.specs.Source.{Content, Source}
-use Rattle.ports_core.specs.Streams.{standard_error, standard_output, streams_with}
+use Rattle.ports_core.specs.Streams.{standard_output, streams_with}
 use Rattle.ports_core.specs.Part.{IsNext, Marks, OutputsAt, Part, StoppedBetween}
 use Rattle.ports_core.specs.Swept.{Cleared, Swept}
 use Rattle.ports_core.specs.Swept as swept_so
 use Rattle.ports_core.specs.Text.{message_of}
-use Rattle.ports_core.specs.Message.{SaysAll, output_named}
+use Rattle.ports_core.specs.Message.{output_named}
 use Rattle.ports_core.specs.declared.tool.Tool.{Tool}
 use Rattle.ports_core.specs.declared.tool.Tool.TheVariants as tool
 use Rattle.ports_core.specs.declared.slot.Mode.{Mode}
@@ -27,11 +27,11 @@ use Rattle.words_core.specs.declared.settings.Settings.{Settings}
 use Rattle.words_core.specs.declared.settings.Settings.TheVariants.{Head, Tail, Split, Csplit, Tee}
 use Rattle.tools_core.specs.Outcome.{DoesAsked, RefusesOperands}
 use Rattle.tools_core.specs.Tasks.{csplit_task, head_task, is_minus, is_plus, plan_of, split_task, tail_task, tool_of}
-use Rattle.tools_core.specs.Promises.{WhyBroken, IsCalled, IsGone, Ran, Run, failing, removes_files, told, unremoved}
+use Rattle.tools_core.specs.Promises.{WhyBroken, IsCalled, IsGone, Ran, Run, SaysLines, failing, removes_files, told, unremoved}
 use Rattle.tools_core.proofs.BeginLemmas.{slots_at}
 use Rattle.tools_core.proofs.LiveLemmas.{AreLive, IsLiving, csplit_living, head_living, inputs_live, live_begin, outputs_have, outputs_sound, split_living, step_live, tail_living}
 use Rattle.tools_core.proofs.PromiseLemmas.{ran_over}
-use Rattle.tools_core.proofs.ToldLemmas.{SaysLine, says_line, stopped_error, tee_says}
+use Rattle.tools_core.proofs.ToldLemmas.{SaysLine, says_line, stop_says, stopped_error, tee_says}
 
 -- The output that a fault marked
 
@@ -211,7 +211,7 @@ streams_sound zero error differs = refl
 streams_sound (suc zero) error differs = absurd (differs refl)
 streams_sound (suc (suc place)) error differs = refl
 
-blamed_told : (tool : Tool) (lines : List (List ℕ)) (new : List Slot) (place : ℕ) (fault : Fault) (error : Slot) → slot_at new 1 ≡ error → SaysAll true tool (lines ++ message_of tool fault (output_named new fault) ∷ []) standard_error error
+blamed_told : (tool : Tool) (lines : List (List ℕ)) (new : List Slot) (place : ℕ) (fault : Fault) (error : Slot) → slot_at new 1 ≡ error → SaysLines tool (lines ++ message_of tool fault (output_named new fault) ∷ []) error
     → IsBlamed fault (slot_at new place) place → IsToldOf tool new place
 blamed_told tool lines new place fault error is says blamed = (
   (slot_at new place).name,
@@ -235,7 +235,7 @@ ends_due task inputs sources new status place living differs broken (stopped fau
   is,
   stopped_due task.tool task.work.clears new place (slot_at reached place) fault
       (stopped_there step.low step.high error fault reached place (step_live true task (made_by task before).part _ input.slot sources input.content step living (inputs_live task true before living) at) between differs)
-      (blamed_told task.tool (made_by task before).messages new place fault error (stopped_error task.work.clears error step.low step.high fault reached new between swept) says)
+      (blamed_told task.tool (made_by task before).messages new place fault error (stopped_error task.work.clears error step.low step.high fault reached new between swept) (stop_says task before fault (output_named new fault) error says))
       (swept_broke task.work.clears reached new place swept broken),
 )
 ends_due task inputs sources new status place living differs broken (no_room error says slots untouched count is) = still_sound (streams_with error) new place slots (streams_sound place error differs) broken

@@ -26,11 +26,11 @@ use Rattle.words_core.specs.declared.settings.Settings.TheVariants.{Head, Tail, 
 use Rattle.words_core.specs.Words.{settings_of}
 use Rattle.tools_core.specs.Outcome.{CsplitEndsAs, DoesAsked, names_at}
 use Rattle.tools_core.specs.Tasks.{csplit_task, head_task, split_task, tail_task, names_of, tool_of}
-use Rattle.tools_core.specs.Promises.{Completes, Does, FindAlike, IsAlike, IsCopied, IsUnstopped, LeaveAlike, Run, Unstopped}
+use Rattle.tools_core.specs.Promises.{Completes, Does, FindAlike, IsAlike, IsCopied, IsUnstopped, LeaveAlike, Run, SaysLines, Unstopped}
 use Rattle.tools_core.proofs.BeginLemmas.{slots_at}
 use Rattle.tools_core.proofs.PromiseLemmas.{did, well_done}
 use Rattle.tools_core.proofs.TeePromises.{bytes_at}
-use Rattle.tools_core.proofs.ToldLemmas.{swept_error}
+use Rattle.tools_core.proofs.ToldLemmas.{input_are, inputs_are, swept_error}
 
 -- Runs that met no fault
 
@@ -107,8 +107,8 @@ record AreAlike (which : Tool) (new other : List Slot) (one two : ℕ) : Type 0 
   pub count : length new ≡ length other
   pub outputs : (place : ℕ) → (place ≡ 1 → ⊥) → IsAlike (slot_at new place) (slot_at other place)
   pub lines : List (List ℕ)
-  pub says : SaysAll true which lines standard_error (slot_at new 1)
-  pub says_too : SaysAll true which lines standard_error (slot_at other 1)
+  pub says : SaysLines which lines (slot_at new 1)
+  pub says_too : SaysLines which lines (slot_at other 1)
 
 ends_alike : (task : Task) (inputs : List Input) (these those : List Source) (new other : List Slot) (status status_too : ℕ) → (one : EndsAs true true task inputs these new status) → (two : EndsAs true true task inputs those other status_too)
     → IsUnstopped one → IsUnstopped two → AreAlike task.tool new other status status_too
@@ -121,8 +121,8 @@ ends_alike task inputs these those new other status status_too (as_defined error
       outputs = λ place differs. swept_alike made.sweeps reached reached_too new other place
           (ap (λ slots. slot_at slots place) at ∙ beside_error (adds made.part.out standard_output) error error_too _ place differs ∙ sym (ap (λ slots. slot_at slots place) at_too)) swept swept_too;
       lines = made.messages;
-      says = subst (SaysAll true task.tool made.messages standard_error) (sym (swept_error made.sweeps reached new swept ∙ ap (λ slots. slot_at slots 1) at)) says;
-      says_too = subst (SaysAll true task.tool made.messages standard_error) (sym (swept_error made.sweeps reached_too other swept_too ∙ ap (λ slots. slot_at slots 1) at_too)) says_too;
+      says = record { are = inputs_are task true inputs; said = subst (SaysAll true task.tool made.messages standard_error) (sym (swept_error made.sweeps reached new swept ∙ ap (λ slots. slot_at slots 1) at)) says };
+      says_too = record { are = inputs_are task true inputs; said = subst (SaysAll true task.tool made.messages standard_error) (sym (swept_error made.sweeps reached_too other swept_too ∙ ap (λ slots. slot_at slots 1) at_too)) says_too };
     }
 ends_alike task inputs these those new other status status_too (as_defined error reached says outputs swept done is) (stopped fault before input after error_too step reached_too are done_too untouched at stops between swept_too says_too is_too) one two = absurd two
 ends_alike task inputs these those new other status status_too (as_defined error reached says outputs swept done is) (no_room error_too says_too slots untouched count is_too) one two = absurd two
@@ -177,8 +177,8 @@ copies_alike mode names content new other status status_too one two = record {
   outputs = λ place differs. alike_by _ _
       (ap (λ slots. slot_at slots place) one.slots ∙ beside_error (adds content.bytes standard_output) one.error two.error _ place differs ∙ sym (ap (λ slots. slot_at slots place) two.slots));
   lines = said_of_input (met_by content.breaks_off);
-  says = subst (SaysAll true tool.Tee _ standard_error) (sym (ap (λ slots. slot_at slots 1) one.slots)) one.says;
-  says_too = subst (SaysAll true tool.Tee _ standard_error) (sym (ap (λ slots. slot_at slots 1) two.slots)) two.says;
+  says = record { are = input_are (met_by content.breaks_off); said = subst (SaysAll true tool.Tee _ standard_error) (sym (ap (λ slots. slot_at slots 1) one.slots)) one.says };
+  says_too = record { are = input_are (met_by content.breaks_off); said = subst (SaysAll true tool.Tee _ standard_error) (sym (ap (λ slots. slot_at slots 1) two.slots)) two.says };
 }
 
 -- what the first input holds
@@ -209,17 +209,17 @@ does_alike (Tee asked) inputs these those new other status status_too one two un
     let same : two.content ≡ one.content = ap (content_at one.content) (sym two.input ∙ one.input) in
     tee_alike asked.mode asked.names one.content two.content _ _ new other status status_too same one.ends two.ends unstopped unstopped_too
 
-alike_runs : (which : Tool) (one other : Run) → AreAlike which one.outputs other.outputs one.status other.status → LeaveAlike one other
-alike_runs which one other alike = record {
+alike_runs : (asked : Settings) (one other : Run) → AreAlike (tool_of asked) one.outputs other.outputs one.status other.status → LeaveAlike asked one other
+alike_runs asked one other alike = record {
   status = alike.status;
   count = alike.count;
   outputs = alike.outputs;
-  said = record { tool = which; lines = alike.lines; says = alike.says; says_too = alike.says_too };
+  said = (alike.lines, alike.says, alike.says_too);
 }
 
-pub leave_alike : (one other : Run) (asked : Settings) → Completes one asked → Completes other asked → FindAlike one other → LeaveAlike one other
+pub leave_alike : (one other : Run) (asked : Settings) → Completes one asked → Completes other asked → FindAlike one other → LeaveAlike asked one other
 leave_alike one other asked whole whole_too same =
     let (does, unstopped) = subst (λ inputs. (does : DoesAsked true true asked inputs one.inputs one.outputs one.status) × Unstopped asked inputs one.inputs one.outputs one.status does) (found_same one other asked whole.read whole_too.read same)
     (whole.does, whole.unstopped) in
-    alike_runs (tool_of asked) one other
+    alike_runs asked one other
     (does_alike asked (inputs_at other.world (names_of asked)) one.inputs other.inputs one.outputs other.outputs one.status other.status does whole_too.does unstopped whole_too.unstopped)

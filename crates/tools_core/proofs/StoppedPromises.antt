@@ -32,14 +32,14 @@ use Rattle.words_core.specs.CsplitWords.{fault_in}
 use Rattle.words_core.specs.Words.{HasBadOperands}
 use Rattle.words_core.specs.declared.settings.Settings.{Settings}
 use Rattle.words_core.specs.declared.settings.Settings.TheVariants.{Head, Tail, Split, Csplit, Tee}
-use Rattle.tools_core.specs.Outcome.{DoesAsked, RefusesOperands, word_of}
+use Rattle.tools_core.specs.Outcome.{DoesAsked, RefusesOperands, speaker, word_of}
 use Rattle.tools_core.specs.Tasks.{csplit_task, head_task, names_of, split_task, tail_task, tool_of}
 use Rattle.tools_core.specs.Promises.{BrokeAt, Completes, HasLong, IsCalled, IsCopied, IsStopped, IsUnstopped, Ran, Run, StopsRun, Unstopped, failing}
 use Rattle.tools_core.proofs.BeginLemmas.{slots_at}
 use Rattle.tools_core.proofs.PromiseLemmas.{ran_over}
 use Rattle.tools_core.proofs.SamePromises.{some_left}
 use Rattle.tools_core.proofs.SpeakerLemmas.{runs_as_named}
-use Rattle.tools_core.proofs.ToldLemmas.{SaysLine, has_after, has_before, says_line, stopped_error, tee_says, unsound_broke}
+use Rattle.tools_core.proofs.ToldLemmas.{SaysLine, has_after, has_before, says_line, says_one, stop_says, stopped_error, tee_lines, tee_says, unsound_broke}
 
 -- an output that broke stays broken, whether its file is removed or not
 
@@ -114,14 +114,14 @@ ends_or run asked task (stopped fault before input after error step reached are 
       name = output_named run.outputs fault;
       stops = stops_run run asked (IsNext between.part step.high) step task.work.clears between.place (length between.part.files) between.reached reached fault
           (λ many. let (content, there, long) = step_long task _ _ _ input.slot run.inputs input.content step at many in (before, input, after, content, are, there, long)) (omega (arith, slots)) between.from stops between.marks swept;
-      line = subst (SaysLine task.tool (message_of task.tool fault (output_named run.outputs fault))) (sym (stopped_error task.work.clears error step.low step.high fault reached run.outputs between swept)) ((made_by task before).messages, [], says);
+      line = subst (SaysLine task.tool (message_of task.tool fault (output_named run.outputs fault))) (sym (stopped_error task.work.clears error step.low step.high fault reached run.outputs between swept)) ((made_by task before).messages, [], stop_says task before fault (output_named run.outputs fault) error says);
     })
 ends_or run asked task (no_room error says slots untouched count is) = inr (record {
   failed = is;
   why = Memory;
   name = [];
   stops = tt;
-  line = subst (λ those. SaysLine task.tool (message_of task.tool Memory []) (slot_at those 1)) (sym slots) ([], [], says);
+  line = subst (λ those. SaysLine task.tool (message_of task.tool Memory []) (slot_at those 1)) (sym slots) ([], [], says_one task.tool Memory [] error says);
 })
 
 -- `tee`
@@ -160,7 +160,7 @@ long_stop run asked names broke pieces error fault long sound met says last is =
   line = subst (SaysLine tool.Tee (message_of tool.Tee TooLong (codes "standard input"))) (sym last)
       (says_line tool.Tee (message_of tool.Tee TooLong (codes "standard input")) (messages_of names broke pieces (Some TooLong)) error
       (has_before _ (said_before (suc pieces) (output_names names) broke ++ said_of_input (Some TooLong)) (said_in (suc pieces) (output_names names) broke) (has_after _ (said_before (suc pieces) (output_names names) broke) (said_of_input (Some TooLong)) ([], [], refl)))
-      (subst (λ why. SaysAll true tool.Tee (messages_of names broke pieces why) standard_error error) met says));
+      (tee_lines names broke pieces (Some TooLong) error (subst (λ why. SaysAll true tool.Tee (messages_of names broke pieces why) standard_error error) met says)));
 }
 
 tee_by : (run : Run) (asked : Settings) (mode : Mode) (content : Content) (Leaves : List ℕ → Type 0) (is_vain : Bool) (pieces names : List (List ℕ)) (first : Option ℕ) (broke : List (Option ℕ)) (output error : Slot) (files : List Slot) (fault : Option Fault) (sound : Bool) → are_sound (first ∷ broke) ≡ sound
@@ -182,7 +182,7 @@ tee_or run asked mode names content source only (tee.no_room error says unread s
   why = Memory;
   name = [];
   stops = tt;
-  line = subst (λ those. SaysLine tool.Tee (message_of tool.Tee Memory []) (slot_at those 1)) (sym slots) ([], [], says);
+  line = subst (λ those. SaysLine tool.Tee (message_of tool.Tee Memory []) (slot_at those 1)) (sym slots) ([], [], says_one tool.Tee Memory [] error says);
 })
 
 -- All tools
@@ -224,7 +224,8 @@ refused_stop run asked ran (fault, bad, refuses) = record {
   name = word_of run.words fault;
   stops = bad_stops run asked fault bad;
   line = subst (λ those. SaysLine (tool_of asked) (message_of (tool_of asked) fault (word_of run.words fault)) (slot_at those 1)) (sym refuses.slots)
-      (subst (λ which. SaysLine which (message_of which fault (word_of run.words fault)) refuses.error) (runs_as_named run.words asked ran.read) ([], [], (refuses.error, refuses.says, refl)));
+      (subst (λ which. SaysLine which (message_of which fault (word_of run.words fault)) refuses.error) (runs_as_named run.words asked ran.read)
+      ([], [], says_one (speaker run.words) fault (word_of run.words fault) refuses.error (refuses.error, refuses.says, refl)));
 }
 
 stopped_so : (run : Run) (asked : Settings) → IsStop (tool_of asked) run asked → IsStopped run asked

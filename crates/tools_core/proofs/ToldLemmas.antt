@@ -1,6 +1,8 @@
 -- A run whose status is 1 told a fault on standard error, as far as that takes lines.
 use Rattle.std.proofs.Common.{◌≡◌, ℕ, ◌+◌, ◌≤◌, ◌<◌, zero, suc, Bool, true, false, ◌||◌, ◌&&◌, cond, is_none, is_some, List, [], ◌∷◌, ◌++◌, length, Option, Some, None, inl, inr, ◌⊎◌, refl, sym, ◌∙◌, ap, subst, arith, append_assoc, length-append}
 use Rattle.std.proofs.lemmas.Bool.{cases_lt, eq-eqb}
+use Rattle.std.proofs.lemmas.List.Elements.{All-append, All-cons, All-nil}
+use Rattle.std.specs.Prelude.{All, codes}
 use Rattle.ports_core.specs.Slot.{Slot, breaks, changed_at, slot_at}
 use Rattle.ports_core.specs.Source.{Content, Source}
 use Rattle.ports_core.specs.Streams.{standard_error, streams_with}
@@ -25,7 +27,7 @@ use Rattle.words_core.specs.declared.settings.Settings.TheVariants.{Head, Tail, 
 use Rattle.tools_core.specs.Outcome.{DoesAsked, RefusesOperands}
 use Rattle.tools_core.specs.Outcome as outcome
 use Rattle.tools_core.specs.Tasks.{csplit_task, head_task, split_task, tail_task, tool_of}
-use Rattle.tools_core.specs.Promises.{IsCalled, IsTold, Ran, Run, failing}
+use Rattle.tools_core.specs.Promises.{IsCalled, IsTold, Ran, Run, SaysLines, failing}
 use Rattle.tools_core.proofs.PromiseLemmas.{ran_over}
 use Rattle.tools_core.proofs.SpeakerLemmas.{runs_as_named}
 
@@ -42,10 +44,78 @@ has_before line front back (before, after, is) = (before, after ++ back, ap (λ 
 
 -- it is said, where all are
 abbrev pub SaysLine : Tool → List ℕ → Slot → Type 0
-SaysLine tool line error = (before : List (List ℕ)) × (after : List (List ℕ)) × SaysAll true tool (before ++ line ∷ after) standard_error error
+SaysLine tool line error = (before : List (List ℕ)) × (after : List (List ℕ)) × SaysLines tool (before ++ line ∷ after) error
 
-pub says_line : (tool : Tool) (line : List ℕ) (lines : List (List ℕ)) (error : Slot) → HasLine line lines → SaysAll true tool lines standard_error error → SaysLine tool line error
-says_line tool line lines error (before, after, is) says = (before, after, subst (λ those. SaysAll true tool those standard_error error) is says)
+pub says_line : (tool : Tool) (line : List ℕ) (lines : List (List ℕ)) (error : Slot) → HasLine line lines → SaysLines tool lines error → SaysLine tool line error
+says_line tool line lines error (before, after, is) says = (before, after, subst (λ those. SaysLines tool those error) is says)
+
+-- Each line of a run tells a fault.
+
+abbrev pub IsMessage : Tool → List ℕ → Type 0
+IsMessage tool line = (fault : Fault) × (name : List ℕ) × (line ≡ message_of tool fault name)
+
+abbrev pub AreMessages : Tool → List (List ℕ) → Type 0
+AreMessages tool lines = All (IsMessage tool) lines
+
+pub no_message : (tool : Tool) → AreMessages tool []
+no_message tool = All-nil (IsMessage tool)
+
+pub a_message : (tool : Tool) (fault : Fault) (name : List ℕ) → AreMessages tool (message_of tool fault name ∷ [])
+a_message tool fault name = All-cons (IsMessage tool) (message_of tool fault name) [] (fault, name, refl) (no_message tool)
+
+pub more_messages : (tool : Tool) (front back : List (List ℕ)) → AreMessages tool front → AreMessages tool back → AreMessages tool (front ++ back)
+more_messages tool front back one other = All-append (IsMessage tool) front back one other
+
+pub says_one : (tool : Tool) (fault : Fault) (name : List ℕ) (error : Slot) → SaysAll true tool (message_of tool fault name ∷ []) standard_error error → SaysLines tool (message_of tool fault name ∷ []) error
+says_one tool fault name error says = record { are = a_message tool fault name; said = says }
+
+verdict_are : (task : Task) (verdict : Option Fault) → AreMessages task.tool (verdict_messages task verdict)
+verdict_are task None = no_message task.tool
+verdict_are task (Some fault) = a_message task.tool fault (task.subject fault)
+
+either_are : (task : Task) (enough : Bool) (verdict : Option Fault) (name : List ℕ) → AreMessages task.tool (cond enough (verdict_messages task verdict) (message_of task.tool (Read 0) name ∷ []))
+either_are task true verdict name = verdict_are task verdict
+either_are task false verdict name = a_message task.tool (Read 0) name
+
+content_are : (task : Task) (is_first : Bool) (name : List ℕ) (content : Option Content) → AreMessages task.tool (of_content task is_first name content).messages
+content_are task is_first name None = a_message task.tool (Open 0) name
+content_are task is_first name (Some content) = either_are task (is_enough task.work content) (task.work.verdict content.bytes) name
+
+pub inputs_are : (task : Task) (is_first : Bool) (inputs : List Input) → AreMessages task.tool (of_inputs task is_first inputs).messages
+inputs_are task is_first [] = no_message task.tool
+inputs_are task is_first (input ∷ inputs) = more_messages task.tool _ _ (content_are task is_first input.name input.content) (inputs_are task (is_first && is_missing input.content) inputs)
+
+made_says : (task : Task) (inputs : List Input) (error : Slot) → SaysAll true task.tool (made_by task inputs).messages standard_error error → SaysLines task.tool (made_by task inputs).messages error
+made_says task inputs error says = record { are = inputs_are task true inputs; said = says }
+
+-- of a run that a fault stopped
+pub stop_says : (task : Task) (before : List Input) (fault : Fault) (name : List ℕ) (error : Slot) → SaysAll true task.tool ((made_by task before).messages ++ message_of task.tool fault name ∷ []) standard_error error
+    → SaysLines task.tool ((made_by task before).messages ++ message_of task.tool fault name ∷ []) error
+stop_says task before fault name error says = record { are = more_messages task.tool (made_by task before).messages _ (inputs_are task true before) (a_message task.tool fault name); said = says }
+
+call_are : (is : Bool) (call : ℕ) (name : List ℕ) (lines : List (List ℕ)) → AreMessages tool.Tee lines → AreMessages tool.Tee (cond is (message_of tool.Tee (fault_in call) name ∷ lines) lines)
+call_are true call name lines are = more_messages tool.Tee (message_of tool.Tee (fault_in call) name ∷ []) lines (a_message tool.Tee (fault_in call) name) are
+call_are false call name lines are = are
+
+in_call_are : (call : ℕ) (names : List (List ℕ)) (broke : List (Option ℕ)) → AreMessages tool.Tee (said_in call names broke)
+in_call_are call [] broke = no_message tool.Tee
+in_call_are call (name ∷ names) [] = no_message tool.Tee
+in_call_are call (name ∷ names) (first ∷ broke) = call_are (tee.broke_in call first) call name (said_in call names broke) (in_call_are call names broke)
+
+before_are : (call : ℕ) (names : List (List ℕ)) (broke : List (Option ℕ)) → AreMessages tool.Tee (said_before call names broke)
+before_are zero names broke = no_message tool.Tee
+before_are (suc call) names broke = more_messages tool.Tee (said_before call names broke) (said_in call names broke) (before_are call names broke) (in_call_are call names broke)
+
+pub input_are : (fault : Option Fault) → AreMessages tool.Tee (said_of_input fault)
+input_are None = no_message tool.Tee
+input_are (Some fault) = a_message tool.Tee fault (codes "standard input")
+
+pub tee_lines : (names : List (List ℕ)) (broke : List (Option ℕ)) (pieces : ℕ) (fault : Option Fault) (error : Slot) → SaysAll true tool.Tee (messages_of names broke pieces fault) standard_error error → SaysLines tool.Tee (messages_of names broke pieces fault) error
+tee_lines names broke pieces fault error says = record {
+  are = more_messages tool.Tee (said_before (suc pieces) (output_names names) broke ++ said_of_input fault) _
+      (more_messages tool.Tee (said_before (suc pieces) (output_names names) broke) _ (before_are (suc pieces) (output_names names) broke) (input_are fault)) (in_call_are (suc pieces) (output_names names) broke);
+  said = says;
+}
 
 -- One that tells a fault
 
@@ -64,7 +134,7 @@ fault_after tool front back (fault, name, has) = (fault, name, has_after (messag
 fault_before : (tool : Tool) (front back : List (List ℕ)) → HasFault tool front → HasFault tool (front ++ back)
 fault_before tool front back (fault, name, has) = (fault, name, has_before (message_of tool fault name) front back has)
 
-tells_fault : (tool : Tool) (lines : List (List ℕ)) (error : Slot) → HasFault tool lines → SaysAll true tool lines standard_error error → TellsFault tool error
+tells_fault : (tool : Tool) (lines : List (List ℕ)) (error : Slot) → HasFault tool lines → SaysLines tool lines error → TellsFault tool error
 tells_fault tool lines error (fault, name, has) says = (fault, name, says_line tool (message_of tool fault name) lines error has says)
 
 -- A fault of an input, or of the work, has its line.
@@ -129,12 +199,12 @@ has_failed false status is one = absurd (omega (arith, is, one))
 ends_told : (task : Task) (inputs : List Input) (sources : List Source) (new : List Slot) (status : ℕ) → status ≡ 1 → EndsAs true true task inputs sources new status → TellsFault task.tool (slot_at new 1)
 ends_told task inputs sources new status one (as_defined error reached says outputs swept done is) =
     subst (TellsFault task.tool) (sym (swept_error _ reached new swept ∙ ap (λ slots. slot_at slots 1) outputs.slots))
-    (tells_fault task.tool _ error (inputs_fault task true inputs (has_failed _ status is one)) says)
+    (tells_fault task.tool _ error (inputs_fault task true inputs (has_failed _ status is one)) (made_says task inputs error says))
 ends_told task inputs sources new status one (stopped fault before input after error step reached are done untouched at stops between swept says is) =
     subst (TellsFault task.tool) (sym (stopped_error task.work.clears error step.low step.high fault reached new between swept))
-    (tells_fault task.tool _ error (fault_after task.tool (made_by task before).messages _ (only_fault task.tool fault (output_named new fault))) says)
+    (tells_fault task.tool _ error (fault_after task.tool (made_by task before).messages _ (only_fault task.tool fault (output_named new fault))) (stop_says task before fault (output_named new fault) error says))
 ends_told task inputs sources new status one (no_room error says slots untouched count is) =
-    subst (λ those. TellsFault task.tool (slot_at those 1)) (sym slots) (tells_fault task.tool _ error (only_fault task.tool Memory []) says)
+    subst (λ those. TellsFault task.tool (slot_at those 1)) (sym slots) (tells_fault task.tool _ error (only_fault task.tool Memory []) (says_one task.tool Memory [] error says))
 
 -- `tee`: an output that broke has its line, after the call in which it did.
 
@@ -240,10 +310,10 @@ status_fault mode pieces names first broke output error files (Some fault) true 
 
 tee_told : (mode : Mode) (names : List (List ℕ)) (content : Content) (source : Source) (new : List Slot) (status : ℕ) → status ≡ 1 → tee.EndsAs true true mode names content source new status → TellsFault tool.Tee (slot_at new 1)
 tee_told mode names content source new status one (tee.no_room error says unread slots is) =
-    subst (λ those. TellsFault tool.Tee (slot_at those 1)) (sym slots) (tells_fault tool.Tee _ error (only_fault tool.Tee Memory []) says)
+    subst (λ those. TellsFault tool.Tee (slot_at those 1)) (sym slots) (tells_fault tool.Tee _ error (only_fault tool.Tee Memory []) (says_one tool.Tee Memory [] error says))
 tee_told mode names content source new status one (tee.copied pieces fault first broke output error files comes going out_left files_left says slots is) =
     subst (λ those. TellsFault tool.Tee (slot_at those 1)) (sym slots)
-    (tells_fault tool.Tee _ error (status_fault mode pieces names first broke output error files fault _ out_left files_left refl (sym is ∙ one)) says)
+    (tells_fault tool.Tee _ error (status_fault mode pieces names first broke output error files fault _ out_left files_left refl (sym is ∙ one)) (tee_lines names (first ∷ broke) (length pieces) fault error says))
 
 -- the line of an output of `tee` that is broken
 pub tee_says : (mode : Mode) (pieces names : List (List ℕ)) (first : Option ℕ) (broke : List (Option ℕ)) (output error : Slot) (files : List Slot) (fault : Option Fault) (place : ℕ) → OutputLeft true pieces first output → FilesLeft true mode pieces names broke files
@@ -251,7 +321,7 @@ pub tee_says : (mode : Mode) (pieces names : List (List ℕ)) (first : Option �
     → (name : List ℕ) × IsCalled (slot_at (output ∷ error ∷ files) place) name × SaysLine tool.Tee (message_of tool.Tee (failing place (slot_at (output ∷ error ∷ files) place).state) name) error
 tee_says mode pieces names first broke output error files fault place left rest says differs broken =
     let said = outputs_said mode pieces names first broke output error files place left rest differs broken in
-    (said.name, said.called, says_line tool.Tee _ _ error (call_line _ names (first ∷ broke) (length pieces) said.call fault said.within said.line) says)
+    (said.name, said.called, says_line tool.Tee _ _ error (call_line _ names (first ∷ broke) (length pieces) said.call fault said.within said.line) (tee_lines names (first ∷ broke) (length pieces) fault error says))
 
 -- All tools
 
@@ -267,7 +337,7 @@ by_either run asked found ran one (inl does) = does_told asked found run.inputs 
 by_either run asked found ran one (inr (fault, bad, refuses)) =
     subst (λ those. TellsFault (tool_of asked) (slot_at those 1)) (sym refuses.slots)
     (subst (λ which. TellsFault which refuses.error) (runs_as_named run.words asked ran.read)
-    (tells_fault (outcome.speaker run.words) _ refuses.error (only_fault (outcome.speaker run.words) fault (outcome.word_of run.words fault)) (refuses.error, refuses.says, refl)))
+    (tells_fault (outcome.speaker run.words) _ refuses.error (only_fault (outcome.speaker run.words) fault (outcome.word_of run.words fault)) (says_one (outcome.speaker run.words) fault (outcome.word_of run.words fault) refuses.error (refuses.error, refuses.says, refl))))
 
 pub is_told : (run : Run) (asked : Settings) → Ran run asked → run.status ≡ 1 → IsTold run asked
 is_told run asked ran one = by_either run asked _ ran one (ran_over run asked ran)

@@ -246,11 +246,16 @@ abbrev pub BeginsEach : Run → Run → Type 0
 BeginsEach run other =
     (place : ℕ) → (place ≡ 1 → ⊥) → BeginsAs (slot_at run.outputs place) (slot_at other.outputs place)
 
--- The run told this fault of this name by a line on standard error, perhaps among others: as far as that takes lines,
--- and where there was no memory for one, the line that says so stands in its place.
+-- Standard error got these lines of a tool, of which each tells some fault of some name: as far as it takes lines, and
+-- where there was no memory for one, the line that says so stands in its place.
+pub record SaysLines (tool : Tool) (lines : List (List ℕ)) (error : Slot) : Type 0 where
+  pub are : All (λ line. (fault : Fault) × (name : List ℕ) × (line ≡ message_of tool fault name)) lines
+  pub said : SaysAll true tool lines standard_error error
+
+-- the run told this fault of this name by a line on standard error, perhaps among others
 abbrev pub Tells : Run → Settings → Fault → List ℕ → Type 0
-Tells run asked fault name = (before : List (List ℕ)) × (after : List (List ℕ)) × SaysAll true (tool_of asked)
-    (before ++ message_of (tool_of asked) fault name ∷ after) standard_error (slot_at run.outputs 1)
+Tells run asked fault name = (before : List (List ℕ)) × (after : List (List ℕ)) × SaysLines (tool_of asked)
+    (before ++ message_of (tool_of asked) fault name ∷ after) (slot_at run.outputs 1)
 
 -- it told some fault
 abbrev pub IsTold : Run → Settings → Type 0
@@ -362,20 +367,17 @@ pub record IsAlike (output other : Slot) : Type 0 where
   pub written : output.written ≡ other.written
   pub left : output.is_broken ≡ false → other.is_broken ≡ false → output ≡ other
 
--- Two runs said the same lines on standard error, as far as that took them in each; where there was no memory for a
--- line, the one that says so stands in its place.
-pub record SayAlike (one other : Run) : Type 0 where
-  pub tool : Tool
-  pub lines : List (List ℕ)
-  pub says : SaysAll true tool lines standard_error (slot_at one.outputs 1)
-  pub says_too : SaysAll true tool lines standard_error (slot_at other.outputs 1)
+-- two runs said the same lines on standard error, as far as that took them in each
+abbrev pub SayAlike : Settings → Run → Run → Type 0
+SayAlike asked one other = (lines : List (List ℕ)) × SaysLines (tool_of asked) lines (slot_at one.outputs 1)
+    × SaysLines (tool_of asked) lines (slot_at other.outputs 1)
 
 -- two runs left the same status, as many outputs, the same in each, and said the same
-pub record LeaveAlike (one other : Run) : Type 0 where
+pub record LeaveAlike (asked : Settings) (one other : Run) : Type 0 where
   pub status : one.status ≡ other.status
   pub count : length one.outputs ≡ length other.outputs
   pub outputs : (place : ℕ) → (place ≡ 1 → ⊥) → IsAlike (slot_at one.outputs place) (slot_at other.outputs place)
-  pub said : SayAlike one other
+  pub said : SayAlike asked one other
 
 -- one run of `tail` that follows: its words, in how many looks, what each look would see, and what it left
 pub record FollowRun : Type 0 where

@@ -48,7 +48,7 @@ pub fn tee_copies()
 pub fn cutting_changes_nothing()
     ensures same { (one other : Run) (asked : Settings) → Does one asked → Does other asked → FindAlike one other → one.outputs ≡ other.outputs }
     ensures ended { (run : Run) (asked : Settings) → Ran run asked → Completes run asked ⊎ IsStopped run asked }
-    ensures alike { (one other : Run) (asked : Settings) → Completes one asked → Completes other asked → FindAlike one other → LeaveAlike one other }
+    ensures alike { (one other : Run) (asked : Settings) → Completes one asked → Completes other asked → FindAlike one other → LeaveAlike asked one other }
 {}
 
 /// `split` loses nothing. Its files have the names that were asked for, and come in the order of these, byte by byte. With
