@@ -1,6 +1,7 @@
--- What a run leaves that a fault stopped is a beginning of what one leaves that met none.
-use Rattle.std.proofs.Common.{◌≡◌, ℕ, ◌≤◌, zero, suc, Bool, true, false, not, List, [], ◌∷◌, ◌++◌, length, map, Option, Some, inl, inr, ◌⊎◌, refl, sym, ◌∙◌, ap, subst, arith, append-nil, length-append}
+-- What a run leaves that a fault stopped is a beginning of what one leaves that none stopped.
+use Rattle.std.proofs.Common.{◌≡◌, ℕ, ◌≤◌, zero, suc, Bool, true, false, not, ◌||◌, nat_lt, List, [], ◌∷◌, ◌++◌, length, map, Option, Some, inl, inr, ◌⊎◌, refl, sym, ◌∙◌, ap, subst, arith, append-nil, length-append}
 use Rattle.std.proofs.lemmas.Bool.{cases_lt, false≢true}
+use Rattle.std.proofs.lemmas.Bool.Decides.{nat_tests}
 use Rattle.std.proofs.lemmas.List.{length-map}
 use Rattle.std.proofs.lemmas.List.FromFn.{length-map-range_with_len}
 use Rattle.ports_core.specs.Slot.{Slot, adds, breaks, changed_at, slot_at, unopened}
@@ -13,12 +14,12 @@ use Rattle.ports_core.specs.Work.{IsLawful, Needs, Work}
 use Rattle.ports_core.specs.Inputs.{largest_piece}
 use Rattle.ports_core.specs.declared.fault.Fault.{Fault}
 use Rattle.ports_core.specs.declared.fault.Fault.TheVariants.{Memory, Write, Read, Open, Suffixes, NoMatch, Range, Usage, Failed, TooLong}
-use Rattle.ports_core.specs.Name.{Naming}
+use Rattle.ports_core.specs.Name.{Naming, name_count}
 use Rattle.ports_core.specs.declared.slot.State.TheVariants.{Closed}
 use Rattle.seg_core.specs.declared.cut.Cut.{Cut}
 use Rattle.seg_core.specs.declared.cut.Cut.TheVariants.{Lines, Bytes, LineBytes, Round}
 use Rattle.split_core.specs.declared.limit.Limit.TheVariants as limit
-use Rattle.split_core.specs.Split.{share, are_named, dealt_files, split_work, whole_by, whole_shares}
+use Rattle.split_core.specs.Split.{share, are_named, dealt_files, split_work, whole_by}
 use Rattle.split_core.specs.PartState.{parts_work}
 use Rattle.split_core.specs.Round.{opened_by, round_plan, round_work}
 use Rattle.split_core.specs.inner.DealLaws.{share_of}
@@ -27,12 +28,14 @@ use Rattle.split_core.specs.laws.PartStateLaws as part_law
 use Rattle.split_core.specs.laws.RoundLaws as round_law
 use Rattle.split_core.specs.laws.ShareLaws.{are_named_more}
 use Rattle.split_core.proofs.AgreedLemmas.{plan_by}
+use Rattle.split_core.proofs.DealLaws.{opened_by-most}
 use Rattle.ports_core.proofs.PartLemmas.{begins_more, nothing_begins, nothing_begins_part, part_begins_itself, part_trans}
 use Rattle.run_core.specs.Feeding.{HasAll, IsCall, Step, enough, to_end, opens, feeds, closes}
 use Rattle.run_core.specs.Input.{Input}
 use Rattle.run_core.specs.RunEnds.{EndsAs, RunStep, as_defined, calling, heading, no_room, stopped, unheaded, unopened as unopened_input}
 use Rattle.run_core.specs.Task.{Task, header_text}
 use Rattle.run_core.proofs.JoinedLemmas.{begins_after}
+use Rattle.words_core.specs.SplitWords.{AreNamed}
 use Rattle.tools_core.specs.Promises.{BeginsAs}
 use Rattle.tools_core.proofs.PromiseLemmas.{ending, part_of, slot_of, slots_of, since_is, made_one}
 
@@ -42,7 +45,7 @@ empty_begins output other none = record { bytes = subst (λ bytes. IsBeginning b
 
 -- Outputs that have the same name and the same bytes
 
-record IsAlike (output old : Slot) : Type 0 where
+pub record IsAlike (output old : Slot) : Type 0 where
   pub name : output.name ≡ old.name
   pub bytes : output.written ≡ old.written
 
@@ -71,7 +74,7 @@ cleared_alike old _ (swept_so.removed has) = record { name = refl; bytes = refl 
 cleared_alike old _ (swept_so.stuck has) = record { name = refl; bytes = refl }
 cleared_alike old _ (swept_so.none has) = record { name = refl; bytes = refl }
 
-swept_alike : (clears : Bool) (old new : List Slot) → Swept clears 2 old new → (place : ℕ) → IsAlike (slot_at new place) (slot_at old place)
+pub swept_alike : (clears : Bool) (old new : List Slot) → Swept clears 2 old new → (place : ℕ) → IsAlike (slot_at new place) (slot_at old place)
 swept_alike false old new swept place = alike_itself _ _ (ap (λ slots. slot_at slots place) swept)
 swept_alike true old new swept place = elim (cases_lt place 2) [
   | inl before ↦ alike_itself (slot_at new place) (slot_at old place) (swept.before place before)
@@ -225,8 +228,24 @@ dealt_grows delim n elide names bytes all = record {
   closed = dealt_closed delim n elide names bytes all;
 }
 
-pub split_grows : (delim : ℕ) (cut : Cut) (elide : Bool) (names : Naming) (bytes : List ℕ) → are_named names (length (whole_shares delim cut elide bytes)) ≡ true → IsGrowing (split_work (plan_by delim cut elide names)) bytes
+-- files that lines are dealt to have names
+
+named_place : (last n count : ℕ) → suc last ≤ n → n ≤ count → nat_lt last count ≡ true
+named_place last n count few all = grind (arith, nat_tests)
+
+either_named : (auto has : Bool) → has ≡ true → (auto || has) ≡ true
+either_named true has is = refl
+either_named false has is = is
+
+named_up_to : (names : Naming) (count n : ℕ) → count ≤ n → n ≤ name_count names.alphabet names.width → are_named names count ≡ true
+named_up_to names zero n few all = refl
+named_up_to names (suc last) n few all = either_named names.auto _ (named_place last n (name_count names.alphabet names.width) few all)
+
+dealt_named : (delim n : ℕ) (elide : Bool) (names : Naming) (bytes : List ℕ) → n ≤ name_count names.alphabet names.width → are_named names (length (map (share Closed) (dealt_files delim elide n bytes))) ≡ true
+dealt_named delim n elide names bytes all = ap (are_named names) (dealt_count delim elide n bytes) ∙ named_up_to names (opened_by delim elide n bytes) n (opened_by-most delim elide n bytes) all
+
+pub split_grows : (delim : ℕ) (cut : Cut) (elide : Bool) (names : Naming) (bytes : List ℕ) → AreNamed cut names.alphabet names.width → IsGrowing (split_work (plan_by delim cut elide names)) bytes
 split_grows delim (Lines n) elide names bytes all = lawful_grows (parts_work (limit.Lines n delim) names) bytes (part_law.lawful (limit.Lines n delim) names)
 split_grows delim (Bytes n) elide names bytes all = lawful_grows (parts_work (limit.Bytes n) names) bytes (part_law.lawful (limit.Bytes n) names)
 split_grows delim (LineBytes n) elide names bytes all = lawful_grows (parts_work (limit.LineBytes n delim) names) bytes (part_law.lawful (limit.LineBytes n delim) names)
-split_grows delim (Round n) elide names bytes all = dealt_grows delim n elide names bytes all
+split_grows delim (Round n) elide names bytes all = dealt_grows delim n elide names bytes (dealt_named delim n elide names bytes all)

@@ -1,64 +1,88 @@
--- What any run leaves is a beginning of what one leaves that met no fault.
-use Rattle.std.proofs.Common.{◌≡◌, ℕ, true, List, [], ◌∷◌, Some, None, inl, inr, ◌⊎◌, sym, ◌∙◌, subst}
-use Rattle.ports_core.specs.Slot.{Slot, slot_at}
+-- What any run leaves is a beginning of what one leaves that no fault stopped.
+use Rattle.std.proofs.Common.{◌≡◌, ℕ, Bool, true, List, [], ◌∷◌, Some, inl, inr, ◌⊎◌, sym, ◌∙◌, ap, subst}
+use Rattle.ports_core.specs.Part.{IsBeginning, OutputsAt}
+use Rattle.ports_core.specs.Slot.{Slot, adds, slot_at}
 use Rattle.ports_core.specs.Source.{Source}
-use Rattle.ports_core.specs.Streams.{streams_with}
+use Rattle.ports_core.specs.Streams.{standard_error, standard_output, streams_with}
+use Rattle.ports_core.specs.Swept.{Swept}
 use Rattle.run_core.specs.Input.{Input}
-use Rattle.run_core.specs.RunEnds.{EndsAs}
-use Rattle.run_core.specs.Task.{Task}
+use Rattle.run_core.specs.RunEnds.{EndsAs, as_defined, no_room, stopped}
+use Rattle.run_core.specs.Task.{Task, made_by}
 use Rattle.ends_core.specs.laws.WorkLaws.{head_lawful, tail_lawful}
 use Rattle.csplit_core.specs.laws.InputLaws as csplit_law
 use Rattle.operand_core.proofs.OneReading.{asks_once}
 use Rattle.words_core.specs.CsplitAsked.{CsplitAsked}
+use Rattle.words_core.specs.Words.{CanRun}
 use Rattle.words_core.specs.declared.settings.Settings.{Settings}
 use Rattle.words_core.specs.declared.settings.Settings.TheVariants.{Head, Tail, Split, Csplit, Tee}
 use Rattle.tools_core.specs.Outcome.{CsplitEndsAs, DoesAsked, RefusesOperands}
 use Rattle.tools_core.specs.Tasks.{csplit_task, head_task, naming_of, split_task, tail_task}
-use Rattle.tools_core.specs.Promises.{BeginsAs, BeginsEach, Does, FindAlike, HasInput, Ran, Run}
-use Rattle.tools_core.proofs.BeginLemmas.{IsGrowing, bare_begins, begins_whole, lawful_grows, split_grows, still_begins}
-use Rattle.tools_core.proofs.PromiseLemmas.{did, ending, has_one, one_done, ran_over}
-use Rattle.tools_core.proofs.SamePromises.{found_same}
+use Rattle.tools_core.specs.Promises.{BeginsAs, BeginsEach, Completes, FindAlike, HasInput, IsUnstopped, Ran, Run, Unstopped}
+use Rattle.tools_core.proofs.BeginLemmas.{IsAlike, IsGrowing, bare_begins, begins_whole, lawful_grows, slots_at, split_grows, still_begins, swept_alike}
+use Rattle.tools_core.proofs.CanLemmas.{can_run}
+use Rattle.tools_core.proofs.PromiseLemmas.{ending, has_one, made_one, part_of, ran_over, slots_of}
+use Rattle.tools_core.proofs.SamePromises.{beside_error, found_same}
 use Rattle.tools_core.proofs.TeeBegins.{tee_begins}
-use Rattle.tools_core.proofs.SplitPromises.{not_short}
 
 -- the outputs, place by place
 abbrev pub BeginAt : List Slot → List Slot → Type 0
 BeginAt new other = (place : ℕ) → (place ≡ 1 → ⊥) → BeginsAs (slot_at new place) (slot_at other place)
 
-ends_begin : (task : Task) (input : Input) (bytes : List ℕ) (these those : List Source) (new other : List Slot) (status : ℕ) → input.content ≡ Some (ending bytes) → (task.work.verdict bytes ≡ None → IsGrowing task.work bytes)
-    → EndsAs true true task (input ∷ []) these new status → EndsAs true true task (input ∷ []) those other 0 → BeginAt new other
-ends_begin task input bytes these those new other status is grows one two place differs =
-    let made = one_done task input bytes those other is two in
-    subst (λ slots. BeginsAs (slot_at new place) (slot_at slots place)) (sym made.slots) (begins_whole task input bytes these new status place is (grows made.unjudged) differs one)
+-- what has a beginning of an output has one of it, whatever else became of that
+begins_alike : (output whole other : Slot) → IsAlike other whole → BeginsAs output whole → BeginsAs output other
+begins_alike output whole other alike begins = record {
+  bytes = subst (IsBeginning output.written) (sym alike.bytes) begins.bytes;
+  named = elim begins.named [
+    | inl same ↦ inl (same ∙ sym alike.name)
+    | inr none ↦ inr none
+  ];
+}
+
+-- what is left of an input's outcome
+left_alike : (task : Task) (input : Input) (bytes : List ℕ) (error : Slot) (sweeps : Bool) (reached other : List Slot) (place : ℕ) → input.content ≡ Some (ending bytes) → (place ≡ 1 → ⊥) → OutputsAt true (streams_with error) (made_by task (input ∷ [])).part reached
+    → Swept sweeps 2 reached other → IsAlike (slot_at other place) (slot_at (slots_of (part_of task input.name bytes)) place)
+left_alike task input bytes error sweeps reached other place is differs outputs swept =
+    let made = made_by task (input ∷ []) in
+    subst (IsAlike (slot_at other place))
+    (ap (λ slots. slot_at slots place) (slots_at made.part error reached outputs) ∙ beside_error (adds made.part.out standard_output) error standard_error _ place differs ∙ ap (λ part. slot_at (slots_of part) place) (made_one task input bytes is))
+    (swept_alike sweeps reached other swept place)
+
+ends_begin : (task : Task) (input : Input) (bytes : List ℕ) (these those : List Source) (new other : List Slot) (status status_too : ℕ) → input.content ≡ Some (ending bytes) → IsGrowing task.work bytes
+    → EndsAs true true task (input ∷ []) these new status → (two : EndsAs true true task (input ∷ []) those other status_too) → IsUnstopped two → BeginAt new other
+ends_begin task input bytes these those new other status status_too is grows one (as_defined error reached says outputs swept done ended) unstopped place differs =
+    begins_alike (slot_at new place) (slot_at (slots_of (part_of task input.name bytes)) place) (slot_at other place) (left_alike task input bytes error _ reached other place is differs outputs swept) (begins_whole task input bytes these new status place is grows differs one)
+ends_begin task input bytes these those new other status status_too is grows one (stopped fault before at_input after error step reached are done untouched at stops between swept says ended) unstopped place differs = absurd unstopped
+ends_begin task input bytes these those new other status status_too is grows one (no_room error says slots untouched count ended) unstopped place differs = absurd unstopped
 
 refused_begin : (new other : List Slot) (error : Slot) → new ≡ streams_with error → BeginAt new other
 refused_begin new other error slots place differs = still_begins (streams_with error) new place (slot_at other place) slots (bare_begins error (slot_at other place) place differs)
 
-csplit_begin : (asked : CsplitAsked) (input : Input) (bytes : List ℕ) (these those : List Source) (new other : List Slot) (status : ℕ) → input.content ≡ Some (ending bytes)
-    → CsplitEndsAs true true asked (input ∷ []) these new status → CsplitEndsAs true true asked (input ∷ []) those other 0 → BeginAt new other
-csplit_begin asked input bytes these those new other status is one two =
-    ends_begin (csplit_task asked one.operands) input bytes these those new other status is (λ well. lawful_grows (csplit_task asked one.operands).work bytes (csplit_law.lawful asked.style one.operands)) one.ends
-    (subst (λ read. EndsAs true true (csplit_task asked read) (input ∷ []) those other 0) (asks_once asked.operands two.operands one.operands two.asks one.asks) two.ends)
+csplit_begin : (asked : CsplitAsked) (input : Input) (bytes : List ℕ) (these those : List Source) (new other : List Slot) (status status_too : ℕ) → input.content ≡ Some (ending bytes)
+    → CsplitEndsAs true true asked (input ∷ []) these new status → (two : CsplitEndsAs true true asked (input ∷ []) those other status_too) → IsUnstopped two.ends → BeginAt new other
+csplit_begin asked input bytes these those new other status status_too is one two unstopped =
+    let (ends, unstopped_too) = subst (λ read. (ends : EndsAs true true (csplit_task asked read) (input ∷ []) those other status_too) × IsUnstopped ends) (asks_once asked.operands two.operands one.operands two.asks one.asks) (two.ends, unstopped) in
+    ends_begin (csplit_task asked one.operands) input bytes these those new other status status_too is (lawful_grows (csplit_task asked one.operands).work bytes (csplit_law.lawful asked.style one.operands)) one.ends ends unstopped_too
 
-begin_at : (asked : Settings) (input : Input) (bytes : List ℕ) (these those : List Source) (new other : List Slot) (status : ℕ) → input.content ≡ Some (ending bytes)
-    → DoesAsked true true asked (input ∷ []) these new status → DoesAsked true true asked (input ∷ []) those other 0 → BeginAt new other
-begin_at (Head asked) input bytes these those new other status is one two =
-    ends_begin (head_task asked) input bytes these those new other status is (λ well. lawful_grows (head_task asked).work bytes (head_lawful _ _ _ _)) one two
-begin_at (Tail asked) input bytes these those new other status is one two =
-    ends_begin (tail_task asked.ends) input bytes these those new other status is (λ well. lawful_grows (tail_task asked.ends).work bytes (tail_lawful _ _ _ _)) one two
-begin_at (Split asked) input bytes these those new other status is one two =
-    ends_begin (split_task asked) input bytes these those new other status is (λ well. split_grows asked.delim asked.cut asked.elide (naming_of asked) bytes (not_short _ well)) one two
-begin_at (Csplit asked) input bytes these those new other status is one two = csplit_begin asked input bytes these those new other status is one two
-begin_at (Tee asked) input bytes these those new other status is one two = tee_begins asked input these those new other status one two
+begin_at : (asked : Settings) (input : Input) (bytes : List ℕ) (these those : List Source) (new other : List Slot) (status status_too : ℕ) → CanRun asked → input.content ≡ Some (ending bytes)
+    → DoesAsked true true asked (input ∷ []) these new status → (two : DoesAsked true true asked (input ∷ []) those other status_too) → Unstopped asked (input ∷ []) those other status_too two → BeginAt new other
+begin_at (Head asked) input bytes these those new other status status_too can is one two unstopped =
+    ends_begin (head_task asked) input bytes these those new other status status_too is (lawful_grows (head_task asked).work bytes (head_lawful _ _ _ _)) one two unstopped
+begin_at (Tail asked) input bytes these those new other status status_too can is one two unstopped =
+    ends_begin (tail_task asked.ends) input bytes these those new other status status_too is (lawful_grows (tail_task asked.ends).work bytes (tail_lawful _ _ _ _)) one two unstopped
+begin_at (Split asked) input bytes these those new other status status_too can is one two unstopped =
+    ends_begin (split_task asked) input bytes these those new other status status_too is (split_grows asked.delim asked.cut asked.elide (naming_of asked) bytes can.named) one two unstopped
+begin_at (Csplit asked) input bytes these those new other status status_too can is one two unstopped = csplit_begin asked input bytes these those new other status status_too is one two unstopped
+begin_at (Tee asked) input bytes these those new other status status_too can is one two unstopped = tee_begins asked input these those new other status status_too one two unstopped
 
-by_either : (run : Run) (asked : Settings) (input : Input) (bytes : List ℕ) (those : List Source) (other : List Slot) → input.content ≡ Some (ending bytes)
-    → DoesAsked true true asked (input ∷ []) run.inputs run.outputs run.status ⊎ RefusesOperands true run.words asked run.outputs run.status → DoesAsked true true asked (input ∷ []) those other 0 → BeginAt run.outputs other
-by_either run asked input bytes those other is (inl one) two = begin_at asked input bytes run.inputs those run.outputs other run.status is one two
-by_either run asked input bytes those other is (inr (fault, bad, refuses)) two = refused_begin run.outputs other refuses.error refuses.slots
+by_either : (run well : Run) (asked : Settings) (input : Input) (bytes : List ℕ) → CanRun asked → input.content ≡ Some (ending bytes) → DoesAsked true true asked (input ∷ []) run.inputs run.outputs run.status ⊎ RefusesOperands true run.words asked run.outputs run.status
+    → (two : DoesAsked true true asked (input ∷ []) well.inputs well.outputs well.status) → Unstopped asked (input ∷ []) well.inputs well.outputs well.status two → BeginsEach run well
+by_either run well asked input bytes can is (inl one) two unstopped = begin_at asked input bytes run.inputs well.inputs run.outputs well.outputs run.status well.status can is one two unstopped
+by_either run well asked input bytes can is (inr (fault, bad, refuses)) two unstopped = refused_begin run.outputs well.outputs refuses.error refuses.slots
 
-pub begins_each : (run well : Run) (asked : Settings) (input : List ℕ) → Ran run asked → Does well asked → FindAlike run well → HasInput run input → BeginsEach run well
-begins_each run well asked input ran does same has =
+pub begins_each : (run well : Run) (asked : Settings) (input : List ℕ) → Ran run asked → Completes well asked → FindAlike run well → HasInput run input → BeginsEach run well
+begins_each run well asked input ran whole same has =
     let one = has_one run asked input ran has in
-    by_either run asked one.input input well.inputs well.outputs one.content
-    (subst (λ found. DoesAsked true true asked found run.inputs run.outputs run.status ⊎ RefusesOperands true run.words asked run.outputs run.status) one.only (ran_over run asked ran))
-    (subst (λ found. DoesAsked true true asked found well.inputs well.outputs 0) (sym (found_same run well asked ran.read does.ran.read same) ∙ one.only) (did well asked does))
+    let (does, unstopped) = subst (λ found. (does : DoesAsked true true asked found well.inputs well.outputs well.status) × Unstopped asked found well.inputs well.outputs well.status does) (sym (found_same run well asked ran.read whole.read same) ∙ one.only)
+    (whole.does, whole.unstopped) in
+    by_either run well asked one.input input (can_run run.words asked ran.read) one.content
+    (subst (λ found. DoesAsked true true asked found run.inputs run.outputs run.status ⊎ RefusesOperands true run.words asked run.outputs run.status) one.only (ran_over run asked ran)) does unstopped

@@ -96,7 +96,7 @@ swept_count : (sweeps : Bool) (old new : List Slot) → Swept sweeps 2 old new �
 swept_count false old new swept = ap length swept
 swept_count true old new swept = swept.size
 
-beside_error : (output error error_too : Slot) (files : List Slot) (place : ℕ) → (place ≡ 1 → ⊥) → slot_at (output ∷ error ∷ files) place ≡ slot_at (output ∷ error_too ∷ files) place
+pub beside_error : (output error error_too : Slot) (files : List Slot) (place : ℕ) → (place ≡ 1 → ⊥) → slot_at (output ∷ error ∷ files) place ≡ slot_at (output ∷ error_too ∷ files) place
 beside_error output error error_too files zero differs = refl
 beside_error output error error_too files (suc zero) differs = absurd (differs refl)
 beside_error output error error_too files (suc (suc place)) differs = refl
@@ -131,15 +131,15 @@ ends_alike task inputs these those new other status status_too (no_room error sa
 
 -- `tee` where no output broke and all of the input was copied
 
-met_by : Bool → Option Fault
+pub met_by : Bool → Option Fault
 met_by true = Some (Read 0)
 met_by false = None
 
 -- outputs that have these bytes beside any standard error
-abbrev copies : Mode → List (List ℕ) → List ℕ → Slot → List Slot
+abbrev pub copies : Mode → List (List ℕ) → List ℕ → Slot → List Slot
 copies mode names bytes error = adds bytes standard_output ∷ error ∷ map (λ name. closes (adds bytes (opened name mode))) names
 
-record IsLeft (mode : Mode) (names : List (List ℕ)) (content : Content) (new : List Slot) (status : ℕ) : Type 0 where
+pub record IsLeft (mode : Mode) (names : List (List ℕ)) (content : Content) (new : List Slot) (status : ℕ) : Type 0 where
   pub error : Slot
   pub slots : new ≡ copies mode names content.bytes error
   pub says : SaysAll true tool.Tee (said_of_input (met_by content.breaks_off)) standard_error error
@@ -158,7 +158,7 @@ quiet_outputs names broke pieces fault sound =
     ap (λ lines. (lines ++ said_of_input fault) ++ said_in (suc pieces) (output_names names) broke) (nothing_before (suc pieces) (output_names names) broke sound)
     ∙ ap (λ lines. said_of_input fault ++ lines) (nothing_in (suc pieces) (output_names names) broke sound) ∙ append-nil (said_of_input fault)
 
-tee_left : (mode : Mode) (names : List (List ℕ)) (content : Content) (source : Source) (new : List Slot) (status : ℕ) → (ends : tee.EndsAs true true mode names content source new status) → IsCopied ends → IsLeft mode names content new status
+pub tee_left : (mode : Mode) (names : List (List ℕ)) (content : Content) (source : Source) (new : List Slot) (status : ℕ) → (ends : tee.EndsAs true true mode names content source new status) → IsCopied ends → IsLeft mode names content new status
 tee_left mode names content source new status (tee.copied pieces fault first broke output error files comes some left rest says slots is) (sound, all) =
     let sounds = sound_first first (are_sound broke) sound in
     let met = met_is content _ _ (concat pieces) fault (some_left (suc (length pieces)) first broke sounds.0) all comes.few comes.read in record {

@@ -1,10 +1,10 @@
--- What any run of `tee` leaves is a beginning of what one leaves that met no fault.
+-- What any run of `tee` leaves is a beginning of what one leaves that no fault stopped.
 use Rattle.std.proofs.Common.{◌≡◌, ℕ, zero, suc, Bool, true, List, [], ◌∷◌, ◌++◌, map, take, Option, inl, refl, sym, ◌∙◌, ap, subst, append_assoc}
 use Rattle.std.specs.List.{concat}
 use Rattle.ports_core.specs.Slot.{Slot, adds, closes, opened, slot_at}
 use Rattle.ports_core.specs.Source.{Content, Source}
 use Rattle.ports_core.specs.Part.{IsBeginning}
-use Rattle.ports_core.specs.Streams.{standard_output}
+use Rattle.ports_core.specs.Streams.{standard_error, standard_output}
 use Rattle.ports_core.specs.declared.fault.Fault.{Fault}
 use Rattle.ports_core.specs.declared.slot.Mode.{Mode}
 use Rattle.ports_core.proofs.PartLemmas.{begins_itself, begins_trans, take_begins_after}
@@ -12,8 +12,9 @@ use Rattle.run_core.specs.Input.{Input}
 use Rattle.tee_core.specs.Run.{EndsAs, FileLeft, FilesLeft, IsRead, OutputLeft, all_copied, copied, file_cut, file_unclosed, file_unopened, file_whole, no_file, no_room, one_file, output_cut, output_whole, to_break, to_end, to_last_output, to_limit}
 use Rattle.words_core.specs.TeeAsked.{TeeAsked}
 use Rattle.tools_core.specs.Outcome.{TeeEndsAs}
-use Rattle.tools_core.specs.Promises.{BeginsAs}
+use Rattle.tools_core.specs.Promises.{BeginsAs, IsCopied}
 use Rattle.tools_core.proofs.BeginLemmas.{bare_begins, empty_begins, still_begins}
+use Rattle.tools_core.proofs.SamePromises.{beside_error, tee_left}
 use Rattle.tools_core.proofs.TeePromises.{bytes_at}
 
 -- all that was copied is a beginning of the input
@@ -66,9 +67,11 @@ copies_begin mode names content source new status place differs (copied pieces f
       at (suc zero) differs = absurd (differs refl)
       at (suc (suc place)) differs = files_begin mode pieces content.bytes names broke files all files_left place
 
-pub tee_begins : (asked : TeeAsked) (input : Input) (these those : List Source) (new other : List Slot) (status : ℕ) → TeeEndsAs true true asked (input ∷ []) these new status → TeeEndsAs true true asked (input ∷ []) those other 0
+pub tee_begins : (asked : TeeAsked) (input : Input) (these those : List Source) (new other : List Slot) (status status_too : ℕ) → TeeEndsAs true true asked (input ∷ []) these new status → (two : TeeEndsAs true true asked (input ∷ []) those other status_too) → IsCopied two.ends
     → (place : ℕ) → (place ≡ 1 → ⊥) → BeginsAs (slot_at new place) (slot_at other place)
-tee_begins asked input these those new other status one two place differs =
+tee_begins asked input these those new other status status_too one two whole place differs =
     let same : one.content.bytes ≡ two.content.bytes = sym (ap bytes_at one.input) ∙ ap bytes_at two.input in
-    subst (λ slots. BeginsAs (slot_at new place) (slot_at slots place)) (ap (all_copied true asked.mode asked.names) same ∙ sym (two.whole refl refl))
+    let left = tee_left asked.mode asked.names two.content _ other status_too two.ends whole in
+    subst (BeginsAs (slot_at new place))
+    (ap (λ bytes. slot_at (all_copied true asked.mode asked.names bytes) place) same ∙ beside_error (adds two.content.bytes standard_output) standard_error left.error _ place differs ∙ sym (ap (λ slots. slot_at slots place) left.slots))
     (copies_begin asked.mode asked.names one.content _ new status place differs one.ends)

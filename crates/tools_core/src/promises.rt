@@ -75,12 +75,12 @@ pub fn csplit_loses_nothing()
 {}
 
 /// Nothing after a fault but a beginning. Over one input that ends, whatever else a run met, standard output and each file have
-/// a beginning of what they have after a run that met no fault, which is asked for the same, over the same input. A run whose
-/// status is 1 told a fault, as far as standard error takes lines. So it did where standard output or a file broke: that it
-/// can't be written, or not be opened, is told by its name. That a file of `csplit` couldn't be removed need not be told, nor
-/// then what broke it before; each other file of that run is gone, or broken too.
+/// a beginning of what they have after a run that no fault stopped, which is asked for the same, over the same input. A run
+/// whose status is 1 told a fault, as far as standard error takes lines. So it did where standard output or a file broke: that
+/// it can't be written, or not be opened, is told by its name. That a file of `csplit` couldn't be removed need not be told,
+/// nor then what broke it before; each other file of that run is gone, or broken too.
 pub fn faults_leave_a_beginning()
-    ensures begins { (run well : Run) (asked : Settings) (input : List ℕ) → Ran run asked → Does well asked → FindAlike run well → HasInput run input → BeginsEach run well }
+    ensures begins { (run well : Run) (asked : Settings) (input : List ℕ) → Ran run asked → Completes well asked → FindAlike run well → HasInput run input → BeginsEach run well }
     ensures told { (run : Run) (asked : Settings) → Ran run asked → run.status ≡ 1 → IsTold run asked }
     ensures broken { (run : Run) (asked : Settings) (place : ℕ) → Ran run asked → (place ≡ 1 → ⊥) → (slot_at run.outputs place).is_broken ≡ true → (run.status ≡ 1) × WhyBroken run asked place }
 {}
