@@ -7,10 +7,7 @@ pub mod Matching
 pub mod Members
 pub mod Names
 pub mod Numbers
-pub mod Places
-pub mod Reach
 pub mod Refusals
-pub mod Repeats
 pub mod Searching
 pub mod Sets
 pub mod SoFar

@@ -1,5 +1,2 @@
 pub mod Answers
 pub mod Counting
-pub mod Plain
-pub mod PlainState
-pub mod Spans

@@ -1,7 +1,8 @@
 //! `csplit` as a slow program that sees a whole text at once, to compare the engine with.
 use csplit_core::{Offset, Operand, Style, Target, Times};
+use plain_core::matches_plain;
 use ports_core::Fault;
-use scan_core::{Bre, matches_plain};
+use scan_core::Bre;
 use seg_core::line::NEWLINE;
 use std::alloc::{AllocError, Global};
 
@@ -169,7 +170,7 @@ impl<'a> Cutting<'a> {
                 [text @ .., NEWLINE] => text,
                 _ => whole,
             };
-            match matches_plain(alloc, pattern, text) {
+            match matches_plain(alloc, pattern.expression(), text) {
                 Ok(has_match) => {
                     if has_match && line > passed {
                         return Ok(Some(line));

@@ -3,7 +3,8 @@ use crate::csplit_plain::{Made, plain};
 use crate::csplit_tests::run;
 use crate::test_texts::{pieces_of, short_texts};
 use csplit_core::{Operands, Style, read_operands};
-use ports_core::{Fault, MemOut, Outs};
+use mem_core::MemOut;
+use ports_core::{Fault, Outs};
 use std::alloc::Global;
 use std::test::Fail;
 

@@ -5,7 +5,8 @@ ghost use Rattle.csplit_core.specs.CsplitState.{IsReady};
 
 use crate::play::{feed, feed_and_close, has_files};
 use csplit_core::{Csplitter, Operands, Style, read_operands};
-use ports_core::{Fault, Guarded, MemOut, Outs};
+use mem_core::MemOut;
+use ports_core::{Fault, Guarded, Outs};
 use std::alloc::{AllocError, Global};
 use std::process::Abort;
 use std::test::Fail;

@@ -6,7 +6,8 @@ use crate::ends_plain::{Asked, Side, plain};
 use crate::play::{close, feed_all, open_ends};
 use crate::test_texts::{DELIMITERS, Short, short_texts};
 use ends_core::{Ends, Unit};
-use ports_core::{Fault, Guarded, MemOut};
+use mem_core::MemOut;
+use ports_core::{Fault, Guarded};
 use std::alloc::Global;
 use std::test::Fail;
 

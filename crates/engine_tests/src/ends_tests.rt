@@ -2,7 +2,8 @@
 use crate::ends_plain::{Asked, Side};
 use crate::play::{Step, open_ends, play};
 use ends_core::Unit;
-use ports_core::{Fault, MemOut};
+use mem_core::MemOut;
+use ports_core::Fault;
 use std::alloc::Global;
 use std::process::Abort;
 use std::test::Fail;

@@ -9,11 +9,12 @@ ghost use Rattle.follow_core.specs.inner.Placing.{looks_after};
 
 use ends_core::Unit;
 use follow_core::{Follow, Start};
-use ports_core::{Fault, MemOut};
+use mem_core::{Edit, MemOut, MemWatch};
+use ports_core::Fault;
 use std::alloc::Global;
 use std::process::Abort;
 use std::test::Fail;
-use watch_core::{Edit, MemWatch, Watch};
+use watch_core::Watch;
 
 /// `tail -F -n 1 f`: what is appended, a truncation, and a replacement after more was appended.
 fn by_name()

@@ -14,13 +14,13 @@ use crate::tee_tests::pass as pass_on;
 use csplit_core::{OperandFaultKind, read_operands};
 use ends_core::{Ends, Unit};
 use follow_core::{Follow, Notice, Start, notice_line};
-use ports_core::{Alphabet, Fault, Guarded, MemOut, Mode, Names, Outs, Stage};
+use mem_core::{Edit, MemOut, MemWatch};
+use ports_core::{Alphabet, Fault, Guarded, Mode, Names, Outs, Stage};
 use split_core::{Cut, Splitter};
 use std::alloc::Global;
 use std::process::Abort;
 use std::test::Fail;
 use tee_core::Tee;
-use watch_core::{Edit, MemWatch};
 
 /// An engine, as it is opened.
 #[derive(Clone, Copy)]

@@ -1,7 +1,8 @@
 //! What words are read as, and which fault is given for those that can't be.
 
 use csplit_core::{Offset, Operand, OperandFault, OperandFaultKind, Target, Times, read_operands};
-use scan_core::{Bre, BreFault, matches_plain};
+use plain_core::matches_plain;
+use scan_core::{Bre, BreFault};
 use std::alloc::Global;
 use std::process::Abort;
 
@@ -183,5 +184,5 @@ fn is_pattern(rt: &impl Abort, alloc: Global, operand: &Operand, row: &Pattern<'
 }
 
 fn finds(rt: &impl Abort, alloc: Global, pattern: &Bre, line: &[u8]) -> bool {
-    matches_plain(alloc, pattern, line).expect(rt, "there is memory")
+    matches_plain(alloc, pattern.expression(), line).expect(rt, "there is memory")
 }

@@ -12,12 +12,11 @@ use copied_twice::copy_twice;
 use csplit_core::read_operands;
 use first_lines::write_first_lines;
 use followed_file::follow_file;
+use mem_core::{Edit, MemOut, MemWatch};
 use operand_count::count_operands;
-use ports_core::MemOut;
 use std::test::Fail;
 use text_parts::write_parts;
 use text_sections::write_sections;
-use watch_core::{Edit, MemWatch};
 
 #[test]
 fn writes_first_lines(rt: HostRuntime) -> Result<(), Fail> {

@@ -7,7 +7,8 @@ ghost use Rattle.split_core.specs.Ways.{Ready};
 
 use crate::ends_plain::{Asked, Side};
 use ends_core::{Ends, Head, Tail};
-use ports_core::{Fault, Guarded, MemOut, Names, Outs, Stage};
+use mem_core::MemOut;
+use ports_core::{Fault, Guarded, Names, Outs, Stage};
 use split_core::{Cut, Splitter};
 use std::alloc::Global;
 use std::process::Abort;

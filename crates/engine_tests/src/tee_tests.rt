@@ -5,7 +5,8 @@ ghost use Rattle.ports_core.specs.Source.{IsFresh};
 ghost use Rattle.tee_core.specs.Outputs.{IsReady};
 
 use crate::play::has_files;
-use ports_core::{Fault, Inputs, MemIn, MemOut, Mode, Outs};
+use mem_core::{MemIn, MemOut};
+use ports_core::{Fault, Inputs, Mode, Outs};
 use std::alloc::Global;
 use std::process::Abort;
 use std::test::Fail;

@@ -5,13 +5,13 @@ ghost use Rattle.std.specs.Prelude.{◌≤◌, length};
 ghost use Rattle.ports_core.specs.Slot.{is_writable};
 
 use crate::compare::same;
+use mem_core::{Edit, MemIn, MemOut, MemWatch};
 use ports_core::{
-    Alphabet, Fault, Inputs, MemIn, MemOut, Mode, Names, Outs, Tool, header, message, numbered,
-    write_whole,
+    Alphabet, Fault, Inputs, Mode, Names, Outs, Tool, header, message, numbered, write_whole,
 };
 use std::alloc::Global;
 use std::process::Abort;
-use watch_core::{Edit, MemWatch, Watch};
+use watch_core::Watch;
 
 /// A call that may find no memory.
 #[derive(Clone, Copy, Debug)]

@@ -6,9 +6,10 @@ ghost use Rattle.ports_core.specs.Source.{is_readable};
 use crate::compare::{same, same_bytes};
 use crate::reading::{Call, ask, broken_input, open_and_ask};
 use crate::writing::open_output;
+use mem_core::{MemIn, MemOut};
 use ports_core::{
-    Fault, Inputs, MemIn, MemOut, Mode, Outs, Tool, UsageKind, WriteCut, fed_with,
-    memory_exhausted, message, write_whole,
+    Fault, Inputs, Mode, Outs, Tool, UsageKind, WriteCut, fed_with, memory_exhausted, message,
+    write_whole,
 };
 use std::alloc::Global;
 use std::process::Abort;

@@ -1,13 +1,14 @@
-//! The callers on the pages of `ports_core` and `watch_core`: `tests/documents` compares them with the pages.
+//! The callers on the pages of `ports_core`, `watch_core` and `mem_core`: `tests/documents` compares them with the pages.
 mod watched_size;
 mod written_file;
+mod written_text;
 
 use crate::compare::{same, same_bytes};
-use ports_core::MemOut;
+use mem_core::{Edit, MemOut, MemWatch};
 use std::test::Fail;
-use watch_core::{Edit, MemWatch};
 use watched_size::size_of;
 use written_file::write_file;
+use written_text::outputs_with;
 
 #[test]
 fn writes_a_file(rt: HostRuntime) -> Result<(), Fail> {
@@ -22,5 +23,12 @@ fn looks_at_a_file(rt: HostRuntime) -> Result<(), Fail> {
     let mut watch = MemWatch::new(rt.alloc())?;
     watch.then(&[Edit::Replace("f", b"abc")])?;
     same(&rt, &size_of("f", &mut watch), &Ok(Some(3)));
+    Ok(())
+}
+
+#[test]
+fn writes_into_memory(rt: HostRuntime) -> Result<(), Fail> {
+    let outs = outputs_with(rt.alloc(), b"abc")?;
+    same_bytes(&rt, outs.bytes(0), b"abc");
     Ok(())
 }

@@ -3,7 +3,8 @@ ghost use Rattle.std.specs.Prelude.{◌≡◌, ℕ, false, nat_eq, IfOk, OnOk, I
 ghost use Rattle.ports_core.specs.Source.{is_readable};
 
 use crate::compare::same;
-use ports_core::{DirIn, Fault, InputFiles, Inputs, MemIn};
+use mem_core::MemIn;
+use ports_core::{DirIn, Fault, InputFiles, Inputs};
 use std::alloc::Global;
 use std::process::Abort;
 

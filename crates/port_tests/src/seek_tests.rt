@@ -4,7 +4,8 @@ ghost use Rattle.ports_core.specs.Source.{is_readable};
 
 use crate::folder::{append, is_there, make_file};
 use crate::reading::{Call, ask, broken_input, inputs_of, open_and_ask, open_input};
-use ports_core::{DirIn, Fault, InputFiles, Inputs, MemIn};
+use mem_core::MemIn;
+use ports_core::{DirIn, Fault, InputFiles, Inputs};
 use std::fs;
 use std::process::Abort;
 use std::test::Fail;

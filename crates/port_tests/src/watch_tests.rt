@@ -3,11 +3,12 @@ ghost use Rattle.std.specs.Prelude.{◌≡◌, ◌∷◌, [], IsTrue, IfOk, OnOk
 ghost use Rattle.watch_core.specs.Watched.{added, is_readable, is_watchable};
 
 use crate::compare::same;
+use mem_core::{Edit, MemWatch};
 use ports_core::Fault;
 use std::alloc::Global;
 use std::process::Abort;
 use std::test::Fail;
-use watch_core::{Edit, MemWatch, Seen, Watch};
+use watch_core::{Seen, Watch};
 
 /// What is done to files before each look.
 type Looks = &'static [&'static [Edit<'static>]];

@@ -7,7 +7,6 @@ pub mod FileLemmas
 pub mod SlotLemmas
 pub mod SourceLemmas
 pub mod SpareLemmas
-pub mod MemInLemmas
 pub mod InputsLemmas
 pub mod TextLemmas
 pub mod WriteLemmas

@@ -2,7 +2,8 @@
 use crate::left::{
     Left, NOTHING, Plan, Run, check_run, check_runs, check_twice, planned_inputs, planned_outs,
 };
-use ports_core::{Fault, MemOut, Outs};
+use mem_core::MemOut;
+use ports_core::{Fault, Outs};
 use std::alloc::Global;
 use std::process::Abort;
 use std::test::Fail;

@@ -1,12 +1,12 @@
 //! Runs that follow files in memory of which each call on the watch fails in turn: what each leaves, and what it says word for word.
 //! A failed look or opening is told as a file that can't be opened, a failed length or read as one that can't be read.
 use crate::follow_tests::watch_of;
-use ports_core::{Fault, MemOut, Outs};
+use mem_core::{Edit, MemOut};
+use ports_core::{Fault, Outs};
 use std::alloc::Global;
 use std::process::Abort;
 use std::test::Fail;
 use tools_core::run_follow;
-use watch_core::Edit;
 
 /// What is on standard output and on standard error.
 type End<'a> = (&'a [u8], &'a [u8]);

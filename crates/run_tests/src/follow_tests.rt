@@ -2,14 +2,14 @@
 //! output, messages and status out; and runs in which each call is refused in turn.
 ghost use Rattle.std.specs.Prelude.{◌≡◌, [], IfOk};
 ghost use Rattle.ports_core.specs.Slot.{streams};
-ghost use Rattle.watch_core.specs.MemWatchState.{seen};
+ghost use Rattle.mem_core.specs.MemWatchState.{seen};
 
-use ports_core::{Fault, MemOut, Outs};
+use mem_core::{Edit, MemOut, MemWatch};
+use ports_core::{Fault, Outs};
 use std::alloc::Global;
 use std::process::Abort;
 use std::test::Fail;
 use tools_core::run_follow;
-use watch_core::{Edit, MemWatch};
 
 /// A run that follows: its words, the edits before each look, and what it is to leave.
 #[derive(Clone, Copy)]

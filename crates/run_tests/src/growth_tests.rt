@@ -4,7 +4,7 @@
 //! many growths.
 ghost use Rattle.std.specs.Prelude.{◌≡◌, [], IfOk};
 ghost use Rattle.ports_core.specs.Slot.{streams};
-ghost use Rattle.watch_core.specs.MemWatchState.{seen};
+ghost use Rattle.mem_core.specs.MemWatchState.{seen};
 
 use crate::args_tests::Args;
 use crate::follow_tests::{Row as Followed, TRUNCATED, TWO_FILES, watch_of};
@@ -15,13 +15,13 @@ use crate::refused_tests::{
     BEFORE_A_LINE, BEFORE_EACH_LINE, Ended, KEPT_SECTIONS, ONE_IS_MISSING, ROUND, Run, SECTIONS,
     TWO_LINES, Then, output_has_begun,
 };
-use ports_core::{Fault, MemOut, Outs};
+use mem_core::{MemOut, MemWatch};
+use ports_core::{Fault, Outs};
 use std::alloc::Global;
 use std::process::Abort;
 use std::test::Fail;
 use tools_core::run::run;
 use tools_core::{ArgsFault, read_args, run_follow};
-use watch_core::MemWatch;
 
 /// A run, what is planned for it, and all that it may say where a growth is refused.
 #[derive(Clone, Copy)]

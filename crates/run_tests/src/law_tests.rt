@@ -14,7 +14,8 @@ ghost use Rattle.words_core.specs.Words.{settings_of};
 ghost use Rattle.words_core.specs.declared.settings.Settings.{Settings};
 ghost use Rattle.words_core.specs.declared.settings.Settings.TheVariants.{Head, Split, Tail};
 
-use ports_core::{Fault, MemIn, MemOut, Outs};
+use mem_core::{MemIn, MemOut};
+use ports_core::{Fault, Outs};
 use std::alloc::Global;
 use std::process::Abort;
 use std::test::Fail;

@@ -2,7 +2,7 @@
 mod sound_run;
 
 use crate::left::inputs_of;
-use ports_core::MemOut;
+use mem_core::MemOut;
 use sound_run::runs_well;
 use std::test::Fail;
 

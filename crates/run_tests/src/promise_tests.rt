@@ -4,13 +4,13 @@ ghost use Rattle.std.specs.Prelude.{IfOk};
 
 use crate::follow_tests::watch_of;
 use crate::left::{NOTHING, Plan, Run, inputs_of, planned_inputs, planned_outs};
-use ports_core::{Fault, MemOut, Outs};
+use mem_core::{Edit, MemOut};
+use ports_core::{Fault, Outs};
 use std::alloc::Global;
 use std::process::Abort;
 use std::test::Fail;
 use tools_core::run::run;
 use tools_core::run_follow;
-use watch_core::Edit;
 
 /// Five lines, the last of them open, and one of them longer than the others.
 const TEXT: &[u8] = b"a\nbb\nccccccccc\nd\ne";

@@ -115,7 +115,7 @@ impl Bre {
     }
 
     /// The pattern as it was read.
-    pub(crate) fn expression(&self) -> &Expression
+    pub fn expression(&self) -> &Expression
         ensures { result.now ≡ self.now }
     {
         &self.expression
@@ -186,19 +186,4 @@ impl Bre {
             &mut words[..width],
         )
     }
-}
-
-/// Whether some stretch of the line, taken without its newline, matches the pattern (XBD 9.1), found by a plain slow
-/// program: for a line of n bytes it keeps (n + 1) times (n + 1) flags for what it has read and for each open group,
-/// and each token takes up to n to the power of 3 steps, an interval as many times as its bound says. `Scan::matches`
-/// returns the same fast, and without memory.
-///
-/// # Errors
-///
-/// `Memory` alone.
-pub fn matches_plain(alloc: Global, bre: &Bre, line: &[u8]) -> Result<bool, BreFault>
-    ensures exact { IfOk result (λ found. found ≡ contains bre.now line.now) }
-    ensures err { IfErr result (λ fault. fault ≡ Memory) }
-{
-    bre_core::matches_plain(alloc, bre.expression(), line)
 }

@@ -31,7 +31,7 @@ mod table;
 mod walk;
 mod words;
 
-pub use bre::{Bre, matches_plain};
+pub use bre::Bre;
 pub use bre_core::BreFault;
 pub use scan::Scan;
 pub use walk::Outcome;

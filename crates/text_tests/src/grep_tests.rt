@@ -4,7 +4,8 @@
 //! each rule of the grammar; the last ones are random, of a few tokens, with lines of `a`, `b` and `*`. Only patterns on
 //! which the two languages agree stand here: no back-references, no `\|`, `\+` or `\?`, no byte 0.
 
-use bre_core::{Expression, matches_plain};
+use bre_core::Expression;
+use plain_core::matches_plain;
 use std::alloc::Global;
 use std::process::Abort;
 

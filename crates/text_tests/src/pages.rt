@@ -1,8 +1,10 @@
-//! The callers on the pages of `seg_core`, `bre_core` and `scan_core`: `tests/documents` compares them with the pages.
+//! The callers on the pages of `seg_core`, `bre_core`, `plain_core` and `scan_core`: `tests/documents` compares them with the pages.
+mod count_positions;
 mod first_line;
 mod has_match;
 mod two_lines;
 
+use count_positions::count_positions;
 use first_line::first_line;
 use has_match::has_match;
 use scan_core::Bre;
@@ -14,6 +16,11 @@ fn takes_a_line(rt: HostRuntime) {
     assert_eq!(rt; line, b"a\n".as_slice());
     assert_eq!(rt; rest, b"b\nc\nd".as_slice());
     assert_eq!(rt; count, 2);
+}
+
+#[test]
+fn counts_positions(rt: HostRuntime) {
+    assert_eq!(rt; count_positions(rt.alloc(), b"ab*"), Ok(4));
 }
 
 #[test]

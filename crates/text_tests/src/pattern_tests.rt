@@ -1,7 +1,8 @@
 //! Rows that pin the grammar, the faults and their offsets, and the counts of positions.
 
 use crate::parts::{Part, joined};
-use bre_core::{BreFault, Expression, matches_plain};
+use bre_core::{BreFault, Expression};
+use plain_core::matches_plain;
 use std::alloc::Global;
 use std::process::Abort;
 

@@ -1,4 +1,3 @@
 pub mod WorldLemmas
 pub mod NameLemmas
-pub mod MemWatchLemmas
 pub mod DirWatchLemmas

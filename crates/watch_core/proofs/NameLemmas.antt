@@ -1,8 +1,9 @@
 -- The names that are watched, where one of them changes.
-use Rattle.std.proofs.Common.{◌≡◌, ℕ, ◌<◌, zero, suc, Bool, true, false, ◌&&◌, IsTrue, List, [], ◌∷◌, length, sym, ◌∙◌, ap, subst, arith, get_or, set}
+use Rattle.std.proofs.Common.{◌≡◌, ℕ, ◌<◌, zero, suc, Bool, true, false, ◌&&◌, IsTrue, List, [], ◌∷◌, ◌++◌, length, refl, sym, ◌∙◌, ap, subst, arith, get_or, set}
 use Rattle.std.proofs.lemmas.Bool.{false≢true}
 use Rattle.ports_core.specs.Slot.{changed_at}
 use Rattle.ports_core.proofs.SlotLemmas.{set-changed}
+use Rattle.watch_core.specs.Snapshot.{Snapshot, latest}
 use Rattle.watch_core.specs.Watched.{Watched, watched_at, is_watchable, is_readable}
 use Rattle.std.specs.Prelude.{is_some}
 
@@ -29,3 +30,9 @@ name_changes names now place change name new is within at changed =
 
 pub names_within : (names now : List Watched) (place : ℕ) → names ≡ now → IsTrue (is_watchable now place) → place < length names
 names_within names now place is can = watchable_within names place (subst (λ those. is_watchable those place ≡ true) (sym is) can)
+
+-- the last of some looks and one more
+pub latest-last : (snapshots : List Snapshot) (snapshot : Snapshot) → latest (snapshots ++ snapshot ∷ []) ≡ snapshot
+latest-last [] snapshot = refl
+latest-last (one ∷ []) snapshot = refl
+latest-last (one ∷ two ∷ snapshots) snapshot = latest-last (two ∷ snapshots) snapshot

@@ -1,6 +1,5 @@
 pub mod Snapshot
 pub mod Edits
 pub mod Watched
-pub mod MemWatchState
 pub mod DirWatchState
 pub mod inner

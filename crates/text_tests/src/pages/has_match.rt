@@ -2,7 +2,8 @@ ghost use Rattle.std.specs.Prelude.{◌≡◌, IfOk};
 ghost use Rattle.bre_core.specs.Pattern.{Pattern, Reads};
 ghost use Rattle.bre_core.specs.Search.{contains};
 
-use bre_core::{BreFault, Expression, matches_plain};
+use bre_core::{BreFault, Expression};
+use plain_core::matches_plain;
 use std::alloc::Global;
 
 /// Whether a line contains a match of the pattern that a text spells.

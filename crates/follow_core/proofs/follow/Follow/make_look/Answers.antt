@@ -3,7 +3,7 @@ use Rattle.std.proofs.lemmas.List.{with_items_is}
 use Rattle.std.specs.Vec.{with_items}
 use Rattle.watch_core.specs.Snapshot.{latest}
 use Rattle.watch_core.specs.Watched.{watched_at}
-use Rattle.watch_core.proofs.MemWatchLemmas.{latest-last}
+use Rattle.watch_core.proofs.NameLemmas.{latest-last}
 use Rattle.follow_core.specs.FollowState.{AllReady, FollowState, LooksOn, StopsOn}
 use Rattle.follow_core.specs.Standing.{NameState}
 use Rattle.follow_core.proofs.FollowLemmas.{begun_looked, begun_stopped, begun_unbroken, cause_is, fresh_unbroken, halts_at, look_made, look_stopped, makes_none, no_memory_is, not_own, other_kept, shown, visits_at}

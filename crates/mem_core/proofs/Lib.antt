@@ -1,0 +1,2 @@
+pub mod MemInLemmas
+pub mod MemWatchLemmas

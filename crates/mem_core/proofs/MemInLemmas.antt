@@ -1,0 +1,122 @@
+-- Lemmas on inputs in memory: how far one was read, where it breaks off, and what opening one finds.
+use Rattle.std.proofs.Common.{◌≡◌, ℕ, ◌+◌, ◌-◌, ◌<◌, ◌≤◌, max, Bool, true, false, List, [], ◌∷◌, ◌++◌, Some, None, length, take, drop, get_or, set, eqb, refl, sym, ◌∙◌, ap, subst, arith, length-take, length-drop, take-take, drop-drop, take-add}
+use Rattle.std.specs.Prelude.{if◌then◌else◌}
+use Rattle.std.proofs.lemmas.List.{drop-take, take-append-drop}
+use Rattle.std.proofs.lemmas.Bool.{le-leb, lt-ltb}
+use Rattle.std.proofs.Math.Dec.{leb}
+use Rattle.ports_core.specs.Slot.{changed_at}
+use Rattle.ports_core.specs.Source.{Content, Opens, OpensNothing, Source, broke, cut, gets_back, gives, missing, no_room, skips, source_of}
+use Rattle.ports_core.specs.declared.fault.Fault.TheVariants as fault
+use Rattle.ports_core.proofs.SourceLemmas.{one_changes}
+use Rattle.mem_core.specs.MemInState.{MemInState, Laid, laid_at, laid_in, breaks_in, content_of, with_break}
+
+-- the input that an input in memory is seen as
+abbrev pub seen_as : List ℕ → ℕ → Bool → Bool → Bool → ℕ → ℕ → ℕ → Source
+seen_as bytes given breaks_off is_open is_broken asked reached last = record {
+  left = record { bytes = drop given bytes; breaks_off = breaks_off };
+  is_open = is_open;
+  is_broken = is_broken;
+  asked = asked;
+  taken = take given bytes;
+  reached = reached;
+  last = last;
+}
+
+both_taken : (bytes : List ℕ) (given n : ℕ) → take (given + n) bytes ≡ take given bytes ++ take n (drop given bytes)
+both_taken bytes given n = take-add given n bytes
+
+rest_left : (bytes : List ℕ) (given n : ℕ) → drop (given + n) bytes ≡ drop n (drop given bytes)
+rest_left bytes given n = sym (drop-drop n given bytes)
+
+pub skipped : (bytes : List ℕ) (given n reached asked last : ℕ) (breaks_off is_open is_broken : Bool) → seen_as bytes (given + n) breaks_off is_open is_broken asked reached last ≡ skips n (seen_as bytes given breaks_off is_open is_broken asked reached last)
+skipped bytes given n reached asked last breaks_off is_open is_broken =
+    ap (λ those. record (seen_as bytes (given + n) breaks_off is_open is_broken asked reached last) { left = record { bytes = those; breaks_off = breaks_off } }) (rest_left bytes given n)
+    ∙ ap (λ those. record (skips n (seen_as bytes given breaks_off is_open is_broken asked reached last)) { taken = those }) (both_taken bytes given n)
+
+pub read_on : (bytes : List ℕ) (given n size most now reached asked last : ℕ) (breaks_off is_open is_broken : Bool) → given + n ≤ length bytes → most ≡ max asked size → now ≡ max reached (given + n)
+    → seen_as bytes (given + n) breaks_off is_open is_broken most now n ≡ gives size n (seen_as bytes given breaks_off is_open is_broken asked reached last)
+read_on bytes given n size most now reached asked last breaks_off is_open is_broken within greatest is =
+    skipped bytes given n now most n breaks_off is_open is_broken
+    ∙ ap (λ asks. skips n (seen_as bytes given breaks_off is_open is_broken asks now n)) greatest
+    ∙ ap (λ those. record (skips n (seen_as bytes given breaks_off is_open is_broken (max asked size) now n)) { last = those }) (sym (omega (arith, within, length-take n (drop given bytes), length-drop given bytes)))
+    ∙ ap (λ far. record (gives size n (seen_as bytes given breaks_off is_open is_broken asked reached last)) { reached = far })
+    (is ∙ ap (max reached) (sym (ap length (sym (both_taken bytes given n)) ∙ omega (arith, within, length-take (given + n) bytes))))
+
+pub set_back : (bytes : List ℕ) (given n reached asked last : ℕ) (breaks_off is_open is_broken : Bool) → given ≤ length bytes → n ≤ given
+    → seen_as bytes (given - n) breaks_off is_open is_broken asked reached (last - n) ≡ gets_back n (seen_as bytes given breaks_off is_open is_broken asked reached last)
+set_back bytes given n reached asked last breaks_off is_open is_broken within few =
+    let at : length (take given bytes) - n ≡ given - n = omega (arith, within, length-take given bytes) in
+    let joined : drop (given - n) (take given bytes) ++ drop given bytes ≡ drop (given - n) bytes = between bytes (given - n) given (omega arith) in
+    ap (set_to (take (given - n) bytes)) (sym joined)
+    ∙ ap (λ those. set_to those (drop (given - n) (take given bytes) ++ drop given bytes)) (sym (take-take (given - n) given bytes (omega arith)))
+    ∙ ap (λ k. set_to (take k (take given bytes)) (drop k (take given bytes) ++ drop given bytes)) (sym at) where
+      set_to : List ℕ → List ℕ → Source
+      set_to taken left = record { left = record { bytes = left; breaks_off = breaks_off }; is_open = is_open; is_broken = is_broken; asked = asked; taken = taken; reached = reached; last = last - n }
+
+      between : (bytes : List ℕ) (from given : ℕ) → from ≤ given → drop from (take given bytes) ++ drop given bytes ≡ drop from bytes
+      between bytes from given less =
+          let more : from + (given - from) ≡ given = omega (arith, less) in
+          ap (λ k. drop from (take k bytes) ++ drop k bytes) (sym more)
+          ∙ ap (λ those. those ++ drop (from + (given - from)) bytes) (drop-take from (given - from) bytes)
+          ∙ ap (λ those. take (given - from) (drop from bytes) ++ those) (rest_left bytes from (given - from))
+          ∙ take-append-drop (given - from) (drop from bytes)
+
+-- an input that has this many bytes is cut there
+pub cut_within : (source : Source) (at : ℕ) → at ≤ length source.left.bytes → record source { left = record { bytes = take at source.left.bytes; breaks_off = true } } ≡ cut at source
+cut_within source at within = rw le-leb refl
+
+pub break_there : (state : MemInState) (slot at : ℕ) (source new : Source) → slot < length state.sources → source ≡ get_or state.sources slot source → new ≡ cut at source → record state { sources = set state.sources slot new } ≡ with_break slot at state
+break_there state slot at source new within there is =
+    ap (λ sources. record state { sources = sources }) (one_changes state.sources state.sources slot (cut at) source new refl within there is)
+    ∙ ap (λ (b : Bool). if b then record state { sources = changed_at slot (cut at) state.sources } else record state { breaks = state.breaks ++ (slot, at) ∷ [] }) (sym (lt-ltb slot (length state.sources) within))
+
+-- a name at which nothing lies
+pub finds_nothing : (state : MemInState) (sources : List Source) (files : List Laid) (breaks : List (ℕ × ℕ)) (name : List ℕ) → record { sources = sources; files = files; breaks = breaks } ≡ state → laid_at files name ≡ None → OpensNothing true (laid_in state.files state.breaks) state.sources (sources ++ missing ∷ []) name (fault.Open (length sources))
+finds_nothing state sources files breaks name is none =
+    broke (length sources) (ap (λ (those : MemInState). length those.sources) is)
+    (λ told. ap (content_of state.breaks (length sources)) (ap (λ (those : MemInState). laid_at those.files name) (sym is) ∙ none))
+    (ap (λ (those : MemInState). those.sources ++ missing ∷ []) is)
+
+-- an input that is planned to break off is as if it were just opened
+cut_open : (within : Bool) (at : ℕ) (content : Content) → (if within then record (source_of content) { left = record { bytes = take at content.bytes; breaks_off = true } } else source_of content) ≡ source_of (if within then record (source_of content) { left = record { bytes = take at content.bytes; breaks_off = true } } else source_of content).left
+cut_open true at content = refl
+cut_open false at content = refl
+
+either_open : (here : Bool) (one other : Source) → one ≡ source_of one.left → other ≡ source_of other.left → (if here then one else other) ≡ source_of (if here then one else other).left
+either_open true one other first second = first
+either_open false one other first second = second
+
+still_open : (plans : List (ℕ × ℕ)) (slot : ℕ) (content : Content) → breaks_in plans slot (source_of content) ≡ source_of (breaks_in plans slot (source_of content)).left
+still_open [] slot content = refl
+still_open (plan ∷ plans) slot content =
+    either_open (eqb plan.0 slot) (cut plan.1 (source_of content)) (breaks_in plans slot (source_of content)) (cut_open (leb plan.1 (length content.bytes)) plan.1 content) (still_open plans slot content)
+
+-- a name at which a file lies
+pub finds_file : (state : MemInState) (sources : List Source) (files : List Laid) (breaks : List (ℕ × ℕ)) (name bytes : List ℕ) (source : Source) → record { sources = sources; files = files; breaks = breaks } ≡ state → laid_at files name ≡ Some bytes → source ≡ breaks_in breaks (length sources) (source_of (record { bytes = bytes; breaks_off = false })) → Opens true (laid_in state.files state.breaks) state.sources (sources ++ source ∷ []) name (length sources)
+finds_file state sources files breaks name bytes source is found planned =
+    record {
+      number = ap (λ (those : MemInState). length those.sources) is;
+      content = source.left;
+      lies = λ told. ap (λ (those : MemInState). laid_in those.files those.breaks (length sources) name) (sym is) ∙ ap (content_of breaks (length sources)) found ∙ ap (λ (made : Source). Some made.left) (sym planned);
+      sources = ap (λ (those : MemInState). those.sources ++ source ∷ []) is
+          ∙ ap (λ made. state.sources ++ made ∷ []) (planned ∙ still_open breaks (length sources) (record { bytes = bytes; breaks_off = false }) ∙ ap (λ (made : Source). source_of made.left) (sym planned));
+    }
+
+-- the same, as the code has it: the new list, its last member and its number by their equations
+
+pub opened_nothing : (state : MemInState) (sources new : List Source) (files : List Laid) (breaks : List (ℕ × ℕ)) (name : List ℕ) (source : Source) (slot : ℕ) → record { sources = sources; files = files; breaks = breaks } ≡ state → laid_at files name ≡ None → new ≡ sources ++ source ∷ [] → source ≡ missing → slot ≡ length sources → OpensNothing true (laid_in state.files state.breaks) state.sources new name (fault.Open slot)
+opened_nothing state sources new files breaks name source slot is none added lacks counts =
+    subst (λ number. OpensNothing true (laid_in state.files state.breaks) state.sources new name (fault.Open number)) (sym counts)
+    (subst (λ those. OpensNothing true (laid_in state.files state.breaks) state.sources those name (fault.Open (length sources))) (sym (added ∙ ap (λ last. sources ++ last ∷ []) lacks))
+    (finds_nothing state sources files breaks name is none))
+
+pub opened_file : (state : MemInState) (sources new : List Source) (files : List Laid) (breaks : List (ℕ × ℕ)) (name bytes held : List ℕ) (made source : Source) (slot : ℕ) → record { sources = sources; files = files; breaks = breaks } ≡ state → laid_at files name ≡ Some bytes → held ≡ bytes → made ≡ source_of (record { bytes = held; breaks_off = false }) → source ≡ breaks_in breaks slot made → new ≡ sources ++ source ∷ [] → slot ≡ length sources → Opens true (laid_in state.files state.breaks) state.sources new name slot
+opened_file state sources new files breaks name bytes held made source slot is found same fresh planned added counts =
+    subst (λ number. Opens true (laid_in state.files state.breaks) state.sources new name number) (sym counts)
+    (subst (λ those. Opens true (laid_in state.files state.breaks) state.sources those name (length sources)) (sym added)
+    (finds_file state sources files breaks name bytes source is found
+    (planned ∙ ap (λ number. breaks_in breaks number made) counts
+    ∙ ap (breaks_in breaks (length sources)) (fresh ∙ ap (λ those. source_of (record { bytes = those; breaks_off = false })) same))))
+
+pub kept_all : (state : MemInState) (sources new : List Source) (files : List Laid) (breaks : List (ℕ × ℕ)) (name : List ℕ) → record { sources = sources; files = files; breaks = breaks } ≡ state → new ≡ sources → OpensNothing true (laid_in state.files state.breaks) state.sources new name fault.Memory
+kept_all state sources new files breaks name is same = no_room (same ∙ ap (λ (those : MemInState). those.sources) is)

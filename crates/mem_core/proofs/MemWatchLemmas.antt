@@ -1,0 +1,121 @@
+-- A watch in memory sees at each look what was planned for it.
+use Rattle.std.proofs.Common.{◌≡◌, ℕ, ◌+◌, ◌<◌, ◌≤◌, zero, suc, Bool, true, List, [], ◌∷◌, ◌++◌, Option, Some, length, refl, sym, ◌∙◌, ap, subst, arith, get_or, set, length-append}
+use Rattle.watch_core.specs.Snapshot.{Snapshot, latest}
+use Rattle.watch_core.specs.Edits.{World, empty_world, held_in, led_to, seen_in}
+use Rattle.watch_core.specs.Watched.{Watched, Finds, Reopens, open_contents, opens, watched_at}
+use Rattle.std.specs.Prelude.{is_some}
+use Rattle.watch_core.specs.declared.watch.Seen.{Seen}
+use Rattle.mem_core.specs.MemWatchState.{MemWatchState, world_at, seen_by, seen, shows}
+use Rattle.watch_core.proofs.NameLemmas.{latest-last, name_changes, name_there}
+
+pub world_there : (worlds : List World) (n : ℕ) (world : World) → n < length worlds → world_at worlds n ≡ get_or worlds n world
+world_there [] n world within = absurd (omega arith)
+world_there (first ∷ []) zero world within = refl
+world_there (first ∷ []) (suc n) world within = absurd (omega arith)
+world_there (first ∷ next ∷ worlds) zero world within = refl
+world_there (first ∷ next ∷ worlds) (suc n) world within = world_there (next ∷ worlds) n world (omega arith)
+
+-- past the last look that was planned all is as at that look
+pub world_past : (worlds : List World) (n : ℕ) → length worlds ≤ n + 1 → world_at worlds n ≡ world_at worlds (length worlds)
+world_past [] n past = refl
+world_past (first ∷ []) n past = refl
+world_past (first ∷ next ∷ worlds) zero past = absurd (omega arith)
+world_past (first ∷ next ∷ worlds) (suc n) past = world_past (next ∷ worlds) n (omega arith)
+
+-- one more changes none of those before
+pub world_before : (worlds : List World) (more : World) (n : ℕ) → n < length worlds → world_at (worlds ++ more ∷ []) n ≡ world_at worlds n
+world_before [] more n within = absurd (omega arith)
+world_before (first ∷ []) more zero within = refl
+world_before (first ∷ []) more (suc n) within = absurd (omega arith)
+world_before (first ∷ next ∷ worlds) more zero within = refl
+world_before (first ∷ next ∷ worlds) more (suc n) within = world_before (next ∷ worlds) more n (omega arith)
+
+-- the last once more changes nothing
+pub world_again : (worlds : List World) (n : ℕ) → world_at (worlds ++ world_at worlds (length worlds) ∷ []) n ≡ world_at worlds n
+world_again [] n = refl
+world_again (first ∷ []) zero = refl
+world_again (first ∷ []) (suc n) = refl
+world_again (first ∷ next ∷ worlds) zero = refl
+world_again (first ∷ next ∷ worlds) (suc n) = world_again (next ∷ worlds) n
+
+-- the same looks at the same times
+abbrev pub SameWorlds : List World → List World → Type 0
+SameWorlds new old = (n : ℕ) → world_at new n ≡ world_at old n
+
+seen_same : (new old : List World) (n : ℕ) → SameWorlds new old → seen_by new n ≡ seen_by old n
+seen_same new old zero same = refl
+seen_same new old (suc n) same = ap (λ before. before ++ seen_in (world_at new (suc n)) ∷ []) (seen_same new old n same) ∙ ap (λ world. seen_by old n ++ seen_in world ∷ []) (same (suc n))
+
+pub length-seen : (worlds : List World) (n : ℕ) → length (seen_by worlds n) ≡ n
+length-seen worlds zero = refl
+length-seen worlds (suc n) =
+    let both : length (seen_by worlds n ++ seen_in (world_at worlds (suc n)) ∷ []) ≡ length (seen_by worlds n) + 1 = length-append (seen_by worlds n) _ in
+    let before : length (seen_by worlds n) ≡ n = length-seen worlds n in
+    omega arith
+
+pub shows_same : (new old : MemWatchState) → SameWorlds new.worlds old.worlds → shows new ≡ shows old
+shows_same new old same = let is : shows new ≡ shows old = λ i. λ n. seen_in (same (n + 1) i) in is
+
+-- one more look sees what the watch was to show
+pub turns_on : (watch : MemWatchState) (worlds : List World) → SameWorlds worlds watch.worlds
+    → seen_by worlds (watch.turns + 1) ≡ seen watch ++ shows watch (length (seen watch)) ∷ []
+turns_on watch worlds same =
+    let next : watch.turns + 1 ≡ suc watch.turns = omega arith in
+    rw (next) (seen_same worlds watch.worlds (suc watch.turns) same
+    ∙ ap (λ n. seen watch ++ seen_in (world_at watch.worlds n) ∷ []) (let count : length (seen watch) ≡ watch.turns = length-seen watch.worlds watch.turns in let more : suc watch.turns ≡ length (seen watch) + 1 = omega arith in more))
+
+-- what the last look sees are the files of its turn
+pub latest_seen : (worlds : List World) (n : ℕ) → world_at worlds 0 ≡ empty_world → latest (seen_by worlds n) ≡ seen_in (world_at worlds n)
+latest_seen worlds zero is = ap seen_in (sym is)
+latest_seen worlds (suc n) is = latest-last (seen_by worlds n) _
+
+-- what is so of the files of the last turn is so of the last look
+pub now_seen : (watch : MemWatchState) (worlds : List World) (turns : ℕ) (names : List Watched) (world : World) → record { worlds = worlds; turns = turns; watched = names } ≡ watch
+    → world_at worlds 0 ≡ empty_world → world ≡ world_at worlds turns → seen_in world ≡ latest (seen watch)
+now_seen watch worlds turns names world is empty now = ap seen_in now ∙ sym (latest_seen worlds turns empty) ∙ ap (λ (those : MemWatchState). latest (seen those)) is
+
+pub finds_now : (watch : MemWatchState) (worlds : List World) (turns place : ℕ) (names : List Watched) (world : World) (item : Watched) (found : Option Seen) → record { worlds = worlds; turns = turns; watched = names } ≡ watch
+    → world_at worlds 0 ≡ empty_world → world ≡ world_at worlds turns → place < length names → item ≡ get_or names place item
+    → Finds (seen_in world) item.name found → Finds (latest (seen watch)) (watched_at watch.watched place).name found
+finds_now watch worlds turns place names world item found is empty now within at finds =
+    subst (λ snapshot. Finds snapshot (watched_at watch.watched place).name found) (now_seen watch worlds turns names world is empty now)
+    (subst (λ (those : Watched). Finds (seen_in world) those.name found) (name_there names place item within at ∙ ap (λ (those : MemWatchState). watched_at those.watched place) is) finds)
+
+pub reopens_now : (watch : MemWatchState) (worlds : List World) (turns place : ℕ) (names : List Watched) (world : World) (item new : Watched) (file : Option ℕ) (is_there : Bool) → record { worlds = worlds; turns = turns; watched = names } ≡ watch
+    → world_at worlds 0 ≡ empty_world → world ≡ world_at worlds turns → place < length names → item ≡ get_or names place item
+    → file ≡ led_to world.links item.name → new ≡ opens file item → is_there ≡ is_some file
+    → Reopens true (latest (seen watch)) watch.watched (set names place new) place is_there
+reopens_now watch worlds turns place names world item new file is_there is empty now within at leads changed found = record {
+  file = file;
+  found = sym found;
+  names = name_changes names watch.watched place (opens file) item new (ap (λ (those : MemWatchState). those.watched) is) within at changed;
+  leads = λ told. leads ∙ ap (λ (snapshot : Snapshot). snapshot.leads item.name) (now_seen watch worlds turns names world is empty now)
+      ∙ ap (λ (those : Watched). (latest (seen watch)).leads those.name) (name_there names place item within at ∙ ap (λ (those : MemWatchState). watched_at those.watched place) is);
+}
+
+pub opened_now : (watch : MemWatchState) (worlds : List World) (turns place file : ℕ) (names : List Watched) (world : World) (item : Watched) → record { worlds = worlds; turns = turns; watched = names } ≡ watch
+    → world_at worlds 0 ≡ empty_world → world ≡ world_at worlds turns → place < length names → item ≡ get_or names place item → item.opened ≡ Some file
+    → held_in world.files file ≡ open_contents (latest (seen watch)) (watched_at watch.watched place)
+opened_now watch worlds turns place file names world item is empty now within at opened =
+    ap (λ (snapshot : Snapshot). snapshot.holds file) (now_seen watch worlds turns names world is empty now)
+    ∙ sym (ap (λ those. open_contents (latest (seen watch)) (record item { opened = those })) opened)
+    ∙ ap (open_contents (latest (seen watch))) (name_there names place item within at ∙ ap (λ (those : MemWatchState). watched_at those.watched place) is)
+
+pub turned : (watch : MemWatchState) (worlds new : List World) (turns n : ℕ) (names : List Watched) → record { worlds = worlds; turns = turns; watched = names } ≡ watch → SameWorlds new worlds → n ≡ turns + 1
+    → seen_by new n ≡ seen watch ++ shows watch (length (seen watch)) ∷ []
+turned watch worlds new turns n names is same next =
+    subst (λ (those : MemWatchState). seen_by new n ≡ seen those ++ shows those (length (seen those)) ∷ []) is
+    (ap (seen_by new) next ∙ turns_on (record { worlds = worlds; turns = turns; watched = names }) new same)
+
+-- where nothing more was planned, the last files are added once more
+pub same_again : (worlds new : List World) (world : World) → world ≡ world_at worlds (length worlds) → new ≡ worlds ++ world ∷ [] → SameWorlds new worlds
+same_again worlds new world last is n = ap (λ those. world_at those n) (is ∙ ap (λ those. worlds ++ those ∷ []) last) ∙ world_again worlds n
+
+pub still_shows : (watch new : MemWatchState) (worlds : List World) (turns : ℕ) (names : List Watched) → record { worlds = worlds; turns = turns; watched = names } ≡ watch → SameWorlds new.worlds worlds → shows new ≡ shows watch
+still_shows watch new worlds turns names is same = shows_same new (record { worlds = worlds; turns = turns; watched = names }) same ∙ ap shows is
+
+-- one look more is planned: the watch is still at one of them, and begins with no file
+pub holds_more : (worlds new : List World) (world : World) (turns n : ℕ) → turns < length worlds → world_at worlds 0 ≡ empty_world → new ≡ worlds ++ world ∷ [] → n ≤ turns + 1 → (n < length new) × (world_at new 0 ≡ empty_world)
+holds_more worlds new world turns n within empty is few =
+    let longer : length (worlds ++ world ∷ []) ≡ length worlds + 1 = length-append worlds (world ∷ []) in
+    subst (λ those. (n < length those) × (world_at those 0 ≡ empty_world)) (sym is) (omega (arith, longer, within, few), world_before worlds world 0 (omega (arith, within)) ∙ empty)

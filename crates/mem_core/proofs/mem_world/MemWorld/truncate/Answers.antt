@@ -1,0 +1,13 @@
+use Rattle.std.proofs.Common.{◌<◌, ◌≤◌, ◌∙◌, take, length, sym, ap, subst, arith}
+use Rattle.watch_core.specs.Edits.{World}
+use Rattle.watch_core.proofs.WorldLemmas.{file_changed, file_stays}
+use Rattle.mem_core.proofs.mem_world.MemWorld.truncate.Goals as goal
+
+pub returns-then-file-len : goal.returns-then-file-len
+returns-then-file-len c = file_changed c.args.self.now c.self.inside.links.items c.self.inside.files.items _ c.in-Some.file (take c.args.n) c.index_mut.result.now _ c.self.view_is
+    (sym c.file_of.ensures ∙ c.in-Some.is) (let within : c.in-Some.file < length c.self.inside.files.items = omega arith in within) c.index_mut.ensures.value
+    (c.truncate.ensures.items ∙ ap (take c.args.n) c.behind-self.view_is)
+
+pub returns-else-file-len : goal.returns-else-file-len
+returns-else-file-len c = file_stays c.args.self.now _ c.in-Some.file (take c.args.n) (sym c.file_of.ensures ∙ c.in-Some.is)
+    (subst (λ (world : World). length world.files ≤ c.in-Some.file) c.self.view_is (let beyond : length c.self.inside.files.items ≤ c.in-Some.file = omega arith in beyond))

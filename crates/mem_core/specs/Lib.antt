@@ -1,0 +1,2 @@
+pub mod MemInState
+pub mod MemWatchState

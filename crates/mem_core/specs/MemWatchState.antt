@@ -1,0 +1,49 @@
+-- What contracts see of a watch in memory.
+use Rattle.std.specs.Prelude.{ℕ, ◌+◌, zero, suc, List, [], ◌∷◌, ◌++◌, length}
+use Rattle.watch_core.specs.Snapshot.{Snapshot}
+use Rattle.watch_core.specs.Edits.{Edit, append, truncate, replace, remove, World, empty_world, edited_by, seen_in}
+use Rattle.watch_core.specs.Watched.{Watched}
+use Rattle.mem_core.specs.declared.edit.Edit.{Edit as Change}
+use Rattle.mem_core.specs.declared.edit.Edit.TheVariants as change
+
+pub record MemWatchState : Type 0 where
+  -- the files before the first look, and then at each look that was planned
+  pub worlds : List World
+  -- how many looks began
+  pub turns : ℕ
+  pub watched : List Watched
+
+abbrev pub edit_of : Change → Edit
+edit_of (change.Append name bytes) = append name.now bytes.now
+edit_of (change.Truncate name n) = truncate name.now n
+edit_of (change.Replace name bytes) = replace name.now bytes.now
+edit_of (change.Remove name) = remove name.now
+
+-- the files at the look of this number, from 1; those at the last look that was planned stay
+abbrev pub world_at : List World → ℕ → World
+world_at [] n = empty_world
+world_at (world ∷ []) n = world
+world_at (world ∷ next ∷ worlds) zero = world
+world_at (world ∷ next ∷ worlds) (suc n) = world_at (next ∷ worlds) n
+
+-- what the first n looks see
+abbrev pub seen_by : List World → ℕ → List Snapshot
+seen_by worlds zero = []
+seen_by worlds (suc n) = seen_by worlds n ++ seen_in (world_at worlds (suc n)) ∷ []
+
+abbrev pub seen : MemWatchState → List Snapshot
+seen watch = seen_by watch.worlds watch.turns
+
+abbrev pub shows : MemWatchState → ℕ → Snapshot
+shows watch n = seen_in (world_at watch.worlds (n + 1))
+
+-- one more look is planned, after these edits
+abbrev pub with_look : List Edit → MemWatchState → MemWatchState
+with_look edits watch = record watch {
+  worlds = watch.worlds
+      ++ edited_by edits (world_at watch.worlds (length watch.worlds)) ∷ [];
+}
+
+-- no name, no file and no look
+abbrev pub no_looks : MemWatchState
+no_looks = record { worlds = empty_world ∷ []; turns = 0; watched = [] }

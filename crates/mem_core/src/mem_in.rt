@@ -1,0 +1,351 @@
+ghost use Rattle.std.specs.Prelude.{◌≡◌, ◌++◌, ◌∷◌, [], ℕ, ◌+◌, ◌≤◌, ◌<◌, List, Bool, Option, Some, None, true, false, length, nat_le, take, drop, map, string_bytes, IsTrue, IfOk, IfErr, IfSome, IfNone, OnOk, OnErr};
+ghost use Rattle.ports_core.specs.Slot.{changed_at};
+ghost use Rattle.ports_core.specs.Source.{Source, Content, source_of, missing, gives, gets_back, fails, skips, Gave, BrokeOff, Shows, count_left, holds, cut};
+ghost use Rattle.mem_core.specs.MemInState.{MemInState, Laid, laid_at, laid_in, breaks_in, content_of, with_break};
+
+use ports_core::{Fault, Inputs};
+use std::alloc::{AllocError, Global};
+use std::marker::Model;
+
+/// One input in memory.
+#[derive(Drop)]
+struct MemSource {
+    bytes: Vec<u8>,
+    /// How many of the bytes reads have given.
+    given: usize,
+    breaks_off: bool,
+    is_open: bool,
+    is_broken: bool,
+    /// The length of the largest buffer that it was to fill.
+    asked: usize,
+    /// How many of the bytes reads gave, also where some of these were given back.
+    reached: usize,
+    /// How many of the bytes that the last read gave were not given back.
+    last: usize,
+}
+
+impl Model for MemSource {
+    ghost Value = { Source };
+
+    ghost view = { λ s. record { left = record { bytes = drop s.given s.bytes.items; breaks_off = s.breaks_off }; is_open = s.is_open; is_broken = s.is_broken; asked = s.asked; taken = take s.given s.bytes.items; reached = s.reached; last = s.last } };
+
+    ghost invariant = { λ s. (s.given ≤ length s.bytes.items) × (s.last ≤ s.given) };
+}
+
+impl MemSource {
+    /// An input that holds these bytes and hasn't been read yet.
+    fn new(bytes: Vec<u8>) -> Self
+        ensures { result ≡ source_of (record { bytes = bytes.items; breaks_off = false }) }
+    {
+        MemSource {
+            bytes,
+            given: 0,
+            breaks_off: false,
+            is_open: true,
+            is_broken: false,
+            asked: 0,
+            reached: 0,
+            last: 0,
+        }
+    }
+
+    fn missing(alloc: Global) -> Self
+        ensures { result ≡ missing }
+    {
+        MemSource {
+            bytes: Vec::new(alloc),
+            given: 0,
+            breaks_off: false,
+            is_open: false,
+            is_broken: true,
+            asked: 0,
+            reached: 0,
+            last: 0,
+        }
+    }
+
+    /// Fills a beginning of the buffer with at most `most` bytes, and returns how many. None where the input breaks
+    /// off.
+    fn read(&mut self, buffer: &mut [u8], most: usize) -> Option<usize>
+        requires { 0 < most }
+        ensures bound { IfSome result (λ n. n ≤ length buffer.old) }
+        ensures gave { IfSome result (Gave self.old.left buffer.old buffer.new) }
+        ensures rest { IfSome result (λ n. self.new ≡ gives (length buffer.old) n self.old) }
+        ensures broke { IfNone result (BrokeOff self.old.left) }
+        ensures broken { IfNone result (self.new ≡ fails (length buffer.old) self.old) }
+    {
+        self.asked = self.asked.max(buffer.len());
+        let left = self.bytes.len() - self.given;
+        if left == 0 && self.breaks_off && !buffer.is_empty() {
+            self.is_broken = true;
+            return None;
+        }
+        let n = left.min(most).min(buffer.len());
+        buffer[..n].copy_from_slice(&self.bytes[self.given..self.given + n]);
+        self.given += n;
+        self.reached = self.reached.max(self.given);
+        self.last = n;
+        Some(n)
+    }
+
+    fn left(&self) -> Option<u64>
+        ensures { result ≡ count_left self.now.left }
+    {
+        let count = (self.bytes.len() - self.given) as u64;
+        if !self.breaks_off { Some(count) } else { None }
+    }
+
+    /// Fills the buffer with the bytes from a place on, where there are as many.
+    fn read_at(&self, place: u64, buffer: &mut [u8]) -> bool
+        ensures could { result ≡ nat_le (place + length buffer.old) (length self.now.left.bytes) }
+        ensures shows { IsTrue result → Shows self.now.left.bytes place buffer.new }
+    {
+        let left = &self.bytes[self.given..];
+        if (left.len() as u64) < place {
+            return false;
+        }
+        let from = &left[place as usize..];
+        if from.len() < buffer.len() {
+            return false;
+        }
+        buffer.copy_from_slice(&from[..buffer.len()]);
+        true
+    }
+
+    fn skip(&mut self, count: u64)
+        requires { count ≤ length self.old.left.bytes }
+        ensures { self.new ≡ skips count self.old }
+    {
+        self.given += count as usize;
+    }
+
+    fn give_back(&mut self, count: u64)
+        requires { count ≤ self.old.last }
+        ensures { self.new ≡ gets_back count self.old }
+    {
+        self.given -= count as usize;
+        self.last -= count as usize;
+    }
+
+    fn break_at(&mut self, at: usize)
+        ensures { self.new ≡ cut at self.old }
+    {
+        if at <= self.bytes.len() - self.given {
+            self.bytes.truncate(self.given + at);
+            self.breaks_off = true;
+        }
+    }
+}
+
+/// A file in memory.
+#[derive(Drop)]
+struct MemFile {
+    name: String,
+    bytes: Vec<u8>,
+}
+
+impl Model for MemFile {
+    ghost Value = { Laid };
+
+    ghost view = { λ f. record { name = string_bytes f.name; bytes = f.bytes.items } };
+}
+
+/// Where an input that isn't opened yet is to break off.
+#[derive(Clone, Copy)]
+struct Break {
+    slot: usize,
+    at: usize,
+}
+
+/// Inputs in memory, which tell their bytes. For tests, reads can be made short and an input can be made to fail.
+#[derive(Drop)]
+pub struct MemIn {
+    alloc: Global,
+    sources: Vec<MemSource>,
+    files: Vec<MemFile>,
+    breaks: Vec<Break>,
+    /// The most bytes that a read gives.
+    piece: usize,
+}
+
+impl Model for MemIn {
+    ghost Value = { MemInState };
+
+    ghost view = { λ m. record { sources = m.sources.items; files = m.files.items; breaks = map (λ b. (b.slot, b.at)) m.breaks.items } };
+
+    ghost invariant = { λ m. 0 < m.piece };
+}
+
+impl MemIn {
+    /// An empty standard input, and no files.
+    ///
+    /// # Errors
+    ///
+    /// `Memory` where there is no room for it.
+    pub fn new(alloc: Global) -> Result<Self, Fault>
+        ensures ok { IfOk result (λ inputs. inputs ≡ record { sources = source_of (record { bytes = []; breaks_off = false }) ∷ []; files = []; breaks = [] }) }
+        ensures err { IfErr result (λ fault. fault ≡ Fault.Memory) }
+    {
+        let mut sources = Vec::new(alloc);
+        if sources.push(MemSource::new(Vec::new(alloc))).is_err() {
+            return Err(Fault::Memory);
+        }
+        Ok(MemIn {
+            alloc,
+            sources,
+            files: Vec::new(alloc),
+            breaks: Vec::new(alloc),
+            piece: usize::MAX,
+        })
+    }
+
+    /// Gives standard input these bytes in place of those that it had, and takes memory for them.
+    ///
+    /// # Errors
+    ///
+    /// `Memory` where there is no room for the bytes: nothing is changed.
+    pub fn input(&mut self, bytes: &[u8]) -> Result<(), Fault>
+        ensures ok { OnOk result (self.new ≡ record self.old { sources = changed_at 0 (holds bytes.now) self.old.sources }) }
+        ensures err { IfErr result (λ fault. (fault ≡ Fault.Memory) × (self.new ≡ self.old)) }
+    {
+        let bytes = Vec::from_slice(self.alloc, bytes)?;
+        if let Some(standard) = self.sources.first_mut() {
+            *standard = MemSource::new(bytes);
+        }
+        Ok(())
+    }
+
+    /// Adds a file with this name and these bytes, and takes memory for both. Of several files of one name the first
+    /// counts.
+    ///
+    /// # Errors
+    ///
+    /// `Memory` where there is no room for it: nothing is changed.
+    pub fn file(&mut self, name: &str, bytes: &[u8]) -> Result<(), Fault>
+        ensures ok { OnOk result (self.new ≡ record self.old { files = self.old.files ++ record { name = name.now; bytes = bytes.now } ∷ [] }) }
+        ensures err { IfErr result (λ fault. (fault ≡ Fault.Memory) × (self.new ≡ self.old)) }
+    {
+        let file = laid(self.alloc, name, bytes)?;
+        Ok(self.files.push(file)?)
+    }
+
+    /// Limits each read to `n` bytes.
+    pub fn pieces(&mut self, n: usize)
+        requires { 0 < n }
+        ensures { self.new ≡ self.old }
+    {
+        self.piece = n;
+    }
+
+    /// Makes an input fail after it has given `at` more bytes; one that holds fewer ends as before. An input that
+    /// isn't opened yet fails once it has given `at` bytes. Of several such plans for one input the first counts.
+    ///
+    /// # Errors
+    ///
+    /// `Memory` where there is no room for the plan: nothing is changed.
+    pub fn break_at(&mut self, slot: usize, at: usize) -> Result<(), Fault>
+        ensures ok { OnOk result (self.new ≡ with_break slot at self.old) }
+        ensures err { IfErr result (λ fault. (fault ≡ Fault.Memory) × (self.new ≡ self.old)) }
+    {
+        if slot < self.sources.len() {
+            self.sources[slot].break_at(at);
+            return Ok(());
+        }
+        Ok(self.breaks.push(Break { slot, at })?)
+    }
+}
+
+fn laid(alloc: Global, name: &str, bytes: &[u8]) -> Result<MemFile, AllocError>
+    ensures { IfOk result (λ file. file ≡ record { name = name.now; bytes = bytes.now }) }
+{
+    Ok(MemFile {
+        name: String::from_str(alloc, name)?,
+        bytes: Vec::from_slice(alloc, bytes)?,
+    })
+}
+
+/// The bytes of the first file of this name.
+fn find<'a>(mut files: &'a [MemFile], name: &str) -> Option<&'a [u8]>
+    ensures some { IfSome result (λ bytes. laid_at files.entry.now name.now ≡ Some bytes.now) }
+    ensures none { IfNone result (laid_at files.entry.now name.now ≡ None) }
+{
+    while let [file, rest @ ..] = files {
+        if file.name.as_str() == name {
+            return Some(file.bytes.as_slice());
+        }
+        files = rest;
+    }
+    None
+}
+
+/// Makes an input break off where it is planned to, by the first plan for its number.
+fn break_as_planned(source: &mut MemSource, mut breaks: &[Break], slot: usize)
+    ensures { source.new ≡ breaks_in (map (λ b. (b.slot, b.at)) breaks.entry.now) slot source.old }
+{
+    while let [plan, rest @ ..] = breaks {
+        if plan.slot == slot {
+            source.break_at(plan.at);
+            return;
+        }
+        breaks = rest;
+    }
+}
+
+/// Adds an input after the others, and returns whether there was memory for it.
+fn keep(sources: &mut Vec<MemSource>, source: MemSource) -> bool
+    ensures kept { IsTrue result → sources.new.items ≡ sources.old.items ++ source ∷ [] }
+    ensures full { result ≡ false → sources.new.items ≡ sources.old.items }
+{
+    sources.push(source).is_ok()
+}
+
+impl Inputs for MemIn {
+    ghost sources = { λ inputs. inputs.sources };
+
+    ghost laid = { λ inputs. laid_in inputs.files inputs.breaks };
+
+    ghost told = { true };
+
+    fn open(&mut self, name: &str) -> Result<usize, Fault> {
+        let slot = self.sources.len();
+        let Some(bytes) = find(&self.files, name) else {
+            if keep(&mut self.sources, MemSource::missing(self.alloc)) {
+                return Err(Fault::Open(slot));
+            }
+            return Err(Fault::Memory);
+        };
+        let bytes = Vec::from_slice(self.alloc, bytes)?;
+        let mut source = MemSource::new(bytes);
+        break_as_planned(&mut source, &self.breaks, slot);
+        if keep(&mut self.sources, source) {
+            return Ok(slot);
+        }
+        Err(Fault::Memory)
+    }
+
+    fn read(&mut self, slot: usize, buffer: &mut [u8]) -> Result<usize, Fault> {
+        let piece = self.piece;
+        let Some(n) = self.sources[slot].read(buffer, piece) else {
+            return Err(Fault::Read(slot));
+        };
+        Ok(n)
+    }
+
+    fn left(&self, slot: usize) -> Option<u64> {
+        self.sources[slot].left()
+    }
+
+    fn read_at(&self, slot: usize, place: u64, buffer: &mut [u8]) -> bool {
+        self.sources[slot].read_at(place, buffer)
+    }
+
+    fn skip(&mut self, slot: usize, count: u64, left: u64) -> bool {
+        let _ = left;
+        self.sources[slot].skip(count);
+        true
+    }
+
+    fn give_back(&mut self, slot: usize, count: u64) {
+        self.sources[slot].give_back(count);
+    }
+}

@@ -1,0 +1,352 @@
+ghost use Rattle.std.specs.Prelude.{◌≡◌, ◌++◌, ◌∷◌, [], ℕ, ◌+◌, ◌≤◌, ◌<◌, List, length, take, replicate, string_bytes, true, false, IsTrue, IfOk, IfErr, IfSome, OnOk, OnErr, OnSome, IfNone};
+ghost use Rattle.ports_core.specs.Slot.{Slot, adds, breaks, closes, removes, opened, unopened, streams, slot_at, is_removed};
+
+use ports_core::{Fault, Mode, Outs, State};
+use std::alloc::{AllocError, Global};
+use std::marker::Model;
+
+/// One output in memory.
+#[derive(Drop)]
+struct MemSlot {
+    name: String,
+    mode: Mode,
+    bytes: Vec<u8>,
+    state: State,
+    is_broken: bool,
+}
+
+impl Model for MemSlot {
+    ghost Value = { Slot };
+
+    ghost view = { λ s. record { name = string_bytes s.name; mode = s.mode; written = s.bytes.items; state = s.state; is_broken = s.is_broken } };
+}
+
+impl MemSlot {
+    fn opened(alloc: Global, name: &str, mode: Mode) -> Result<Self, AllocError>
+        ensures { IfOk result (λ slot. slot ≡ opened name.now mode) }
+    {
+        Ok(MemSlot {
+            name: String::from_str(alloc, name)?,
+            mode,
+            bytes: Vec::new(alloc),
+            state: State::Open,
+            is_broken: false,
+        })
+    }
+
+    fn unopened(alloc: Global, name: String) -> Self
+        ensures { result ≡ unopened (string_bytes name) }
+    {
+        MemSlot {
+            name,
+            mode: Mode::Fresh,
+            bytes: Vec::new(alloc),
+            state: State::Unopened,
+            is_broken: true,
+        }
+    }
+
+    /// Appends as much of the piece as there is room for, and returns how many bytes that is. None where it has bytes
+    /// and none fits, or where there is no memory.
+    fn append(&mut self, piece: &[u8], room: usize) -> Option<usize>
+        ensures within { IfSome result (λ n. n ≤ length piece.now) }
+        ensures some { IfSome result (λ n. 0 < length piece.now → 0 < n) }
+        ensures added { IfSome result (λ n. self.new ≡ adds (take n piece.now) self.old) }
+        ensures broke { IfNone result (self.new ≡ breaks self.old) }
+    {
+        let taken = piece.len().min(room);
+        let fits = taken > 0 || piece.is_empty();
+        if fits && self.bytes.extend_from_slice(&piece[..taken]).is_ok() {
+            return Some(taken);
+        }
+        self.break_off();
+        None
+    }
+
+    fn close(&mut self)
+        ensures { self.new ≡ closes self.old }
+    {
+        self.state = State::Closed;
+    }
+
+    fn break_off(&mut self)
+        ensures { self.new ≡ breaks self.old }
+    {
+        self.is_broken = true;
+    }
+
+    /// Closes the output by a close or a removal that fails.
+    fn close_broken(&mut self)
+        ensures { self.new ≡ breaks (closes self.old) }
+    {
+        self.close();
+        self.break_off();
+    }
+
+    fn remove(&mut self)
+        ensures { self.new ≡ removes self.old }
+    {
+        self.state = State::Removed;
+    }
+}
+
+/// How many bytes an output takes in all.
+#[derive(Clone, Copy)]
+struct Limit {
+    slot: usize,
+    bytes: usize,
+}
+
+/// Outputs in memory, which tell their bytes. An output for which no memory is found breaks. For tests, an output can
+/// be given a limit at which it breaks, writes can be made short, and a call can be made to fail.
+#[derive(Drop)]
+pub struct MemOut {
+    alloc: Global,
+    slots: Vec<MemSlot>,
+    /// How many outputs after `slots` couldn't be opened, and found no memory to be kept.
+    lost: usize,
+    limits: Vec<Limit>,
+    /// The most bytes that a write takes.
+    most: usize,
+    /// The number of calls from now to the one that fails, which is counted too. None where none is to fail.
+    failing_in: Option<u64>,
+}
+
+impl Model for MemOut {
+    ghost Value = { List Slot };
+
+    ghost view = { λ m. m.slots.items ++ replicate m.lost (unopened []) };
+}
+
+impl MemOut {
+    /// Standard output and standard error, both empty.
+    ///
+    /// # Errors
+    ///
+    /// `Memory` where there is no room for them.
+    pub fn new(alloc: Global) -> Result<Self, Fault>
+        ensures ok { IfOk result (λ outs. outs ≡ streams) }
+        ensures err { IfErr result (λ fault. fault ≡ Fault.Memory) }
+    {
+        Ok(MemOut {
+            alloc,
+            slots: standard_streams(alloc)?,
+            lost: 0,
+            limits: Vec::new(alloc),
+            most: usize::MAX,
+            failing_in: None,
+        })
+    }
+
+    /// Lets an output, opened already or later, take this many bytes in all. The first write beyond them breaks it.
+    /// Of several limits for one output the first counts.
+    ///
+    /// # Errors
+    ///
+    /// `Memory` where there is no room to note the limit: nothing is changed.
+    pub fn limit(&mut self, slot: usize, bytes: usize) -> Result<(), Fault>
+        ensures same { self.new ≡ self.old }
+        ensures err { IfErr result (λ fault. fault ≡ Fault.Memory) }
+    {
+        Ok(self.limits.push(Limit { slot, bytes })?)
+    }
+
+    /// Limits each write to `n` bytes.
+    pub fn short(&mut self, n: usize)
+        requires { 0 < n }
+        ensures { self.new ≡ self.old }
+    {
+        self.most = n;
+    }
+
+    /// Makes one of the calls of `open`, `write`, `close` and `remove` fail, counted from here on; the next call has
+    /// the number 1.
+    pub fn fail_at(&mut self, call: u64)
+        ensures { self.new ≡ self.old }
+    {
+        self.failing_in = Some(call);
+    }
+
+    /// Whether the file of an output was removed; false where there is no output of that number.
+    pub fn removed(&self, slot: usize) -> bool
+        ensures { result ≡ is_removed (slot_at self.now slot).state }
+    {
+        match slot_in(&self.slots, slot) {
+            Some(out) => match out.state {
+                State::Removed => true,
+                State::Open | State::Closed | State::Unopened => false,
+            },
+            None => false,
+        }
+    }
+
+    /// The bytes written through an output; none where there is no output of that number.
+    pub fn bytes(&self, slot: usize) -> &[u8]
+        ensures { result.now ≡ (slot_at self.now slot).written }
+    {
+        match slot_in(&self.slots, slot) {
+            Some(out) => out.bytes.as_slice(),
+            None => &[],
+        }
+    }
+}
+
+/// The output with this number. None where it wasn't kept.
+fn slot_in(slots: &[MemSlot], place: usize) -> Option<&MemSlot>
+    ensures found { IfSome result (λ slot. (place < length slots.now) × (slot.now ≡ slot_at slots.now place)) }
+    ensures none { IfNone result (length slots.now ≤ place) }
+{
+    slots.get(place)
+}
+
+fn standard_streams(alloc: Global) -> Result<Vec<MemSlot>, AllocError>
+    ensures { IfOk result (λ slots. slots.items ≡ streams) }
+{
+    let mut slots = Vec::new(alloc);
+    slots.push(MemSlot::opened(alloc, "standard output", Mode::Append)?)?;
+    slots.push(MemSlot::opened(alloc, "standard error", Mode::Append)?)?;
+    Ok(slots)
+}
+
+/// How many bytes an output that holds some already still takes, by the first limit that was set for it.
+fn room(limits: &[Limit], slot: usize, held: usize) -> usize {
+    for limit in limits {
+        if limit.slot == slot {
+            return limit.bytes.saturating_sub(held);
+        }
+    }
+    usize::MAX
+}
+
+/// Whether this is the call that is to fail.
+fn fails(failing_in: &mut Option<u64>) -> bool {
+    match *failing_in {
+        Some(1) => {
+            *failing_in = None;
+            true
+        }
+        Some(calls) => {
+            *failing_in = Some(calls.saturating_sub(1));
+            false
+        }
+        None => false,
+    }
+}
+
+/// Gives outputs that couldn't be opened their own places in the list, as far as there is memory.
+fn restore(alloc: Global, slots: &mut Vec<MemSlot>, lost: &mut usize)
+    ensures same { slots.new.items ++ replicate lost.new (unopened []) ≡ slots.old.items ++ replicate lost.old (unopened []) }
+    ensures fewer { lost.new ≤ lost.old }
+{
+    while *lost > 0 {
+        if slots
+            .push(MemSlot::unopened(alloc, String::new(alloc)))
+            .is_err()
+        {
+            return;
+        }
+        *lost -= 1;
+    }
+}
+
+/// Adds an opened output after the others, and returns whether there was memory for it.
+fn place(alloc: Global, slots: &mut Vec<MemSlot>, name: &str, mode: Mode) -> bool
+    ensures placed { IsTrue result → slots.new.items ≡ slots.old.items ++ opened name.now mode ∷ [] }
+    ensures unplaced { result ≡ false → slots.new.items ≡ slots.old.items }
+{
+    match MemSlot::opened(alloc, name, mode) {
+        Ok(slot) => slots.push(slot).is_ok(),
+        Err(AllocError) => false,
+    }
+}
+
+/// Adds an output that couldn't be opened after the others, and returns whether there was memory for it.
+fn place_unopened(alloc: Global, slots: &mut Vec<MemSlot>, name: &str) -> bool
+    ensures placed { IsTrue result → slots.new.items ≡ slots.old.items ++ unopened name.now ∷ [] }
+    ensures unplaced { result ≡ false → slots.new.items ≡ slots.old.items }
+{
+    match String::from_str(alloc, name) {
+        Ok(name) => slots.push(MemSlot::unopened(alloc, name)).is_ok(),
+        Err(AllocError) => false,
+    }
+}
+
+impl Outs for MemOut {
+    ghost slots = { λ outs. outs };
+
+    ghost told = { true };
+
+    fn open(&mut self, name: &str, mode: Mode) -> Result<usize, Fault> {
+        let slot = match self.slots.len().checked_add(self.lost) {
+            Some(slot) => slot,
+            None => return Err(Fault::Memory),
+        };
+        if slot == usize::MAX {
+            return Err(Fault::Memory);
+        }
+        restore(self.alloc, &mut self.slots, &mut self.lost);
+        if self.lost > 0 {
+            self.lost += 1;
+            return Err(Fault::Open(slot));
+        }
+        if fails(&mut self.failing_in) {
+            if place_unopened(self.alloc, &mut self.slots, name) {
+                return Err(Fault::Open(slot));
+            }
+            self.lost += 1;
+            return Err(Fault::Open(slot));
+        }
+        if place(self.alloc, &mut self.slots, name, mode) {
+            return Ok(slot);
+        }
+        self.lost += 1;
+        Err(Fault::Open(slot))
+    }
+
+    fn write(&mut self, slot: usize, piece: &[u8]) -> Result<usize, Fault> {
+        let out = &mut self.slots[slot];
+        if fails(&mut self.failing_in) {
+            out.break_off();
+            return Err(Fault::Write(slot));
+        }
+        let room = room(&self.limits, slot, out.bytes.len()).min(self.most);
+        let Some(taken) = out.append(piece, room) else {
+            return Err(Fault::Write(slot));
+        };
+        Ok(taken)
+    }
+
+    fn close(&mut self, slot: usize) -> Result<(), Fault> {
+        let out = &mut self.slots[slot];
+        if fails(&mut self.failing_in) {
+            out.close_broken();
+            return Err(Fault::Write(slot));
+        }
+        out.close();
+        Ok(())
+    }
+
+    fn remove(&mut self, slot: usize) -> Result<(), Fault> {
+        let out = &mut self.slots[slot];
+        if fails(&mut self.failing_in) {
+            out.close_broken();
+            return Err(Fault::Write(slot));
+        }
+        out.remove();
+        Ok(())
+    }
+
+    fn broken(&self, slot: usize) -> bool {
+        match slot_in(&self.slots, slot) {
+            Some(out) => out.is_broken,
+            None => slot - self.slots.len() < self.lost,
+        }
+    }
+
+    fn name(&self, slot: usize) -> &str {
+        match slot_in(&self.slots, slot) {
+            Some(out) => out.name.as_str(),
+            None => "",
+        }
+    }
+}

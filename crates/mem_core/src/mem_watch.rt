@@ -1,0 +1,311 @@
+ghost use Rattle.std.specs.Prelude.{◌≡◌, ◌<◌, ◌≤◌, ◌-◌, ◌^◌, ◌∷◌, ◌++◌, [], ℕ, map, length, true, false, string_bytes, IfOk, IfErr, OnOk, IfSome, IfNone, IsTrue, is_some};
+ghost use Rattle.watch_core.specs.Edits.{empty_world, seen_in};
+ghost use Rattle.watch_core.specs.Snapshot.{latest};
+ghost use Rattle.mem_core.specs.MemWatchState.{MemWatchState, edit_of, no_looks, seen, shows, with_look, world_at};
+ghost use Rattle.watch_core.specs.Watched.{Finds, GaveFrom, Watched, added, breaks, is_readable, open_contents, opens, watched_at};
+
+use crate::Edit;
+use crate::mem_world::MemWorld;
+use ports_core::{Fault, MOST_BYTES};
+use std::alloc::{AllocError, Global};
+use std::marker::Model;
+use watch_core::{Seen, Watch};
+
+/// A name that is watched in memory.
+#[derive(Drop)]
+struct MemName {
+    name: String,
+    opened: Option<usize>,
+    /// The fault by which it broke.
+    failed: Option<Fault>,
+}
+
+impl Model for MemName {
+    ghost Value = { Watched };
+
+    ghost view = { λ n. record { name = string_bytes n.name; opened = n.opened; failed = n.failed } };
+}
+
+impl MemName {
+    fn new(alloc: Global, name: &str) -> Result<Self, AllocError>
+        ensures { IfOk result (λ watched. watched ≡ added name.now) }
+    {
+        Ok(MemName {
+            name: String::from_str(alloc, name)?,
+            opened: None,
+            failed: None,
+        })
+    }
+
+    /// The identity of the open file.
+    fn id(&self) -> Option<u128>
+        ensures { result ≡ self.now.opened }
+    {
+        match self.opened {
+            Some(file) => Some(file as u128),
+            None => None,
+        }
+    }
+
+    /// Makes a file the open one, or none, and returns whether there is one.
+    fn open(&mut self, file: Option<usize>) -> bool
+        ensures opened { self.new ≡ opens file self.old }
+        ensures found { result ≡ is_some file }
+    {
+        self.opened = file;
+        file.is_some()
+    }
+
+    fn break_off(&mut self, fault: Fault)
+        ensures { self.new ≡ breaks fault self.old }
+    {
+        self.failed = Some(fault);
+    }
+}
+
+/// Files in memory, which tell their bytes, and whose changes are planned look by look. For tests, a call can be made to fail.
+/// It keeps the files of each look, and takes memory for all of them.
+#[derive(Drop)]
+pub struct MemWatch {
+    alloc: Global,
+    /// The files before the first look, and then at each look that was planned.
+    worlds: Vec<MemWorld>,
+    /// How many looks began.
+    turns: usize,
+    names: Vec<MemName>,
+    /// The number of calls from now to the one that fails, which is counted too. None where none is to fail.
+    failing_in: Option<u64>,
+}
+
+impl Model for MemWatch {
+    ghost Value = { MemWatchState };
+
+    ghost view = { λ w. record { worlds = w.worlds.items; turns = w.turns; watched = w.names.items } };
+
+    ghost invariant = { λ w. (w.turns < length w.worlds.items) × (world_at w.worlds.items 0 ≡ empty_world) };
+}
+
+impl MemWatch {
+    /// No file, no name and no look.
+    ///
+    /// # Errors
+    ///
+    /// `Memory` where there is no room for it.
+    pub fn new(alloc: Global) -> Result<Self, Fault>
+        ensures ok { IfOk result (λ watch. watch ≡ no_looks) }
+        ensures err { IfErr result (λ fault. fault ≡ Fault.Memory) }
+    {
+        let mut worlds = Vec::new(alloc);
+        if worlds.push(MemWorld::empty(alloc)).is_err() {
+            return Err(Fault::Memory);
+        }
+        Ok(MemWatch {
+            alloc,
+            worlds,
+            turns: 0,
+            names: Vec::new(alloc),
+            failing_in: None,
+        })
+    }
+
+    /// Plans one more look, before which these edits are made, in order, after those of the looks that were planned before. Looks
+    /// that come after the last one planned see no change.
+    ///
+    /// # Errors
+    ///
+    /// `Memory` where there is no room for it: nothing is changed.
+    pub fn then(&mut self, edits: &[Edit<'_>]) -> Result<(), Fault>
+        ensures ok { OnOk result (self.new ≡ with_look (map edit_of edits.now) self.old) }
+        ensures err { IfErr result (λ fault. (fault ≡ Fault.Memory) × (self.new ≡ self.old)) }
+    {
+        let mut world = copy_last(self.alloc, &self.worlds)?;
+        world.edit_all(self.alloc, edits)?;
+        if keep(&mut self.worlds, world) {
+            return Ok(());
+        }
+        Err(Fault::Memory)
+    }
+
+    /// What the open file of a name holds.
+    fn open_bytes(&self, place: usize) -> &[u8]
+        requires { IsTrue (is_readable self.now.watched place) }
+        ensures { result.now ≡ open_contents (latest (seen self.now)) (watched_at self.now.watched place) }
+    {
+        match self.names[place].opened {
+            Some(file) => world_in(&self.worlds, self.turns).bytes(file),
+            None => &[],
+        }
+    }
+
+    /// Makes one of the calls of `look`, `reopen`, `open_len` and `read_at` fail, counted from here on; the next call has the
+    /// number 1.
+    pub fn fail_at(&mut self, call: u64)
+        ensures { self.new ≡ self.old }
+    {
+        self.failing_in = Some(call);
+    }
+}
+
+/// The file to which a name leads.
+fn find(world: &MemWorld, name: &str) -> Option<Seen>
+    ensures { Finds (seen_in world.now) name.now result }
+{
+    match world.file_of(name) {
+        Some(file) => Some(Seen {
+            id: file as u128,
+            len: world.bytes(file).len() as u64,
+        }),
+        None => None,
+    }
+}
+
+/// Whether the file has no more bytes than a watch tells.
+fn fits(found: Option<Seen>) -> bool
+    ensures { IsTrue result → IfSome found (λ file. file.len < 2 ^ 63) }
+{
+    match found {
+        Some(file) => file.len <= MOST_BYTES,
+        None => true,
+    }
+}
+
+/// Fills a beginning of the buffer with the bytes from a place on, and returns how many there are.
+fn read_from(bytes: &[u8], from: u64, buffer: &mut [u8]) -> usize
+    ensures gave { GaveFrom bytes.now from buffer.old buffer.new result }
+    ensures bound { result ≤ length buffer.old }
+{
+    if from >= bytes.len() as u64 {
+        return 0;
+    }
+    let left = &bytes[from as usize..];
+    let n = left.len().min(buffer.len());
+    buffer[..n].copy_from_slice(&left[..n]);
+    n
+}
+
+/// The files at the look of this number.
+fn world_in(worlds: &[MemWorld], n: usize) -> &MemWorld
+    requires { n < length worlds.now }
+    ensures { result.now ≡ world_at worlds.now n }
+{
+    &worlds[n]
+}
+
+/// The files at the last look that was planned, once more.
+fn copy_last(alloc: Global, worlds: &[MemWorld]) -> Result<MemWorld, AllocError>
+    requires { 0 < length worlds.now }
+    ensures { IfOk result (λ world. world ≡ world_at worlds.now (length worlds.now)) }
+{
+    world_in(worlds, worlds.len() - 1).copy(alloc)
+}
+
+/// Adds the files of one more look, and returns whether there was memory for that.
+fn keep(worlds: &mut Vec<MemWorld>, world: MemWorld) -> bool
+    ensures kept { IsTrue result → worlds.new.items ≡ worlds.old.items ++ world ∷ [] }
+    ensures full { result ≡ false → worlds.new.items ≡ worlds.old.items }
+{
+    worlds.push(world).is_ok()
+}
+
+/// Adds a name, and returns whether there was memory for that.
+fn keep_name(names: &mut Vec<MemName>, name: MemName) -> bool
+    ensures kept { IsTrue result → names.new.items ≡ names.old.items ++ name ∷ [] }
+    ensures full { result ≡ false → names.new.items ≡ names.old.items }
+{
+    names.push(name).is_ok()
+}
+
+/// Whether this is the call that is to fail.
+fn fails(failing_in: &mut Option<u64>) -> bool {
+    match *failing_in {
+        Some(1) => {
+            *failing_in = None;
+            true
+        }
+        Some(calls) => {
+            *failing_in = Some(calls.saturating_sub(1));
+            false
+        }
+        None => false,
+    }
+}
+
+impl Watch for MemWatch {
+    ghost seen = { λ watch. seen watch };
+
+    ghost shows = { λ watch. shows watch };
+
+    ghost watched = { λ watch. watch.watched };
+
+    ghost told = { true };
+
+    fn turn(&mut self) -> Result<(), Fault> {
+        let Some(turns) = self.turns.checked_add(1) else {
+            return Err(Fault::Memory);
+        };
+        if turns < self.worlds.len() {
+            self.turns = turns;
+            return Ok(());
+        }
+        // No look was planned: the files stay, and what is planned from now on comes after this look.
+        let world = copy_last(self.alloc, &self.worlds)?;
+        if keep(&mut self.worlds, world) {
+            self.turns = turns;
+            return Ok(());
+        }
+        Err(Fault::Memory)
+    }
+
+    fn add(&mut self, name: &str) -> Result<usize, Fault> {
+        let place = self.names.len();
+        let name = MemName::new(self.alloc, name)?;
+        if keep_name(&mut self.names, name) {
+            return Ok(place);
+        }
+        Err(Fault::Memory)
+    }
+
+    fn look(&mut self, place: usize) -> Result<Option<Seen>, Fault> {
+        let world = world_in(&self.worlds, self.turns);
+        let found = find(world, self.names[place].name.as_str());
+        if fails(&mut self.failing_in) || !fits(found) {
+            self.names[place].break_off(Fault::Open(place));
+            return Err(Fault::Open(place));
+        }
+        Ok(found)
+    }
+
+    fn reopen(&mut self, place: usize) -> Result<bool, Fault> {
+        if fails(&mut self.failing_in) {
+            self.names[place].break_off(Fault::Open(place));
+            return Err(Fault::Open(place));
+        }
+        let world = world_in(&self.worlds, self.turns);
+        let file = world.file_of(self.names[place].name.as_str());
+        Ok(self.names[place].open(file))
+    }
+
+    fn open_id(&self, place: usize) -> Option<u128> {
+        match self.names.get(place) {
+            Some(name) => name.id(),
+            None => None,
+        }
+    }
+
+    fn open_len(&mut self, place: usize) -> Result<u64, Fault> {
+        let len = self.open_bytes(place).len() as u64;
+        if fails(&mut self.failing_in) || len > MOST_BYTES {
+            self.names[place].break_off(Fault::Read(place));
+            return Err(Fault::Read(place));
+        }
+        Ok(len)
+    }
+
+    fn read_at(&mut self, place: usize, from: u64, buffer: &mut [u8]) -> Result<usize, Fault> {
+        if fails(&mut self.failing_in) {
+            self.names[place].break_off(Fault::Read(place));
+            return Err(Fault::Read(place));
+        }
+        Ok(read_from(self.open_bytes(place), from, buffer))
+    }
+}

@@ -1,0 +1,9 @@
+//! The plain matcher of basic regular expressions: a slow program whose result is the definition's at sight, with which the
+//! fast one is compared.
+#![tactic(auto)]
+
+mod ends;
+mod plain;
+mod spans;
+
+pub use plain::matches_plain;
