@@ -6,3 +6,4 @@ pub mod LimitLemmas
 pub mod OperandLemmas
 pub mod SpellingLemmas
 pub mod ValueLemmas
+pub mod WordsLemmas

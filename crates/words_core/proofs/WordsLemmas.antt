@@ -1,0 +1,35 @@
+-- Lemmas on what all words ask for, the first of which names the tool.
+use Rattle.std.proofs.Common.{◌≡◌, ℕ, ◌-◌, ◌<◌, ◌≤◌, Bor, get_or, take, drop, length, map, List, Some, Result, Ok, Err, IfOk, IfErr, sym, ◌∙◌, ap, subst, inl, inr}
+use Rattle.ports_core.specs.declared.fault.Fault.{Fault}
+use Rattle.ports_core.specs.declared.fault.Fault.TheVariants.{Usage}
+use Rattle.ports_core.specs.declared.fault.UsageKind.TheVariants.{MissingTool}
+use Rattle.words_core.specs.declared.settings.Settings.{Settings}
+use Rattle.words_core.specs.Given.{Given}
+use Rattle.words_core.specs.Spelling.{IsRefused, Reads, given_by}
+use Rattle.words_core.specs.Table.{ToolRow, row_named, tools}
+use Rattle.words_core.specs.Value.{then_check}
+use Rattle.words_core.specs.Words.{HasBadOperands, settings_for, settings_of, tool_settings}
+use Rattle.words_core.proofs.SpellingLemmas.{front_and_rest, none_left}
+
+pub names_none : (words : List (Bor (List ℕ))) → length words < 1 → settings_of (map (λ word. word.now) words) ≡ Err (Usage MissingTool 0)
+names_none words none = ap settings_of (none_left words none)
+
+-- what the words after it ask of the tool in this row
+asked : (words : List (Bor (List ℕ))) (none : Bor (List ℕ)) (rows : List ToolRow) (row : ToolRow) → 1 ≤ length words → rows ≡ tools → Some row ≡ row_named rows (get_or words 0 none).now
+    → settings_of (map (λ word. word.now) words) ≡ then_check (given_by row (map (λ word. word.now) (take (length words - 1) (drop 1 words)))) (settings_for row.tool)
+asked words none rows row some are named =
+    ap settings_of (front_and_rest none words some)
+    ∙ ap (tool_settings (map (λ word. word.now) (take (length words - 1) (drop 1 words)))) (ap (λ rows. row_named rows (get_or words 0 none).now) (sym are) ∙ sym named)
+
+pub refused : (words : List (Bor (List ℕ))) (none : Bor (List ℕ)) (rows : List ToolRow) (row : ToolRow) (fault : Fault) → 1 ≤ length words → rows ≡ tools → Some row ≡ row_named rows (get_or words 0 none).now
+    → Reads (given_by row (map (λ word. word.now) (take (length words - 1) (drop 1 words)))) (Err fault) → IsRefused HasBadOperands (settings_of (map (λ word. word.now) words)) fault
+refused words none rows row fault some are named (inl memory) = inl memory
+refused words none rows row fault some are named (inr is) = inr (inl (asked words none rows row some are named ∙ ap (λ given. then_check given (settings_for row.tool)) is))
+
+pub returned : (words : List (Bor (List ℕ))) (none : Bor (List ℕ)) (rows : List ToolRow) (row : ToolRow) (given : Given) (result : Result Settings Fault) → 1 ≤ length words → rows ≡ tools → Some row ≡ row_named rows (get_or words 0 none).now
+    → given_by row (map (λ word. word.now) (take (length words - 1) (drop 1 words))) ≡ Ok given
+    → IfOk result (λ settings. settings_for row.tool given ≡ Ok settings) → IfErr result (IsRefused HasBadOperands (settings_for row.tool given))
+    → IfOk result (λ settings. settings_of (map (λ word. word.now) words) ≡ Ok settings) × IfErr result (IsRefused HasBadOperands (settings_of (map (λ word. word.now) words)))
+returned words none rows row given result some are named read is bad =
+    let same : settings_for row.tool given ≡ settings_of (map (λ word. word.now) words) = sym (asked words none rows row some are named ∙ ap (λ given. then_check given (settings_for row.tool)) read) in
+    (subst (λ meant. IfOk result (λ settings. meant ≡ Ok settings)) same is, subst (λ meant. IfErr result (IsRefused HasBadOperands meant)) same bad)
