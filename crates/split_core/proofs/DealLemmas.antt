@@ -1,5 +1,5 @@
 -- Lemmas on gathering the lines of a piece.
-use Rattle.std.proofs.Common.{◌≡◌, ◌≢◌, ℕ, ◌+◌, ◌%◌, ◌<◌, ◌≤◌, zero, suc, min, max, Bool, true, false, cond, eqb, List, [], ◌∷◌, ◌++◌, length, get_or, set, take, drop, Ok, Err, Result, OnOk, inl, inr, refl, sym, ◌∙◌, ap, subst, arith, append_assoc}
+use Rattle.std.proofs.Common.{◌≡◌, ◌≢◌, ℕ, ◌+◌, ◌%◌, ◌<◌, ◌≤◌, zero, suc, min, max, Bool, true, false, cond, eqb, List, [], ◌∷◌, ◌++◌, length, get_or, set, take, drop, Ok, Err, Result, OnOk, inl, inr, refl, sym, ◌∙◌, ap, subst, arith, append_assoc, length-append}
 use Rattle.std.proofs.Math.Nat.{mod-add-mod, mod-eq_of_lt, mod-mod, mod_self, mod-le}
 use Rattle.std.proofs.lemmas.Bool.{cases_eq, eq-eqb, ne_eqb, eqb-true, eqb-false, false≢true}
 use Rattle.std.proofs.lemmas.List.{append-nil, ext_get_or, take_at, take-append-le, take-take, length-take-le}
@@ -182,6 +182,9 @@ ends_open delim n start piece gathered now next reached reached_now left line so
 -- a line that is the first of what was left stands at its beginning
 pub first_taken : (delim : ℕ) (left x line rest : List ℕ) → IsFirstLine delim x line rest → left ≡ x → take (length line) left ≡ line
 first_taken delim left x line rest cut same = ap (take (length line)) (same ∙ cut.whole) ∙ take_at line rest (length line) refl
+
+pub no_longer : (delim : ℕ) (left x line rest : List ℕ) → IsFirstLine delim x line rest → left ≡ x → length line ≤ length left
+no_longer delim left x line rest cut same = omega (arith, simp length-append at (ap length (same ∙ cut.whole)))
 
 pub by_delimiter : (one other : ℕ) (x line rest : List ℕ) → one ≡ other → IsFirstLine one x line rest → IsFirstLine other x line rest
 by_delimiter one other x line rest same first = subst (λ delim. IsFirstLine delim x line rest) same first

@@ -3,8 +3,11 @@ use Rattle.std.proofs.lemmas.List.{take_all}
 use Rattle.ports_core.specs.Slot.{changed_at}
 use Rattle.seg_core.specs.Line.{LinesLeft, delimiters}
 use Rattle.split_core.specs.inner.DealState.{DealState}
-use Rattle.split_core.proofs.DealLemmas.{by_delimiter, line_goes_on, line_goes_round, first_taken, ends_here, ends_open, Gathers}
+use Rattle.split_core.proofs.DealLemmas.{by_delimiter, line_goes_on, line_goes_round, first_taken, ends_here, ends_open, no_longer, Gathers}
 use Rattle.split_core.proofs.deal.Deal.gather.Goals as goal
+
+pub append_to-requires-clause-enough : goal.append_to-requires-clause-enough
+append_to-requires-clause-enough c = no_longer _ _ _ _ _ c.in-Some.ensures.some c.lines.invariant.1
 
 pub lines-preserved-then-next-count : goal.lines-preserved-then-next-count
 lines-preserved-then-next-count c = (
@@ -38,8 +41,14 @@ at_open c = ends_open _ _ _ _ c.lines.self-inside.gathered.items _ _ (max c.line
 pub returns-then-is_empty-clause-gathered : goal.returns-then-is_empty-clause-gathered
 returns-then-is_empty-clause-gathered c = (at_end c).gathered_is
 
+pub returns-then-is_empty-clause-reached : goal.returns-then-is_empty-clause-reached
+returns-then-is_empty-clause-reached c = c.max.ensures ∙ (at_end c).reached_is
+
 pub returns-clause-gathered : goal.returns-clause-gathered
 returns-clause-gathered c = (at_open c).gathered_is
+
+pub returns-clause-next : goal.returns-clause-next
+returns-clause-next c = (at_open c).next_is
 
 pub returns-clause-reached : goal.returns-clause-reached
 returns-clause-reached c = (at_open c).reached_is
