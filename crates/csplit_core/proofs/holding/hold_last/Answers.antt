@@ -1,4 +1,5 @@
-use Rattle.std.proofs.Common.{◌≡◌, ◌++◌, drop, min, OnOk, ◌∙◌, ap, subst}
+use Rattle.std.proofs.Common.{◌≡◌, ◌++◌, drop, min, OnOk, ◌∙◌, ap, subst, arith}
+use Rattle.std.proofs.lemmas.Grind.{common_steps}
 use Rattle.seg_core.specs.Line.{but_last_lines}
 use Rattle.seg_core.specs.Window.{Window}
 use Rattle.ports_core.proofs.HandedOn.{result_is}
@@ -31,3 +32,6 @@ returns-clause-goes g c = goes_or_lacks _ _ _ _ _ _ c.keep.result
 pub returns-clause-window : goal.returns-clause-window
 returns-clause-window g c = kept_window c.args.window.now c.write_front.new.window c.keep.new.window c.over-over.result c.min-front.result c.args.text.now c.keep.result c.over-over.ensures (c.min-front.ensures ∙ ap (min c.over-over.result) c.len.ensures.len) c.in_ok-write_front.ensures.window
     (subst (λ rest. OnOk c.keep.result (c.keep.new.window ≡ record { most = c.write_front.new.window.most; delim = c.write_front.new.window.delim; held = c.write_front.new.window.held ++ rest })) c.split_at.ensures.back c.keep.ensures.ok)
+
+pub returns-clause-size : goal.returns-clause-size
+returns-clause-size g c = grind (arith, common_steps)

@@ -1,4 +1,5 @@
 use Rattle.std.proofs.Common.{◌<◌, ◌^◌, length, arith}
+use Rattle.std.proofs.lemmas.Grind.{common_steps}
 use Rattle.ports_core.proofs.HandedOn.{result_is}
 use Rattle.csplit_core.specs.inner.Writer.{Goes}
 use Rattle.csplit_core.proofs.HoldLemmas.{starts, fits_front, empties, empties_short, emptied_went, emptied_window, left_within}
@@ -16,6 +17,9 @@ put-requires-clause-fits g c = fits_front _ _ _ _ _ _ _ c.min-bytes.result (2 ^ 
 pub returns-in_err-put-clause-goes : goal.returns-in_err-put-clause-goes
 returns-in_err-put-clause-goes g c = result_is (Goes _ _ _ _ _ _) _ _ c.from_residual.ensures.1
     (empties_short _ _ _ _ _ _ _ _ c.min-bytes.result c.front-front.result.now _ _ _ _ _ c.loop-left.invariant c.front-front.ensures.front.1 (omega (arith, c.min-bytes.ensures)) (omega (arith, c.min-bytes.ensures)) c.in_err-put.ensures.goes)
+
+pub drop_front-requires : goal.drop_front-requires
+drop_front-requires g c = grind (arith, common_steps)
 
 pub loop-left-smaller : goal.loop-left-smaller
 loop-left-smaller g c =

@@ -1,4 +1,5 @@
 use Rattle.std.proofs.Common.{◌∙◌, ap, subst, arith}
+use Rattle.std.proofs.lemmas.Grind.{common_steps}
 use Rattle.ports_core.specs.Slot.{told_of, with_written}
 use Rattle.ports_core.specs.Write.{BrokeAfter}
 use Rattle.ports_core.specs.inner.Write.{broke}
@@ -18,3 +19,6 @@ returns-in_err-write_whole-clause-err g c = fault_is _ _ _ (of_write _ _ _ c.fro
     (subst (λ line. BrokeAfter g.O.Outs.told (g.O.Outs.slots c.args.outs.now) (g.O.Outs.slots c.write_whole.new.outs) 0 line c.in_err-write_whole.field-0.0.written)
     (line_is c.args.size 21 c.as_bytes-digits.result.now c.copy_from_slice.new.self c.copy_from_slice.ensures.after (c.as_bytes-digits.ensures.value ∙ c.format.ensures.text) (let fits = c.format.ensures.fits in omega (arith, c.as_bytes-digits.ensures.len)))
     c.in_err-write_whole.ensures.cut))
+
+pub slice_bounds-write_whole-end : goal.slice_bounds-write_whole-end
+slice_bounds-write_whole-end g c = grind (arith, common_steps)

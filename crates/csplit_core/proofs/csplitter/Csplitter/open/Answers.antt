@@ -1,10 +1,14 @@
-use Rattle.std.proofs.Common.{List, []}
+use Rattle.std.proofs.Common.{List, [], arith}
+use Rattle.std.proofs.lemmas.Grind.{common_steps}
 use Rattle.ports_core.specs.Part.{OutputsAt, StoppedBetween, nothing}
 use Rattle.ports_core.specs.Slot.{Slot}
 use Rattle.ports_core.proofs.HandedOn.{fault_is}
 use Rattle.csplit_core.specs.Csplit.{settled_by}
 use Rattle.csplit_core.proofs.StageClauses.{begins_at, cannot_begin}
 use Rattle.csplit_core.proofs.csplitter.Csplitter.open.Goals as goal
+
+pub returns-clause-holds : goal.returns-clause-holds
+returns-clause-holds g c = grind (arith, common_steps)
 
 pub returns-clause-outputs : goal.returns-clause-outputs
 returns-clause-outputs g c = begins_at g.O.Outs.told c.args.style c.as_slice.result.now c.args.operands.now _ _ _ c.as_slice.ensures c.requires.streams c.in_ok-cutter.ensures.moves

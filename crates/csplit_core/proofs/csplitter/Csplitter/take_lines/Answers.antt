@@ -1,3 +1,5 @@
+use Rattle.std.proofs.Common.{arith}
+use Rattle.std.proofs.lemmas.Grind.{common_steps}
 use Rattle.ports_core.proofs.HandedOn.{result_is}
 use Rattle.seg_core.proofs.LineCounts.{ends_with-some}
 use Rattle.csplit_core.specs.inner.Cutter.{Takes}
@@ -5,6 +7,15 @@ use Rattle.csplit_core.specs.Input.{newline}
 use Rattle.csplit_core.proofs.ByteLemmas.{first_line, others_whole}
 use Rattle.csplit_core.proofs.StageSteps.{lines_stop, lines_after}
 use Rattle.csplit_core.proofs.csplitter.Csplitter.take_lines.Goals as goal
+
+pub returns-then-is_empty-clause-rest : goal.returns-then-is_empty-clause-rest
+returns-then-is_empty-clause-rest g c = grind (arith, common_steps)
+
+pub returns-then-is_empty-clause-takes : goal.returns-then-is_empty-clause-takes
+returns-then-is_empty-clause-takes g c = grind (arith, common_steps)
+
+pub take_open-requires-clause-fits : goal.take_open-requires-clause-fits
+take_open-requires-clause-fits g c = grind (arith, common_steps)
 
 pub take_open-requires-clause-line : goal.take_open-requires-clause-line
 take_open-requires-clause-line g c = first_line c.args.lines.now c.next_line.result.0.now c.next_line.result.1.now (c.next_line.ensures.first (ends_with-some newline c.args.lines.now c.requires.whole))
@@ -15,6 +26,9 @@ returns-in_err-take_open-clause-takes g c = result_is (Takes g.O.Outs.told c.arg
 
 pub take-requires-2-clause-whole : goal.take-requires-2-clause-whole
 take-requires-2-clause-whole g c = others_whole c.args.lines.now c.next_line.result.0.now c.next_line.result.1.now c.next_line.ensures.joined c.requires.whole
+
+pub take-requires-2-clause-fits : goal.take-requires-2-clause-fits
+take-requires-2-clause-fits g c = grind (arith, common_steps)
 
 pub returns-clause-takes : goal.returns-clause-takes
 returns-clause-takes g c = lines_after g.O.Outs.told _ _ _ c.take_open.new.self c.args.self.now.rest c.args.lines.now c.next_line.result.0.now c.next_line.result.1.now _ _ _ c.take-2.result c.self-2.view_is c.next_line.ensures.joined c.next_line.ensures.last c.requires.whole

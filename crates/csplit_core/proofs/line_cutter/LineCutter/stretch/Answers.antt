@@ -1,4 +1,5 @@
 use Rattle.std.proofs.Common.{Ok, Err, length, take, ap, arith, sym, ◌∙◌, subst}
+use Rattle.std.proofs.lemmas.Grind.{common_steps}
 use Rattle.ports_core.proofs.HandedOn.{result_is}
 use Rattle.csplit_core.specs.Cutter.{CutterState}
 use Rattle.csplit_core.specs.inner.Cutter.{IsWhole, Stretches}
@@ -23,6 +24,9 @@ returns-in_default g c = stretch_on _ c.args.self.now c.try_line.new.self _ c.ar
 
 pub cut_on-requires-clause-rest : goal.cut_on-requires-clause-rest
 cut_on-requires-clause-rest g c = whole_drop c.first_size-size.result c.args.text.now c.requires.whole
+
+pub cut_on-requires-clause-none : goal.cut_on-requires-clause-none
+cut_on-requires-clause-none g c = grind (arith, common_steps)
 
 pub returns-then-is_empty : goal.returns-then-is_empty
 returns-then-is_empty g c = stretch_cut _ c.args.self.now c.try_line.new.self _ c.args.text.now c.first_size-size.result _ _ _ c.cut_on.result c.requires.sound.fit (c.is_past.ensures.live c.if-is_past.false) c.first_size-size.ensures.some c.first_size-size.ensures.within

@@ -1,4 +1,5 @@
-use Rattle.std.proofs.Common.{◌∙◌, ap, sym, subst}
+use Rattle.std.proofs.Common.{◌∙◌, ap, sym, subst, arith}
+use Rattle.std.proofs.lemmas.Grind.{common_steps}
 use Rattle.ports_core.proofs.HandedOn.{result_is}
 use Rattle.csplit_core.specs.Writer.{WriterState}
 use Rattle.csplit_core.specs.inner.Writer.{Ended, EndedNot, Ends}
@@ -21,3 +22,6 @@ pub returns : goal.returns
 returns g c =
     subst (λ next. Ends g.O.Outs.told c.args.self.now (g.O.Outs.slots c.args.outs.now) (g.O.Outs.slots c.write_size.new.outs) next c.write_size.result) (sym (ap (λ i. state_of i.style i.files.items Skipped) c.self-inside.view_is ∙ ap (λ (w : WriterState). record w { current = Skipped }) c.self.view_is))
     (end_sized g.O.Outs.told c.args.self.now c.args.slot c.args.size _ _ _ c.write_size.result c.requires.file c.requires.ready (sym (ap (λ i. i.style.quiet) c.self-inside.view_is ∙ ap (λ (w : WriterState). w.style.quiet) c.self.view_is) ∙ c.if-self.false) c.in_ok-close.ensures.ok c.write_size.ensures.ok c.write_size.ensures.err)
+
+pub write_size-requires : goal.write_size-requires
+write_size-requires g c = grind (arith, common_steps)

@@ -1,4 +1,5 @@
-use Rattle.std.proofs.Common.{◌∙◌, ap, sym}
+use Rattle.std.proofs.Common.{◌∙◌, ap, sym, arith}
+use Rattle.std.proofs.lemmas.Grind.{common_steps}
 use Rattle.ports_core.proofs.HandedOn.{result_is}
 use Rattle.csplit_core.specs.inner.Draft.{with_bytes}
 use Rattle.csplit_core.specs.Writer.{WriterState}
@@ -20,3 +21,9 @@ returns-in_ok-slot-in-Unmade-clause-goes g c =
 
 pub returns-in-File-clause-goes : goal.returns-in-File-clause-goes
 returns-in-File-clause-goes g c = put_file g.O.Outs.told c.args.self.now c.append-in-File.new.self c.in-File.slot c.in-File.size c.args.bytes.now _ _ c.append-in-File.result (sym (ap (λ (w : WriterState). w.current) c.self.view_is) ∙ c.in-File.is) c.requires.ready c.append-in-File.ensures
+
+pub returns-then-is_empty-clause-goes : goal.returns-then-is_empty-clause-goes
+returns-then-is_empty-clause-goes g c = grind (arith, common_steps)
+
+pub append-requires-clause-writable : goal.append-requires-clause-writable
+append-requires-clause-writable g c = grind (arith, common_steps)
