@@ -1,7 +1,11 @@
 use Rattle.std.proofs.Common.{◌++◌, ◌∙◌, ap, arith}
+use Rattle.std.proofs.lemmas.Grind.{common_steps}
 use Rattle.seg_core.specs.Line.{last_lines}
 use Rattle.ends_core.proofs.LoadLemmas.{holds_more, holds_last}
 use Rattle.ends_core.proofs.load.load_lines.Goals as goal
+
+pub loop-end-init : goal.loop-end-init
+loop-end-init g c = grind (arith, common_steps)
 
 pub returns-then-len-left-clause-held : goal.returns-then-len-left-clause-held
 returns-then-len-left-clause-held g c yes_it_is =
@@ -21,3 +25,6 @@ loop-end-preserved g c =
           (seen.3 ∙ ap (λ delim. last_lines delim c.loop-end.window.most (seen.0 ++ c.loop-end.window.held)) so_far.delim ∙ ap (λ most. last_lines c.args.window.now.delim most (seen.0 ++ c.loop-end.window.held)) so_far.most)
           (omega (arith, c.len.ensures.len, c.if-len-left.false));
     }
+
+pub returns-clause-held : goal.returns-clause-held
+returns-clause-held g c = grind (arith, common_steps)

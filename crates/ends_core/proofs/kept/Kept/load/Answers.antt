@@ -1,4 +1,5 @@
 use Rattle.std.proofs.Common.{◌≡◌, ◌∙◌, ap, sym, refl, arith}
+use Rattle.std.proofs.lemmas.Grind.{common_steps}
 use Rattle.std.proofs.lemmas.List.{drop_all}
 use Rattle.ends_core.specs.Kept.{delim_of, unit_of, most_of, held_of}
 use Rattle.ends_core.proofs.LoadLemmas.{passes_none, passes_seen, last_none}
@@ -22,3 +23,6 @@ returns-clause-passes g c =
     ] in
     passes_none _ c.args.slot _ _ _ same
     (c.drop_front.ensures.held ∙ drop_all c.len-held.result (held_of c.hold_last.new.self) (omega (arith, c.len-held.ensures)) ∙ sym (last_none (delim_of c.args.self.now) (unit_of c.args.self.now) (most_of c.args.self.now)))
+
+pub returns-clause-full : goal.returns-clause-full
+returns-clause-full g c = grind (arith, common_steps)
