@@ -1,14 +1,17 @@
-use Rattle.std.proofs.Common.{List, [], arith}
-use Rattle.std.proofs.lemmas.Grind.{common_steps}
+use Rattle.std.proofs.Common.{List, [], refl, subst, sym}
+use Rattle.ports_core.specs.Guard.{GuardState, HoldsIn}
 use Rattle.ports_core.specs.Part.{OutputsAt, StoppedBetween, nothing}
 use Rattle.ports_core.specs.Slot.{Slot}
 use Rattle.ports_core.proofs.HandedOn.{fault_is}
 use Rattle.csplit_core.specs.Csplit.{settled_by}
+use Rattle.csplit_core.specs.CsplitState.{CsplitState, Holds}
 use Rattle.csplit_core.proofs.StageClauses.{begins_at, cannot_begin}
 use Rattle.csplit_core.proofs.csplitter.Csplitter.open.Goals as goal
 
 pub returns-clause-holds : goal.returns-clause-holds
-returns-clause-holds g c = grind (arith, common_steps)
+returns-clause-holds g c =
+    let empty = c.new.ensures.items in
+    subst (λ (guard : GuardState CsplitState). HoldsIn Holds guard []) (sym c.new-2.ensures) (record { live = refl; count = refl; within = record { stands = c.in_ok-cutter.ensures.stands; live = λ differs. empty; past = λ below. empty } })
 
 pub returns-clause-outputs : goal.returns-clause-outputs
 returns-clause-outputs g c = begins_at g.O.Outs.told c.args.style c.as_slice.result.now c.args.operands.now _ _ _ c.as_slice.ensures c.requires.streams c.in_ok-cutter.ensures.moves
