@@ -1,4 +1,5 @@
 use Rattle.std.proofs.Common.{◌≡◌, ◌+◌, ◌-◌, ◌^◌, ◌<◌, ◌++◌, ◌∙◌, List, ◌∷◌, ap, sym, subst, length, arith}
+use Rattle.std.proofs.lemmas.Grind.{common_steps}
 use Rattle.seg_core.specs.Line.{delimiters, after_lines, last_lines, line_count}
 use Rattle.seg_core.specs.Window.{Window}
 use Rattle.seg_core.specs.Blocks.{BlockState, IsCounted, text_of}
@@ -6,6 +7,9 @@ use Rattle.seg_core.proofs.Delimiters.{delimiters-le-length}
 use Rattle.seg_core.proofs.BlockLemmas.{counted_front}
 use Rattle.seg_core.proofs.FrontLines.{last_lines-front, length-after_lines-le}
 use Rattle.seg_core.proofs.line_window.LineWindow.put_front.Goals as goal
+
+pub overflow_add-self : goal.overflow_add-self
+overflow_add-self c = grind (arith, common_steps)
 
 pub overflow_add-self-2 : goal.overflow_add-self-2
 overflow_add-self-2 c =
