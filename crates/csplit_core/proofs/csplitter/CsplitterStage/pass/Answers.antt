@@ -1,5 +1,11 @@
-use Rattle.std.proofs.Common.{refl}
+use Rattle.std.proofs.Common.{◌≡◌, arith, refl, subst, sym}
+use Rattle.std.proofs.lemmas.Grind.{common_steps}
+use Rattle.seg_core.specs.Line.{delimiters}
 use Rattle.ports_core.proofs.HandedOn.{result_is}
+use Rattle.csplit_core.specs.CsplitState.{CsplitState}
+use Rattle.csplit_core.specs.Cutter.{IsSound}
+use Rattle.csplit_core.specs.Input.{newline}
+use Rattle.csplit_core.specs.Writer.{IsReady}
 use Rattle.csplit_core.specs.inner.CsplitState.{Passes}
 use Rattle.csplit_core.proofs.ByteLemmas.{piece_ends}
 use Rattle.csplit_core.proofs.StageSteps.{none_counted, past_passes, some_counted, stop_counted}
@@ -9,8 +15,14 @@ use Rattle.csplit_core.proofs.csplitter.CsplitterStage.pass.Goals as goal
 pub returns-then-is_past-clause-passes : goal.returns-then-is_past-clause-passes
 returns-then-is_past-clause-passes g c = past_passes g.O.Outs.told _ c.args.self.now _ c.args.piece.now _ c.self.view_is (c.is_past.ensures.past c.if-is_past.true) c.requires.ready.writer c.requires.ready.sound c.requires.ready.unbroken
 
-pub take_lines-requires-clause-whole : goal.take_lines-requires-clause-whole
-take_lines-requires-clause-whole g c = piece_ends c.args.piece.now c.in-Some.end c.in-Some.ensures.some
+pub take_lines-requires : goal.take_lines-requires
+take_lines-requires g c = record {
+  fits = grind (arith, common_steps);
+  whole = piece_ends c.args.piece.now c.in-Some.end c.in-Some.ensures.some;
+  sound = subst (λ (stage : CsplitState). IsSound stage.cutter) (sym c.self.view_is) c.requires.ready.sound;
+  «open» = subst (λ (stage : CsplitState). delimiters newline stage.rest ≡ 0) (sym c.self.view_is) c.requires.ready.unbroken;
+  ready = subst (λ (stage : CsplitState). IsReady stage.cutter.writer (g.O.Outs.slots c.args.outs.now)) (sym c.self.view_is) c.requires.ready.writer;
+}
 
 pub returns-in_err-take_lines-in-Some-clause-passes : goal.returns-in_err-take_lines-in-Some-clause-passes
 returns-in_err-take_lines-in-Some-clause-passes g c = result_is (Passes g.O.Outs.told c.args.self.now c.args.piece.now _ _ c.take_lines.new.self) c.from_residual.result _ c.from_residual.ensures.1

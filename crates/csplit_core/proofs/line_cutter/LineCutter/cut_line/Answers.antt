@@ -1,6 +1,8 @@
-use Rattle.std.proofs.Common.{refl, sym, ◌∙◌, arith}
+use Rattle.std.proofs.Common.{refl, sym, subst, ◌∙◌, arith}
 use Rattle.std.proofs.lemmas.Grind.{common_steps}
 use Rattle.ports_core.proofs.HandedOn.{result_is}
+use Rattle.csplit_core.specs.Cutter.{CutterState}
+use Rattle.csplit_core.specs.Writer.{IsReady}
 use Rattle.csplit_core.specs.inner.Cutter.{CutsAll}
 use Rattle.csplit_core.proofs.CutLineLemmas.{none_there, cut_alone, cut_drained, cut_lacks, waiting_count, waiting_size}
 use Rattle.csplit_core.proofs.line_cutter.LineCutter.cut_line.Goals as goal
@@ -17,14 +19,16 @@ returns-in_err-waiting g c = result_is (CutsAll _ _ _ _ _ _ _ _ _) _ _ c.from_re
 pub slice_bounds-count_delimiters-count : goal.slice_bounds-count_delimiters-count
 slice_bounds-count_delimiters-count g c = grind (arith, common_steps)
 
-pub cut_all-requires-2-clause-fits : goal.cut_all-requires-2-clause-fits
-cut_all-requires-2-clause-fits g c = grind (arith, common_steps)
-
-pub cut_all-requires-2-clause-fit : goal.cut_all-requires-2-clause-fit
-cut_all-requires-2-clause-fit g c = grind (arith, common_steps)
-
-pub cut_all-requires-2-clause-few : goal.cut_all-requires-2-clause-few
-cut_all-requires-2-clause-few g c = grind (arith, common_steps)
+pub cut_all-requires-2 : goal.cut_all-requires-2
+cut_all-requires-2 g c = record {
+  line = c.requires.line;
+  few = grind (arith, common_steps);
+  fits = grind (arith, common_steps);
+  fit = grind (arith, common_steps);
+  none = grind (arith, common_steps);
+  cuts = grind (arith, common_steps);
+  ready = subst (λ (cutter : CutterState). IsReady cutter.writer (g.O.Outs.slots c.args.outs.now)) (sym c.self.view_is) c.requires.ready;
+}
 
 pub returns : goal.returns
 returns g c = cut_drained _ c.args.self.now _ _ c.drain.new.window c.args.cut c.saturating_sub-place.result c.deref-2.result.now c.args.line.now _ _ c.cut_all-2.result c.self.view_is (c.deref-2.ensures.value ∙ c.in_ok-waiting.ensures.ok) (waiting_count c.self.inside.lines c.self.inside.window.held c.deref.result.now c.args.line.now _ _ c.count_delimiters-lines.result _ (c.deref.ensures.value ∙ c.in_ok-waiting.ensures.ok) (waiting_size c.self.inside.window.held c.args.line.now c.deref.result.now c.len.result (c.deref.ensures.value ∙ c.in_ok-waiting.ensures.ok) (c.len.ensures ∙ sym c.deref.ensures.len)) refl c.count_delimiters-lines.ensures c.saturating_sub-place.ensures) c.cut_all-2.ensures

@@ -3,6 +3,7 @@ use Rattle.std.proofs.lemmas.Grind.{common_steps}
 use Rattle.ports_core.proofs.HandedOn.{result_is}
 use Rattle.csplit_core.specs.inner.Cutter.{CutsOn}
 use Rattle.csplit_core.proofs.GoLemmas.{cut_on, cut_not_on, cut_stopped_on, from_left}
+use Rattle.csplit_core.proofs.SpreadLemmas.{spread_fit, spread_ready}
 use Rattle.csplit_core.proofs.line_cutter.LineCutter.cut_on.Goals as goal
 
 pub returns-in_err-left : goal.returns-in_err-left
@@ -11,11 +12,16 @@ returns-in_err-left g c = result_is (CutsOn _ _ _ _ _ _ _ _) _ _ c.from_residual
 pub overflow_sub-size : goal.overflow_sub-size
 overflow_sub-size g c = grind (arith, common_steps)
 
-pub go_on-requires-clause-within : goal.go_on-requires-clause-within
-go_on-requires-clause-within g c = grind (arith, common_steps)
-
-pub go_on-requires-clause-rest : goal.go_on-requires-clause-rest
-go_on-requires-clause-rest g c = grind (arith, common_steps)
+pub go_on-requires : goal.go_on-requires
+go_on-requires g c =
+    let spread = c.in_ok-left.ensures.ok in record {
+      within = grind (arith, common_steps);
+      rest = grind (arith, common_steps);
+      lines = grind (arith, common_steps);
+      fits = grind (arith, common_steps);
+      sound = record { fit = spread_fit spread.now _ spread.is spread.so_far.fit; aim = spread.aim };
+      ready = spread_ready spread.now _ _ spread.is spread.so_far.ready;
+    }
 
 pub returns-in_err-passed : goal.returns-in_err-passed
 returns-in_err-passed g c = result_is (CutsOn _ _ _ _ _ _ _ _) _ _ c.from_residual-in_err-passed.ensures.1

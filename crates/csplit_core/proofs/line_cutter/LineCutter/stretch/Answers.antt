@@ -2,6 +2,7 @@ use Rattle.std.proofs.Common.{Ok, Err, length, take, ap, arith, sym, ◌∙◌, 
 use Rattle.std.proofs.lemmas.Grind.{common_steps}
 use Rattle.ports_core.proofs.HandedOn.{result_is}
 use Rattle.csplit_core.specs.Cutter.{CutterState}
+use Rattle.csplit_core.specs.Writer.{IsReady}
 use Rattle.csplit_core.specs.inner.Cutter.{IsWhole, Stretches}
 use Rattle.csplit_core.proofs.CutLineLemmas.{none_there}
 use Rattle.csplit_core.proofs.GoLemmas.{first_stopped, stretch_cut, stretch_first, stretch_on}
@@ -15,23 +16,48 @@ returns-then-is_past g c = stretch_first _ c.args.self.now c.args.self.now c.arg
     (subst IsWhole (sym (take_whole c.args.text.now)) c.requires.whole) c.unfound.ensures.size c.unfound.ensures.found
     (took_past _ c.args.self.now (take (length c.args.text.now) c.args.text.now) _ (c.is_past.ensures.past c.if-is_past.true) c.requires.sound c.requires.ready)
 
-pub go_on-requires-clause-rest : goal.go_on-requires-clause-rest
-go_on-requires-clause-rest g c = whole_drop c.first_size-size.result c.args.text.now c.requires.whole
+pub go_on-requires : goal.go_on-requires
+go_on-requires g c = record {
+  within = c.first_size-size.ensures.within;
+  rest = whole_drop c.first_size-size.result c.args.text.now c.requires.whole;
+  lines = grind (arith, common_steps);
+  fits = grind (arith, common_steps);
+  sound = record { fit = c.try_line.ensures.fit; aim = c.in_default.ensures.aim };
+  ready = subst (λ (cutter : CutterState). IsReady cutter.writer (g.O.Outs.slots c.args.outs.now)) (sym c.try_line.ensures.same) c.requires.ready;
+}
 
 pub returns-in_default : goal.returns-in_default
 returns-in_default g c = stretch_on _ c.args.self.now c.try_line.new.self _ c.args.text.now c.first_size-size.result _ _ c.go_on.result c.requires.sound.fit (c.is_past.ensures.live c.if-is_past.false) c.first_size-size.ensures.some c.first_size-size.ensures.within
     c.first_size-size.ensures.line c.first_size-size.ensures.whole c.try_line.ensures.same c.in_default.ensures.tries c.go_on.ensures
 
-pub cut_on-requires-clause-rest : goal.cut_on-requires-clause-rest
-cut_on-requires-clause-rest g c = whole_drop c.first_size-size.result c.args.text.now c.requires.whole
-
-pub cut_on-requires-clause-none : goal.cut_on-requires-clause-none
-cut_on-requires-clause-none g c = grind (arith, common_steps)
+pub cut_on-requires : goal.cut_on-requires
+cut_on-requires g c = record {
+  within = c.first_size-size.ensures.within;
+  line = c.first_size-size.ensures.line;
+  rest = whole_drop c.first_size-size.result c.args.text.now c.requires.whole;
+  complete = grind (arith, common_steps);
+  lines = grind (arith, common_steps);
+  fits = grind (arith, common_steps);
+  fit = c.try_line.ensures.fit;
+  none = grind (arith, common_steps);
+  cuts = c.in-Some.ensures.cuts;
+  ready = subst (λ (cutter : CutterState). IsReady cutter.writer (g.O.Outs.slots c.args.outs.now)) (sym c.try_line.ensures.same) c.requires.ready;
+}
 
 pub returns-then-is_empty : goal.returns-then-is_empty
 returns-then-is_empty g c = stretch_cut _ c.args.self.now c.try_line.new.self _ c.args.text.now c.first_size-size.result _ _ _ c.cut_on.result c.requires.sound.fit (c.is_past.ensures.live c.if-is_past.false) c.first_size-size.ensures.some c.first_size-size.ensures.within
     c.first_size-size.ensures.line c.first_size-size.ensures.whole c.try_line.ensures.same
     (sym (ap (λ (cutter : CutterState). cutter.window.held) c.self.view_is) ∙ none_there c.self.inside.window.held c.is_empty.result c.is_empty.ensures c.if-is_empty.true) c.in-Some.ensures.cuts c.in-Some.ensures.tries c.cut_on.ensures
+
+pub cut_line-requires : goal.cut_line-requires
+cut_line-requires g c = record {
+  line = c.first_size-size.ensures.line;
+  few = grind (arith, common_steps);
+  fits = grind (arith, common_steps);
+  fit = c.try_line.ensures.fit;
+  cuts = c.in-Some.ensures.cuts;
+  ready = subst (λ (cutter : CutterState). IsReady cutter.writer (g.O.Outs.slots c.args.outs.now)) (sym c.try_line.ensures.same) c.requires.ready;
+}
 
 pub returns-in_err-cut_line : goal.returns-in_err-cut_line
 returns-in_err-cut_line g c = result_is (Stretches _ _ _ _ _ _) _ _ c.from_residual.ensures.1
