@@ -157,8 +157,7 @@ impl<'o> LineCutter<'o> {
             Turn::Missed => fault_of_miss(operand, repetition),
             Turn::Above(_, _) => fault_of_range(operand, repetition),
             Turn::Below => Some(Fault::Range(operand.index, repetition)),
-            Turn::UsedUp => None,
-            Turn::Cuts(_, _) => None,
+            Turn::UsedUp | Turn::Cuts(_, _) => None,
         }
     }
 
@@ -315,8 +314,7 @@ impl<'o> LineCutter<'o> {
             Turn::Above(_, line) => unfound(self.pass_below(line, text)),
             Turn::Missed => self.pass_unmatched(text),
             Turn::UsedUp => unfound(self.pass_all(text)),
-            Turn::Below => unfound(0),
-            Turn::Cuts(_, _) => unfound(0),
+            Turn::Below | Turn::Cuts(_, _) => unfound(0),
         }
     }
 
@@ -427,8 +425,7 @@ impl<'o> LineCutter<'o> {
             }
             Turn::Missed => self.try_last(line, is_found),
             Turn::UsedUp => None,
-            Turn::Below => None,
-            Turn::Cuts(_, _) => None,
+            Turn::Below | Turn::Cuts(_, _) => None,
         }
     }
 
