@@ -14,10 +14,7 @@ use std::alloc::Global;
 pub(crate) fn next_operand(operands: &[Operand], done: usize) -> Option<&Operand>
     ensures { option_map (λ operand. operand.now) result ≡ next_of (drop done operands.now) }
 {
-    match operands.get(done) {
-        Some(operand) => Some(operand),
-        None => None,
-    }
+    operands.get(done)
 }
 
 /// Whether the section that it ends is kept; the rest after all operands is.
