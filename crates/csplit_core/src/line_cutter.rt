@@ -624,10 +624,8 @@ impl<'o> LineCutter<'o> {
         ensures err { IfErr result (λ fault. (fault ≡ Fault.Memory) × (self.new.writer ≡ self.old.writer) × (self.new.operands ≡ self.old.operands)) }
     {
         let next = next_operand(self.operands, self.progress.done);
-        let matcher = find_matcher(self.alloc, next)?;
-        let window = find_window(self.alloc, next)?;
-        self.matcher = matcher;
-        self.window = window;
+        self.matcher = find_matcher(self.alloc, next)?;
+        self.window = find_window(self.alloc, next)?;
         Ok(())
     }
 
