@@ -2,8 +2,10 @@
 use Rattle.std.proofs.Common.{◌≡◌, ℕ, ◌<◌, ◌≤◌, suc, nat_lt, Bool, true, false, List, [], ◌∷◌, ◌++◌, length, drop, Result, Ok, Err, refl, sym, ◌∙◌, ap, subst, arith, if◌then◌else◌, ◌==◌, zero, nat_le, not, ◌&&◌, IsTrue, map, Option, Some, None, IfOk, option_map, inl, inr}
 use Rattle.std.proofs.lemmas.Bool.{false≢true, leb-true, lt-ltb, eqb-true, eq-eqb, leb-false, le-leb}
 use Rattle.std.proofs.lemmas.List.{append-nil, map-append}
-use Rattle.ports_core.specs.Slot.{Slot, is_open, adds, changed_at, told_of}
-use Rattle.ports_core.specs.Message.{PrintsOn}
+use Rattle.ports_core.specs.Slot.{Slot, is_open, adds, changed_at, told_of, with_written}
+use Rattle.ports_core.specs.declared.tool.Tool.{Tool}
+use Rattle.ports_core.specs.Message.{PrintsOn, Says, SaysOn}
+use Rattle.ports_core.proofs.MessageLemmas.{said_state}
 use Rattle.follow_core.specs.Telling.{TellsAll}
 use Rattle.follow_core.specs.declared.visitor.Stop.{Stop}
 use Rattle.follow_core.specs.declared.visitor.Stop.TheVariants.{Broke, Over}
@@ -47,6 +49,18 @@ pub short_can : (told : Bool) (text : List ℕ) (old new : List Slot) (why : Fau
 short_can told text [] new why short can = absurd (false≢true can.0)
 short_can told text (output ∷ []) new why short can = absurd (false≢true can.1)
 short_can told text (output ∷ error ∷ others) new why short can = short_error told text output error others new why short can.1
+
+-- both streams can be used on, whatever was said or written
+pub said_can : (told : Bool) (tool : Tool) (text : List ℕ) (old new : List Slot) → SaysOn told tool text old new → CanPrint old → CanPrint new
+said_can told tool text [] new says can = absurd (false≢true can.0)
+said_can told tool text (output ∷ []) new says can = absurd (false≢true can.1)
+said_can told tool text (output ∷ error ∷ others) new says can = by (says output error others refl) where
+  by : (after : Slot) × Says told tool text error after × (new ≡ output ∷ after ∷ others) → CanPrint new
+  by (after, said, is) = subst CanPrint (sym is) (can.0, ap is_open (said_state told tool text error after said) ∙ can.1)
+
+pub written_can : (bytes : List ℕ) (old new : List Slot) → new ≡ with_written 0 bytes old → CanPrint old → CanPrint new
+written_can bytes [] new is can = subst CanPrint (sym is) can
+written_can bytes (output ∷ others) new is can = subst CanPrint (sym is) can
 
 -- why a beginning was written, and standard error is open
 pub wrote_error : (told : Bool) (text : List ℕ) (lines : List (List ℕ)) (old new : List Slot) (why : Fault) → WroteShort told text lines old new why → CanPrint old → HasStopped why new

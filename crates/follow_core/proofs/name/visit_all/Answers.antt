@@ -1,8 +1,9 @@
 use Rattle.std.proofs.Common.{◌≡◌, ◌<◌, ◌≤◌, ◌+◌, ◌||◌, ℕ, length, set, refl, sym, ◌∙◌, ap, subst, arith}
-use Rattle.std.proofs.lemmas.List.{length-set}
+use Rattle.std.proofs.lemmas.List.{length-set, get_or_default}
 use Rattle.watch_core.specs.Snapshot.{latest}
+use Rattle.watch_core.specs.Watched.{watched_at}
 use Rattle.follow_core.specs.Look.{Ways, ways_of}
-use Rattle.follow_core.specs.Standing.{AllStand, texts}
+use Rattle.follow_core.specs.Standing.{AllStand, texts, CanVisit}
 use Rattle.follow_core.specs.inner.Visits.{StoppedAt}
 use Rattle.follow_core.proofs.VisitAllLemmas.{VisitedUpTo, next_ready, opened_count, opened_other, same_length, texts_set, visited_all, visited_more, visited_none, visited_short}
 use Rattle.follow_core.proofs.name.visit_all.Goals as goal
@@ -19,6 +20,11 @@ loop-place-init g c = record {
   seen = refl;
   shows = refl;
 }
+
+pub visit-requires-clause-ready : goal.visit-requires-clause-ready
+visit-requires-clause-ready g c =
+    let l = c.loop-place in
+    subst (λ name. CanVisit name (watched_at (g.W.Watch.watched l.watch) (c.args.first + l.place))) (get_or_default l.names l.place _ c.index-names-place.result c.loop-place-test.true) (l.invariant.ready l.place c.loop-place-test.true)
 
 pub returns-in-Err-clause-stopped : goal.returns-in-Err-clause-stopped
 returns-in-Err-clause-stopped g c from looks same =

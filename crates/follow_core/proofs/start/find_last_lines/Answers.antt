@@ -1,8 +1,12 @@
 use Rattle.std.proofs.Common.{◌≡◌, ◌∙◌, ◌+◌, ◌-◌, ◌++◌, ◌<◌, ap, arith, drop, length, min, take}
+use Rattle.std.proofs.lemmas.Grind.{common_steps}
 use Rattle.watch_core.specs.Snapshot.{latest}
 use Rattle.watch_core.specs.Watched.{open_contents, watched_at}
 use Rattle.follow_core.proofs.StartLemmas.{all_wanted, begins_in, begins_last, block_read, room_kept, wanted_before}
 use Rattle.follow_core.proofs.start.find_last_lines.Goals as goal
+
+pub loop-end-init : goal.loop-end-init
+loop-end-init g c = grind (arith, common_steps)
 
 pub returns-in-Begins-clause-part : goal.returns-in-Begins-clause-part
 returns-in-Begins-clause-part g c told =

@@ -1,6 +1,7 @@
-use Rattle.std.proofs.Common.{◌||◌, List, length, refl, sym, ◌∙◌, ap, subst, inr}
+use Rattle.std.proofs.Common.{◌||◌, List, length, refl, sym, ◌∙◌, ap, subst, inr, arith}
 use Rattle.std.proofs.lemmas.List.{with_items_is}
 use Rattle.std.specs.Vec.{with_items}
+use Rattle.std.proofs.lemmas.Grind.{common_steps}
 use Rattle.watch_core.specs.Snapshot.{latest}
 use Rattle.watch_core.specs.Watched.{watched_at}
 use Rattle.watch_core.proofs.NameLemmas.{latest-last}
@@ -14,6 +15,15 @@ returns-in-Err-clause-makes g c = makes_none (fresh_unbroken _ c.in-Err.ensures.
 
 pub returns-in-Err-turn-clause-makes : goal.returns-in-Err-turn-clause-makes
 returns-in-Err-turn-clause-makes g c = makes_none (begun_unbroken c.in_default.ensures.begins c.turn.ensures.watched) c.in-Err-turn.ensures.err.0 (c.in-Err-turn.ensures.err.1 ∙ c.begin.ensures.seen)
+
+pub visit_all-requires-clause-ready : goal.visit_all-requires-clause-ready
+visit_all-requires-clause-ready g c =
+    subst (λ those. AllReady c.deref_mut.result.now c.self.inside.first those) (sym c.turn.ensures.watched)
+    (subst (λ those. AllReady those c.self.inside.first (g.W.Watch.watched c.begin.new.watch)) (sym c.deref_mut.ensures.value)
+    (subst (λ (state : FollowState). AllReady state.names state.first (g.W.Watch.watched c.begin.new.watch)) (sym c.self.view_is) c.in_default.ensures.begins.ready))
+
+pub invariant_of-self : goal.invariant_of-self
+invariant_of-self g c = grind (arith, common_steps)
 
 pub returns-in-Ok-clause-makes : goal.returns-in-Ok-clause-makes
 returns-in-Ok-clause-makes g c =
@@ -44,6 +54,9 @@ returns-in-Ok-clause-makes g c =
       ready = subst (λ (those : List NameState). AllReady those f.first watched_new) (sym names_are) c.in-Ok.ensures.ready;
       can = c.in-Ok.ensures.can;
     }
+
+pub invariant_of-self-in-Err-visit_all : goal.invariant_of-self-in-Err-visit_all
+invariant_of-self-in-Err-visit_all g c = grind (arith, common_steps)
 
 pub returns-in-Err-visit_all-clause-makes : goal.returns-in-Err-visit_all-clause-makes
 returns-in-Err-visit_all-clause-makes g c =
@@ -101,3 +114,6 @@ returns-in-Err-visit_all-clause-others g c number other =
     let (others, same) = begins.others number other in
     c.visit_all.ensures.others number (not_own c.begin.new.self (g.W.Watch.watched c.begin.new.watch) begins.stage (c.deref_mut.ensures.value ∙ ap (λ (state : FollowState). state.names) c.self.view_is) (ap (λ (state : FollowState). state.first) c.self.view_is) others)
     ∙ ap (λ those. watched_at those number) c.turn.ensures.watched ∙ same
+
+pub returns-in-Err-clause-error : goal.returns-in-Err-clause-error
+returns-in-Err-clause-error g c = grind (arith, common_steps)

@@ -1,4 +1,5 @@
-use Rattle.std.proofs.Common.{◌∙◌, refl, sym, subst, ℕ, IsTrue}
+use Rattle.std.proofs.Common.{◌∙◌, refl, sym, subst, ℕ, IsTrue, arith}
+use Rattle.std.proofs.lemmas.Grind.{common_steps}
 use Rattle.watch_core.specs.Watched.{is_readable}
 use Rattle.follow_core.proofs.CallLemmas.{catches_broken, catches_copied, catches_none, catches_untold, readable_open, ends_can}
 use Rattle.follow_core.proofs.StartLemmas.{contents_same}
@@ -18,6 +19,9 @@ returns-in-Err-begin_at-clause-catches g c = catches_untold c.in-Ok.ensures.same
 
 pub copy-requires-clause-readable : goal.copy-requires-clause-readable
 copy-requires-clause-readable g c = subst (λ those. IsTrue (is_readable those c.args.place)) (sym c.in-Ok.ensures.same) (readable_open (g.W.Watch.watched c.args.watch.now) c.args.place _ (sym c.open_id.ensures ∙ c.in-Some.is) c.requires.watchable)
+
+pub invariant_of-self : goal.invariant_of-self
+invariant_of-self g c = grind (arith, common_steps)
 
 pub returns-clause-catches : goal.returns-clause-catches
 returns-clause-catches g c = catches_copied c.self.view_is (sym c.open_id.ensures ∙ c.in-Some.is) c.in-Ok.ensures.same c.in-Ok.ensures.ok

@@ -1,12 +1,15 @@
 use Rattle.std.proofs.Common.{ap}
 use Rattle.watch_core.specs.Snapshot.{latest}
-use Rattle.follow_core.proofs.CallLemmas.{short_can, contents_led, readable_there}
+use Rattle.follow_core.proofs.CallLemmas.{short_can, contents_led, readable_there, said_can, written_can}
 use Rattle.follow_core.proofs.FirstLemmas.{first_cut, first_short, first_whole, led_file}
 use Rattle.follow_core.proofs.VisitLemmas.{first_fails, first_looks, first_missing, first_over, first_unopened, opened_leaves}
 use Rattle.follow_core.proofs.visitor.Visitor.first.Goals as goal
 
 pub returns-in-Ok-false-clause-looks : goal.returns-in-Ok-false-clause-looks
 returns-in-Ok-false-clause-looks g c first by_name = first_missing c.in-Ok-false.ensures.ok c.in-Ok-false.field-0-test c.requires.name c.say.ensures
+
+pub returns-in-Ok-false-clause-can : goal.returns-in-Ok-false-clause-can
+returns-in-Ok-false-clause-can g c = said_can _ _ _ _ _ c.say.ensures c.requires.can
 
 pub returns-in-Err-clause-looks : goal.returns-in-Err-clause-looks
 returns-in-Err-clause-looks g c first by_name = first_unopened c.in-Err.ensures.err.0 c.in-Err.ensures.err.1 c.stop.ensures.tells
@@ -16,6 +19,9 @@ returns-in-Err-open-clause-looks g c first by_name = first_over (c.in-Ok-true.en
 
 pub write_start-requires-clause-readable : goal.write_start-requires-clause-readable
 write_start-requires-clause-readable g c = readable_there _ _ _ _ _ _ c.in-Ok-true.ensures.ok c.in-Ok-true.field-0-test c.requires.watchable
+
+pub write_start-requires-clause-can : goal.write_start-requires-clause-can
+write_start-requires-clause-can g c = written_can _ _ _ c.in_default.ensures.out c.requires.can
 
 pub returns-in-Ok-clause-looks : goal.returns-in-Ok-clause-looks
 returns-in-Ok-clause-looks g c first by_name =

@@ -1,4 +1,5 @@
-use Rattle.std.proofs.Common.{◌≡◌, ◌∙◌, ℕ, List, [], Err, drop, length, subst, true}
+use Rattle.std.proofs.Common.{◌≡◌, ◌∙◌, ℕ, List, [], Err, drop, length, subst, true, arith}
+use Rattle.std.proofs.lemmas.Grind.{common_steps}
 use Rattle.std.proofs.lemmas.Result.{IfOk-weaker}
 use Rattle.ends_core.specs.Ends.{tail_of}
 use Rattle.watch_core.specs.Snapshot.{latest}
@@ -15,12 +16,18 @@ use Rattle.follow_core.proofs.visitor.Visitor.write_start.Goals as goal
 pub returns-in-Err-clause-ends : goal.returns-in-Err-clause-ends
 returns-in-Err-clause-ends g c = broke_first _ _ _ _ _ _ _ _
 
+pub invariant_of-self : goal.invariant_of-self
+invariant_of-self g c = grind (arith, common_steps)
+
 pub returns-in-Err-find-clause-ends : goal.returns-in-Err-find-clause-ends
 returns-in-Err-find-clause-ends g c =
     let due = tail_of c.args.start.delim c.args.start.unit c.args.start.from_nth c.args.start.count (open_contents (latest (g.W.Watch.seen c.args.watch.now)) (watched_at (g.W.Watch.watched c.args.watch.now) c.args.place)) in
     let slots = g.O.Outs.slots c.args.outs.now in
     subst (λ (p : PrinterState). Ends {T = ℕ} g.W.Watch.told g.O.Outs.told p c.args.name.now due [] slots c.self.inside.printer slots (Err (Broke c.in-Err-find.fault))) c.self.view_is
     (broke_first _ _ _ _ _ _ _ _)
+
+pub invariant_of-self-2 : goal.invariant_of-self-2
+invariant_of-self-2 g c = grind (arith, common_steps)
 
 pub returns-clause-ends : goal.returns-clause-ends
 returns-clause-ends g c =
