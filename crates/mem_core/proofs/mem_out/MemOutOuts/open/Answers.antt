@@ -1,4 +1,5 @@
 use Rattle.std.proofs.Common.{◌≡◌, ◌∙◌, ap, arith, ◌++◌, [], replicate, refl}
+use Rattle.std.proofs.lemmas.Grind.{common_steps}
 use Rattle.ports_core.specs.Slot.{unopened}
 use Rattle.ports_core.proofs.SlotLemmas.{opens_in_vain, opens_named, no_number_left, count_of}
 use Rattle.mem_core.proofs.mem_out.MemOutOuts.open.Goals as goal
@@ -25,3 +26,6 @@ returns-then-place_unopened-clause-err c =
 
 pub returns-then-fails-clause-err : goal.returns-then-fails-clause-err
 returns-then-fails-clause-err c = opens_in_vain _ _ _ _ _ (ap (λ kept. kept ++ replicate c.restore.new.lost (unopened [])) (c.if-place_unopened.ensures.unplaced refl) ∙ c.restore.ensures.same ∙ c.self.view_is) (let n = count_of _ _ _ c.self.view_is in omega (arith, c.in-Some.ensures, n))
+
+pub returns-then-place-clause-ok : goal.returns-then-place-clause-ok
+returns-then-place-clause-ok c = grind (arith, common_steps)

@@ -1,4 +1,5 @@
-use Rattle.std.proofs.Common.{◌≡◌, true, refl, ap, sym, subst, ◌∙◌, length}
+use Rattle.std.proofs.Common.{◌≡◌, true, refl, ap, sym, subst, ◌∙◌, length, arith}
+use Rattle.std.proofs.lemmas.Grind.{common_steps}
 use Rattle.ports_core.specs.Engine.{CutsOff, EndsWith, IsMet, over, long}
 use Rattle.ports_core.proofs.GuardLemmas.{caused, is_long, too_long, has_failed}
 use Rattle.ports_core.proofs.guarded.Guarded.feed.Goals as goal
@@ -14,6 +15,9 @@ returns-in_default-clause-cut g c = too_long g.S.Stage.Holds g.S.Stage.Owns g.S.
 
 pub returns-in_default-clause-refused : goal.returns-in_default-clause-refused
 returns-in_default-clause-refused g c = long (sym (ap (λ guard. guard.is_over) c.self.view_is) ∙ c.if-self.false) (is_long _ _ (length c.args.piece.now) _ c.self.view_is c.in_default.ensures) refl
+
+pub returns-in-Ok-clause-holds : goal.returns-in-Ok-clause-holds
+returns-in-Ok-clause-holds g c = grind (arith, common_steps)
 
 pub returns-in-Err-clause-cut : goal.returns-in-Err-clause-cut
 returns-in-Err-clause-cut g c = subst (λ guard. CutsOff g.S.Stage.Holds g.S.Stage.Owns g.S.Stage.work guard.stage c.args.piece.now g.O.Outs.told (g.O.Outs.slots c.args.outs.now) (g.O.Outs.slots c.pass.new.outs) c.in-Err.fault) c.self.view_is c.in-Err.ensures.cut
