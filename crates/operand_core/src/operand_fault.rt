@@ -9,37 +9,27 @@ use std::alloc::{AllocError, AllocFailed};
 use thiserror::Error;
 
 /// What is wrong with an operand. Each kind has a number, 1 to 10 in this order.
-#[derive(Clone, Copy, Debug, PartialEq, Eq, Error)]
+#[derive(Clone, Copy, Debug, PartialEq, Eq)]
 pub enum OperandFaultKind {
     /// There is no operand at all.
-    #[error("missing operand")]
     Missing,
     /// A pattern has no closing delimiter.
-    #[error("closing delimiter missing")]
     Unclosed,
     /// What follows the closing delimiter is no offset.
-    #[error("invalid offset")]
     Offset,
     /// The line number is 0.
-    #[error("line number is zero")]
     LineZero,
     /// A repetition doesn't stand directly after a line number or a pattern.
-    #[error("repetition of nothing")]
     RepeatFirst,
     /// The word begins with `{` and is no repetition.
-    #[error("invalid repetition")]
     RepeatText,
     /// The pattern can't be read, for a reason that isn't want of memory.
-    #[error("invalid pattern")]
     Bre(BreFault),
     /// The line number is below the nearest one before it.
-    #[error("line number below the one before it")]
     LineOrder,
     /// A growth was refused.
-    #[error("memory exhausted")]
     Memory,
     /// The word begins with none of `/`, `%` and `{`, and is no number up to 2^63-1.
-    #[error("invalid line number")]
     Number,
 }
 
@@ -93,7 +83,7 @@ impl From<BreFault> for OperandFaultKind {
 
 /// The first fault of a list of operands.
 #[derive(Clone, Copy, Debug, PartialEq, Eq, Error)]
-#[error("operand {index}: {kind}")]
+#[error("operand {index}: {kind:?}")]
 pub struct OperandFault {
     /// What is wrong.
     pub kind: OperandFaultKind,
