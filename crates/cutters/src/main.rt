@@ -10,8 +10,9 @@ use std::alloc::{AllocError, Global};
 use std::fs::{self, File};
 use std::os::fd::{AsRawFd, RawFd};
 use std::process::ExitCode;
-use tools_core::{ArgsFault, read_args, run_words};
+use tools_core::run_words;
 use watch_core::DirWatch;
+use words_core::{ArgsFault, read_args};
 
 /// The output for messages.
 const STANDARD_ERROR: usize = 1;

@@ -1,7 +1,7 @@
 //! Words that the system gives as bytes.
 use std::alloc::Global;
 use std::env::{Env, FillError};
-use tools_core::{ArgsFault, read_args};
+use words_core::{ArgsFault, read_args};
 
 /// Arguments in memory.
 #[derive(Clone, Copy)]

@@ -21,7 +21,8 @@ use std::alloc::Global;
 use std::process::Abort;
 use std::test::Fail;
 use tools_core::run::run;
-use tools_core::{ArgsFault, read_args, run_follow};
+use tools_core::run_follow;
+use words_core::{ArgsFault, read_args};
 
 /// A run, what is planned for it, and all that it may say where a growth is refused.
 #[derive(Clone, Copy)]

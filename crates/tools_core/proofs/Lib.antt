@@ -4,7 +4,6 @@ pub mod RunLemmas
 pub mod SpeakerLemmas
 pub mod FollowingLemmas
 pub mod ProgramLemmas
-pub mod CalledLemmas
 pub mod PromiseLemmas
 pub mod EndsPromises
 pub mod CanLemmas

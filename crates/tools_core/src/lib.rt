@@ -1,7 +1,6 @@
 //! The tools together: what a program's words ask for, run over inputs, outputs and files that are watched.
 #![tactic(auto)]
 
-mod args;
 mod csplit;
 mod ends;
 mod follow;
@@ -10,7 +9,6 @@ mod promises;
 pub mod run;
 mod split;
 
-pub use args::{ArgsFault, read_args};
 pub use follow::run_follow;
 pub use program::run_words;
 pub use promises::{

@@ -1,4 +1,5 @@
 pub mod AskedLemmas
+pub mod CalledLemmas
 pub mod ChoiceLemmas
 pub mod CsplitLemmas
 pub mod FaultLemmas

@@ -1,3 +1,4 @@
+pub mod Called
 pub mod Spelling
 pub mod SplitWords
 pub mod Value

@@ -1,6 +1,7 @@
 //! The words of the command line: what they ask of each tool, or what is wrong with them (POSIX.1-2017, XBD 12).
 #![tactic(auto)]
 
+mod args;
 mod csplit_settings;
 mod csplit_words;
 mod ends_words;
@@ -15,6 +16,7 @@ mod tee_words;
 mod value;
 mod words;
 
+pub use args::{ArgsFault, read_args};
 pub use csplit_settings::CsplitSettings;
 pub use laws::{
     csplit_options_ask, ends_options_ask, last_of_csplit_decides, last_of_ends_decides,

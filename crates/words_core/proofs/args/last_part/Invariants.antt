@@ -1,7 +1,7 @@
 use Rattle.std.proofs.Common.{◌≡◌, length}
-use Rattle.tools_core.specs.inner.Called.{last_part}
-use Rattle.tools_core.proofs.CalledLemmas.{part_among}
-use Rattle.tools_core.proofs.args.last_part.Given as goal
+use Rattle.words_core.specs.inner.Called.{last_part}
+use Rattle.words_core.proofs.CalledLemmas.{part_among}
+use Rattle.words_core.proofs.args.last_part.Given as goal
 
 abbrev pub invariant-loop-left : goal.invariant-loop-left
 invariant-loop-left l = part_among l.part l.left ≡ last_part l.path

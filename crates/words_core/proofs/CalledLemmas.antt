@@ -1,6 +1,6 @@
 -- The last part of a path, looked for from its front.
 use Rattle.std.proofs.Common.{◌≡◌, ℕ, Bool, true, false, List, [], ◌∷◌, if◌then◌else◌, refl}
-use Rattle.tools_core.specs.inner.Called.{has_slash, last_part}
+use Rattle.words_core.specs.inner.Called.{has_slash, last_part}
 
 -- the last part of a path, of which this is left, where it is this unless a `/` follows
 abbrev pub part_among : (part left : List ℕ) → List ℕ

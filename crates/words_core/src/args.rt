@@ -1,13 +1,13 @@
 //! The words that the program was started with. The system gives them as bytes.
 ghost use Rattle.std.specs.Prelude.{◌≡◌, ℕ, List, [], ◌∷◌, ◌++◌, None, map, string_bytes, IfOk, IsUtf8};
 ghost use Rattle.words_core.specs.Words.{tool_named};
-ghost use Rattle.tools_core.specs.inner.Called.{last_part, words_called};
+ghost use Rattle.words_core.specs.inner.Called.{last_part, words_called};
 
+use crate::words::find_tool;
 use ports_core::Tool;
 use std::alloc::{AllocError, Global};
 use std::env::{Env, FillError};
 use std::str;
-use words_core::find_tool;
 
 /// Why there are no words.
 #[derive(Clone, Copy, Debug, PartialEq, Eq)]
