@@ -1,4 +1,5 @@
 use Rattle.std.proofs.Common.{◌∷◌, [], length, ap, arith, length-append}
+use Rattle.std.proofs.lemmas.Grind.{common_steps}
 use Rattle.std.proofs.lemmas.Result.{on_ok_weaker}
 use Rattle.scan_core.specs.declared.node.Node.TheVariants.{Choose}
 use Rattle.scan_core.proofs.Emitting.{exact_out, optional_first, optional_more, bounded_out, grown_on}
@@ -39,3 +40,9 @@ pub returns-clause-ok : goal.returns-clause-ok
 returns-clause-ok c = let g = c.loop-more.invariant.grown in on_ok_weaker c.copy_times-2.result
     (λ e before code b n. bounded_out c.args.nodes.now.items c.loop-more.nodes.items _ g.0 before code c.args.start _ c.args.low c.args.high c.loop-more._more b n (omega (arith, c.len.ensures)) g.1
     (c.loop-more.invariant.written before code b n) (omega (arith, c.loop-more-test.false, c.loop-more.auto, c.requires.order, c.if-low-high.false)) e) c.copy_times-2.ensures.ok
+
+pub choose-requires-in-loop-more : goal.choose-requires-in-loop-more
+choose-requires-in-loop-more c = grind (arith, common_steps)
+
+pub returns-clause-more : goal.returns-clause-more
+returns-clause-more c = grind (arith, common_steps)

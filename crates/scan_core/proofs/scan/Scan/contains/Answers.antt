@@ -1,3 +1,5 @@
+use Rattle.std.proofs.Common.{arith}
+use Rattle.std.proofs.lemmas.Grind.{common_steps}
 use Rattle.scan_core.proofs.Whole.{found_contains}
 use Rattle.scan_core.proofs.scan.Scan.contains.Goals as goal
 
@@ -6,3 +8,6 @@ returns-in-Some-clause-exact c = found_contains c.args.bre.now c.args.line.now c
 
 pub returns-clause-exact : goal.returns-clause-exact
 returns-clause-exact c = found_contains c.args.bre.now c.args.line.now c.search.result.found c.search.ensures.order c.search.ensures.outcome.exact
+
+pub invariant_of-self : goal.invariant_of-self
+invariant_of-self c = grind (arith, common_steps)
