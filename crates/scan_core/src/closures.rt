@@ -234,7 +234,7 @@ fn inside_at(inside: &[u64], nodes: &[Node], place: usize) -> u64
         return inside_of(
             nodes,
             place / 2048,
-            ((low + high) as u64) << (place / 256 % 8 * 8),
+            ((place % 256) as u64) << (place / 256 % 8 * 8),
         );
     }
     inside[place - low] | inside[place - high]

@@ -1,4 +1,5 @@
 use Rattle.std.proofs.Common.{rules, ◌≡◌, List, get_or, set, ◌+◌, ◌*◌, ◌<◌, ◌^◌, ℕ, length, refl, sym, ◌∙◌, subst, arith, w64}
+use Rattle.std.proofs.lemmas.Grind.{common_steps}
 use Rattle.std.proofs.lemmas.List.{get_or-set_same, get_or_default}
 use Rattle.std.proofs.lemmas.Nat.Bits.{bit_at-trailing_zeros}
 use Rattle.std.specs.Prelude.{bit_or}
@@ -44,3 +45,6 @@ returns c =
     close_ends c.args.nodes.now c.args.closures.now.hops.items c.args.at_first c.args.at_last c.args.at c.bits.left _ before now c.bits.words c.hop.new.words c.bits.on c.hop.result closed c.bits.invariant (omega arith)
     (sets.leaves.each c.args.at c.requires.within) sets.hops c.requires.within
     (subst (λ word. Grows (Hopped c.args.closures.now.hops.items c.args.at word 3) c.bits.words c.hop.new.words c.bits.on c.hop.result) same hopped)
+
+pub bits-init : goal.bits-init
+bits-init c = grind (arith, common_steps)

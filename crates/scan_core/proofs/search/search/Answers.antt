@@ -1,6 +1,7 @@
-use Rattle.std.proofs.Common.{rules, ◌≡◌, ◌⊎◌, ◌↔◌, ℕ, ◌+◌, ◌≤◌, ◌<◌, ◌^◌, length, slice_index, true, false, refl, ◌∙◌, subst, arith}
+use Rattle.std.proofs.Common.{rules, ◌≡◌, ◌⊎◌, ◌↔◌, ℕ, ◌+◌, ◌≤◌, ◌<◌, ◌^◌, length, slice_index, true, false, refl, sym, ◌∙◌, subst, arith}
+use Rattle.scan_core.specs.declared.masks.Kind.TheVariants.{Counts}
 use Rattle.scan_core.specs.inner.Sets.{Passes}
-use Rattle.scan_core.specs.inner.Words.{IsIn}
+use Rattle.scan_core.specs.inner.Words.{IsIn, IsMask}
 use Rattle.scan_core.specs.Code.{weight}
 use Rattle.scan_core.proofs.Enterings.{weight_length}
 use Rattle.scan_core.proofs.Along.{inner, final, steps_fit}
@@ -51,3 +52,9 @@ spread-requires-clause-begun c = begun c.args.nodes.now c.args.line.now c.args.b
 
 pub spread-requires-2-clause-begun : goal.spread-requires-2-clause-begun
 spread-requires-2-clause-begun c = begun c.args.nodes.now c.args.line.now c.args.base.now c.loop-place.place c.loop-place.steps c.loop-place.words c.requires.base c.loop-place.invariant
+
+pub positions-requires-clause-counts : goal.positions-requires-clause-counts
+positions-requires-clause-counts c = subst (IsMask c.args.nodes.now Counts 0) (sym c.deref-in-loop-place.ensures.value) c.requires.masks.counts
+
+pub positions-requires-2-clause-counts : goal.positions-requires-2-clause-counts
+positions-requires-2-clause-counts c = subst (IsMask c.args.nodes.now Counts 0) (sym c.deref-2.ensures.value) c.requires.masks.counts
