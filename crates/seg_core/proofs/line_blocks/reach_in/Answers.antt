@@ -1,5 +1,4 @@
 use Rattle.std.proofs.Common.{◌≡◌, ◌+◌, ◌-◌, ◌<◌, ◌≤◌, ◌++◌, ◌∙◌, ℕ, List, ap, sym, drop, length, arith}
-use Rattle.std.proofs.lemmas.Grind.{common_steps}
 use Rattle.std.proofs.lemmas.List.{length-append}
 use Rattle.seg_core.specs.Line.{delimiters, first_lines}
 use Rattle.seg_core.specs.Blocks.{text_of}
@@ -34,9 +33,6 @@ returns-then-left-delimiters c =
     let enough : c.loop-i.left ≤ delimiters c.args.delim c.index-block.result.now.bytes = let counted = counted_at c.args.delim items c.loop-i.i c.index-block.result.now here c.index-block.ensures c.requires.each in let t = c.if-left-delimiters.true in let e = c.delimiters.ensures in omega arith in
     ends_here c.args.delim (length (first_lines c.args.delim c.args.lines (text_of items))) c.loop-i.passed c.loop-i.left c.end_of.result (text_of (drop c.loop-i.i items)) c.index-block.result.now.bytes (text_of (drop (c.loop-i.i + 1) items))
     (text_from items c.loop-i.i c.index-block.result.now here c.index-block.ensures) c.loop-i.invariant.place enough c.end_of.ensures
-
-pub overflow_add-passed : goal.overflow_add-passed
-overflow_add-passed c = grind (arith, common_steps)
 
 pub loop-i-preserved : goal.loop-i-preserved
 loop-i-preserved c =

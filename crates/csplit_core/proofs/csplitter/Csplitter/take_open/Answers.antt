@@ -1,5 +1,4 @@
-use Rattle.std.proofs.Common.{◌∙◌, arith}
-use Rattle.std.proofs.lemmas.Grind.{common_steps}
+use Rattle.std.proofs.Common.{◌∙◌}
 use Rattle.ports_core.proofs.HandedOn.{result_is}
 use Rattle.csplit_core.specs.inner.Cutter.{Takes}
 use Rattle.csplit_core.proofs.StageSteps.{line_at, lacks_at}
@@ -10,6 +9,3 @@ returns-in_err-extend_from_slice-clause-takes g c = result_is (Takes g.O.Outs.to
 
 pub take_line-requires-clause-line : goal.take_line-requires-clause-line
 take_line-requires-clause-line g c = line_at _ c.args.self.now _ c.args.end.now c.self.view_is (c.deref.ensures.value ∙ c.in_ok-extend_from_slice.ensures.items) c.requires.open c.requires.line
-
-pub returns-clause-takes : goal.returns-clause-takes
-returns-clause-takes g c = grind (arith, common_steps)

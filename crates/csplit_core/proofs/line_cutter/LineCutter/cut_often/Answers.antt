@@ -1,5 +1,4 @@
 use Rattle.std.proofs.Common.{ap, arith}
-use Rattle.std.proofs.lemmas.Grind.{common_steps}
 use Rattle.ports_core.proofs.HandedOn.{fault_is}
 use Rattle.csplit_core.specs.Cutter.{CutterState}
 use Rattle.csplit_core.proofs.SpreadLemmas.{spread_once, spread_more_at, spread_stopped_at, first_stopped, spread_fit, spread_lines, spread_size, spread_ready, spread_none, spread_fewer}
@@ -31,9 +30,6 @@ cut_at-requires-in-Some-clause-none g c = spread_none c.loop-cut.self c.try_last
 
 pub cut_at-requires-in-Some-clause-ready : goal.cut_at-requires-in-Some-clause-ready
 cut_at-requires-in-Some-clause-ready g c = spread_ready c.loop-cut.self c.try_last.new.self _ c.try_last.ensures.same c.loop-cut.invariant.ready
-
-pub cut_at-requires-in-Some-clause-cuts : goal.cut_at-requires-in-Some-clause-cuts
-cut_at-requires-in-Some-clause-cuts g c = grind (arith, common_steps)
 
 pub returns-in_err-left-2-clause-err : goal.returns-in_err-left-2-clause-err
 returns-in_err-left-2-clause-err g c = fault_is _ _ _ c.from_residual-in_err-left-2.ensures.1

@@ -1,5 +1,4 @@
 use Rattle.std.proofs.Common.{◌+◌, drop, arith}
-use Rattle.std.proofs.lemmas.Grind.{common_steps}
 use Rattle.csplit_core.specs.Progress.{state_of}
 use Rattle.csplit_core.proofs.TurnLemmas.{left_is, falls_number, falls_search, misses_search}
 use Rattle.csplit_core.proofs.progress.Progress.turn.Goals as goal
@@ -9,16 +8,10 @@ returns-then-not-found-clause-says c lines seen =
     misses_search c.args.suppress lines c.args.total (state_of c.args.operands.now c.args.self.now) c.args.found c.in-Some.operand.now (drop (c.args.self.now.done + 1) c.args.operands.now) c.in-Search.pattern c.in-Search.is_kept c.in-Search.offset
     (left_is c.args.operands.now c.args.self.now.done c.in-Some.operand.now c.in-Some.ensures.lookup.3.0 c.in-Some.ensures.lookup.1) c.in-Search.is seen (λ near. c.if-not-found.true)
 
-pub returns-in-Number-clause-moves : goal.returns-in-Number-clause-moves
-returns-in-Number-clause-moves c = grind (arith, common_steps)
-
 pub returns-in-Number-clause-says : goal.returns-in-Number-clause-says
 returns-in-Number-clause-says c lines seen =
     falls_number c.args.suppress lines c.args.total (state_of c.args.operands.now c.args.self.now) c.in-Some.operand.now (drop (c.args.self.now.done + 1) c.args.operands.now) c.in-Number.number _
     (left_is c.args.operands.now c.args.self.now.done c.in-Some.operand.now c.in-Some.ensures.lookup.3.0 c.in-Some.ensures.lookup.1) c.in-Number.is c.saturating_mul-cut.ensures c.requires.few c.fall.result c.fall.ensures
-
-pub returns-else-not-found-clause-moves : goal.returns-else-not-found-clause-moves
-returns-else-not-found-clause-moves c = grind (arith, common_steps)
 
 pub returns-else-not-found-clause-says : goal.returns-else-not-found-clause-says
 returns-else-not-found-clause-says c lines seen =
