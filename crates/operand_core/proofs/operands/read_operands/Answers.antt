@@ -1,4 +1,5 @@
-use Rattle.std.proofs.Common.{sym}
+use Rattle.std.proofs.Common.{arith, sym}
+use Rattle.std.proofs.lemmas.Grind.{common_steps}
 use Rattle.operand_core.proofs.ReadingLemmas.{texts, no_operand, ends_at, lacks_room, reads_next, slice_rest}
 use Rattle.operand_core.proofs.operands.read_operands.Goals as goal
 
@@ -17,3 +18,9 @@ loop-left-preserved c =
     reads_next c.args.words.now c.loop-left.list.items c.loop-left.least c.loop-left.left.now c.as_bytes.result.now _ c.read_target.result c.in-Ok.target _ c.times_before-times.result.0 c.times_before-times.result.1 c.keep.new.list.items _ c.least_after-least.result
     c.loop-left.invariant c.in-len1-up.len_at_least c.as_bytes.ensures.value c.read_target.ensures c.in-Ok.is (slice_rest 1 c.loop-left.left.now) c.times_before-times.ensures.says c.times_before-times.ensures.within
     c.in_default-keep.ensures.ok (slice_rest c.times_before-times.result.1 _) c.least_after-least.ensures
+
+pub loop-left-init : goal.loop-left-init
+loop-left-init c = grind (arith, common_steps)
+
+pub returns-clause-ok : goal.returns-clause-ok
+returns-clause-ok c = grind (arith, common_steps)
