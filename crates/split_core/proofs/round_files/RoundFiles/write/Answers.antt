@@ -1,4 +1,5 @@
-use Rattle.std.proofs.Common.{◌≡◌, ℕ, List, get_or, subst, sym}
+use Rattle.std.proofs.Common.{◌≡◌, ℕ, List, get_or, subst, sym, arith}
+use Rattle.std.proofs.lemmas.Grind.{common_steps}
 use Rattle.ports_core.proofs.HandedOn.{fault_is}
 use Rattle.split_core.proofs.FilesLemmas.{caused_later, nothing_made, added_none}
 use Rattle.split_core.proofs.FileSteps.{sent_next, sent_stops}
@@ -15,3 +16,6 @@ loop-place-preserved g c = sent_next _ _ _ _ _ _ _ _ _ _ c.loop-place.invariant 
 
 pub returns-in_err-send-clause-caused : goal.returns-in_err-send-clause-caused
 returns-in_err-send-clause-caused g c = fault_is _ _ _ c.from_residual.ensures.1 (caused_later _ _ _ _ c.loop-place.invariant.sound c.in_err-send.ensures.caused)
+
+pub returns-clause-became : goal.returns-clause-became
+returns-clause-became g c = grind (arith, common_steps)
