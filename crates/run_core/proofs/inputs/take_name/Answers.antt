@@ -1,4 +1,5 @@
-use Rattle.std.proofs.Common.{◌∙◌, sym, refl}
+use Rattle.std.proofs.Common.{◌∙◌, sym, refl, arith}
+use Rattle.std.proofs.lemmas.Grind.{common_steps}
 use Rattle.run_core.proofs.InputLemmas.{said_as}
 use Rattle.run_core.proofs.NamesLemmas.{of_opened, of_missing, of_no_room, took_file, took_standard}
 use Rattle.run_core.proofs.ReadingLemmas.{takes_dash, takes_file, takes_missing}
@@ -42,3 +43,15 @@ returns-then-not-is_unopened-clause-took g c so_far error opened at =
 
 pub returns-then-not-is_unopened-clause-takes : goal.returns-then-not-is_unopened-clause-takes
 returns-then-not-is_unopened-clause-takes g c = takes_missing _ _ _ _ _ _ _ c.in-Err.fault (sym c.is_dash.ensures ∙ c.if-is_dash.false) c.requires.some c.in-Err.ensures.err
+
+pub take_input-requires-in-Ok-clause-unread : goal.take_input-requires-in-Ok-clause-unread
+take_input-requires-in-Ok-clause-unread g c = grind (arith, common_steps)
+
+pub take_input-requires-in-Ok-clause-input : goal.take_input-requires-in-Ok-clause-input
+take_input-requires-in-Ok-clause-input g c = grind (arith, common_steps)
+
+pub returns-in-Ok-clause-opens : goal.returns-in-Ok-clause-opens
+returns-in-Ok-clause-opens g c = grind (arith, common_steps)
+
+pub returns-else-not-is_unopened-clause-opens : goal.returns-else-not-is_unopened-clause-opens
+returns-else-not-is_unopened-clause-opens g c = grind (arith, common_steps)

@@ -1,4 +1,5 @@
-use Rattle.std.proofs.Common.{subst}
+use Rattle.std.proofs.Common.{subst, arith}
+use Rattle.std.proofs.lemmas.Grind.{common_steps}
 use Rattle.std.proofs.lemmas.List.{length-map}
 use Rattle.tee_core.specs.Run.{said_of_input}
 use Rattle.tee_core.specs.inner.Steps.{HasStreams, all_of}
@@ -45,3 +46,6 @@ returns-clause-copied g c mode opens =
         copied.2.1,
       ),
     )
+
+pub tell_broken-requires-clause-known : goal.tell_broken-requires-clause-known
+tell_broken-requires-clause-known g c = grind (arith, common_steps)

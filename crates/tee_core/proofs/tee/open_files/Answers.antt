@@ -1,3 +1,5 @@
+use Rattle.std.proofs.Common.{arith}
+use Rattle.std.proofs.lemmas.Grind.{common_steps}
 use Rattle.ports_core.proofs.HandedOn.{handed_on}
 use Rattle.tee_core.proofs.OpeningLemmas.{begins_opening, none_left, opens_more_at, some_now}
 use Rattle.tee_core.proofs.tee.open_files.Goals as goal
@@ -13,3 +15,6 @@ returns-in_err-open_file-clause-some g c = rw (handed_on _ _ c.from_residual.ens
 
 pub returns-clause-ok : goal.returns-clause-ok
 returns-clause-ok g c = c.loop-left.invariant.whole _ (none_left _ c.loop-left.left.now _ c.in_default.len_below)
+
+pub returns-in_err-open_file-clause-err : goal.returns-in_err-open_file-clause-err
+returns-in_err-open_file-clause-err g c = grind (arith, common_steps)

@@ -1,4 +1,5 @@
 use Rattle.std.proofs.Common.{◌≡◌, ◌+◌, ℕ, List, Bor, length, map, false, arith, sym}
+use Rattle.std.proofs.lemmas.Grind.{common_steps}
 use Rattle.std.proofs.lemmas.List.{length-map}
 use Rattle.ports_core.proofs.HandedOn.{handed_on}
 use Rattle.tee_core.proofs.OpeningLemmas.{in_range, none_left, opens_next_at, ready_to_go, some_next_at, some_now}
@@ -24,3 +25,9 @@ invariant_of-result-2 g c =
     let all : length (g.O.Outs.slots c.open_files.new.outs) ≡ length (g.O.Outs.slots c.args.outs.now) + length (map (λ (name : Bor (List ℕ)). name.now) c.args.names.now) = in_range _ _ _ _ (opens_next_at _ _ c.args.names.now _ _ _ c.in-len1-up.len_at_least c.in_ok-first.ensures.ok.1 c.in_ok-open_files.ensures.ok) in
     let many : length (map (λ (name : Bor (List ℕ)). name.now) c.args.names.now) ≡ length c.args.names.now = length-map c.args.names.now _ in
     (omega (arith, all, many, c.in_ok-first.ensures.ok.0, c.in_ok-open_files.ensures.bound), λ some. omega (arith, c.in_ok-first.ensures.ok.0, c.requires.streams))
+
+pub open_files-requires : goal.open_files-requires
+open_files-requires g c = grind (arith, common_steps)
+
+pub returns-in_err-open_files-clause-err : goal.returns-in_err-open_files-clause-err
+returns-in_err-open_files-clause-err g c = grind (arith, common_steps)
