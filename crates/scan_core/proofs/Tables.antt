@@ -8,12 +8,13 @@ use Rattle.scan_core.specs.declared.node.Node.{Node}
 use Rattle.scan_core.specs.declared.node.Node.TheVariants.{Take}
 use Rattle.scan_core.specs.declared.reach.Reach.{Reach}
 use Rattle.scan_core.specs.declared.table.State.{State}
+use Rattle.scan_core.specs.declared.table.Table.{Table}
 use Rattle.scan_core.specs.inner.Built.{AreAlike, Built, AreSized, IsBuilding, IsFilling, LeadsTo, AreNoted}
 use Rattle.scan_core.specs.Code.{At}
 use Rattle.scan_core.specs.Counted.{set_at}
 use Rattle.scan_core.specs.Sets.{IsMarked, positions_among}
 use Rattle.scan_core.specs.inner.Sets.{IsReach, Has, FlowsOn, Passes, PassesFrom, Advances, Loaded, Spreads}
-use Rattle.scan_core.specs.inner.Table.{Next, InSets, entry, Tells, IsState, no_state}
+use Rattle.scan_core.specs.inner.Table.{Next, InSets, entry, Tells, IsState, no_state, IsTable}
 use Rattle.scan_core.proofs.Enterings.{at_index, at_once, at_least}
 
 pub get-last : {X : Type 0} (xs : List X) (y d : X) (n : ℕ) → n ≡ length xs → get_or (xs ++ y ∷ []) n d ≡ y
@@ -274,3 +275,21 @@ one_noted code sets rows states new number noted a e h s q = record {
         subst (IsState code sets rows state) (sym (ap (λ t. get_or t state no_state) q ∙ get-last states noted no_state state (same ∙ e))) (subst (λ k. IsState code sets rows k noted) (sym same) s)
   ];
 }
+
+-- a table that was built, with what is noted of each state
+pub table_is : (code : List Node) (most state : ℕ) (building : Building) (table : Table) → IsBuilding code most (state * 256) building → state ≡ length building.sets.items → length code ≤ 65536 → most < 65534 → table.rows ≡ building.rows
+    → AreNoted code building.sets.items building.rows.items table.states.items → length table.states.items ≡ length building.sets.items → IsTable code table
+table_is code most state building table b all few small same noted count = (
+  building.sets.items,
+  record {
+    few = few;
+    some = b.built.some;
+    most = omega (arith, b.room, small);
+    rows = ap (λ rows. length rows.items) same ∙ b.filled ∙ ap (λ n. n * 256) all;
+    states = count;
+    front = b.built.front;
+    none = b.built.none;
+    told = λ s byte h k. subst (λ rows. Tells code building.sets.items s byte (entry rows.items s byte)) (sym same) (b.built.told s byte h k (omega (arith, h, k, b.filled, all)));
+    noted = λ s h. subst (λ rows. IsState code building.sets.items rows.items s (get_or table.states.items s no_state)) (sym same) (noted.each s (omega (arith, h, count)));
+  },
+)

@@ -1,6 +1,7 @@
-use Rattle.std.proofs.Common.{◌≡◌, ◌+◌, ◌*◌, length, subst, sym, ap, arith}
+use Rattle.std.proofs.Common.{◌≡◌, ◌*◌, length, subst, arith}
 use Rattle.std.proofs.lemmas.Result.{err_from_is_err_and}
 use Rattle.scan_core.specs.inner.Built.{IsBuilding}
+use Rattle.scan_core.proofs.Tables.{table_is}
 use Rattle.scan_core.proofs.build.build.Goals as goal
 use Rattle.scan_core.proofs.build.build.Goals.{else-loop-state-test, then-loop-state-test+then-state-len}
 
@@ -27,3 +28,10 @@ pub returns-in_err-states : goal.returns-in_err-states
 returns-in_err-states c =
     let p = err_from_is_err_and c.from_residual-in_err-states.result c.from_residual-in_err-states.ensures.1 in
     rw (p.1, p.2) (record { ok = tt; err = c.in_err-states.ensures.err })
+
+pub returns-clause-ok : goal.returns-clause-ok
+returns-clause-ok c =
+    let i = c.loop-state.invariant.so_far in
+    let all : c.loop-state.state ≡ length c.loop-state.building.sets.items = elim c.loop-state-test.branch [ else-loop-state-test w ↦ omega (arith, i.room) | then-loop-state-test+then-state-len w ↦ omega arith ] in
+    let noted = c.in_ok-states.ensures.noted in
+    table_is c.args.nodes.now c.min-most.result c.loop-state.state c.loop-state.building _ i all (omega arith) (omega arith) c.in_ok-states.ensures.rows noted.0 noted.1
