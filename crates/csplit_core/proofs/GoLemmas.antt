@@ -118,14 +118,17 @@ not_cut_with told cutter now mid next aim cut place line left rest n old between
 -- The text from what is left of its first line on.
 
 pub tail_all : (text : List ℕ) (from : ℕ) → take (length text - from) (drop from text) ≡ drop from text
-tail_all text from = take_all (length text - from) (drop from text) (let long : length (drop from text) ≡ length text - from = length-drop from text in omega (arith, long))
+tail_all text from =
+    take_all (length text - from) (drop from text) (let long : length (drop from text) ≡ length text - from = length-drop from text in omega (arith, long))
 
-pub from_left : (text left : List ℕ) (size : ℕ) → size ≤ length text → IsEnd left (take size text) → take (length text - (size - length left)) (drop (size - length left) text) ≡ left ++ drop size text
+pub from_left : (text left : List ℕ) (size : ℕ) → size ≤ length text → IsEnd left (take size text)
+    → take (length text - (size - length left)) (drop (size - length left) text) ≡ left ++ drop size text
 from_left text left size within (front, is) =
     let long : length (take size text) ≡ length front + length left = ap length is ∙ length-append front left in
     let all : length (take size text) ≡ size = length-take-le size text within in
     let parts : text ≡ front ++ (left ++ drop size text) = sym (take-append-drop size text) ∙ ap (λ those. those ++ drop size text) is ∙ append_assoc front left (drop size text) in
-    tail_all text (size - length left) ∙ ap (drop (size - length left)) parts ∙ drop_at front (left ++ drop size text) (size - length left) (omega (arith, long, all))
+    tail_all text (size - length left) ∙ ap (drop (size - length left)) parts
+    ∙ drop_at front (left ++ drop size text) (size - length left) (omega (arith, long, all))
 
 taken_on : (tail left rest : List ℕ) (kept n : ℕ) → tail ≡ left ++ rest → kept ≡ length left → take (kept + n) tail ≡ left ++ take n rest
 taken_on tail left rest kept n is kept_is =

@@ -170,7 +170,7 @@ impl<'a> Cutting<'a> {
                 [text @ .., NEWLINE] => text,
                 _ => whole,
             };
-            match matches_plain(alloc, pattern.expression(), text) {
+            match matches_plain(alloc, pattern, text) {
                 Ok(has_match) => {
                     if has_match && line > passed {
                         return Ok(Some(line));

@@ -184,5 +184,5 @@ fn is_pattern(rt: &impl Abort, alloc: Global, operand: &Operand, row: &Pattern<'
 }
 
 fn finds(rt: &impl Abort, alloc: Global, pattern: &Bre, line: &[u8]) -> bool {
-    matches_plain(alloc, pattern.expression(), line).expect(rt, "there is memory")
+    matches_plain(alloc, pattern, line).expect(rt, "there is memory")
 }

@@ -2,6 +2,7 @@
 #![tactic(auto)]
 
 mod edit;
+mod failing;
 mod mem_in;
 mod mem_out;
 mod mem_watch;

@@ -1,6 +1,7 @@
 ghost use Rattle.std.specs.Prelude.{◌≡◌, ◌++◌, ◌∷◌, [], ℕ, ◌+◌, ◌≤◌, ◌<◌, List, length, take, replicate, string_bytes, true, false, IsTrue, IfOk, IfErr, IfSome, OnOk, OnErr, OnSome, IfNone};
 ghost use Rattle.ports_core.specs.Slot.{Slot, adds, breaks, closes, removes, opened, unopened, streams, slot_at, is_removed};
 
+use crate::failing::fails;
 use ports_core::{Fault, Mode, Outs, State};
 use std::alloc::{AllocError, Global};
 use std::marker::Model;
@@ -216,21 +217,6 @@ fn room(limits: &[Limit], slot: usize, held: usize) -> usize {
         }
     }
     usize::MAX
-}
-
-/// Whether this is the call that is to fail.
-fn fails(failing_in: &mut Option<u64>) -> bool {
-    match *failing_in {
-        Some(1) => {
-            *failing_in = None;
-            true
-        }
-        Some(calls) => {
-            *failing_in = Some(calls.saturating_sub(1));
-            false
-        }
-        None => false,
-    }
 }
 
 /// Gives outputs that couldn't be opened their own places in the list, as far as there is memory.

@@ -5,6 +5,7 @@ ghost use Rattle.mem_core.specs.MemWatchState.{MemWatchState, edit_of, no_looks,
 ghost use Rattle.watch_core.specs.Watched.{Finds, GaveFrom, Watched, added, breaks, is_readable, open_contents, opens, watched_at};
 
 use crate::Edit;
+use crate::failing::fails;
 use crate::mem_world::MemWorld;
 use ports_core::{Fault, MOST_BYTES};
 use std::alloc::{AllocError, Global};
@@ -213,21 +214,6 @@ fn keep_name(names: &mut Vec<MemName>, name: MemName) -> bool
     ensures full { result ≡ false → names.new.items ≡ names.old.items }
 {
     names.push(name).is_ok()
-}
-
-/// Whether this is the call that is to fail.
-fn fails(failing_in: &mut Option<u64>) -> bool {
-    match *failing_in {
-        Some(1) => {
-            *failing_in = None;
-            true
-        }
-        Some(calls) => {
-            *failing_in = Some(calls.saturating_sub(1));
-            false
-        }
-        None => false,
-    }
 }
 
 impl Watch for MemWatch {

@@ -43,7 +43,8 @@ joined_exact line pattern item before spans whole e f b = record {
     back : (from to : ℕ) → from ≤ length line → Matches (append pattern item) line from to → GoesOn (ends_from before from) spans to
     back from to h m = (m.0, (e.exact from m.0 h).1 m.1, (f.exact m.0 to (stays pattern line from m.0 h m.1).1).1 m.2)
 
-pub settled_exact : (line : List ℕ) (pattern : Pattern) (before whole : List (List Bool)) (last : Option (List (List Bool))) → FrameIs line pattern before last → IsSettled before last whole → Exact line (Matches pattern line) whole
+pub settled_exact : (line : List ℕ) (pattern : Pattern) (before whole : List (List Bool)) (last : Option (List (List Bool)))
+    → FrameIs line pattern before last → IsSettled before last whole → Exact line (Matches pattern line) whole
 settled_exact line nothing before whole last f s = subst (Exact line (Matches nothing line)) (sym (subst (λ l. IsSettled before l whole) f.1 s)) f.0
 settled_exact line (append pattern item) before whole last f s =
     joined_exact line pattern item before f.1 whole f.0 f.3 (subst (λ l. IsSettled before l whole) f.2 s)
@@ -100,7 +101,9 @@ leaf_taken line token item current around old new m t same = record {
   outer = subst (λ spans. AroundAre line spans around) (sym t.around) m.outer;
 }
 
-pub advanced : (line : List ℕ) (token : Token) (current : Pattern) (around : List Pattern) (old new : State) → Means line current around old → Advances token line old new → Means line (current_after token current around) (around_after token current around) new
+pub advanced : (line : List ℕ) (token : Token) (current : Pattern) (around : List Pattern) (old new : State)
+    → Means line current around old → Advances token line old new
+    → Means line (current_after token current around) (around_after token current around) new
 advanced line (Set bytes) current around old new m t = leaf_taken line (Set bytes) (set bytes) current around old new m t (λ from to. (λ h. h, λ h. h))
 advanced line Front current around old new m t = leaf_taken line Front front current around old new m t (λ from to. (λ h. h, λ h. h))
 advanced line End current around old new m t = leaf_taken line End end current around old new m t (λ from to. (λ h. h, λ h. h))
@@ -135,7 +138,8 @@ pub record GoneOver (line : List ℕ) (tokens rest : List Token) (state : State)
   pub means : Means line current around state
   pub order : AreBounded rest
 
-pub over_more : (line : List ℕ) (tokens rest : List Token) (token : Token) (old new : State) → GoneOver line tokens (token ∷ rest) old → Advances token line old new → GoneOver line tokens rest new
+pub over_more : (line : List ℕ) (tokens rest : List Token) (token : Token) (old new : State) → GoneOver line tokens (token ∷ rest) old
+    → Advances token line old new → GoneOver line tokens rest new
 over_more line tokens rest token old new g a = record {
   current = current_after token g.current g.around;
   around = around_after token g.current g.around;
@@ -145,7 +149,8 @@ over_more line tokens rest token old new g a = record {
 }
 
 -- over all of them: some stretch is found exactly where the line contains one
-pub over_all : (line : List ℕ) (tokens : List Token) (state : State) (whole : List (List Bool)) → GoneOver line tokens [] state → IsSettled state.before state.last whole
+pub over_all : (line : List ℕ) (tokens : List Token) (state : State) (whole : List (List Bool)) → GoneOver line tokens [] state
+    → IsSettled state.before state.last whole
     → (((from : ℕ) × (to : ℕ) × IsSpan whole from to) → Contains (tree_of tokens) line) × (Contains (tree_of tokens) line → (from : ℕ) × (to : ℕ) × IsSpan whole from to)
 over_all line tokens state whole g s =
     let e = settled_exact line g.current state.before whole state.last g.means.frame s in (
@@ -159,14 +164,16 @@ over_all line tokens state whole g s =
           (d.0, d.1, (e.exact d.0 d.1 (omega (arith, d.2, d.3))).1 d.4),
     )
 
-pub over_at : (line : List ℕ) (tokens : List Token) (place : ℕ) (token : Token) (old new : State) → GoneOver line tokens (drop place tokens) old → place < length tokens → token ≡ get_or tokens place token
+pub over_at : (line : List ℕ) (tokens : List Token) (place : ℕ) (token : Token) (old new : State)
+    → GoneOver line tokens (drop place tokens) old → place < length tokens → token ≡ get_or tokens place token
     → Advances token line old new → GoneOver line tokens (drop (place + 1) tokens) new
 over_at line tokens place token old new g h e a =
     let rest : drop place tokens ≡ token ∷ drop (place + 1) tokens = at_drop_more (λ ts. ts) tokens place token h ∙ ap (λ t. t ∷ drop (place + 1) tokens) (sym e) in
     over_more line tokens (drop (place + 1) tokens) token old new (subst (λ ts. GoneOver line tokens ts old) rest g) a
 
 -- what the search for a stretch says
-pub found_exact : (found : Bool) (line : List ℕ) (tokens : List Token) (pattern : Pattern) (place : ℕ) (state : State) (whole : List (List Bool)) → GoneOver line tokens (drop place tokens) state → length tokens ≤ place → tree_of tokens ≡ pattern
+pub found_exact : (found : Bool) (line : List ℕ) (tokens : List Token) (pattern : Pattern) (place : ℕ) (state : State) (whole : List (List Bool))
+    → GoneOver line tokens (drop place tokens) state → length tokens ≤ place → tree_of tokens ≡ pattern
     → IsSettled state.before state.last whole → MatchBool found ((from : ℕ) × (to : ℕ) × IsSpan whole from to) ((from to : ℕ) → IsSpan whole from to → ⊥) → IsTrue found ↔ Contains pattern line
 found_exact found line tokens pattern place state whole g h e s m =
     let none_left : drop place tokens ≡ [] = drop_all tokens place h in

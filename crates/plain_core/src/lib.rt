@@ -6,4 +6,4 @@ mod ends;
 mod plain;
 mod spans;
 
-pub use plain::matches_plain;
+pub use plain::{matches_expression, matches_plain};

@@ -11,6 +11,7 @@ ghost use Rattle.bre_core.specs.declared.token.Token.TheVariants.{Open};
 use crate::ends::Times;
 use crate::spans::Spans;
 use bre_core::{BreFault, Expression, Token};
+use scan_core::Bre;
 use std::alloc::Global;
 use std::mem;
 
@@ -99,7 +100,11 @@ impl Plain {
 /// # Errors
 ///
 /// `Memory` alone.
-pub fn matches_plain(alloc: Global, expression: &Expression, line: &[u8]) -> Result<bool, BreFault>
+pub fn matches_expression(
+    alloc: Global,
+    expression: &Expression,
+    line: &[u8],
+) -> Result<bool, BreFault>
     ensures exact { IfOk result (λ found. found ≡ contains expression.now line.now) }
     ensures err { IfErr result (λ fault. fault ≡ Memory) }
 {
@@ -109,4 +114,18 @@ pub fn matches_plain(alloc: Global, expression: &Expression, line: &[u8]) -> Res
     }
     plain.settle(alloc)?;
     Ok(plain.before.has_any())
+}
+
+/// Whether some stretch of the line, taken without its newline, matches the pattern (XBD 9.1), as `matches_expression`
+/// finds it, and with as much memory: the pattern's code isn't looked at. `Scan::matches` of `scan_core` returns the same
+/// fast, and without memory.
+///
+/// # Errors
+///
+/// `Memory` alone.
+pub fn matches_plain(alloc: Global, bre: &Bre, line: &[u8]) -> Result<bool, BreFault>
+    ensures exact { IfOk result (λ found. found ≡ contains bre.now line.now) }
+    ensures err { IfErr result (λ fault. fault ≡ Memory) }
+{
+    matches_expression(alloc, bre.expression(), line)
 }

@@ -277,7 +277,8 @@ one_noted code sets rows states new number noted a e h s q = record {
 }
 
 -- a table that was built, with what is noted of each state
-pub table_is : (code : List Node) (most state : ℕ) (building : Building) (table : Table) → IsBuilding code most (state * 256) building → state ≡ length building.sets.items → length code ≤ 65536 → most < 65534 → table.rows ≡ building.rows
+pub table_is : (code : List Node) (most state : ℕ) (building : Building) (table : Table) → IsBuilding code most (state * 256) building
+    → state ≡ length building.sets.items → length code ≤ 65536 → most < 65534 → table.rows ≡ building.rows
     → AreNoted code building.sets.items building.rows.items table.states.items → length table.states.items ≡ length building.sets.items → IsTable code table
 table_is code most state building table b all few small same noted count = (
   building.sets.items,

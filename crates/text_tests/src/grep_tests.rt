@@ -5,7 +5,7 @@
 //! which the two languages agree stand here: no back-references, no `\|`, `\+` or `\?`, no byte 0.
 
 use bre_core::Expression;
-use plain_core::matches_plain;
+use plain_core::matches_expression;
 use std::alloc::Global;
 use std::process::Abort;
 
@@ -15,7 +15,7 @@ type Case = (&'static [u8], &'static [u8], bool);
 fn agree(rt: &impl Abort, alloc: Global, cases: &[Case]) {
     for (pattern, line, want) in cases {
         let bre = Expression::read(alloc, pattern).expect(rt, "a pattern of the table reads");
-        let found = matches_plain(alloc, &bre, line).expect(rt, "there is memory");
+        let found = matches_expression(alloc, &bre, line).expect(rt, "there is memory");
         assert!(rt; found == *want, "{pattern:?} in {line:?}");
     }
 }

@@ -5,7 +5,7 @@
 
 use crate::window_tests::{keep_bytes, keep_lines};
 use bre_core::Expression;
-use plain_core::matches_plain;
+use plain_core::{matches_expression, matches_plain};
 use scan_core::{Bre, Scan};
 use seg_core::byte_window::ByteWindow;
 use seg_core::count::read_count;
@@ -129,7 +129,7 @@ fn line_front(alloc: Global) -> bool {
 
 fn plain_expression(alloc: Global) -> bool {
     match Expression::read(alloc, PATTERN) {
-        Ok(expression) => matches_plain(alloc, &expression, b"ababd") == Ok(true),
+        Ok(expression) => matches_expression(alloc, &expression, b"ababd") == Ok(true),
         Err(_) => false,
     }
 }
@@ -143,7 +143,7 @@ fn scan(alloc: Global) -> bool {
 
 fn plain_bre(alloc: Global) -> bool {
     match Bre::read(alloc, PATTERN) {
-        Ok(bre) => matches_plain(alloc, bre.expression(), b"ababd") == Ok(true),
+        Ok(bre) => matches_plain(alloc, &bre, b"ababd") == Ok(true),
         Err(_) => false,
     }
 }

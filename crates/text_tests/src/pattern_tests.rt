@@ -2,7 +2,7 @@
 
 use crate::parts::{Part, joined};
 use bre_core::{BreFault, Expression};
-use plain_core::matches_plain;
+use plain_core::matches_expression;
 use std::alloc::Global;
 use std::process::Abort;
 
@@ -12,7 +12,7 @@ fn read(rt: &impl Abort, alloc: Global, pattern: &[u8]) -> Expression {
 
 fn contains(rt: &impl Abort, alloc: Global, pattern: &[u8], line: &[u8]) -> bool {
     let bre = read(rt, alloc, pattern);
-    matches_plain(alloc, &bre, line).expect(rt, "there is memory")
+    matches_expression(alloc, &bre, line).expect(rt, "there is memory")
 }
 
 const ROWS: [(&[u8], &[u8], bool); 24] = [
@@ -251,7 +251,7 @@ fn is_as_large(rt: &impl Abort, alloc: Global, pattern: &[u8], row: &Large<'_>) 
 
 fn has_all(rt: &impl Abort, alloc: Global, read: &Expression, lines: &[(&[u8], bool)]) -> bool {
     for (line, wanted) in lines {
-        if matches_plain(alloc, read, line).expect(rt, "there is memory") != *wanted {
+        if matches_expression(alloc, read, line).expect(rt, "there is memory") != *wanted {
             return false;
         }
     }

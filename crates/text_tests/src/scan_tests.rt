@@ -236,7 +236,7 @@ fn stays_clear(rt: &impl Abort, alloc: Global, bre: &Bre, line: &[u8], plain: bo
 
 /// Compares the table, the sets, the search that counts nothing and the plain matcher; where the line doesn't match, the steps of the first two as well.
 fn agree(rt: &impl Abort, alloc: Global, bre: &Bre, line: &[u8]) {
-    let plain = matches_plain(alloc, bre.expression(), line).expect(rt, "there is memory");
+    let plain = matches_plain(alloc, bre, line).expect(rt, "there is memory");
     let size = 2 * bre.positions() as usize / 64 + 1;
     let mut words = vec![in alloc; u64::MAX; size].expect(rt, "there is memory");
     let by_sets = bre.search(line, &mut words);

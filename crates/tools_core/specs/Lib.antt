@@ -4,4 +4,3 @@ pub mod Promises
 pub mod Following
 pub mod Program
 pub mod laws
-pub mod inner

@@ -12,9 +12,13 @@ use Rattle.words_core.specs.CsplitWords.{HasBadOperand, asked_of, asked_with, cs
 use Rattle.words_core.specs.Given.{Given, operand_seen, option_seen}
 use Rattle.words_core.specs.Spelling.{IsRefused}
 
+-- what these operands ask for, of which the first is the file
+abbrev pub asked_first : Style → Operand → List Operand → CsplitAsked
+asked_first style none all = asked_with style (get_or all 0 none).text.now (map operand_seen (take (length all - 1) (drop 1 all)))
+
 -- the first operand is the file
 file_first : (style : Style) (none : Operand) (all : List Operand) → 1 ≤ length all → 1 ≤ length (take (length all - 1) (drop 1 all))
-    → asked_of style (map operand_seen all) ≡ Ok (asked_with style (get_or all 0 none).text.now (map operand_seen (take (length all - 1) (drop 1 all))))
+    → asked_of style (map operand_seen all) ≡ Ok (asked_first style none all)
 file_first style none [] some more = absurd (omega arith)
 file_first style none (file ∷ []) some more = absurd (omega arith)
 file_first style none (file ∷ operand ∷ operands) some more = ap (λ rest. Ok (asked_with style file.text.now (map operand_seen rest))) (sym (take_rest (file ∷ operand ∷ operands) 1))
@@ -25,26 +29,29 @@ too_few style [] few = refl
 too_few style (file ∷ []) few = refl
 too_few style (file ∷ operand ∷ operands) few = absurd (omega arith)
 
-pub lacks_operand : (given : Given) (all : List Operand) → map operand_seen all ≡ given.operands → length all < 2 → csplit_asked given ≡ Err (Usage MissingOperand 0)
+pub lacks_operand : (given : Given) (all : List Operand) → map operand_seen all ≡ given.operands → length all < 2
+    → csplit_asked given ≡ Err (Usage MissingOperand 0)
 lacks_operand given all these few = ap (asked_of (style_of given.options)) (sym these) ∙ too_few (style_of given.options) all few
 
 as_meant : (meant : Result CsplitAsked Fault) (one : CsplitAsked) (result : Result CsplitAsked Fault) → meant ≡ Ok one → IfOk result (λ settings. settings ≡ one) → IfOk result (λ settings. meant ≡ Ok settings)
 as_meant meant one (Ok settings) is equal = is ∙ ap (λ asked. Ok asked) (sym equal)
 as_meant meant one (Err fault) is equal = tt
 
-refused : (meant : Result CsplitAsked Fault) (one : CsplitAsked) (result : Result CsplitAsked Fault) → meant ≡ Ok one → IfErr result (λ fault. (fault ≡ Memory) ⊎ HasBadOperand one fault) → IfErr result (IsRefused HasBadOperand meant)
+refused : (meant : Result CsplitAsked Fault) (one : CsplitAsked) (result : Result CsplitAsked Fault) → meant ≡ Ok one
+    → IfErr result (λ fault. (fault ≡ Memory) ⊎ HasBadOperand one fault) → IfErr result (IsRefused HasBadOperand meant)
 refused meant one (Ok settings) is bad = tt
 refused meant one (Err fault) is (inl memory) = inl memory
 refused meant one (Err fault) is (inr bad) = inr (inr (one, is, bad))
 
 -- what a call returns for the style of these options and for these operands is what is asked, or why it is refused
 pub settled : (given : Given) (options : List Chosen) (none : Operand) (all : List Operand) (style : Style) (result : Result CsplitAsked Fault)
-    → map option_seen options ≡ given.options → map operand_seen all ≡ given.operands → style ≡ style_of (map option_seen options) → 1 ≤ length all → 1 ≤ length (take (length all - 1) (drop 1 all))
-    → IfOk result (λ settings. settings ≡ asked_with style (get_or all 0 none).text.now (map operand_seen (take (length all - 1) (drop 1 all))))
-    → IfErr result (λ fault. (fault ≡ Memory) ⊎ HasBadOperand (asked_with style (get_or all 0 none).text.now (map operand_seen (take (length all - 1) (drop 1 all)))) fault)
+    → map option_seen options ≡ given.options → map operand_seen all ≡ given.operands → style ≡ style_of (map option_seen options)
+    → 1 ≤ length all → 1 ≤ length (take (length all - 1) (drop 1 all))
+    → IfOk result (λ settings. settings ≡ asked_first style none all)
+    → IfErr result (λ fault. (fault ≡ Memory) ⊎ HasBadOperand (asked_first style none all) fault)
     → IfOk result (λ settings. csplit_asked given ≡ Ok settings) × IfErr result (IsRefused HasBadOperand (csplit_asked given))
 settled given options none all style result are these is some more equal bad =
-    let asked : csplit_asked given ≡ Ok (asked_with style (get_or all 0 none).text.now (map operand_seen (take (length all - 1) (drop 1 all)))) =
+    let asked : csplit_asked given ≡ Ok (asked_first style none all) =
     ap (λ operands. asked_of (style_of given.options) operands) (sym these)
     ∙ ap (λ style. asked_of style (map operand_seen all)) (ap style_of (sym are) ∙ sym is)
     ∙ file_first style none all some more in

@@ -11,25 +11,42 @@ use Rattle.words_core.specs.Value.{then_check}
 use Rattle.words_core.specs.Words.{HasBadOperands, settings_for, settings_of, tool_settings}
 use Rattle.words_core.proofs.SpellingLemmas.{front_and_rest, none_left}
 
-pub names_none : (words : List (Bor (List ℕ))) → length words < 1 → settings_of (map (λ word. word.now) words) ≡ Err (Usage MissingTool 0)
+-- the words as texts, and those after the first
+abbrev pub texts : List (Bor (List ℕ)) → List (List ℕ)
+texts words = map (λ word. word.now) words
+
+abbrev pub after_first : List (Bor (List ℕ)) → List (List ℕ)
+after_first words = texts (take (length words - 1) (drop 1 words))
+
+-- what is returned where this is meant
+abbrev pub Settles : Result Settings Fault → Result Settings Fault → Type 0
+Settles meant result = IfOk result (λ settings. meant ≡ Ok settings) × IfErr result (IsRefused HasBadOperands meant)
+
+pub names_none : (words : List (Bor (List ℕ))) → length words < 1 → settings_of (texts words) ≡ Err (Usage MissingTool 0)
 names_none words none = ap settings_of (none_left words none)
 
 -- what the words after it ask of the tool in this row
-asked : (words : List (Bor (List ℕ))) (none : Bor (List ℕ)) (rows : List ToolRow) (row : ToolRow) → 1 ≤ length words → rows ≡ tools → Some row ≡ row_named rows (get_or words 0 none).now
-    → settings_of (map (λ word. word.now) words) ≡ then_check (given_by row (map (λ word. word.now) (take (length words - 1) (drop 1 words)))) (settings_for row.tool)
+asked : (words : List (Bor (List ℕ))) (none : Bor (List ℕ)) (rows : List ToolRow) (row : ToolRow)
+    → 1 ≤ length words → rows ≡ tools → Some row ≡ row_named rows (get_or words 0 none).now
+    → settings_of (texts words) ≡ then_check (given_by row (after_first words)) (settings_for row.tool)
 asked words none rows row some are named =
     ap settings_of (front_and_rest none words some)
-    ∙ ap (tool_settings (map (λ word. word.now) (take (length words - 1) (drop 1 words)))) (ap (λ rows. row_named rows (get_or words 0 none).now) (sym are) ∙ sym named)
+    ∙ ap (tool_settings (after_first words))
+    (ap (λ rows. row_named rows (get_or words 0 none).now) (sym are) ∙ sym named)
 
-pub refused : (words : List (Bor (List ℕ))) (none : Bor (List ℕ)) (rows : List ToolRow) (row : ToolRow) (fault : Fault) → 1 ≤ length words → rows ≡ tools → Some row ≡ row_named rows (get_or words 0 none).now
-    → Reads (given_by row (map (λ word. word.now) (take (length words - 1) (drop 1 words)))) (Err fault) → IsRefused HasBadOperands (settings_of (map (λ word. word.now) words)) fault
+pub refused : (words : List (Bor (List ℕ))) (none : Bor (List ℕ)) (rows : List ToolRow) (row : ToolRow) (fault : Fault)
+    → 1 ≤ length words → rows ≡ tools → Some row ≡ row_named rows (get_or words 0 none).now
+    → Reads (given_by row (after_first words)) (Err fault) → IsRefused HasBadOperands (settings_of (texts words)) fault
 refused words none rows row fault some are named (inl memory) = inl memory
-refused words none rows row fault some are named (inr is) = inr (inl (asked words none rows row some are named ∙ ap (λ given. then_check given (settings_for row.tool)) is))
+refused words none rows row fault some are named (inr is) =
+    inr (inl (asked words none rows row some are named ∙ ap (λ given. then_check given (settings_for row.tool)) is))
 
-pub returned : (words : List (Bor (List ℕ))) (none : Bor (List ℕ)) (rows : List ToolRow) (row : ToolRow) (given : Given) (result : Result Settings Fault) → 1 ≤ length words → rows ≡ tools → Some row ≡ row_named rows (get_or words 0 none).now
-    → given_by row (map (λ word. word.now) (take (length words - 1) (drop 1 words))) ≡ Ok given
+pub returned : (words : List (Bor (List ℕ))) (none : Bor (List ℕ)) (rows : List ToolRow) (row : ToolRow) (given : Given) (result : Result Settings Fault)
+    → 1 ≤ length words → rows ≡ tools → Some row ≡ row_named rows (get_or words 0 none).now
+    → given_by row (after_first words) ≡ Ok given
     → IfOk result (λ settings. settings_for row.tool given ≡ Ok settings) → IfErr result (IsRefused HasBadOperands (settings_for row.tool given))
-    → IfOk result (λ settings. settings_of (map (λ word. word.now) words) ≡ Ok settings) × IfErr result (IsRefused HasBadOperands (settings_of (map (λ word. word.now) words)))
+    → Settles (settings_of (texts words)) result
 returned words none rows row given result some are named read is bad =
-    let same : settings_for row.tool given ≡ settings_of (map (λ word. word.now) words) = sym (asked words none rows row some are named ∙ ap (λ given. then_check given (settings_for row.tool)) read) in
+    let same : settings_for row.tool given ≡ settings_of (texts words)
+    = sym (asked words none rows row some are named ∙ ap (λ given. then_check given (settings_for row.tool)) read) in
     (subst (λ meant. IfOk result (λ settings. meant ≡ Ok settings)) same is, subst (λ meant. IfErr result (IsRefused HasBadOperands meant)) same bad)

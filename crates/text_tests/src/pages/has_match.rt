@@ -3,7 +3,7 @@ ghost use Rattle.bre_core.specs.Pattern.{Pattern, Reads};
 ghost use Rattle.bre_core.specs.Search.{contains};
 
 use bre_core::{BreFault, Expression};
-use plain_core::matches_plain;
+use plain_core::matches_expression;
 use std::alloc::Global;
 
 /// Whether a line contains a match of the pattern that a text spells.
@@ -11,5 +11,5 @@ pub(crate) fn has_match(alloc: Global, text: &[u8], line: &[u8]) -> Result<bool,
     ensures { IfOk result (λ found. (pattern : Pattern) × Reads text.now pattern × (found ≡ contains pattern line.now)) }
 {
     let expression = Expression::read(alloc, text)?;
-    matches_plain(alloc, &expression, line)
+    matches_expression(alloc, &expression, line)
 }

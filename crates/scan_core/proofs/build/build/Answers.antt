@@ -21,7 +21,8 @@ loop-state-preserved c =
 pub states_of-requires-clause-so_far : goal.states_of-requires-clause-so_far
 states_of-requires-clause-so_far c =
     let i = c.loop-state.invariant.so_far in
-    let all : c.loop-state.state ≡ length c.loop-state.building.sets.items = elim c.loop-state-test.branch [ else-loop-state-test w ↦ omega (arith, i.room) | then-loop-state-test+then-state-len w ↦ omega arith ] in
+    let all : c.loop-state.state ≡ length c.loop-state.building.sets.items =
+    elim c.loop-state-test.branch [ else-loop-state-test w ↦ omega (arith, i.room) | then-loop-state-test+then-state-len w ↦ omega arith ] in
     subst (λ count. IsBuilding c.args.nodes.now c.min-most.result (count * 256) c.loop-state.building) all i
 
 pub returns-in_err-states : goal.returns-in_err-states
@@ -32,6 +33,7 @@ returns-in_err-states c =
 pub returns-clause-ok : goal.returns-clause-ok
 returns-clause-ok c =
     let i = c.loop-state.invariant.so_far in
-    let all : c.loop-state.state ≡ length c.loop-state.building.sets.items = elim c.loop-state-test.branch [ else-loop-state-test w ↦ omega (arith, i.room) | then-loop-state-test+then-state-len w ↦ omega arith ] in
+    let all : c.loop-state.state ≡ length c.loop-state.building.sets.items =
+    elim c.loop-state-test.branch [ else-loop-state-test w ↦ omega (arith, i.room) | then-loop-state-test+then-state-len w ↦ omega arith ] in
     let noted = c.in_ok-states.ensures.noted in
     table_is c.args.nodes.now c.min-most.result c.loop-state.state c.loop-state.building _ i all (omega arith) (omega arith) c.in_ok-states.ensures.rows noted.0 noted.1

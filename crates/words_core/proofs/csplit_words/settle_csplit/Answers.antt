@@ -7,12 +7,18 @@ use Rattle.words_core.proofs.CsplitLemmas.{lacks_operand, settled}
 use Rattle.words_core.proofs.csplit_words.settle_csplit.Goals as goal
 
 pub returns-in_default-clause-err : goal.returns-in_default-clause-err
-returns-in_default-clause-err c = inr (inl (lacks_operand c.args.spelled.now c.as_slice.result.now (ap (map operand_seen) c.as_slice.ensures.value ∙ ap (λ (given : Given). given.operands) c.spelled.view_is) (omega arith)))
+returns-in_default-clause-err c =
+    inr (inl (lacks_operand c.args.spelled.now c.as_slice.result.now
+    (ap (map operand_seen) c.as_slice.ensures.value ∙ ap (λ (given : Given). given.operands) c.spelled.view_is) (omega arith)))
 
 pub returns-then-is_empty-clause-err : goal.returns-then-is_empty-clause-err
-returns-then-is_empty-clause-err c = inr (inl (lacks_operand c.args.spelled.now c.as_slice.result.now (ap (map operand_seen) c.as_slice.ensures.value ∙ ap (λ (given : Given). given.operands) c.spelled.view_is) (grind (arith, nat_tests))))
+returns-then-is_empty-clause-err c =
+    inr (inl (lacks_operand c.args.spelled.now c.as_slice.result.now
+    (ap (map operand_seen) c.as_slice.ensures.value ∙ ap (λ (given : Given). given.operands) c.spelled.view_is) (grind (arith, nat_tests))))
 
-returned : (c : goal.After-read_settings) → IfOk c.read_settings.result (λ settings. csplit_asked c.args.spelled.now ≡ Ok settings) × IfErr c.read_settings.result (IsRefused HasBadOperand (csplit_asked c.args.spelled.now))
+returned : (c : goal.After-read_settings)
+    → IfOk c.read_settings.result (λ settings. csplit_asked c.args.spelled.now ≡ Ok settings)
+    × IfErr c.read_settings.result (IsRefused HasBadOperand (csplit_asked c.args.spelled.now))
 returned c =
     settled c.args.spelled.now c.deref.result.now _ c.as_slice.result.now c.in_ok-style.style c.read_settings.result
     (ap (map option_seen) c.deref.ensures.value ∙ ap (λ (given : Given). given.options) c.spelled.view_is)

@@ -2,7 +2,7 @@ use Rattle.plain_core.specs.inner.PlainState.{state_of}
 use Rattle.plain_core.proofs.Exactness.{over_at, found_exact}
 use Rattle.bre_core.proofs.Searching.{contains_tells, one_truth}
 use Rattle.bre_core.specs.Match.{Contains}
-use Rattle.plain_core.proofs.plain.matches_plain.Goals as goal
+use Rattle.plain_core.proofs.plain.matches_expression.Goals as goal
 
 pub loop-token-preserved : goal.loop-token-preserved
 loop-token-preserved c =
