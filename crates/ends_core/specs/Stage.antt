@@ -10,8 +10,8 @@ use Rattle.seg_core.specs.declared.unit.Unit.TheVariants.{Lines, Bytes}
 use Rattle.ends_core.specs.declared.ends.Ends.{Ends}
 use Rattle.ends_core.specs.declared.ends.Ends.TheVariants.{First, ButLast, FromNth, Last}
 use Rattle.ends_core.specs.Ends.{first_of, measure}
-use Rattle.ends_core.specs.Head.{head_work, head_waiting, IsDone}
-use Rattle.ends_core.specs.Tail.{tail_work, tail_waiting}
+use Rattle.ends_core.specs.Head.{head_work, IsDone}
+use Rattle.ends_core.specs.Tail.{tail_work}
 use Rattle.ends_core.specs.Kept.{held_of, most_of, may_lack_of, delim_of as kept_delim, unit_of as kept_unit}
 
 -- which part of an input is written

@@ -2,11 +2,10 @@
 use Rattle.std.proofs.Common.{◌≡◌, ℕ, zero, suc, ◌+◌, ◌-◌, ◌≤◌, min, List, [], ◌∷◌, ◌++◌, length, drop, refl, sym, ap, ◌∙◌, arith}
 use Rattle.std.proofs.lemmas.List.{length-append, length-drop, drop_at, drop-append-le}
 use Rattle.std.proofs.Math.Seq.{drop-append-add}
-use Rattle.seg_core.specs.Line.{joined, lines_of, delimiters, ends_with, AreLines, first_lines, after_lines, line_count, last_lines, but_last_lines}
-use Rattle.seg_core.proofs.LinesOf.{AreLines-lines_of, lines_of-append, lines_of-joined}
-use Rattle.seg_core.proofs.FirstLines.{first_lines-append, length-first_lines-le, lines_of-first_lines, delimiters-first_lines}
-use Rattle.seg_core.proofs.LineCounts.{line_count-open, line_count-closed}
-use Rattle.seg_core.proofs.LastLines.{but_last_then_last, but_last_lines-few, but_last_lines-zero, first_lines-all}
+use Rattle.seg_core.specs.Line.{lines_of, AreLines, after_lines, line_count, last_lines, but_last_lines}
+use Rattle.seg_core.proofs.LinesOf.{AreLines-lines_of, lines_of-joined}
+use Rattle.seg_core.proofs.FirstLines.{length-first_lines-le}
+use Rattle.seg_core.proofs.LastLines.{but_last_then_last, but_last_lines-few}
 
 AreLines-drop : (delim k : ℕ) (lines : List (List ℕ)) → AreLines delim lines → AreLines delim (drop k lines)
 AreLines-drop delim zero lines each = each

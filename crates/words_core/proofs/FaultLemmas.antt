@@ -1,5 +1,5 @@
 -- Lemmas on the word at which a fault stands.
-use Rattle.std.proofs.Common.{◌≡◌, ◌≤◌, ℕ, ◌+◌, ◌==◌, ◌&&◌, Bool, true, false, arith, List, [], ◌∷◌, ◌++◌, length, Option, Some, None, Result, Ok, Err, refl, sym, ap, ◌∙◌, if◌then◌else◌}
+use Rattle.std.proofs.Common.{◌≡◌, ◌≤◌, ℕ, ◌+◌, ◌==◌, ◌&&◌, Bool, true, false, arith, List, [], ◌∷◌, ◌++◌, length, Option, Some, None, Result, Ok, Err, refl, ap, if◌then◌else◌}
 use Rattle.seg_core.specs.Count.{is_number}
 use Rattle.ports_core.specs.declared.fault.Fault.{Fault}
 use Rattle.ports_core.specs.declared.fault.Fault.TheVariants.{Usage}
@@ -13,7 +13,7 @@ use Rattle.words_core.specs.declared.spelling.State.TheVariants.{First, Reading,
 use Rattle.words_core.specs.Table.{OptionRow, option_named}
 use Rattle.words_core.specs.Value.{Meant, value_in}
 use Rattle.words_core.specs.Given.{Given, bare}
-use Rattle.words_core.specs.Spelling.{Meaning, after_equals, attached, before, cluster, dashed, ended, foremost, given_before, is_equals, lettered, meaning_of, mixed, named, onward, option_lettered, said, spelled, valued}
+use Rattle.words_core.specs.Spelling.{Meaning, after_equals, attached, before, cluster, dashed, ended, foremost, given_before, is_equals, lettered, meaning_of, mixed, named, onward, option_lettered, said, spelled}
 use Rattle.std.specs.List.{before_first}
 use Rattle.words_core.proofs.SpellingLemmas.{of_more}
 

@@ -1,5 +1,5 @@
 -- What options and operands ask of `head` or `tail`.
-use Rattle.std.specs.Prelude.{ℕ, List, [], ◌∷◌, fold, codes}
+use Rattle.std.specs.Prelude.{ℕ, List, [], ◌∷◌, codes}
 use Rattle.seg_core.specs.declared.count.Sign.TheVariants.{Plain}
 use Rattle.seg_core.specs.declared.unit.Unit.TheVariants as unit
 use Rattle.words_core.specs.declared.table.Choice.{Choice}
@@ -7,7 +7,7 @@ use Rattle.words_core.specs.declared.table.Choice.TheVariants.{Lines, Bytes, Qui
 use Rattle.words_core.specs.declared.settings.Headers.TheVariants.{ForSeveral, Never, Always}
 use Rattle.words_core.specs.EndsAsked.{EndsAsked}
 use Rattle.words_core.specs.Value.{Meant, Counted}
-use Rattle.words_core.specs.Given.{asked_by, Given, GivenOption, GivenOperand, texts_of}
+use Rattle.words_core.specs.Given.{asked_by, Given, GivenOperand, texts_of}
 
 -- without options: ten lines, which end with the newline, and headers where there are several inputs
 abbrev pub ten_lines : EndsAsked

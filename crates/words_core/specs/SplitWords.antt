@@ -1,5 +1,5 @@
 -- What options and operands ask of `split`, or what is wrong with them.
-use Rattle.std.specs.Prelude.{ℕ, ◌==◌, ◌≤◌, nat_le, Bool, true, false, List, [], ◌∷◌, filter, fold, codes, Result, Ok, Err, if◌then◌else◌, ⊤}
+use Rattle.std.specs.Prelude.{ℕ, ◌==◌, ◌≤◌, nat_le, Bool, true, false, List, [], ◌∷◌, filter, codes, Result, Ok, Err, if◌then◌else◌, ⊤}
 use Rattle.ports_core.specs.Name.{name_count}
 use Rattle.ports_core.specs.declared.alphabet.Alphabet.{Alphabet}
 use Rattle.ports_core.specs.declared.alphabet.Alphabet.TheVariants.{Letters, Digits as Decimal, Hex as Hexadecimal}

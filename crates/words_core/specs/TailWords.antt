@@ -1,5 +1,5 @@
 -- What options and operands ask of `tail`, or what is wrong with them.
-use Rattle.std.specs.Prelude.{ℕ, ◌-◌, ◌^◌, Bool, true, false, List, [], ◌∷◌, fold, codes, Option, Some, None, Result, Ok, Err, if◌then◌else◌}
+use Rattle.std.specs.Prelude.{ℕ, ◌-◌, ◌^◌, Bool, true, false, List, [], ◌∷◌, codes, Option, Some, None, Result, Ok, Err, if◌then◌else◌}
 use Rattle.std.specs.List.{list_any}
 use Rattle.std.specs.Str.{bytes_eq}
 use Rattle.ports_core.specs.declared.fault.Fault.{Fault}
@@ -11,7 +11,7 @@ use Rattle.words_core.specs.declared.tail_words.FollowOptions.{FollowOptions}
 use Rattle.words_core.specs.declared.value.Followed.{Followed}
 use Rattle.words_core.specs.declared.value.Followed.TheVariants.{Descriptor, Name}
 use Rattle.words_core.specs.EndsWords.{ends_asked}
-use Rattle.words_core.specs.Given.{asked_by, Given, GivenOption, texts_of}
+use Rattle.words_core.specs.Given.{asked_by, Given, texts_of}
 use Rattle.words_core.specs.declared.settings.TailSettings.{TailSettings}
 use Rattle.words_core.specs.Value.{Meant, Following, Looks, then_check}
 

@@ -3,7 +3,7 @@ use Rattle.ports_core.specs.declared.slot.Mode.{Mode}
 use Rattle.ports_core.specs.declared.slot.Mode.TheVariants.{Fresh, Append}
 use Rattle.words_core.specs.declared.table.Choice.{Choice}
 use Rattle.words_core.specs.declared.table.Choice.TheVariants as choice
-use Rattle.words_core.specs.Given.{asked_by, Given, GivenOption, texts_of}
+use Rattle.words_core.specs.Given.{asked_by, Given, texts_of}
 use Rattle.words_core.specs.Value.{Meant}
 use Rattle.words_core.specs.TeeAsked.{TeeAsked}
 

@@ -1,6 +1,5 @@
 -- What private calls say: a text in blocks.
 use Rattle.std.specs.Prelude.{◌≡◌, ℕ, ◌+◌, List, [], ◌∷◌, ◌++◌, length}
-use Rattle.seg_core.specs.Line.{delimiters}
 use Rattle.seg_core.specs.Blocks.{BlockState, text_of}
 
 abbrev pub first_of : List BlockState → List ℕ
