@@ -1,18 +1,28 @@
 -- Lemmas on what one option alone asks for.
-use Rattle.std.proofs.Common.{◌≡◌, ℕ, ◌==◌, nat_lt, List, [], ◌∷◌, ◌++◌, Some, Ok, true, codes, false, arith, ap, ◌∙◌, if◌then◌else◌}
+use Rattle.std.proofs.Common.{◌≡◌, ℕ, ◌==◌, nat_lt, List, [], ◌∷◌, ◌++◌, Some, Ok, true, codes, false, arith, ap, sym, ◌∙◌, if◌then◌else◌}
 use Rattle.std.proofs.lemmas.Bool.Decides.{nat_tests}
-use Rattle.seg_core.specs.Count.{is_number}
+use Rattle.seg_core.specs.declared.count.Count.{Count}
+use Rattle.seg_core.specs.Count.{count_of, is_number}
 use Rattle.ports_core.specs.declared.tool.Tool.{Tool}
 use Rattle.words_core.specs.declared.table.Choice.{Choice}
 use Rattle.words_core.specs.declared.table.Kind.{Kind}
+use Rattle.words_core.specs.declared.table.Kind.TheVariants as kind
 use Rattle.words_core.specs.declared.table.Takes.TheVariants as takes
 use Rattle.words_core.specs.declared.spelling.State.TheVariants.{First}
 use Rattle.words_core.specs.Table.{OptionRow, option_named}
-use Rattle.words_core.specs.Value.{Meant, then_check, value_in}
+use Rattle.words_core.specs.Value.{Counted, Meant, Size, as_value, counted, size_in, then_check, value_in}
 use Rattle.words_core.specs.Given.{one_option}
 use Rattle.words_core.specs.Spelling.{mixed, onward, said, spelled, valued}
 use Rattle.words_core.specs.Words.{settings_for}
 use Rattle.words_core.proofs.ValueLemmas.{value_after_letter}
+
+-- a count, and a size, as values
+
+pub counts_so : (text : List ℕ) (count : Count) → count_of text ≡ Ok count → value_in kind.Count text ≡ Ok (Counted count)
+counts_so text count is = ap (λ those. as_value (λ count. Counted count) (counted those)) is
+
+pub sizes_so : (text : List ℕ) (size : ℕ) → size_in text ≡ Ok size → value_in kind.Size text ≡ Ok (Size size)
+sizes_so text size is = ap (as_value (λ size. Size size)) is
 
 -- a letter and its value, as all words after a tool's name
 pub one_given : (which : Tool) (rows : List OptionRow) (letter : ℕ) (choice number : Choice) (kind of_number : Kind) (value : List ℕ) (meant : Meant)
@@ -31,3 +41,12 @@ one_number which rows choice kind digits meant is reads =
     ap (λ given. then_check given (settings_for which)) (
     ap (λ test. onward (spelled rows [] 2) (if test then valued choice kind 1 1 digits else mixed rows 1 (45 ∷ digits))) is
     ∙ ap (λ value. onward (spelled rows [] 2) (said choice 1 1 value)) reads)
+
+-- both ask for the same
+pub same_number : (which : Tool) (rows : List OptionRow) (letter : ℕ) (choice : Choice) (kind : Kind) (digits : List ℕ) (meant : Meant)
+    → option_named rows (codes "-" ++ letter ∷ []) ≡ Some (choice, takes.Value kind) → nat_lt letter 128 ≡ true → (letter == 45) ≡ false → is_number (letter ∷ []) ≡ false
+    → is_number digits ≡ true → value_in kind digits ≡ Ok meant
+    → then_check (spelled rows ((45 ∷ digits) ∷ []) 1 (First choice kind)) (settings_for which)
+    ≡ then_check (spelled rows ((45 ∷ letter ∷ []) ∷ digits ∷ []) 1 (First choice kind)) (settings_for which)
+same_number which rows letter choice kind digits meant named low other no_digit is reads =
+    one_number which rows choice kind digits meant is reads ∙ sym (one_given which rows letter choice choice kind kind digits meant named low other no_digit reads)

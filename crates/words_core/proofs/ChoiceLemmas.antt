@@ -37,19 +37,19 @@ abbrev pub passes : (Choice → Meant → Bool) → GivenOption → Bool
 passes test option = test option.choice option.value
 
 pub kept : {A C : Type 0} (by : A → Choice → Meant → A) (part : A → C) (test : Choice → Meant → Bool) → Sets by part test
-    → (options : List GivenOption) (asked : A) → list_any (passes test) options ≡ false → part (asked_by by asked options) ≡ part asked
-kept by part test sets [] asked none = refl
-kept by part test sets (option ∷ options) asked none =
+    → (asked : A) (options : List GivenOption) → list_any (passes test) options ≡ false → part (asked_by by asked options) ≡ part asked
+kept by part test sets asked [] none = refl
+kept by part test sets asked (option ∷ options) none =
     let both = or_parts (passes test option) (list_any (passes test) options) none in
-    kept by part test sets options (by asked option.choice option.value) both.1 ∙ (sets asked asked option.choice option.value).0 both.0
+    kept by part test sets (by asked option.choice option.value) options both.1 ∙ (sets asked asked option.choice option.value).0 both.0
 
 pub decided : {A C : Type 0} (by : A → Choice → Meant → A) (part : A → C) (test : Choice → Meant → Bool) → Sets by part test
-    → (before after : List GivenOption) (option : GivenOption) (asked other : A) → passes test option ≡ true → list_any (passes test) after ≡ false
+    → (asked other : A) (before after : List GivenOption) (option : GivenOption) → passes test option ≡ true → list_any (passes test) after ≡ false
     → part (asked_by by asked (before ++ option ∷ after)) ≡ part (by other option.choice option.value)
-decided by part test sets [] after option asked other is none =
-    kept by part test sets after (by asked option.choice option.value) none ∙ (sets asked other option.choice option.value).1 is
-decided by part test sets (first ∷ before) after option asked other is none =
-    decided by part test sets before after option (by asked first.choice first.value) other is none
+decided by part test sets asked other [] after option is none =
+    kept by part test sets (by asked option.choice option.value) after none ∙ (sets asked other option.choice option.value).1 is
+decided by part test sets asked other (first ∷ before) after option is none =
+    decided by part test sets (by asked first.choice first.value) other before after option is none
 
 -- what the options of each tool set
 
@@ -123,10 +123,10 @@ later false false rest = refl
 
 pub given_anywhere : {A : Type 0} (by : A → Choice → Meant → A) (part : A → Bool) (test : Choice → Bool)
     → ((asked : A) (choice : Choice) (value : Meant) → part (by asked choice value) ≡ test choice || part asked)
-    → (options : List GivenOption) (asked : A) → part (asked_by by asked options) ≡ part asked || has test options
-given_anywhere by part test says [] asked = sym (or_false (part asked))
-given_anywhere by part test says (option ∷ options) asked =
-    given_anywhere by part test says options (by asked option.choice option.value)
+    → (asked : A) (options : List GivenOption) → part (asked_by by asked options) ≡ part asked || has test options
+given_anywhere by part test says asked [] = sym (or_false (part asked))
+given_anywhere by part test says asked (option ∷ options) =
+    given_anywhere by part test says (by asked option.choice option.value) options
     ∙ ap (λ those. those || has test options) (says asked option.choice option.value)
     ∙ later (part asked) (test option.choice) (has test options)
 
@@ -135,25 +135,14 @@ says_retry asked Follow (Following followed) = refl
 says_retry asked HowOften (Looks looks) = refl
 says_retry asked choice value = refl
 
-pub says_keep : (asked : Style) (choice : Choice) (value : Meant) → (csplit_by asked choice value).keep ≡ keeps_files choice || asked.keep
-says_keep asked Digits (Width digits) = refl
-says_keep asked Prefix (Text text) = refl
-says_keep asked choice value = refl
-
-pub says_quiet : (asked : Style) (choice : Choice) (value : Meant) → (csplit_by asked choice value).quiet ≡ drops_sizes choice || asked.quiet
-says_quiet asked Digits (Width digits) = refl
-says_quiet asked Prefix (Text text) = refl
-says_quiet asked choice value = refl
-
-pub says_elide : (asked : Style) (choice : Choice) (value : Meant) → (csplit_by asked choice value).elide ≡ elides_files choice || asked.elide
-says_elide asked Digits (Width digits) = refl
-says_elide asked Prefix (Text text) = refl
-says_elide asked choice value = refl
-
-pub says_suppress : (asked : Style) (choice : Choice) (value : Meant) → (csplit_by asked choice value).suppress ≡ leaves_lines_out choice || asked.suppress
-says_suppress asked Digits (Width digits) = refl
-says_suppress asked Prefix (Text text) = refl
-says_suppress asked choice value = refl
+pub says_style : (asked : Style) (choice : Choice) (value : Meant)
+    → ((csplit_by asked choice value).keep ≡ keeps_files choice || asked.keep)
+    × ((csplit_by asked choice value).quiet ≡ drops_sizes choice || asked.quiet)
+    × ((csplit_by asked choice value).elide ≡ elides_files choice || asked.elide)
+    × ((csplit_by asked choice value).suppress ≡ leaves_lines_out choice || asked.suppress)
+says_style asked Digits (Width digits) = (refl, refl, refl, refl)
+says_style asked Prefix (Text text) = (refl, refl, refl, refl)
+says_style asked choice value = (refl, refl, refl, refl)
 
 pub says_leave_out : (asked : SplitAsked) (choice : Choice) (value : Meant) → (split_by asked choice value).elide ≡ elides_files choice || asked.elide
 says_leave_out asked SuffixLength (Width width) = refl
