@@ -1,5 +1,6 @@
 -- One file is opened, written or closed.
 use Rattle.std.proofs.Common.{◌≡◌, ◌≢◌, ℕ, ◌+◌, ◌<◌, ◌≤◌, zero, suc, max, Bool, List, [], ◌∷◌, ◌++◌, length, map, take, drop, get_or, ◌⊎◌, inl, inr, refl, sym, ◌∙◌, ap, subst, arith, length-append, Ok, Err, Result, OnOk, IfErr}
+use Rattle.std.proofs.Math.Seq.{get_or-append_seam}
 use Rattle.std.proofs.lemmas.Bool.{cases_lt, false≢true}
 use Rattle.std.proofs.lemmas.List.{map-append, length-map, length-take-le, get_or_append_left}
 use Rattle.ports_core.specs.Name.{Naming, next_name, with_one_drawn}
@@ -32,10 +33,7 @@ use Rattle.ports_core.proofs.CounterLemmas.{same_default}
 -- the output that was added, and those before it
 
 last_output : (outputs : List ℕ) (slot place : ℕ) → place ≡ length outputs → get_or (outputs ++ slot ∷ []) place 0 ≡ slot
-last_output outputs slot place is = ap (λ n. get_or (outputs ++ slot ∷ []) n 0) is ∙ there outputs where
-  there : (xs : List ℕ) → get_or (xs ++ slot ∷ []) (length xs) 0 ≡ slot
-  there [] = refl
-  there (x ∷ xs) = there xs
+last_output outputs slot place is = ap (λ n. get_or (outputs ++ slot ∷ []) n 0) is ∙ get_or-append_seam outputs slot [] 0
 
 output_before : (outputs : List ℕ) (slot place : ℕ) → place < length outputs → get_or (outputs ++ slot ∷ []) place 0 ≡ get_or outputs place 0
 output_before outputs slot place within = get_or_append_left outputs (slot ∷ []) 0 place within
@@ -44,15 +42,12 @@ output_before outputs slot place within = get_or_append_left outputs (slot ∷ [
 output_within : (files : FilesState) (slots : List Slot) (place : ℕ) → AreReady files slots → place < length files.outputs → output_at files place < length slots
 output_within files slots place ready within = writable_within (output_at files place) slots (ready.closable place within).1
 
-outputs_more : (outputs : List ℕ) (slot : ℕ) → length (outputs ++ slot ∷ []) ≡ length outputs + 1
-outputs_more outputs slot = length-append outputs (slot ∷ [])
-
 ready_opened : (files next : FilesState) (old new : List Slot) (name : List ℕ) → AreReady files old → next ≡ with_opened (length old) files → new ≡ old ++ opened name Fresh ∷ [] → AreReady next new
 ready_opened files next old new name ready made is = rw (made, is) (record {
   streams = let more = length-append old (opened name Fresh ∷ []) in let some : 2 ≤ length old = ready.streams in omega arith;
-  drawn = ap (λ n. n + 1) ready.drawn ∙ sym (outputs_more files.outputs (length old));
-  apart = λ place other less within. apart place other less (cases_lt other (length files.outputs)) (let more = outputs_more files.outputs (length old) in omega (arith, within));
-  closable = λ place within. closable place (cases_lt place (length files.outputs)) (let more = outputs_more files.outputs (length old) in omega (arith, within));
+  drawn = ap (λ n. n + 1) ready.drawn ∙ sym (length-append files.outputs (length old ∷ []));
+  apart = λ place other less within. apart place other less (cases_lt other (length files.outputs)) (let more = length-append files.outputs (length old ∷ []) in omega (arith, within));
+  closable = λ place within. closable place (cases_lt place (length files.outputs)) (let more = length-append files.outputs (length old ∷ []) in omega (arith, within));
 }) where
   outputs : List ℕ
   outputs = files.outputs ++ length old ∷ []
@@ -70,8 +65,8 @@ ready_opened files next old new name ready made is = rw (made, is) (record {
 
 owned_opened : (files next : FilesState) (old new : List Slot) (name : List ℕ) → files.names.drawn ≡ length files.outputs → next ≡ with_opened (length old) files → new ≡ old ++ opened name Fresh ∷ [] → KeepsFiles files old next new
 owned_opened files next old new name drawn made is first owns = rw (made, is) (record {
-  stand = λ place within. stand place (cases_lt place (length files.outputs)) (let more = outputs_more files.outputs (length old) in omega (arith, within));
-  last = λ same. (let more = outputs_more files.outputs (length old) in let slots = length-append old (opened name Fresh ∷ []) in let all = owns.last drawn in omega arith);
+  stand = λ place within. stand place (cases_lt place (length files.outputs)) (let more = length-append files.outputs (length old ∷ []) in omega (arith, within));
+  last = λ same. (let more = length-append files.outputs (length old ∷ []) in let slots = length-append old (opened name Fresh ∷ []) in let all = owns.last drawn in omega arith);
 }) where
   stand : (place : ℕ) → (place < length files.outputs) ⊎ (length files.outputs ≤ place) → place < length files.outputs + 1 → get_or (files.outputs ++ length old ∷ []) place 0 ≡ first + place
   stand place (inl before) within = output_before files.outputs (length old) place before ∙ owns.stand place before
@@ -115,7 +110,7 @@ became_opened told files next old new place ready made is here = record {
   sound = keeps_open (opened (next_name files.names) Fresh) old new is;
 } where
   count : length next.outputs ≡ length files.outputs + 1
-  count = ap (λ (those : FilesState). length those.outputs) made ∙ outputs_more files.outputs (length old)
+  count = ap (λ (those : FilesState). length those.outputs) made ∙ length-append files.outputs (length old ∷ [])
 
   further : suc (length files.outputs) ≡ place + 1
   further = omega arith
@@ -158,9 +153,9 @@ pub cannot_later : (old mid new : List Slot) (why : Fault) → KeepsBroken old m
 cannot_later old mid new why stay (inl none) = inl none
 cannot_later old mid new why stay (inr (slot, is, rose)) = inr (slot, is, rose_later slot old mid new stay rose)
 
-pub stops_unopened : (told : Bool) (files next : FilesState) (old new : List Slot) (place : ℕ) (why : Fault) → files.names.drawn ≡ length files.outputs → place ≡ length files.outputs → FailsToFollow files old next new why
-    → StopsAt told files (filled (place + 1)) place old new why
-stops_unopened told files next old new place why drawn here fails before these at =
+pub stops_unopened : (told : Bool) (files next : FilesState) (old new : List Slot) (place : ℕ) → files.names.drawn ≡ length files.outputs → place ≡ length files.outputs
+    → (why : Fault) → FailsToFollow files old next new why → StopsAt told files (filled (place + 1)) place old new why
+stops_unopened told files next old new place drawn here why fails before these at =
     let long : length these ≡ length files.outputs = at.count in
     let more = length-filled (place + 1) these in
     record {
@@ -311,15 +306,6 @@ pub reached : (told : Bool) (files next : FilesState) (old new : List Slot) (pla
     → OnOk result (new ≡ old ++ opened (next_name files.names) Fresh ∷ []) → OnOk result (Became told files (filled (place + 1)) (place + 1) old next new)
 reached told files next old new place (Ok u) ready here made is = became_opened told files next old new place ready made is here
 reached told files next old new place (Err why) ready here made is = tt
-
-pub reached_short : (told : Bool) (files next : FilesState) (old new : List Slot) (place : ℕ) (result : Result (Unit {0}) Fault) → AreReady files old → place ≡ length files.outputs → IfErr result (FailsToFollow files old next new)
-    → IfErr result (StopsAt told files (filled (place + 1)) place old new)
-reached_short told files next old new place (Ok u) ready here fails = tt
-reached_short told files next old new place (Err why) ready here fails = stops_unopened told files next old new place why ready.drawn here fails
-
-pub reached_caused : (files next : FilesState) (old new : List Slot) (result : Result (Unit {0}) Fault) → IfErr result (FailsToFollow files old next new) → IfErr result (CannotOpen old new)
-reached_caused files next old new (Ok u) fails = tt
-reached_caused files next old new (Err why) fails = fails_caused files next old new why fails
 
 pub reached_owned : (files next : FilesState) (old new : List Slot) (result : Result (Unit {0}) Fault) → AreReady files old → OnOk result (next ≡ with_opened (length old) files) → OnOk result (new ≡ old ++ opened (next_name files.names) Fresh ∷ [])
     → IfErr result (FailsToFollow files old next new) → KeepsFiles files old next new

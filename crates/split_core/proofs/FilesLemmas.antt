@@ -1,6 +1,7 @@
 -- Lemmas on files that are opened, written and closed in order.
-use Rattle.std.proofs.Common.{◌≡◌, ℕ, ◌+◌, ◌<◌, ◌≤◌, zero, suc, max, Bool, List, [], ◌∷◌, ◌++◌, length, map, take, drop, get_or, inl, inr, refl, sym, ◌∙◌, ap, subst, arith}
-use Rattle.std.proofs.lemmas.List.{length-map}
+use Rattle.std.proofs.Common.{◌≡◌, ℕ, ◌+◌, ◌<◌, ◌≤◌, zero, suc, max, Bool, List, [], ◌∷◌, ◌++◌, length, map, take, drop, get_or, inl, inr, refl, sym, ◌∙◌, ap, subst, add-one, arith}
+use Rattle.std.proofs.Math.Seq.{drop-nil}
+use Rattle.std.proofs.lemmas.List.{drop-drop, drop-map, length-map, take-map}
 use Rattle.ports_core.specs.Name.{Naming}
 use Rattle.ports_core.specs.Slot.{Slot, changed_at}
 use Rattle.ports_core.specs.Part.{File, OutputsAt, FilesBegin, Begins, IsNext, IsAt}
@@ -189,13 +190,6 @@ length_begin [] those begin = omega arith
 length_begin (bytes ∷ these) [] begin = absurd begin
 length_begin (bytes ∷ these) (whole ∷ those) begin = let rest = length_begin these those begin.1 in omega arith
 
-abbrev no_lists : List (List ℕ)
-no_lists = []
-
-pub drop_no_lists : (n : ℕ) → drop n no_lists ≡ []
-drop_no_lists zero = refl
-drop_no_lists (suc n) = refl
-
 -- the first files have all that is added to them, once this many got theirs
 pub added_before : (place : ℕ) (these more : List (List ℕ)) → take place (added these (take place more)) ≡ take place (added these more)
 added_before zero these more = refl
@@ -209,15 +203,13 @@ pub added_after : (place : ℕ) (these more : List (List ℕ)) → place < lengt
 added_after place these [] within = absurd (omega arith)
 added_after zero [] (next ∷ more) within = refl
 added_after zero (bytes ∷ these) (next ∷ more) within = refl
-added_after (suc place) [] (next ∷ more) within = added_after place [] more (omega arith) ∙ drop_no_lists place
+added_after (suc place) [] (next ∷ more) within = added_after place [] more (omega arith) ∙ drop-nil place
 added_after (suc place) (bytes ∷ these) (next ∷ more) within = added_after place these more (omega arith)
 
 drop_next : (place : ℕ) (these those : List (List ℕ)) → drop place these ≡ drop place those → drop (suc place) these ≡ drop (suc place) those
 drop_next place these those same = sym (drop_one place these) ∙ ap (drop 1) same ∙ drop_one place those where
   drop_one : (n : ℕ) (xs : List (List ℕ)) → drop 1 (drop n xs) ≡ drop (suc n) xs
-  drop_one zero xs = refl
-  drop_one (suc n) [] = refl
-  drop_one (suc n) (x ∷ xs) = drop_one n xs
+  drop_one n xs = drop-drop 1 n xs ∙ ap (λ m. drop m xs) (add-one n)
 
 pub added_past : (place : ℕ) (these more : List (List ℕ)) → place < length more → drop (suc place) (added these (take place more)) ≡ drop (suc place) these
 added_past place these more within = drop_next place _ _ (added_after place these more within)
@@ -246,21 +238,11 @@ take_further (suc place) (suc n) (bytes ∷ these) few = ap (λ rest. bytes ∷ 
 
 pub drop_filled : (n : ℕ) (these : List (List ℕ)) → drop n (filled n these) ≡ drop n these
 drop_filled zero these = refl
-drop_filled (suc n) [] = drop_filled n [] ∙ drop_no_lists n
+drop_filled (suc n) [] = drop_filled n [] ∙ drop-nil n
 drop_filled (suc n) (bytes ∷ these) = drop_filled n these
 
 pub drop_past_filled : (n : ℕ) (these : List (List ℕ)) → drop (suc n) (filled n these) ≡ drop (suc n) these
 drop_past_filled n these = drop_next n _ _ (drop_filled n these)
-
-take_shared : (n : ℕ) (these : List (List ℕ)) → take n (map (share Open) these) ≡ map (share Open) (take n these)
-take_shared zero these = refl
-take_shared (suc n) [] = refl
-take_shared (suc n) (bytes ∷ these) = ap (λ rest. share Open bytes ∷ rest) (take_shared n these)
-
-drop_shared : (n : ℕ) (these : List (List ℕ)) → drop n (map (share Open) these) ≡ map (share Open) (drop n these)
-drop_shared zero these = refl
-drop_shared (suc n) [] = refl
-drop_shared (suc n) (bytes ∷ these) = drop_shared n these
 
 pub take_filed : (n : ℕ) (names : Naming) (place : ℕ) (shares : List Share) → take n (filed names place shares) ≡ filed names place (take n shares)
 take_filed zero names place shares = refl
@@ -274,12 +256,12 @@ drop_filed (suc n) names place (one ∷ shares) = let further : place + 1 + n �
 
 pub take_open : (n : ℕ) (names : Naming) (these those : List (List ℕ)) → take n these ≡ take n those → take n (open_part names these).files ≡ take n (open_part names those).files
 take_open n names these those same =
-    take_filed n (from_start names) 0 (map (share Open) these) ∙ ap (filed (from_start names) 0) (take_shared n these ∙ ap (map (share Open)) same ∙ sym (take_shared n those))
+    take_filed n (from_start names) 0 (map (share Open) these) ∙ ap (filed (from_start names) 0) (take-map (share Open) n these ∙ ap (map (share Open)) same ∙ sym (take-map (share Open) n those))
     ∙ sym (take_filed n (from_start names) 0 (map (share Open) those))
 
 pub drop_open : (n : ℕ) (names : Naming) (these those : List (List ℕ)) → drop n these ≡ drop n those → drop n (open_part names these).files ≡ drop n (open_part names those).files
 drop_open n names these those same =
-    drop_filed n (from_start names) 0 (map (share Open) these) ∙ ap (filed (from_start names) (0 + n)) (drop_shared n these ∙ ap (map (share Open)) same ∙ sym (drop_shared n those))
+    drop_filed n (from_start names) 0 (map (share Open) these) ∙ ap (filed (from_start names) (0 + n)) (drop-map (share Open) n these ∙ ap (map (share Open)) same ∙ sym (drop-map (share Open) n those))
     ∙ sym (drop_filed n (from_start names) 0 (map (share Open) those))
 
 -- the file at a place of a list

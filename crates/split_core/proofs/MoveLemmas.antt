@@ -1,5 +1,6 @@
 -- How the files of `split` change, as they are opened, written and closed.
 use Rattle.std.proofs.Common.{◌≡◌, ℕ, ◌+◌, ◌<◌, ◌≤◌, suc, List, [], ◌∷◌, ◌++◌, length, take, Bool, true, false, cond, IsTrue, Option, Some, None, inl, inr, refl, sym, ◌∙◌, ap, subst, arith, length-append}
+use Rattle.std.proofs.Math.Nat.{add-zero, zero-add}
 use Rattle.std.proofs.lemmas.Bool.{false≢true}
 use Rattle.ports_core.specs.Name.{Naming, next_name}
 use Rattle.ports_core.specs.Slot.{Slot, changed_at, opened, unopened, adds, closes, with_written, with_broken, told_of, is_writable}
@@ -10,7 +11,7 @@ use Rattle.ports_core.specs.Part.{File, Part, OutputsAt, Begins, IsNext, Marks, 
 use Rattle.ports_core.specs.inner.Part.{AllClosed, InTurn, StoppedInTurn}
 use Rattle.ports_core.specs.Engine.{IsMet, is_verdict}
 use Rattle.ports_core.specs.declared.fault.Fault.{Fault}
-use Rattle.ports_core.specs.declared.fault.Fault.TheVariants.{Memory, Write, Read, Open, Suffixes, NoMatch, Range, Usage, Failed, TooLong}
+use Rattle.ports_core.specs.declared.fault.Fault.TheVariants.{Memory, Write, Open, Suffixes}
 use Rattle.ports_core.proofs.PartLemmas.{begins_itself, begins_more, take_begins_after, turn_between, turn_last, turn_next, outputs_count, part_begins_itself}
 use Rattle.ports_core.proofs.FileLemmas.{file_more, last_changes, gets, ended, write_makes, close_makes}
 use Rattle.ports_core.proofs.SlotLemmas.{length-changed_at}
@@ -34,9 +35,7 @@ named_before names place more is less = by (is_named names place) refl where
 
 -- the files of shares that all have names, and then the files of those after them
 pub named_on : (names : Naming) (place : ℕ) (front rest : List Share) → is_named names (place + length front) ≡ true → named names place (front ++ rest) ≡ named names place front ++ named names (place + length front) rest
-named_on names place [] rest is = ap (λ n. named names n rest) (same place) where
-  same : (n : ℕ) → n ≡ n + 0
-  same n = omega arith
+named_on names place [] rest is = ap (λ n. named names n rest) (sym (add-zero place))
 named_on names place (one ∷ front) rest is =
     ap (λ has. cond has (file_at names place one ∷ named names (place + 1) (front ++ rest)) []) here
     ∙ ap (λ files. file_at names place one ∷ files) (named_on names (place + 1) front rest (subst (λ n. is_named names n ≡ true) (moved place (length front)) is))
@@ -48,13 +47,12 @@ named_on names place (one ∷ front) rest is =
       here : is_named names place ≡ true
       here = named_before names place (place + suc (length front)) is (omega arith)
 
-pub named_last : (names : Naming) (front : List Share) (one : Share) → is_named names (length front) ≡ true → named names 0 (front ++ one ∷ []) ≡ named names 0 front ++ file_at names (length front) one ∷ []
-named_last names front one is =
-    named_on names 0 front (one ∷ []) (subst (λ n. is_named names n ≡ true) (sym (none (length front))) is)
-    ∙ ap (λ n. named names 0 front ++ named names n (one ∷ [])) (none (length front))
-    ∙ ap (λ has. named names 0 front ++ cond has (file_at names (length front) one ∷ []) []) is where
-      none : (n : ℕ) → 0 + n ≡ n
-      none n = omega arith
+pub named_at : (names : Naming) (front rest : List Share) (one : Share) → is_named names (length front) ≡ true
+    → named names 0 (front ++ one ∷ rest) ≡ named names 0 front ++ file_at names (length front) one ∷ named names (length front + 1) rest
+named_at names front rest one is =
+    named_on names 0 front (one ∷ rest) (subst (λ n. is_named names n ≡ true) (sym (zero-add (length front))) is)
+    ∙ ap (λ n. named names 0 front ++ named names n (one ∷ rest)) (zero-add (length front))
+    ∙ ap (λ has. named names 0 front ++ cond has (file_at names (length front) one ∷ named names (length front + 1) rest) []) is
 
 -- the files don't depend on how many names were drawn
 pub named_drawn : (names : Naming) (drawn place : ℕ) (shares : List Share) → named (record names { drawn = drawn }) place shares ≡ named names place shares
@@ -115,18 +113,16 @@ named_count names place (one ∷ shares) is =
       here = named_before names place (place + suc (length shares)) is (omega arith)
 
 pub all_named : (names : Naming) (shares : List Share) → is_named names (length shares) ≡ true → length (named names 0 shares) ≡ length shares
-all_named names shares is = named_count names 0 shares (subst (λ n. is_named names n ≡ true) (none (length shares)) is) where
-  none : (n : ℕ) → n ≡ 0 + n
-  none n = omega arith
+all_named names shares is = named_count names 0 shares (subst (λ n. is_named names n ≡ true) (sym (zero-add (length shares))) is)
 
 pub last_turn : (names : Naming) (shares : List Share) (one : Share) → is_named names (length shares) ≡ true → AllShut shares → InTurn (named names 0 (shares ++ one ∷ [])) (length shares)
-last_turn names shares one is shut = subst (λ files. InTurn files (length shares)) (sym (named_last names shares one is)) (turn_last (named names 0 shares) (file_at names (length shares) one) (length shares) (all_named names shares is) (shut_files names 0 shares shut))
+last_turn names shares one is shut = subst (λ files. InTurn files (length shares)) (sym (named_at names shares [] one is)) (turn_last (named names 0 shares) (file_at names (length shares) one) (length shares) (all_named names shares is) (shut_files names 0 shares shut))
 
 -- the last slot is that of the last file
 pub last_from : (told : Bool) (names : Naming) (shares : List Share) (one : Share) (before old : List Slot) (slot : ℕ) → is_named names (length shares) ≡ true → suc slot ≡ length old → OutputsAt told before (part_of names (shares ++ one ∷ [])) old → slot ≡ length before + length shares
 last_from told names shares one before old slot is last at =
     let count : length old ≡ length before + length (named names 0 (shares ++ one ∷ [])) = outputs_count told before (part_of names (shares ++ one ∷ [])) old at in
-    let files : length (named names 0 (shares ++ one ∷ [])) ≡ length (named names 0 shares) + 1 = ap length (named_last names shares one is) ∙ length-append (named names 0 shares) (file_at names (length shares) one ∷ []) in
+    let files : length (named names 0 (shares ++ one ∷ [])) ≡ length (named names 0 shares) + 1 = ap length (named_at names shares [] one is) ∙ length-append (named names 0 shares) (file_at names (length shares) one ∷ []) in
     let all : length (named names 0 shares) ≡ length shares = all_named names shares is in omega arith
 
 -- a fault that comes while the outputs still have the lower shares
@@ -150,8 +146,8 @@ pub last_moves : (told : Bool) (change : Slot → Slot) (makes : File → File) 
     → (names : Naming) (shares : List Share) (one other : Share) (old new : List Slot) (slot : ℕ) → makes (file_at names (length shares) one) ≡ file_at names (length shares) other → is_named names (length shares) ≡ true → suc slot ≡ length old → new ≡ changed_at slot change old
     → Moves told names (shares ++ one ∷ []) (shares ++ other ∷ []) old new
 last_moves told change makes fits names shares one other old new slot makes_it is last change_is before at =
-    subst (λ files. OutputsAt told before (record { out = []; files = files }) new) (ap (λ file. named names 0 shares ++ file ∷ []) makes_it ∙ sym (named_last names shares other is))
-    (last_changes told change makes fits before (part_of names (shares ++ one ∷ [])) (named names 0 shares) (file_at names (length shares) one) old new slot (named_last names shares one is) last at change_is)
+    subst (λ files. OutputsAt told before (record { out = []; files = files }) new) (ap (λ file. named names 0 shares ++ file ∷ []) makes_it ∙ sym (named_at names shares [] other is))
+    (last_changes told change makes fits before (part_of names (shares ++ one ∷ [])) (named names 0 shares) (file_at names (length shares) one) old new slot (named_at names shares [] one is) last at change_is)
 
 pub write_moves : (told : Bool) (names : Naming) (shares : List Share) (begun bytes : List ℕ) (old new : List Slot) (slot : ℕ) → is_named names (length shares) ≡ true → suc slot ≡ length old → new ≡ with_written slot (told_of told bytes) old
     → Moves told names (shares ++ share state.Open begun ∷ []) (shares ++ share state.Open (begun ++ bytes) ∷ []) old new
@@ -192,7 +188,7 @@ pub open_moves : (told : Bool) (names : Naming) (shares : List Share) (old new :
     → Moves told names shares (shares ++ share state.Open [] ∷ []) old new
 open_moves told names shares old new is drawn made before at =
     subst (λ files. OutputsAt told before (record { out = []; files = files }) new)
-    (ap (λ n. named names 0 shares ++ file_at names n (share state.Open []) ∷ []) drawn ∙ sym (named_last names shares (share state.Open []) is))
+    (ap (λ n. named names 0 shares ++ file_at names n (share state.Open []) ∷ []) drawn ∙ sym (named_at names shares [] (share state.Open []) is))
     (file_more told before (part_of names shares) old new (next_name names) Fresh at made)
 
 -- the next file in order has the next name
@@ -201,27 +197,17 @@ next_file names shares more one is drawn kept named_so = record {
   front = named names 0 shares;
   file = file_at names (length shares) one;
   rest = named names (length shares + 1) more;
-  files = named_on names 0 shares (one ∷ more) (subst (λ n. is_named names n ≡ true) (sym (none (length shares))) is)
-      ∙ ap (λ n. named names 0 shares ++ named names n (one ∷ more)) (none (length shares))
-      ∙ ap (λ has. named names 0 shares ++ cond has (file_at names (length shares) one ∷ named names (length shares + 1) more) []) is;
+  files = named_at names shares more one is;
   place = refl;
   name_is = ap (λ n. name_of names n) (sym drawn) ∙ sym named_so;
-} where
-  none : (n : ℕ) → 0 + n ≡ n
-  none n = omega arith
+}
 
 pub open_halts : (told : Bool) (names : Naming) (shares more : List Share) (one : Share) (old new : List Slot) (fault : Fault) → AllShut shares → names.drawn ≡ length shares → OpensNone names old new fault → Halts told names shares (shares ++ one ∷ more) old new fault
 open_halts told names shares more one old new Memory shut drawn none = halts_here told names shares (shares ++ one ∷ more) old new Memory _ (shares_more shares (one ∷ more)) (turn_next _ (shut_files names 0 shares shut)) none.1 (λ before at. tt)
 open_halts told names shares more one old new (Open slot) shut drawn none =
     halts_here told names shares (shares ++ one ∷ more) old new (Open slot) _ (shares_more shares (one ∷ more)) (turn_next _ (shut_files names 0 shares shut)) (none.0, (next_name names, none.2.0, next_file names shares more one (subst (λ n. is_named names n ≡ true) drawn none.1) drawn (next_name names) refl, none.2.1, none.2.2)) (λ before at. refl)
 open_halts told names shares more one old new Suffixes shut drawn none = halts_here told names shares (shares ++ one ∷ more) old new Suffixes _ (shares_more shares (one ∷ more)) (turn_next _ (shut_files names 0 shares shut)) none.1 (λ before at. tt)
-open_halts told names shares more one old new (Write slot) shut drawn none = absurd none
-open_halts told names shares more one old new (Read slot) shut drawn none = absurd none
-open_halts told names shares more one old new (NoMatch operand repetition) shut drawn none = absurd none
-open_halts told names shares more one old new (Range operand repetition) shut drawn none = absurd none
-open_halts told names shares more one old new (Usage kind word) shut drawn none = absurd none
-open_halts told names shares more one old new Failed shut drawn none = absurd none
-open_halts told names shares more one old new TooLong shut drawn none = absurd none
+open_halts told names shares more one old new fault shut drawn none = absurd none
 
 -- which faults come
 
@@ -238,13 +224,7 @@ pub open_breaks : (names : Naming) (old new : List Slot) (fault : Fault) → Ope
 open_breaks names old new Memory none = wants_memory
 open_breaks names old new (Open slot) none = breaks_open slot (open_rose slot none.2.0 old new none.0 none.2.2)
 open_breaks names old new Suffixes none = lacks_names
-open_breaks names old new (Write slot) none = absurd none
-open_breaks names old new (Read slot) none = absurd none
-open_breaks names old new (NoMatch operand repetition) none = absurd none
-open_breaks names old new (Range operand repetition) none = absurd none
-open_breaks names old new (Usage kind word) none = absurd none
-open_breaks names old new Failed none = absurd none
-open_breaks names old new TooLong none = absurd none
+open_breaks names old new fault none = absurd none
 
 -- they are no verdict but for want of names
 pub unjudged : (old new : List Slot) (fault : Fault) → Breaks old new fault → (fault ≡ Suffixes → ⊥) → is_verdict fault ≡ false
@@ -298,13 +278,7 @@ pub owned_unopened : (names : Naming) (old new : List Slot) (fault : Fault) → 
 owned_unopened names old new Memory none first owns = owned_same None old new (ap length none.1) first owns
 owned_unopened names old new (Open slot) none first owns = more_slots (unopened none.2.0) old new first owns none.2.2
 owned_unopened names old new Suffixes none first owns = owned_same None old new (ap length none.1) first owns
-owned_unopened names old new (Write slot) none first owns = absurd none
-owned_unopened names old new (Read slot) none first owns = absurd none
-owned_unopened names old new (NoMatch operand repetition) none first owns = absurd none
-owned_unopened names old new (Range operand repetition) none first owns = absurd none
-owned_unopened names old new (Usage kind word) none first owns = absurd none
-owned_unopened names old new Failed none first owns = absurd none
-owned_unopened names old new TooLong none first owns = absurd none
+owned_unopened names old new fault none first owns = absurd none
 
 -- a write doesn't fail for want of names
 pub no_suffixes : (told : Bool) (slot : ℕ) (bytes : List ℕ) (old new : List Slot) (f : Fault) → WritesShort told slot bytes old new f → f ≡ Suffixes → ⊥

@@ -1,18 +1,17 @@
 -- Lemmas on dealing lines in turn, as a stage.
-use Rattle.std.proofs.Common.{◌≡◌, ℕ, ◌+◌, ◌%◌, ◌<◌, ◌≤◌, zero, suc, min, max, Bool, true, false, not, ◌||◌, nat_lt, cond, List, [], ◌∷◌, ◌++◌, length, map, take, drop, Some, None, inl, inr, refl, sym, ◌∙◌, ap, subst, arith, Ok, Err, Result, OnOk, IfErr}
+use Rattle.std.proofs.Common.{◌≡◌, ℕ, ◌+◌, ◌%◌, ◌<◌, ◌≤◌, zero, suc, min, max, Bool, true, false, not, cond, List, [], ◌∷◌, ◌++◌, length, map, take, drop, Some, None, inl, inr, refl, sym, ◌∙◌, ap, subst, arith, Ok, Err, Result, OnOk, IfErr}
 use Rattle.std.proofs.Math.Nat.{mod-add-mod, mod-eq_of_lt, mod-mod, mod-le}
 use Rattle.std.proofs.Math.Path.{fun_ext}
 use Rattle.std.proofs.Math.Seq.{drop-length}
 use Rattle.std.specs.List.{filter, range_with_len}
 use Rattle.std.proofs.lemmas.Bool.{cases_lt, false≢true}
-use Rattle.std.proofs.lemmas.Bool.Decides.{nat_tests}
 use Rattle.std.proofs.lemmas.List.{append-nil, length-map}
 use Rattle.std.proofs.lemmas.List.FromFn.{length-map-range_with_len, take-map-range_with_len}
 use Rattle.seg_core.specs.Line.{joined, lines_of, delimiters, line_count}
 use Rattle.seg_core.proofs.Delimiters.{delimiters-append}
 use Rattle.seg_core.proofs.LineCounts.{line_count-some}
 use Rattle.seg_core.proofs.EndLines.{line_count_near}
-use Rattle.ports_core.specs.Name.{Naming, name_count}
+use Rattle.ports_core.specs.Name.{Naming}
 use Rattle.ports_core.specs.Slot.{Slot}
 use Rattle.ports_core.specs.Part.{File, OutputsAt, StoppedBetween, nothing}
 use Rattle.ports_core.specs.Work.{Work}
@@ -35,29 +34,17 @@ use Rattle.split_core.specs.inner.Sharing.{added, filled, filed, open_part, clos
 use Rattle.split_core.specs.inner.DealLaws.{share_of}
 use Rattle.split_core.specs.laws.DealLaws.{dealt_append, dealt_none, dealt_files_are, share_none}
 use Rattle.split_core.proofs.DealLaws.{dealt_same, opened_by-most}
-use Rattle.split_core.proofs.FilesLemmas.{closed_all, added_begin, open_begins}
-use Rattle.split_core.proofs.MoveLemmas.{met_files, unjudged}
+use Rattle.split_core.proofs.FilesLemmas.{closed_all, added_begin, added_none, open_begins}
+use Rattle.split_core.proofs.MoveLemmas.{met_files, named_before, unjudged}
 use Rattle.split_core.proofs.PlaceLemmas.{all_dealt}
 use Rattle.seg_core.proofs.FrontLines.{line_count-front}
 
 -- Names
 
-either_more : (auto less more : Bool) → (less ≡ true → more ≡ true) → (auto || less) ≡ true → (auto || more) ≡ true
-either_more true less more also is = refl
-either_more false less more also is = also is
-
-nat_lt_less : (one other count : ℕ) → one ≤ other → nat_lt other count ≡ true → nat_lt one count ≡ true
-nat_lt_less one other count few is = grind (arith, nat_tests)
-
-named_before : (names : Naming) (one other : ℕ) → one ≤ other → is_named names other ≡ true → is_named names one ≡ true
-named_before names one other few is =
-    either_more names.auto (nat_lt other (name_count names.alphabet names.width)) (nat_lt one (name_count names.alphabet names.width))
-    (nat_lt_less one other (name_count names.alphabet names.width) few) is
-
 -- where this many files have names, each of them has one
 named_at : (names : Naming) (count place : ℕ) → are_named names count ≡ true → place < count → is_named names place ≡ true
 named_at names zero place are within = absurd (omega arith)
-named_at names (suc last) place are within = named_before names place last (omega arith) are
+named_at names (suc last) place are within = named_before names place last are (omega arith)
 
 pub named_fewer : (names : Naming) (few count : ℕ) → are_named names count ≡ true → few ≤ count → are_named names few ≡ true
 named_fewer names zero count are within = refl
@@ -117,12 +104,9 @@ added_maps f more whole start zero (suc b) none no_more both =
     ∙ ap (λ bytes. bytes ∷ map more (range_with_len (start + 1) b)) (both start) ∙ ap (λ those. whole start ∷ those) rest ∙ ap (λ n. map whole (range_with_len start n)) count
 added_maps f more whole start (suc m) zero none no_more both =
     let count : suc (max m 0) ≡ max (suc m) 0 = omega arith in
-    let rest = sym (added_nothing (map f (range_with_len (start + 1) m))) ∙ added_maps f more whole (start + 1) m zero (λ file past within. absurd (omega arith)) (λ file past within. no_more file (omega arith) (omega arith)) both in
+    let rest = sym (added_none (map f (range_with_len (start + 1) m))) ∙ added_maps f more whole (start + 1) m zero (λ file past within. absurd (omega arith)) (λ file past within. no_more file (omega arith) (omega arith)) both in
     ap (λ bytes. bytes ∷ map f (range_with_len (start + 1) m)) (sym (append-nil (f start)) ∙ ap (λ those. f start ++ those) (sym (no_more start (omega arith) (omega arith))) ∙ both start)
-    ∙ ap (λ those. whole start ∷ those) rest ∙ ap (λ n. map whole (range_with_len start n)) count where
-      added_nothing : (these : List (List ℕ)) → added these [] ≡ these
-      added_nothing [] = refl
-      added_nothing (bytes ∷ these) = refl
+    ∙ ap (λ those. whole start ∷ those) rest ∙ ap (λ n. map whole (range_with_len start n)) count
 added_maps f more whole start (suc m) (suc b) none no_more both =
     let count : suc (max m b) ≡ max (suc m) (suc b) = omega arith in
     let rest = added_maps f more whole (start + 1) m b (λ file past within. none file (omega arith) (omega arith)) (λ file past within. no_more file (omega arith) (omega arith)) both in

@@ -1,6 +1,8 @@
 -- What a step of a piece leaves.
-use Rattle.std.proofs.Common.{◌≡◌, ℕ, ◌+◌, ◌-◌, ◌<◌, ◌≤◌, zero, suc, List, [], ◌∷◌, ◌++◌, length, map, take, drop, Bool, true, false, Some, None, Result, Ok, Err, OnOk, IfOk, IfErr, inl, refl, sym, ◌∙◌, ap, subst, arith, append_assoc, length-append}
-use Rattle.std.proofs.lemmas.List.{append-nil, map-append, length-map, take-append-drop, length-take-le}
+use Rattle.std.proofs.Common.{◌≡◌, ℕ, ◌+◌, ◌-◌, ◌<◌, ◌≤◌, zero, suc, List, [], ◌∷◌, ◌++◌, length, map, take, drop, Bool, true, false, Some, None, Result, Ok, Err, OnOk, IfOk, IfErr, inl, refl, sym, ◌∙◌, ap, subst, add-one, arith, append_assoc, length-append}
+use Rattle.std.proofs.Math.Nat.{zero-add}
+use Rattle.std.proofs.Math.Seq.{take-length}
+use Rattle.std.proofs.lemmas.List.{append-nil, drop-take, map-append, length-map, take-append-drop, length-take-le}
 use Rattle.std.proofs.lemmas.Bool.{false≢true}
 use Rattle.ports_core.specs.Name.{Naming, has_next}
 use Rattle.ports_core.specs.Slot.{Slot}
@@ -116,11 +118,8 @@ short_by told state x piece taken past full rest old new split is some none move
   whole : (x ++ taken) ++ past ≡ x ++ piece
   whole = append_assoc x taken past ∙ ap (λ those. x ++ those) split
 
-  zero_plus : (n : ℕ) → n ≡ 0 + n
-  zero_plus n = omega arith
-
   count : length full ≡ 0 + length (map (share file_state.Closed) full)
-  count = sym (length-map full (share file_state.Closed)) ∙ zero_plus _
+  count = sym (length-map full (share file_state.Closed)) ∙ sym (zero-add _)
 
   shares : settled_parts state.limit ((x ++ taken) ++ past) ≡ map (share file_state.Closed) full ++ settled_parts state.limit (rest ++ past)
   shares = settled_on state.limit (x ++ taken) past ∙ ap (λ (cut : CutUp). map (share file_state.Closed) cut.full ++ settled_parts state.limit (cut.rest ++ past)) is
@@ -190,6 +189,16 @@ are_named_drawn names next (suc last) is = ap (λ (those : Naming). is_named tho
 is_named_drawn : (names next : Naming) (place : ℕ) → next ≡ record names { drawn = next.drawn } → is_named next place ≡ is_named names place
 is_named_drawn names next place is = ap (λ (those : Naming). is_named those place) is
 
+-- a part that was begun is the last
+
+low_is : (parts : PartsState) (x : List ℕ) → is_some (begun_of parts x) ≡ true → settled_parts parts.limit x ≡ full_of parts x ++ share file_state.Open (begun_of parts x) ∷ []
+low_is parts x some = ap (λ more. full_of parts x ++ more) (some_share (begun_of parts x) some)
+
+last_of : (parts : PartsState) (x : List ℕ) → Stands parts x → is_some (begun_of parts x) ≡ true → IsLast parts (full_of parts x)
+last_of parts x stands some =
+    let count = ap length (low_is parts x some) ∙ count_one (full_of parts x) (share file_state.Open (begun_of parts x)) in
+    record { drawn = stands.drawn ∙ count; named = sym (ap (are_named parts.names) count) ∙ stands.enough; shut = shut_map (cut_up parts.limit x).full }
+
 -- what waits begins the next part
 
 pub begins_next : (told : Bool) (parts next : PartsState) (piece : List ℕ) (bytes : ℕ) (old new : List Slot) → LeadsOn parts piece (Begins bytes) → Turned told parts (take bytes piece) old new next → Took told parts (take bytes piece) old new next
@@ -198,7 +207,7 @@ begins_next told parts next piece bytes old new leads turns = record {
   names_same = turns.names_same;
   stands = λ x stands.
       let led = leads (rest_of parts x) stands.lacks in
-      let drawn = turns.drawn (full_of parts x) (begun_of parts x) (last_of x stands led.0) (stands.opened ∙ led.0) in
+      let drawn = turns.drawn (full_of parts x) (begun_of parts x) (last_of parts x stands led.0) (stands.opened ∙ led.0) in
       turned_stands parts parts next x (take bytes piece) (begun_of parts x) (waiting_rest parts.limit (rest_of parts x) ++ take bytes piece) refl stands led.1
       (turns.same ∙ ap (λ waits. record parts { names = next.names; left = most parts.limit - length (waits ++ take bytes piece); has_line = false; waiting = []; current = next.current }) stands.waits)
       (drawn.0 ∙ ap (λ waits. length (full_of parts x ++ share file_state.Closed (begun_of parts x) ∷ begun_share (waits ++ take bytes piece))) stands.waits)
@@ -206,22 +215,15 @@ begins_next told parts next piece bytes old new leads turns = record {
       (turns.given ∙ ap (λ waits. is_some (waits ++ take bytes piece)) stands.waits);
   moves = λ x stands at_end.
       let led = leads (rest_of parts x) stands.lacks in
-      subst (λ low. Moves told parts.names low (settled_parts parts.limit (x ++ take bytes piece)) old new) (sym (low_is x led.0))
+      subst (λ low. Moves told parts.names low (settled_parts parts.limit (x ++ take bytes piece)) old new) (sym (low_is parts x led.0))
       (subst (λ high. Moves told parts.names (full_of parts x ++ share file_state.Open (begun_of parts x) ∷ []) high old new)
       (ap (λ waits. full_of parts x ++ share file_state.Closed (begun_of parts x) ∷ begun_share (waits ++ take bytes piece)) stands.waits
       ∙ sym (shares_turn parts x (take bytes piece) (begun_of parts x) (waiting_rest parts.limit (rest_of parts x) ++ take bytes piece) led.1))
-      (turns.moves (full_of parts x) (begun_of parts x) (last_of x stands led.0) (stands.opened ∙ led.0) at_end));
+      (turns.moves (full_of parts x) (begun_of parts x) (last_of parts x stands led.0) (stands.opened ∙ led.0) at_end));
   keeps = turns.keeps;
   owned = turns.owned;
   ready = turns.ready;
-} where
-  low_is : (x : List ℕ) → is_some (begun_of parts x) ≡ true → settled_parts parts.limit x ≡ full_of parts x ++ share file_state.Open (begun_of parts x) ∷ []
-  low_is x some = ap (λ more. full_of parts x ++ more) (some_share (begun_of parts x) some)
-
-  last_of : (x : List ℕ) → Stands parts x → is_some (begun_of parts x) ≡ true → IsLast parts (full_of parts x)
-  last_of x stands some =
-      let count = ap length (low_is x some) ∙ count_one (full_of parts x) (share file_state.Open (begun_of parts x)) in
-      record { drawn = stands.drawn ∙ count; named = sym (ap (are_named parts.names) count) ∙ stands.enough; shut = shut_map (cut_up parts.limit x).full }
+}
 
 -- these bytes are the last of the part
 
@@ -266,7 +268,7 @@ ends_part told parts mid next piece past end bytes slot old wet new leads is ext
 
 pub waits_on : (told : Bool) (parts next : PartsState) (piece : List ℕ) (old new : List Slot) (n : ℕ) → LeadsOn parts piece Waits → IsReady parts.current old → n ≡ length piece → next ≡ record parts { left = parts.left - length piece; waiting = parts.waiting ++ piece } → new ≡ old → Took told parts (take n piece) old new next
 waits_on told parts next piece old new n leads ready count is same =
-    subst (λ those. Took told parts those old new next) (sym (ap (λ m. take m piece) count ∙ take_whole piece))
+    subst (λ those. Took told parts those old new next) (sym (ap (λ m. take m piece) count ∙ take-length piece))
     (subst (λ those. Took told parts piece old new those) (sym is) (record {
       limit_same = refl;
       names_same = refl;
@@ -283,10 +285,7 @@ waits_on told parts next piece old new n leads ready count is same =
       keeps = slot_steps.keeps_same old new same;
       owned = move.owned_same parts.current old new (ap length same);
       ready = subst (IsReady parts.current) (sym same) ready;
-    })) where
-      take_whole : (xs : List ℕ) → take (length xs) xs ≡ xs
-      take_whole [] = refl
-      take_whole (y ∷ xs) = ap (λ rest. y ∷ rest) (take_whole xs)
+    }))
 
 -- a fault
 
@@ -372,9 +371,7 @@ short_next told state x piece first past bytes old new led some none moves =
       some_more (y ∷ xs) ys is = omega arith
 
       count : length ((cut_up state.limit x).full ++ first ∷ []) ≡ suc (length (full_of state x))
-      count = length-append (cut_up state.limit x).full (first ∷ []) ∙ one_more (length (cut_up state.limit x).full) ∙ ap suc (sym (length-map (cut_up state.limit x).full (share file_state.Closed))) where
-        one_more : (n : ℕ) → n + 1 ≡ suc n
-        one_more n = omega arith
+      count = length-append (cut_up state.limit x).full (first ∷ []) ∙ add-one (length (cut_up state.limit x).full) ∙ ap suc (sym (length-map (cut_up state.limit x).full (share file_state.Closed)))
 
 pub begins_stopped : (told : Bool) (parts next : PartsState) (piece : List ℕ) (bytes : ℕ) (old new : List Slot) (f : Fault) → LeadsOn parts piece (Begins bytes) → TurnsNot told parts (take bytes piece) old new next f → Stopped told parts piece old new next f
 begins_stopped told parts next piece bytes old new f leads cut = record {
@@ -383,26 +380,19 @@ begins_stopped told parts next piece bytes old new f leads cut = record {
   halts = λ x stands at_end.
       let led = leads (rest_of parts x) stands.lacks in
       move.halts_wider told parts.names _ (full_of parts x ++ share file_state.Closed (begun_of parts x) ∷ begun_share (waiting_rest parts.limit (rest_of parts x) ++ take bytes piece)) _ old new f
-      (subst (λ low. Halts told parts.names low (full_of parts x ++ share file_state.Closed (begun_of parts x) ∷ begun_share (waiting_rest parts.limit (rest_of parts x) ++ take bytes piece)) old new f) (sym (low_is x led.0))
+      (subst (λ low. Halts told parts.names low (full_of parts x ++ share file_state.Closed (begun_of parts x) ∷ begun_share (waiting_rest parts.limit (rest_of parts x) ++ take bytes piece)) old new f) (sym (low_is parts x led.0))
       (subst (λ waits. Halts told parts.names (full_of parts x ++ share file_state.Open (begun_of parts x) ∷ []) (full_of parts x ++ share file_state.Closed (begun_of parts x) ∷ begun_share (waits ++ take bytes piece)) old new f) stands.waits
-      (cut.halts (full_of parts x) (begun_of parts x) (last_of x stands led.0) (stands.opened ∙ led.0) at_end)))
+      (cut.halts (full_of parts x) (begun_of parts x) (last_of parts x stands led.0) (stands.opened ∙ led.0) at_end)))
       (turned_below parts piece _ _ bytes x led.1);
   breaks = cut.breaks;
   owned = cut.owned;
   short = λ is_short x stands.
       let led = leads (rest_of parts x) stands.lacks in
       let why = cut.short is_short in
-      let ran = why.1 (full_of parts x) (begun_of parts x) (last_of x stands led.0) (stands.opened ∙ led.0) in
+      let ran = why.1 (full_of parts x) (begun_of parts x) (last_of parts x stands led.0) (stands.opened ∙ led.0) in
       short_next told parts x piece (begun_of parts x) (waiting_rest parts.limit (rest_of parts x) ++ take bytes piece) bytes old new led.1 (sym (ap (λ waits. is_some (waits ++ take bytes piece)) stands.waits) ∙ why.0) ran.0
-      (λ at_end. subst (λ low. Moves told parts.names low (full_of parts x ++ share file_state.Closed (begun_of parts x) ∷ []) old new) (sym (low_is x led.0)) (ran.1 at_end));
-} where
-  low_is : (x : List ℕ) → is_some (begun_of parts x) ≡ true → settled_parts parts.limit x ≡ full_of parts x ++ share file_state.Open (begun_of parts x) ∷ []
-  low_is x some = ap (λ more. full_of parts x ++ more) (some_share (begun_of parts x) some)
-
-  last_of : (x : List ℕ) → Stands parts x → is_some (begun_of parts x) ≡ true → IsLast parts (full_of parts x)
-  last_of x stands some =
-      let count = ap length (low_is x some) ∙ count_one (full_of parts x) (share file_state.Open (begun_of parts x)) in
-      record { drawn = stands.drawn ∙ count; named = sym (ap (are_named parts.names) count) ∙ stands.enough; shut = shut_map (cut_up parts.limit x).full }
+      (λ at_end. subst (λ low. Moves told parts.names low (full_of parts x ++ share file_state.Closed (begun_of parts x) ∷ []) old new) (sym (low_is parts x led.0)) (ran.1 at_end));
+}
 
 pub ends_stopped : (told : Bool) (parts mid next : PartsState) (piece past : List ℕ) (end bytes slot : ℕ) (old wet new : List Slot) (f : Fault) → LeadsOn parts piece (Ends end bytes) → past ≡ drop end (take bytes piece)
     → Extended told parts (take end piece) old wet mid slot → TurnsNot told mid past wet new next f → Stopped told parts piece old new next f
@@ -453,17 +443,5 @@ waited told parts next piece slots (Ok n) some leads ready count waits err = (om
 waited told parts next piece slots (Err f) some leads ready count waits err = no_room told parts next piece slots slots f err.0 err.1 refl
 
 -- what stands between two places
-pub between : (end bytes : ℕ) (xs : List ℕ) → take (bytes - end) (drop end xs) ≡ drop end (take bytes xs)
-between zero bytes xs = ap (λ n. take n xs) (all bytes) where
-  all : (n : ℕ) → n - 0 ≡ n
-  all n = omega arith
-between (suc end) zero xs = ap (λ n. take n (drop (suc end) xs)) (none end) where
-  none : (n : ℕ) → 0 - suc n ≡ 0
-  none n = omega arith
-between (suc end) (suc bytes) [] = none (suc bytes - suc end) where
-  none : (n : ℕ) → ◌≡◌ {A = List ℕ} (take n []) []
-  none zero = refl
-  none (suc n) = refl
-between (suc end) (suc bytes) (x ∷ xs) = ap (λ n. take n (drop end xs)) (both bytes end) ∙ between end bytes xs where
-  both : (m n : ℕ) → suc m - suc n ≡ m - n
-  both m n = omega arith
+pub between : (end bytes : ℕ) (xs : List ℕ) → end ≤ bytes → take (bytes - end) (drop end xs) ≡ drop end (take bytes xs)
+between end bytes xs within = let all : end + (bytes - end) ≡ bytes = omega arith in sym (drop-take end (bytes - end) xs) ∙ ap (λ n. drop end (take n xs)) all

@@ -3,11 +3,9 @@ use Rattle.split_core.specs.Parts.{parts}
 use Rattle.split_core.proofs.SectionLemmas.{line_bytes_are_parts, line_bytes_once, line_bytes_within}
 use Rattle.split_core.proofs.laws.line_byte_parts.Goals as goal
 
-pub returns-clause-are : goal.returns-clause-are
-returns-clause-are c delim n x some = line_bytes_are_parts delim n x some
-
-pub returns-clause-once : goal.returns-clause-once
-returns-clause-once c delim n x those some are = line_bytes_once delim n x those (parts (LineBytes n delim) x) some are (line_bytes_are_parts delim n x some)
-
-pub returns-clause-within : goal.returns-clause-within
-returns-clause-within c delim n x some = line_bytes_within delim n x (parts (LineBytes n delim) x) some (line_bytes_are_parts delim n x some)
+pub returns : goal.returns
+returns c = record {
+  are = line_bytes_are_parts;
+  once = λ delim n x those some are. line_bytes_once delim n x those (parts (LineBytes n delim) x) some are (line_bytes_are_parts delim n x some);
+  within = λ delim n x some. line_bytes_within delim n x (parts (LineBytes n delim) x) some (line_bytes_are_parts delim n x some);
+}
