@@ -1,8 +1,10 @@
 -- What all continuations agree on, of files.
 use Rattle.std.proofs.Common.{◌≡◌, ℕ, ◌+◌, ◌-◌, ◌<◌, zero, suc, List, [], ◌∷◌, ◌++◌, length, map, replicate, Bool, true, false, cond, inl, inr, refl, sym, ◌∙◌, ap, subst, arith, append_assoc, length-append}
+use Rattle.std.proofs.Math.Nat.{zero-add}
 use Rattle.std.proofs.lemmas.Bool.{cases_lt, ne_eqb}
 use Rattle.std.proofs.lemmas.List.{append-nil, take_all, length-map, length-replicate}
 use Rattle.seg_core.specs.Line.{delimiters}
+use Rattle.seg_core.proofs.Delimiters.{delimiters-le-length}
 use Rattle.ports_core.specs.Name.{Naming}
 use Rattle.ports_core.specs.Part.{File}
 use Rattle.ports_core.specs.Agreed.{CanCome, IsAgreed, file_bytes, outputs_of}
@@ -52,14 +54,11 @@ count_step : (is : Bool) (one two : List ℕ) (these those : List (List ℕ)) �
 count_step true one two these those same = ap suc same
 count_step false one two these those same = refl
 
-one_less : (n m : ℕ) → suc n ≡ suc m → n ≡ m
-one_less n m is = omega (arith, is)
-
 pub count_named : (names : Naming) (place : ℕ) (these those : List (List ℕ)) → length these ≡ length those → length (named_bytes names place these) ≡ length (named_bytes names place those)
 count_named names place [] [] same = refl
 count_named names place [] (two ∷ those) same = absurd (omega (arith, same))
 count_named names place (one ∷ these) [] same = absurd (omega (arith, same))
-count_named names place (one ∷ these) (two ∷ those) same = count_step (is_named names place) one two _ _ (count_named names (place + 1) these those (one_less _ _ same))
+count_named names place (one ∷ these) (two ∷ those) same = count_step (is_named names place) one two _ _ (count_named names (place + 1) these those (omega (arith, same)))
 
 named_each : (names : Naming) (place : ℕ) (one : List ℕ) (those : List (List ℕ)) → is_named names (place + length those) ≡ true → named_bytes names place (one ∷ those) ≡ one ∷ those
 named_each names place one [] is = ap (λ has. cond has (one ∷ []) []) (named_before names place (place + 0) is (omega arith))
@@ -72,9 +71,7 @@ named_each names place one (two ∷ those) is =
 -- where all have names, none is left out
 pub each_named : (names : Naming) (those : List (List ℕ)) → are_named names (length those) ≡ true → named_bytes names 0 those ≡ those
 each_named names [] are = refl
-each_named names (one ∷ those) are = named_each names 0 one those (subst (λ n. is_named names n ≡ true) (none (length those)) are) where
-  none : (n : ℕ) → n ≡ 0 + n
-  none n = omega arith
+each_named names (one ∷ those) are = named_each names 0 one those (subst (λ n. is_named names n ≡ true) (sym (zero-add (length those))) are)
 
 -- Parts that follow one another
 
@@ -125,8 +122,7 @@ one_of [] some = absurd (omega (arith, some))
 one_of (byte ∷ bytes) some = refl
 
 pub delimiters_some : (delim : ℕ) (x : List ℕ) → 0 < delimiters delim x → 0 < length x
-delimiters_some delim [] some = absurd (omega (arith, some))
-delimiters_some delim (byte ∷ x) some = omega arith
+delimiters_some delim x some = omega (arith, some, delimiters-le-length delim x)
 
 pub decides_lines : (delim n : ℕ) (x : List ℕ) → 0 < n → 0 < delimiters delim (cut_up (LineBytes n delim) x).rest → Decides (LineBytes n delim) x
 decides_lines delim n x some lines =

@@ -6,7 +6,7 @@ use Rattle.std.proofs.lemmas.Simd.{trailing_mask_l}
 use Rattle.std.proofs.Math.Nat.{div-div-eq-div-mul, div-one, zero-div}
 use Rattle.std.proofs.Math.Seq.{take-add}
 use Rattle.std.proofs.lemmas.Bool.{eq-eqb, eqb-true, eqb-false, ne_eqb}
-use Rattle.std.proofs.lemmas.List.{take_more, take-append-drop, take_all, take-take, drop-take, drop-drop, length-take-le, length-drop, length-replicate}
+use Rattle.std.proofs.lemmas.List.{get_or-drop, get_or-take, take_min, take_more, take-append-drop, take_all, take-take, drop-take, drop-drop, length-take-le, length-drop, length-replicate}
 use Rattle.seg_core.specs.Line.{HasNone, lines_of, delimiters}
 use Rattle.seg_core.proofs.Delimiters.{delimiters-append, delimiters-one_yes}
 use Rattle.seg_core.proofs.LinesOf.{lines_of-complete}
@@ -91,18 +91,13 @@ all_passed : (delim : ℕ) (x : List ℕ) (ahead : Ahead) → Sees delim x ahead
 all_passed delim x ahead sees none =
     subst (HasNone delim) (sym (take-add ahead.passed ahead.width x)) (none_append delim (take ahead.passed x) (take ahead.width (drop ahead.passed x)) sees.none (unmarked delim _ (sym sees.marked ∙ none)))
 
-narrowed : (n m : ℕ) (x : List ℕ) → take n x ≡ take (min n (length x)) x
-narrowed zero m x = let none : 0 ≡ min 0 (length x) = omega arith in ap (λ k. take k x) none
-narrowed (suc n) m [] = let none : 0 ≡ min (suc n) 0 = omega arith in ap (λ k. take k []) none
-narrowed (suc n) m (byte ∷ x) = let more : suc (min n (length x)) ≡ min (suc n) (suc (length x)) = omega arith in ap (λ rest. byte ∷ rest) (narrowed n m x) ∙ ap (λ k. take k (byte ∷ x)) more
-
 pub sees_further : (delim : ℕ) (x : List ℕ) (ahead : Ahead) (passed width mask : ℕ) → Sees delim x ahead → ahead.mask ≡ 0 → passed ≡ ahead.passed + ahead.width → width ≡ min 64 (length x - passed) → mask ≡ delimiter_mask delim (take 64 (drop passed x))
     → Sees delim x (record { passed = passed; width = width; mask = mask })
 sees_further delim x ahead passed width mask sees none is wide marked = record {
   within = let inside : ahead.passed + ahead.width ≤ length x = sees.within in omega arith;
   narrow = omega arith;
   none = subst (λ n. HasNone delim (take n x)) (sym is) (all_passed delim x ahead sees none);
-  marked = marked ∙ ap (delimiter_mask delim) (narrowed 64 0 (drop passed x) ∙ ap (λ n. take n (drop passed x)) (sym (wide ∙ ap (min 64) (sym (length-drop passed x)))));
+  marked = marked ∙ ap (delimiter_mask delim) (sym (take_min 64 (drop passed x)) ∙ ap (λ n. take n (drop passed x)) (sym (wide ∙ ap (min 64) (sym (length-drop passed x)))));
 }
 
 -- where all of the text is known and no bit is set, it has no delimiter
@@ -110,17 +105,6 @@ pub none_seen : (delim : ℕ) (x : List ℕ) (ahead : Ahead) → Sees delim x ah
 none_seen delim x ahead sees none all = delimiters-none delim x (subst (HasNone delim) (take_all (ahead.passed + ahead.width) x (omega arith)) (all_passed delim x ahead sees none))
 
 -- the first delimiter
-
-get_or-after : (k at : ℕ) (x : List ℕ) → get_or (drop k x) at 0 ≡ get_or x (k + at) 0
-get_or-after zero at x = let same : at ≡ 0 + at = omega arith in ap (λ n. get_or x n 0) same
-get_or-after (suc k) at [] = refl
-get_or-after (suc k) at (byte ∷ x) = let more : suc (k + at) ≡ suc k + at = omega arith in get_or-after k at x ∙ ap (λ n. get_or (byte ∷ x) n 0) more
-
-get_or-front : (n at : ℕ) (x : List ℕ) → at < length (take n x) → get_or (take n x) at 0 ≡ get_or x at 0
-get_or-front zero at x inside = absurd (omega arith)
-get_or-front (suc n) at [] inside = absurd (omega arith)
-get_or-front (suc n) zero (byte ∷ x) inside = refl
-get_or-front (suc n) (suc at) (byte ∷ x) inside = get_or-front n at x (omega arith)
 
 length-window : (k n : ℕ) (x : List ℕ) → k + n ≤ length x → length (take n (drop k x)) ≡ n
 length-window k n x inside = length-take-le n (drop k x) (let rest = length-drop k x in omega arith)
@@ -131,7 +115,8 @@ first_of_text delim x k n at inside none first = record {
   within = let before : at < length (take n (drop k x)) = first.within in let wide = length-window k n x inside in omega arith;
   none = subst (HasNone delim) (ap (λ rest. take k x ++ rest) (take-take at n (drop k x) (let before : at < length (take n (drop k x)) = first.within in let wide = length-window k n x inside in omega arith)) ∙ sym (take-add k at x))
       (none_append delim (take k x) (take at (take n (drop k x))) none first.none);
-  here = sym (get_or-front n at (drop k x) first.within ∙ get_or-after k at x) ∙ first.here;
+  here = sym (get_or-take n (drop k x) at 0 (let before : at < length (take n (drop k x)) = first.within in let wide = length-window k n x inside in omega arith)
+      ∙ get_or-drop k x at 0) ∙ first.here;
 }
 
 -- where the lowest bit is that of the first delimiter, the line ends there, and the rest of the mask is that of what follows

@@ -1,7 +1,8 @@
 -- Laws of parts that follow one another: what a text that goes on is cut into.
-use Rattle.std.proofs.Common.{◌≡◌, ℕ, ◌<◌, ◌≤◌, zero, suc, List, [], ◌∷◌, ◌++◌, length, take, drop, Bool, true, false, cond, ◌&&◌, nat_lt, nat_le, refl, sym, ◌∙◌, ap, subst, arith, append_assoc}
+use Rattle.std.proofs.Common.{◌≡◌, ℕ, ◌<◌, ◌≤◌, List, [], ◌∷◌, ◌++◌, length, take, drop, Bool, true, false, cond, ◌&&◌, nat_lt, nat_le, refl, sym, ◌∙◌, ap, subst, arith, append_assoc}
 use Rattle.std.proofs.lemmas.Bool.Decides.{nat_tests}
-use Rattle.std.proofs.lemmas.List.{take_all, take-append-drop, drop-append-le}
+use Rattle.std.proofs.lemmas.List.{length-take, take_all, take_min, take-append-drop, take-take}
+use Rattle.std.proofs.Math.Seq.{drop-append_seam}
 use Rattle.seg_core.specs.Line.{joined, delimiters, first_lines, after_lines}
 use Rattle.seg_core.proofs.FirstLines.{first_lines-is_take}
 use Rattle.split_core.specs.declared.limit.Limit.{Limit}
@@ -33,15 +34,10 @@ whole_is_take delim x = by (nat_lt 0 (delimiters delim x)) where
 -- the first part of a text that has it in full
 
 take-is_take : (n : ℕ) (x : List ℕ) → take n x ≡ take (length (take n x)) x
-take-is_take zero x = refl
-take-is_take (suc n) [] = refl
-take-is_take (suc n) (byte ∷ x) = ap (λ rest. byte ∷ rest) (take-is_take n x)
+take-is_take n x = sym (ap (λ k. take k x) (length-take n x) ∙ take_min n x)
 
 pub take-take_few : (k n : ℕ) (x : List ℕ) → k ≤ length (take n x) → take k (take n x) ≡ take k x
-take-take_few zero n x few = refl
-take-take_few (suc k) zero x few = absurd (omega arith)
-take-take_few (suc k) (suc n) [] few = refl
-take-take_few (suc k) (suc n) (byte ∷ x) few = ap (λ rest. byte ∷ rest) (take-take_few k n x (omega arith))
+take-take_few k n x few = take-take k n x (omega (arith, few, length-take n x))
 
 first_is_take : (limit : Limit) (x : List ℕ) → first_part limit x ≡ take (length (first_part limit x)) x
 first_is_take (Lines n delim) x = first_lines-is_take delim n x
@@ -62,10 +58,7 @@ cut_all limit x = cuts_all limit x _ _ (cuts_up limit x)
 
 pub cut_two : (limit : Limit) (x first next : List ℕ) → is_full limit x ≡ true → first_part limit x ≡ first → x ≡ first ++ next → is_full limit next ≡ false → cut_up limit x ≡ cut_so (first ∷ []) next
 cut_two limit x first next full is both short =
-    let after : after_first limit x ≡ next = ap (λ (front : List ℕ). drop (length front) x) is ∙ ap (drop (length first)) both ∙ drop-append-le (length first) first next (omega arith) ∙ ap (λ rest. rest ++ next) (dropped first) in
+    let after : after_first limit x ≡ next = ap (λ (front : List ℕ). drop (length front) x) is ∙ ap (drop (length first)) both ∙ drop-append_seam first next in
     cut_once limit x (first ∷ []) next
     (subst (λ front. Cuts limit x (front ∷ []) next) is
-    (goes x [] next full (subst (λ those. Cuts limit those [] next) (sym after) (stops next short)))) where
-      dropped : (xs : List ℕ) → drop (length xs) xs ≡ []
-      dropped [] = refl
-      dropped (byte ∷ xs) = dropped xs
+    (goes x [] next full (subst (λ those. Cuts limit those [] next) (sym after) (stops next short))))

@@ -1,6 +1,7 @@
 -- Lemmas on gathering the lines of a piece.
 use Rattle.std.proofs.Common.{◌≡◌, ◌≢◌, ℕ, ◌+◌, ◌%◌, ◌<◌, ◌≤◌, zero, suc, min, max, Bool, true, false, cond, eqb, List, [], ◌∷◌, ◌++◌, length, get_or, set, take, drop, Ok, Err, Result, OnOk, inl, inr, refl, sym, ◌∙◌, ap, subst, arith, append_assoc, length-append}
 use Rattle.std.proofs.Math.Nat.{mod-add-mod, mod-eq_of_lt, mod-mod, mod_self, mod-le}
+use Rattle.std.proofs.Math.Dec.{eqb-suc-suc}
 use Rattle.std.proofs.lemmas.Bool.{cases_eq, eq-eqb, ne_eqb, eqb-true, eqb-false, false≢true}
 use Rattle.std.proofs.lemmas.List.{append-nil, ext_get_or, take_at, take-append-le, take-take, length-take-le}
 use Rattle.std.proofs.Math.Seq.{take-append-add}
@@ -42,12 +43,7 @@ get_or-changed zero line (x ∷ xs) (suc file) inside = let other : eqb 0 (suc f
     sym (ap (λ is. cond is (get_or xs file [] ++ line) (get_or xs file [])) other)
 get_or-changed (suc place) line (x ∷ xs) zero inside = let other : eqb (suc place) 0 ≡ false = ne_eqb (suc place) 0 (λ is. omega (arith, is)) in
     sym (ap (λ is. cond is (x ++ line) x) other)
-get_or-changed (suc place) line (x ∷ xs) (suc file) inside = get_or-changed place line xs file (omega arith) ∙ ap (λ is. cond is (get_or xs file [] ++ line) (get_or xs file [])) (same place file) where
-  same : (one other : ℕ) → eqb one other ≡ eqb (suc one) (suc other)
-  same one other = elim (cases_eq one other) [
-    | inl is ↦ eq-eqb one other is ∙ sym (eq-eqb (suc one) (suc other) (ap suc is))
-    | inr differs ↦ ne_eqb one other differs ∙ sym (ne_eqb (suc one) (suc other) (λ is. differs (omega (arith, is))))
-  ]
+get_or-changed (suc place) line (x ∷ xs) (suc file) inside = get_or-changed place line xs file (omega arith) ∙ ap (λ is. cond is (get_or xs file [] ++ line) (get_or xs file [])) (sym (eqb-suc-suc place file))
 
 -- a line was appended to what its file had
 came : (gets : Bool) (had line rest : List ℕ) → cond gets (had ++ line) had ++ rest ≡ had ++ cond gets (line ++ rest) rest

@@ -1,5 +1,5 @@
 -- What each call on parts leaves: their files, and the part that was begun.
-use Rattle.std.proofs.Common.{◌≡◌, ℕ, ◌+◌, ◌≤◌, suc, List, [], ◌∷◌, ◌++◌, length, Bool, true, false, IsTrue, Some, None, Result, Ok, Err, OnOk, IfErr, inl, refl, sym, ◌∙◌, ap, subst, arith, append_assoc}
+use Rattle.std.proofs.Common.{◌≡◌, ℕ, ◌+◌, ◌≤◌, suc, List, [], ◌∷◌, ◌++◌, length, Bool, true, false, IsTrue, Some, None, Result, Ok, Err, OnOk, IfErr, inl, refl, sym, ◌∙◌, ap, subst, add-one, arith, append_assoc, length-append}
 use Rattle.std.proofs.lemmas.List.{append-nil}
 use Rattle.std.proofs.lemmas.Bool.{false≢true}
 use Rattle.ports_core.specs.Name.{Naming, next_name, has_next, with_one_drawn}
@@ -46,13 +46,12 @@ pub some_share : (begun : List ℕ) → is_some begun ≡ true → begun_share b
 some_share [] is = absurd (false≢true is)
 some_share (byte ∷ begun) is = refl
 
-none_begun : (begun : List ℕ) → is_some begun ≡ false → begun ≡ []
+pub none_begun : (begun : List ℕ) → is_some begun ≡ false → begun ≡ []
 none_begun [] is = refl
 none_begun (byte ∷ begun) is = absurd (false≢true (sym is))
 
 pub count_one : (shares : List Share) (one : Share) → length (shares ++ one ∷ []) ≡ suc (length shares)
-count_one [] one = refl
-count_one (share ∷ shares) one = ap suc (count_one shares one)
+count_one shares one = length-append shares (one ∷ []) ∙ add-one (length shares)
 
 there_facts : (told : Bool) (parts : PartsState) (old : List Slot) (slot : ℕ) → parts.current ≡ Some slot → IsReady parts.current old → FileFacts told parts old old parts slot
 there_facts told parts old slot is ready =
@@ -84,7 +83,7 @@ made_facts told parts old new next slot none ready at has next_is made_it =
       same = next_is ∙ ap (λ (those : Naming). record parts { names = those; current = Some slot }) (sym (ap (λ (those : PartsState). those.names) next_is));
       names_same = ap (λ (those : PartsState). those.names) next_is ∙ ap (λ n. record parts.names { drawn = n }) (sym (ap (λ (those : PartsState). those.names.drawn) next_is));
       last_part = λ shares begun had. record {
-        drawn = ap (λ (those : PartsState). those.names.drawn) next_is ∙ ap (λ n. n + 1) (drawn shares begun had) ∙ one_more (length shares);
+        drawn = ap (λ (those : PartsState). those.names.drawn) next_is ∙ ap (λ n. n + 1) (drawn shares begun had) ∙ add-one (length shares);
         named = ap (λ (those : PartsState). is_named those.names (length shares)) next_is ∙ named_here shares begun had;
         shut = had.shut;
       };
@@ -100,9 +99,6 @@ made_facts told parts old new next slot none ready at has next_is made_it =
       after = omega (arith, at, streams);
       writable = slot_steps.opened_writable old new slot (next_name parts.names) Fresh at made_it;
     } where
-      one_more : (n : ℕ) → n + 1 ≡ suc n
-      one_more n = omega arith
-
       no_bytes : (begun : List ℕ) {shares : List Share} → Begun parts shares begun → begun ≡ []
       no_bytes begun had = none_begun begun (sym had.given ∙ ap is_given none)
 

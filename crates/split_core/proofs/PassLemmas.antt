@@ -1,6 +1,6 @@
 -- A piece that is taken in step by step, and the end of the input.
-use Rattle.std.proofs.Common.{◌≡◌, ℕ, ◌-◌, ◌<◌, ◌≤◌, suc, List, [], ◌∷◌, ◌++◌, length, map, take, drop, Bool, true, false, IsTrue, Some, None, Result, Ok, Err, OnOk, IfErr, inl, refl, sym, ◌∙◌, ap, subst, arith, append_assoc, length-drop}
-use Rattle.std.proofs.lemmas.List.{append-nil, map-append, take_all, take-append-drop}
+use Rattle.std.proofs.Common.{◌≡◌, ℕ, ◌<◌, ◌≤◌, suc, List, [], ◌∷◌, ◌++◌, length, map, take, drop, Bool, true, false, IsTrue, Some, None, Result, Ok, Err, OnOk, IfErr, inl, refl, sym, ◌∙◌, ap, subst, arith, append_assoc}
+use Rattle.std.proofs.lemmas.List.{append-nil, map-append, take-append-drop}
 use Rattle.std.proofs.lemmas.Bool.{false≢true}
 use Rattle.ports_core.specs.Slot.{Slot, changed_at, closes, with_written, with_broken, told_of, is_writable, is_closable, Rose}
 use Rattle.ports_core.specs.declared.slot.State.TheVariants as file_state
@@ -91,9 +91,6 @@ passed_more told state mid next piece left rest n old wet new (done, split, took
   split ∙ ap (λ those. done ++ those) (sym (take-append-drop n left)) ∙ sym (append_assoc done (take n left) (drop n left)) ∙ ap (λ those. (done ++ take n left) ++ those) (sym is),
   took_again told state mid next done (take n left) old wet new took step,
 )
-
-pub after_taken : (n : ℕ) (left : List ℕ) → take (length left - n) (drop n left) ≡ drop n left
-after_taken n left = take_all (length left - n) (drop n left) (omega (arith, length-drop n left))
 
 pub passed_stopped : (told : Bool) (state mid next : PartsState) (piece left : List ℕ) (old wet new : List Slot) (f : Fault) → Passed told state piece left old wet mid → Stopped told mid left wet new next f → Stopped told state piece old new next f
 passed_stopped told state mid next piece left old wet new f (done, split, took) stop = subst (λ those. Stopped told state those old new next f) (sym split) (stopped_again told state mid next done left old wet new f took stop)

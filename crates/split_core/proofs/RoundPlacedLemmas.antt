@@ -4,7 +4,7 @@ use Rattle.std.specs.List.{range_with_len}
 use Rattle.std.proofs.Math.Nat.{mod-lt}
 use Rattle.std.proofs.Math.Seq.{drop-cons, get_or-append_seam}
 use Rattle.std.proofs.lemmas.Bool.{cases_lt, lt-ltb, ltb-true, eq-eqb, eqb-true}
-use Rattle.std.proofs.lemmas.List.{take-append-drop, get_or_past, length-take-le}
+use Rattle.std.proofs.lemmas.List.{take-take, take-append-drop, get_or_past, length-take-le}
 use Rattle.std.proofs.lemmas.List.FromFn.{get_or-map-range_with_len, length-map-range_with_len}
 use Rattle.seg_core.specs.Line.{delimiters, lines_of}
 use Rattle.ports_core.specs.Name.{Naming}
@@ -16,7 +16,6 @@ use Rattle.split_core.specs.Parts.{dealt}
 use Rattle.split_core.specs.Split.{Plan, is_named, whole_by, split_work, dealt_files}
 use Rattle.split_core.specs.Place.{dealt_to, dealt_spots, split_spots}
 use Rattle.split_core.specs.Round.{round_plan, opened_by}
-use Rattle.split_core.specs.laws.ShareLaws.{take_less}
 use Rattle.split_core.specs.Splitter.{IsPositive}
 use Rattle.split_core.specs.inner.DealLaws.{share_of}
 use Rattle.split_core.specs.laws.DealLaws.{dealt_append, dealt_first, next_place, dealt_files_are}
@@ -65,7 +64,7 @@ had_byte delim n x i less =
 -- of two bytes of a file the later one stands later in it
 had_grows : (delim n : ℕ) (x : List ℕ) (i j : ℕ) → i < j → j < length x → dealt_to delim n x i ≡ dealt_to delim n x j → had delim n (dealt_to delim n x i) x i < had delim n (dealt_to delim n x j) x j
 had_grows delim n x i j less within same =
-    let front : take i (take j x) ≡ take i x = take_less i j x (omega (arith, less)) in
+    let front : take i (take j x) ≡ take i x = take-take i j x (omega (arith, less)) in
     let file : dealt_to delim n (take j x) i ≡ dealt_to delim n x i = ap (λ those. delimiters delim those % n) front in
     let grown : had delim n (dealt_to delim n (take j x) i) (take j x) i < length (share_of delim n (take j x) (dealt_to delim n (take j x) i))
     = had_less delim n (take j x) i (let all : length (take j x) ≡ j = length-take-le j x (omega (arith, within)) in omega (arith, less, all)) in

@@ -166,22 +166,16 @@ line_bytes_cut delim n x _ rest some (goes _ full _ is past) =
 pub line_bytes_are_parts : (delim n : ℕ) (x : List ℕ) → 0 < n → AreLineByteParts delim n x (parts (LineBytes n delim) x)
 line_bytes_are_parts delim n x some = line_bytes_cut delim n x _ _ some (cuts_up (LineBytes n delim) x)
 
-too_few : (n all : ℕ) → 0 < n → all ≡ 0 → n ≤ all → ⊥
-too_few n all some is enough = omega arith
-
-not_both : (n all : ℕ) → all < n → n ≤ all → ⊥
-not_both n all short enough = omega arith
-
 -- no other parts are those
 pub line_bytes_once : (delim n : ℕ) (x : List ℕ) (these those : List (List ℕ)) → 0 < n → AreLineByteParts delim n x these → AreLineByteParts delim n x those → these ≡ those
 line_bytes_once delim n _ _ _ some none none = refl
 line_bytes_once delim n _ _ _ some none (one _ has short) = absurd (omega (arith, has))
-line_bytes_once delim n _ _ _ some none (more _ _ enough past) = absurd (too_few n 0 some refl enough)
+line_bytes_once delim n _ _ _ some none (more _ _ enough past) = absurd (omega (arith, some, enough))
 line_bytes_once delim n _ _ _ some (one _ has short) none = absurd (omega (arith, has))
 line_bytes_once delim n _ _ _ some (one x has short) (one _ _ _) = refl
-line_bytes_once delim n _ _ _ some (one x has short) (more _ _ enough past) = absurd (not_both n (length x) short enough)
-line_bytes_once delim n _ _ _ some (more _ _ enough past) none = absurd (too_few n 0 some refl enough)
-line_bytes_once delim n _ _ _ some (more x _ enough past) (one _ has short) = absurd (not_both n (length x) short enough)
+line_bytes_once delim n _ _ _ some (one x has short) (more _ _ enough past) = absurd (omega (arith, short, enough))
+line_bytes_once delim n _ _ _ some (more _ _ enough past) none = absurd (omega (arith, some, enough))
+line_bytes_once delim n _ _ _ some (more x _ enough past) (one _ has short) = absurd (omega (arith, short, enough))
 line_bytes_once delim n _ _ _ some (more x these enough past) (more _ those _ other) =
     ap (λ rest. whole_lines delim (take n x) ∷ rest) (line_bytes_once delim n (drop (length (whole_lines delim (take n x))) x) these those some past other)
 

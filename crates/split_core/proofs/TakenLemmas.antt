@@ -25,11 +25,10 @@ use Rattle.split_core.specs.laws.ShareLaws.{settled_on, parts_on, are_named_more
 use Rattle.split_core.specs.inner.Step.{IsSettled, IsTurned, IsHeld, Leads}
 use Rattle.split_core.specs.PartsState.{PartsState, Lacks, Stands, IsReady, is_given}
 use Rattle.split_core.specs.inner.PartsState.{IsAtEnd}
-use Rattle.ports_core.specs.Engine.{is_verdict}
 use Rattle.split_core.specs.inner.Moves.{Moves, Halts, KeepsFile, Begun, begun_share, IsLast, Extended, Interrupted, Turned, TurnsNot, Took, Stopped, Steps, wants_memory}
 use Rattle.ports_core.proofs.SlotSteps as slot_steps
 use Rattle.split_core.proofs.MoveLemmas as move
-use Rattle.split_core.proofs.PartsLemmas.{count_one, some_share}
+use Rattle.split_core.proofs.PartsLemmas.{count_one, none_begun, some_share}
 use Rattle.split_core.proofs.TurnLemmas.{some_bytes}
 
 -- where the next bytes lead, whatever came in before
@@ -306,10 +305,8 @@ no_room told parts next piece old new f is same slots =
       halts = λ x stands at_end. move.halts_here told parts.names _ _ old new fault.Memory _ (settled_grow parts.limit x piece) (here_turn parts x stands).1 slots (λ before at. tt);
       breaks = wants_memory;
       owned = subst (λ current. KeepsFile parts.current old current new) (sym (ap (λ (those : PartsState). those.current) same)) (move.owned_same parts.current old new (ap length slots));
-      short = λ is_short. absurd (not_short is_short);
-    }) where
-      not_short : fault.Memory ≡ fault.Suffixes → ⊥
-      not_short e = false≢true (ap is_verdict e)
+      short = λ is_short. absurd (cc);
+    })
 
 -- there is no file for the part that was begun: nothing of it is written
 short_begun : (told : Bool) (parts : PartsState) (x piece : List ℕ) (old new : List Slot) → 0 < length piece → Stands parts x → (parts.current ≡ None) × (has_next parts.names ≡ false) × (new ≡ old)
@@ -319,10 +316,7 @@ short_begun told state x piece old new some stands why =
     (let size : length (rest_of state x ++ piece) ≡ length (rest_of state x) + length piece = length-append (rest_of state x) piece in omega arith)
     (ap (is_named state.names) (sym count) ∙ why.1) (λ at_end. move.moves_same_by told state.names _ _ old new low why.2) where
       low : settled_parts state.limit x ≡ map (share file_state.Closed) (cut_up state.limit x).full
-      low = ap (λ begun. full_of state x ++ begun_share begun) (none_of (begun_of state x) (sym stands.opened ∙ ap is_given why.0)) ∙ append-nil (full_of state x) where
-        none_of : (begun : List ℕ) → is_some begun ≡ false → begun ≡ []
-        none_of [] is = refl
-        none_of (byte ∷ begun) is = absurd (false≢true (sym is))
+      low = ap (λ begun. full_of state x ++ begun_share begun) (none_begun (begun_of state x) (sym stands.opened ∙ ap is_given why.0)) ∙ append-nil (full_of state x)
 
       count : state.names.drawn ≡ length (cut_up state.limit x).full
       count = stands.drawn ∙ ap length low ∙ length-map (cut_up state.limit x).full (share file_state.Closed)

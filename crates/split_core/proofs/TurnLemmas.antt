@@ -7,7 +7,6 @@ use Rattle.ports_core.specs.Slot.{Slot, closes, is_closable}
 use Rattle.ports_core.specs.inner.Slot.{KeepsBroken}
 use Rattle.ports_core.specs.declared.slot.State.TheVariants as state
 use Rattle.ports_core.specs.declared.fault.Fault.{Fault}
-use Rattle.ports_core.specs.declared.fault.Fault.TheVariants as fault
 use Rattle.ports_core.proofs.SlotLemmas.{length-changed_at}
 use Rattle.ports_core.proofs.PartLemmas.{begins_itself}
 use Rattle.split_core.specs.Parts.{most}
@@ -17,7 +16,6 @@ use Rattle.seg_core.specs.Window.{ByteWindowState}
 use Rattle.split_core.specs.declared.limit.Limit.{Limit}
 use Rattle.split_core.specs.PartsState.{PartsState, IsReady, is_given}
 use Rattle.split_core.specs.inner.PartsState.{Fits, IsAtEnd}
-use Rattle.ports_core.specs.Engine.{is_verdict}
 use Rattle.split_core.specs.inner.Moves.{Moves, Halts, KeepsFile, Begun, begun_share, IsLast, Extended, Interrupted, EndsFile, none_there, closed, failed, breaks_write, Turned, TurnsNot}
 use Rattle.ports_core.proofs.SlotSteps as slot_steps
 use Rattle.split_core.proofs.MoveLemmas as move
@@ -54,9 +52,6 @@ closed_facts told parts old mid next ready (closed slot is next_is changed) =
       moves = λ shares begun last given at_end. move.close_moves told parts.names shares begun old mid slot last.named (subst (λ current. IsAtEnd current old) is at_end) changed;
     }
 
-no_write : (slot : ℕ) → fault.Write slot ≡ fault.Suffixes → ⊥
-no_write slot is = false≢true (ap is_verdict is)
-
 pub turns_not_closed : (told : Bool) (parts : PartsState) (bytes : List ℕ) (old new : List Slot) (next : PartsState) (f : Fault) → IsReady parts.current old → EndsFile parts old new next (Err f) → TurnsNot told parts bytes old new next f
 turns_not_closed told parts bytes old new next _ ready (failed slot is next_is changed) =
     let open_file : is_closable old slot = subst (λ current. IsReady current old) is ready in
@@ -66,7 +61,7 @@ turns_not_closed told parts bytes old new next _ ready (failed slot is next_is c
       halts = λ shares begun last given at_end. move.close_halts told parts.names shares (begun_share (parts.waiting ++ bytes)) begun old new slot last.shut last.named (subst (λ current. IsAtEnd current old) is at_end) changed;
       breaks = breaks_write slot open_file.0 (slot_steps.close_rose slot old new open_file.1 (slot_steps.writable_within slot old open_file.1) changed);
       owned = file_ended parts next slot old new is (ap (λ (those : PartsState). those.current) next_is) (slot_steps.broken_size slot old new changed);
-      short = λ is_short. absurd (no_write slot is_short);
+      short = λ is_short. absurd (cc);
     }
 
 -- nothing follows the part

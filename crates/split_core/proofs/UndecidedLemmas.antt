@@ -1,7 +1,8 @@
 -- Which bytes continuations put into different files.
 use Rattle.std.proofs.Common.{◌≡◌, ◌≢◌, ◌⊎◌, ℕ, ◌+◌, ◌-◌, ◌%◌, ◌<◌, ◌≤◌, ◌&&◌, nat_lt, suc, List, [], ◌∷◌, ◌++◌, length, map, take, drop, Bool, true, false, not, cond, inl, inr, refl, sym, ◌∙◌, ap, arith, length-append}
 use Rattle.std.proofs.Math.Seq.{drop-append_seam}
-use Rattle.std.proofs.lemmas.Bool.{cases_lt, false≢true, lt-ltb}
+use Rattle.std.proofs.Math.Nat.{add-zero, sub-zero}
+use Rattle.std.proofs.lemmas.Bool.{cases_lt, false≢true, lt-ltb, not-false}
 use Rattle.std.proofs.lemmas.List.{append-nil, length-map, drop_all, take-append-le}
 use Rattle.seg_core.specs.Line.{joined, delimiters, lines_of}
 use Rattle.seg_core.proofs.FirstLines.{joined-append}
@@ -33,12 +34,7 @@ use Rattle.split_core.proofs.RoundLemmas.{joined_some}
 
 -- after some outputs
 spots_after : (place i : ℕ) (front back : List (List ℕ)) → length (joined front) ≤ i → spots_from place (front ++ back) i ≡ spots_from (place + length front) back (i - length (joined front))
-spots_after place i [] back past = ap (λ at. spots_from at back i) (same_place place) ∙ ap (λ at. spots_from (place + 0) back at) (same i) where
-  same_place : (n : ℕ) → n ≡ n + 0
-  same_place n = omega arith
-
-  same : (n : ℕ) → n ≡ n - 0
-  same n = omega arith
+spots_after place i [] back past = ap (λ at. spots_from at back i) (sym (add-zero place)) ∙ ap (λ at. spots_from (place + 0) back at) (sym (sub-zero i))
 spots_after place i (bytes ∷ front) back past =
     let long = length-append bytes (joined front) in
     spot_past place i bytes (front ++ back) (omega (arith, past, long))
@@ -206,12 +202,8 @@ round_undecided delim n elide names x some are =
 
 -- All ways to cut
 
-has_names : (b : Bool) → not b ≡ false → b ≡ true
-has_names true is = refl
-has_names false is = absurd (false≢true (sym is))
-
 counted : (names : Naming) (those : List (List ℕ)) → not (are_named names (length (map (share Closed) those))) ≡ false → are_named names (length those) ≡ true
-counted names those is = ap (are_named names) (sym (length-map those (share Closed))) ∙ has_names _ is
+counted names those is = ap (are_named names) (sym (length-map those (share Closed))) ∙ not-false _ is
 
 undecided_at : (delim : ℕ) (cut : Cut) (elide : Bool) (names : Naming) → IsPositive cut → (x : List ℕ) → is_short (plan_by delim cut elide names) x ≡ false
     → IsUndecided (split_spots (plan_by delim cut elide names)) x ((split_work (plan_by delim cut elide names)).waiting x)

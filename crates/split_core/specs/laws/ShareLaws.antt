@@ -1,13 +1,15 @@
 -- Laws that traits cite: laws of what files get: what is written once more came in, and in the end.
 use Rattle.std.proofs.Common.{◌≡◌, ℕ, ◌+◌, ◌-◌, ◌<◌, ◌≤◌, zero, suc, List, [], ◌∷◌, ◌++◌, length, map, take, drop, Bool, true, false, cond, ◌||◌, nat_lt, ◌⊎◌, inl, inr, refl, sym, ◌∙◌, ap, subst, arith, append_assoc, length-append}
+use Rattle.std.proofs.Math.Nat.{add-zero}
 use Rattle.std.proofs.lemmas.Bool.{false≢true}
 use Rattle.std.proofs.lemmas.Bool.Decides.{nat_tests}
-use Rattle.std.proofs.lemmas.List.{map-append, length-map}
+use Rattle.std.proofs.lemmas.List.{map-append, length-map, take-take}
 use Rattle.seg_core.specs.Line.{joined, lines_of, delimiters, first_lines}
 use Rattle.seg_core.proofs.Delimiters.{delimiters-append}
 use Rattle.seg_core.proofs.FirstLines.{first_lines-append, first_lines-full, first_lines-short, first_lines_then_rest, lines_of-first_lines}
 use Rattle.ports_core.specs.Name.{Naming}
 use Rattle.ports_core.specs.Part.{File, IsBeginning, FilesBegin, Begins}
+use Rattle.ports_core.specs.declared.slot.State.{State}
 use Rattle.ports_core.specs.declared.slot.State.TheVariants.{Open, Closed}
 use Rattle.ports_core.proofs.PartLemmas.{begins_itself, begins_more}
 use Rattle.split_core.specs.declared.limit.Limit.{Limit}
@@ -67,9 +69,7 @@ pub named_short : (names : Naming) (place : ℕ) (front rest : List Share) → i
 named_short names place [] [] none = refl
 named_short names place [] (share ∷ rest) none =
     ap (λ has. cond has (file_at names place share ∷ named names (place + 1) rest) [])
-    (subst (λ n. is_named names n ≡ false) (same place) none) where
-      same : (n : ℕ) → n + 0 ≡ n
-      same n = omega arith
+    (subst (λ n. is_named names n ≡ false) (add-zero place) none)
 named_short names place (share ∷ front) rest none =
     ap (λ files. cond (is_named names place) (file_at names place share ∷ files) [])
     (named_short names (place + 1) front rest
@@ -79,18 +79,12 @@ named_short names place (share ∷ front) rest none =
 
 -- the parts of whole texts
 
-pub take_less : {X : Type 0} (k n : ℕ) (xs : List X) → k ≤ n → take k (take n xs) ≡ take k xs
-take_less zero n xs less = refl
-take_less (suc k) zero xs less = absurd (omega arith)
-take_less (suc k) (suc n) [] less = refl
-take_less (suc k) (suc n) (x ∷ xs) less = ap (λ rest. x ∷ rest) (take_less k n xs (omega arith))
-
 first_lines_begin : (delim k n : ℕ) (x : List ℕ) → k ≤ n → IsBeginning (first_lines delim k x) (first_lines delim n x)
 first_lines_begin delim k n x less = (
   joined (drop k (lines_of delim (first_lines delim n x))),
   sym (first_lines_then_rest delim k (first_lines delim n x))
       ∙ ap (λ (lines : List (List ℕ)). joined lines ++ joined (drop k (lines_of delim (first_lines delim n x))))
-      (ap (take k) (lines_of-first_lines delim n x) ∙ take_less k n (lines_of delim x) less),
+      (ap (take k) (lines_of-first_lines delim n x) ∙ take-take k n (lines_of delim x) less),
 )
 
 whole_begins_by : (delim : ℕ) (x y : List ℕ) (k m : ℕ) → delimiters delim x ≡ k → delimiters delim (x ++ y) ≡ m
@@ -175,6 +169,13 @@ pub cut_first : (limit : Limit) (x : List ℕ) → is_full limit x ≡ true
     (cut_up limit (after_first limit x)).rest
 cut_first limit x full = cut_once limit x _ _ (goes x _ _ full (cuts_up limit (after_first limit x)))
 
+-- an open share begins one of more bytes, whatever its state
+opens_more : (state : State) (low high : List ℕ) → IsBeginning low high
+    → SharesBegin (map (share Open) (unless_empty low)) (map (share state) (unless_empty high))
+opens_more state [] high begins = tt
+opens_more state (byte ∷ low) [] (rest, is) = absurd (cc)
+opens_more state (byte ∷ low) (first ∷ high) begins = (inl refl, begins, tt)
+
 rest_begins_by : (limit : Limit) (rest y : List ℕ) (full : Bool) → is_full limit (rest ++ y) ≡ full
     → is_full limit rest ≡ false → SharesBegin (map (share Open) (unless_empty (settled_rest limit rest)))
     (settled_parts limit (rest ++ y))
@@ -192,14 +193,7 @@ rest_begins_by limit rest y false full short =
     subst (λ cut. SharesBegin (map (share Open) (unless_empty (settled_rest limit rest)))
     (map (share Closed) cut.full ++ map (share Open) (unless_empty (settled_rest limit cut.rest))))
     (sym (cut_none limit (rest ++ y) full))
-    (in_next (settled_rest limit rest) (settled_rest limit (rest ++ y)) (settled_in_rest limit rest y)) where
-      in_next : (low high : List ℕ) → IsBeginning low high
-          → SharesBegin (map (share Open) (unless_empty low)) (map (share Open) (unless_empty high))
-      in_next [] high begins = tt
-      in_next (byte ∷ low) [] (rest, is) = absurd (none_of (ap length is)) where
-        none_of : {n : ℕ} → 0 ≡ suc n → ⊥
-        none_of e = omega (arith, e)
-      in_next (byte ∷ low) (first ∷ high) begins = (inl refl, begins, tt)
+    (opens_more Open (settled_rest limit rest) (settled_rest limit (rest ++ y)) (settled_in_rest limit rest y))
 
 pub rest_begins : (limit : Limit) (rest y : List ℕ) → is_full limit rest ≡ false
     → SharesBegin (map (share Open) (unless_empty (settled_rest limit rest))) (settled_parts limit (rest ++ y))
@@ -217,27 +211,16 @@ settled_end limit x =
     subst (SharesBegin (settled_parts limit x))
     (sym (map-append (share Closed) (cut_up limit x).full (unless_empty (cut_up limit x).rest)))
     (shares_after (map (share Closed) (cut_up limit x).full) _ _
-    (closes (settled_rest limit (cut_up limit x).rest) (cut_up limit x).rest
-    (settled_in_whole limit (cut_up limit x).rest))) where
-      closes : (low high : List ℕ) → IsBeginning low high
-          → SharesBegin (map (share Open) (unless_empty low)) (map (share Closed) (unless_empty high))
-      closes [] high begins = tt
-      closes (byte ∷ low) [] (rest, is) = absurd (none_of (ap length is)) where
-        none_of : {n : ℕ} → 0 ≡ suc n → ⊥
-        none_of e = omega (arith, e)
-      closes (byte ∷ low) (first ∷ high) begins = (inl refl, begins, tt)
+    (opens_more Closed (settled_rest limit (cut_up limit x).rest) (cut_up limit x).rest
+    (settled_in_whole limit (cut_up limit x).rest)))
 
 -- there are as many shares as the text has parts
 
 unless_count : (low high : List ℕ) → (0 < length high → 0 < length low) → (0 < length low → 0 < length high)
     → length (unless_empty low) ≡ length (unless_empty high)
 unless_count [] [] some back = refl
-unless_count [] (byte ∷ high) some back = absurd (none_of (some (omega arith))) where
-  none_of : 0 < 0 → ⊥
-  none_of e = omega (arith, e)
-unless_count (byte ∷ low) [] some back = absurd (none_of (back (omega arith))) where
-  none_of : 0 < 0 → ⊥
-  none_of e = omega (arith, e)
+unless_count [] (byte ∷ high) some back = absurd (let none : 0 < 0 = some (omega arith) in omega (arith, none))
+unless_count (byte ∷ low) [] some back = absurd (let none : 0 < 0 = back (omega arith) in omega (arith, none))
 unless_count (byte ∷ low) (first ∷ high) some back = refl
 
 pub settled_count : (limit : Limit) (x : List ℕ) → length (settled_parts limit x) ≡ length (parts limit x)
