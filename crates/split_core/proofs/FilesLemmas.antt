@@ -5,7 +5,6 @@ use Rattle.std.proofs.lemmas.List.{drop-drop, drop-map, length-map, take-map}
 use Rattle.ports_core.specs.Name.{Naming}
 use Rattle.ports_core.specs.Slot.{Slot, changed_at}
 use Rattle.ports_core.specs.Part.{File, OutputsAt, FilesBegin, Begins, IsNext, IsAt}
-use Rattle.ports_core.specs.declared.slot.State.{State}
 use Rattle.ports_core.specs.declared.slot.State.TheVariants.{Open, Closed}
 use Rattle.ports_core.specs.declared.fault.Fault.{Fault}
 use Rattle.ports_core.proofs.PartLemmas.{begins_itself, begins_more, begins_trans, nothing_begins, take_begins_after, marks_by}
@@ -16,6 +15,7 @@ use Rattle.split_core.specs.Round.{AreReady}
 use Rattle.split_core.specs.laws.RoundLaws.{all_begin_themselves}
 use Rattle.split_core.specs.inner.ShareLaws.{SharesBegin}
 use Rattle.split_core.specs.laws.ShareLaws.{kept_file}
+use Rattle.split_core.proofs.ShareLaws.{bytes_of_shares}
 use Rattle.ports_core.specs.inner.Slot.{KeepsBroken}
 use Rattle.ports_core.proofs.SlotSteps.{keeps_again, keeps_same}
 use Rattle.split_core.proofs.MoveLemmas.{breaks_later}
@@ -24,15 +24,10 @@ use Rattle.split_core.specs.inner.Sharing.{AllBegin, added, filled, filed, open_
 -- Beginnings
 
 abbrev pub bytes_of : List Share → List (List ℕ)
-bytes_of [] = []
-bytes_of (one ∷ shares) = one.bytes ∷ bytes_of shares
-
-pub bytes_in : (state : State) (these : List (List ℕ)) → bytes_of (map (share state) these) ≡ these
-bytes_in state [] = refl
-bytes_in state (bytes ∷ these) = ap (λ rest. bytes ∷ rest) (bytes_in state these)
+bytes_of shares = map (λ (file : Share). file.bytes) shares
 
 pub bytes_closed : (n : ℕ) (these : List (List ℕ)) → bytes_of (closed_first n these) ≡ these
-bytes_closed zero these = bytes_in Open these
+bytes_closed zero these = bytes_of_shares Open these
 bytes_closed (suc n) [] = refl
 bytes_closed (suc n) (bytes ∷ these) = ap (λ rest. bytes ∷ rest) (bytes_closed n these)
 
@@ -51,7 +46,7 @@ open_shares (bytes ∷ these) [] begin = absurd begin
 open_shares (bytes ∷ these) (other ∷ others) begin = (inl refl, begin.0, open_shares these others begin.1)
 
 pub open_begins : (names : Naming) (these those : List (List ℕ)) → AllBegin these those → Begins (open_part names these) (open_part names those)
-open_begins names these those begin = parts_begin (from_start names) _ _ (open_shares these (map (share Open) those) (subst (AllBegin these) (sym (bytes_in Open those)) begin))
+open_begins names these those begin = parts_begin (from_start names) _ _ (open_shares these (map (share Open) those) (subst (AllBegin these) (sym (bytes_of_shares Open those)) begin))
 
 -- where more of them are closed
 pub closed_shares : (n m : ℕ) (these : List (List ℕ)) → n ≤ m → SharesBegin (closed_first n these) (closed_first m these)

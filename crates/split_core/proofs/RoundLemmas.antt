@@ -336,12 +336,12 @@ does_all delim names others elide n fresh are same =
 
 -- nothing waits
 
-pub joined_some : (these : List (List ℕ)) → joined (filter is_some these) ≡ joined these
+joined_some : (these : List (List ℕ)) → joined (filter is_some these) ≡ joined these
 joined_some [] = refl
 joined_some ([] ∷ these) = joined_some these
 joined_some ((byte ∷ bytes) ∷ these) = ap (λ rest. (byte ∷ bytes) ++ rest) (joined_some these)
 
-joined_files : (delim : ℕ) (elide : Bool) (n : ℕ) (x : List ℕ) → joined (dealt_files delim elide n x) ≡ joined (round_robin delim n x)
+pub joined_files : (delim : ℕ) (elide : Bool) (n : ℕ) (x : List ℕ) → joined (dealt_files delim elide n x) ≡ joined (round_robin delim n x)
 joined_files delim true n x = joined_some (round_robin delim n x)
 joined_files delim false n x = refl
 

@@ -12,13 +12,13 @@ use Rattle.seg_core.proofs.EndLines.{line_count_near}
 use Rattle.seg_core.proofs.FirstLines.{joined-append, lines_of-first_lines, lines_of-after}
 use Rattle.seg_core.proofs.LineCounts.{line_count-some}
 use Rattle.seg_core.proofs.LinesOf.{joined-lines_of}
-use Rattle.ports_core.specs.declared.slot.State.{State}
 use Rattle.ports_core.specs.declared.slot.State.TheVariants.{Open, Closed}
 use Rattle.split_core.specs.declared.limit.Limit.{Limit}
 use Rattle.split_core.specs.declared.limit.Limit.TheVariants.{Lines, Bytes, LineBytes}
 use Rattle.split_core.specs.Parts.{whole_lines, open_line, most, is_full, after_first, cut_up, unless_empty, parts, settled_rest, waiting_rest}
 use Rattle.split_core.specs.Sections.{runs_within, runs_of, line_parts, byte_parts, AreLineByteParts, none, one, more}
 use Rattle.split_core.specs.Split.{Share, share, settled_parts}
+use Rattle.split_core.proofs.ShareLaws.{bytes_of_shares}
 use Rattle.split_core.specs.laws.CutLaws.{short_some, full_some, whole_some, whole_then_open, settled_then_waiting, rest_short, cuts_up}
 use Rattle.split_core.proofs.CutLaws.{cut_all}
 use Rattle.split_core.specs.inner.CutLaws.{Cuts, stops, goes}
@@ -213,10 +213,6 @@ waits_few (LineBytes n delim) rest some short =
 -- what waits is shorter than a part
 pub waiting_few : (limit : Limit) (x : List ℕ) → 0 < most limit → length (waiting_rest limit (cut_up limit x).rest) < most limit
 waiting_few limit x some = waits_few limit (cut_up limit x).rest some (rest_short limit x)
-
-pub bytes_of_shares : (state : State) (those : List (List ℕ)) → map (λ (file : Share). file.bytes) (map (share state) those) ≡ those
-bytes_of_shares state [] = refl
-bytes_of_shares state (part ∷ those) = ap (λ rest. part ∷ rest) (bytes_of_shares state those)
 
 -- what files have once a text came in
 abbrev pub settled_list : Limit → List ℕ → List (List ℕ)

@@ -2,6 +2,7 @@
 use Rattle.std.proofs.Common.{◌≡◌, ℕ, ◌<◌, List, [], ◌∷◌, ◌++◌, length, map, ◌⊎◌, inl, inr, refl, ap, arith}
 use Rattle.seg_core.specs.Line.{joined}
 use Rattle.ports_core.specs.Part.{IsBeginning}
+use Rattle.ports_core.specs.declared.slot.State.{State}
 use Rattle.ports_core.specs.declared.slot.State.TheVariants.{Open, Closed}
 use Rattle.ports_core.proofs.PartLemmas.{begins_itself, begins_trans, kept_trans}
 use Rattle.split_core.specs.declared.limit.Limit.{Limit}
@@ -24,6 +25,11 @@ shares_trans (share ∷ low) (mid ∷ middle) (whole ∷ high) first second = (k
 pub shares_more : (shares more : List Share) → SharesBegin shares (shares ++ more)
 shares_more [] more = tt
 shares_more (share ∷ shares) more = (inr refl, begins_itself share.bytes, shares_more shares more)
+
+-- the bytes of shares are those that were shared
+pub bytes_of_shares : (state : State) (those : List (List ℕ)) → map (λ (file : Share). file.bytes) (map (share state) those) ≡ those
+bytes_of_shares state [] = refl
+bytes_of_shares state (part ∷ those) = ap (λ rest. part ∷ rest) (bytes_of_shares state those)
 
 -- the last share grew
 pub last_grows : (front more : List Share) (one other : Share) → (one.state ≡ Open) ⊎ (one ≡ other) → IsBeginning one.bytes other.bytes → SharesBegin (front ++ one ∷ []) (front ++ other ∷ more)

@@ -224,45 +224,6 @@ begins_next told parts next piece bytes old new leads turns = record {
   ready = turns.ready;
 }
 
--- these bytes are the last of the part
-
-pub ends_part : (told : Bool) (parts mid next : PartsState) (piece past : List ℕ) (end bytes slot : ℕ) (old wet new : List Slot) → LeadsOn parts piece (Ends end bytes) → past ≡ drop end (take bytes piece)
-    → Extended told parts (take end piece) old wet mid slot → Turned told mid past wet new next → Took told parts (take bytes piece) old new next
-ends_part told parts mid next piece past end bytes slot old wet new leads is extends turns = record {
-  limit_same = ap (λ (those : PartsState). those.limit) turns.same ∙ ap (λ (those : PartsState). those.limit) extends.same;
-  names_same = names_all;
-  stands = λ x stands.
-      let led = leads (rest_of parts x) stands.lacks in
-      let last : IsLast mid (full_of parts x) = extends.drawn (full_of parts x) (begun_of parts x) (begun_so parts x stands) in
-      let drawn = turns.drawn (full_of parts x) (rest_of parts x ++ take end piece) last given in
-      turned_stands parts mid next x (take bytes piece) (rest_of parts x ++ take end piece) (drop end (take bytes piece)) (ap (λ (those : PartsState). those.limit) extends.same) stands led
-      (turns.same ∙ ap (λ those. record mid { names = next.names; left = most mid.limit - length those; has_line = false; waiting = []; current = next.current }) all_after)
-      (drawn.0 ∙ ap (λ those. length (full_of parts x ++ share file_state.Closed (rest_of parts x ++ take end piece) ∷ begun_share those)) all_after)
-      (are_named_drawn mid.names next.names _ turns.names_same ∙ sym (ap (λ those. are_named mid.names (length (full_of parts x ++ share file_state.Closed (rest_of parts x ++ take end piece) ∷ begun_share those))) all_after) ∙ drawn.1)
-      (turns.given ∙ ap is_some all_after);
-  moves = λ x stands at_end.
-      let led = leads (rest_of parts x) stands.lacks in
-      let last : IsLast mid (full_of parts x) = extends.drawn (full_of parts x) (begun_of parts x) (begun_so parts x stands) in
-      move.moves_again told parts.names _ (full_of parts x ++ share file_state.Open (rest_of parts x ++ take end piece) ∷ []) _ old wet new
-      (subst (λ begun. Moves told parts.names (settled_parts parts.limit x) (full_of parts x ++ share file_state.Open begun ∷ []) old wet) (all_of parts x (take end piece) stands)
-      (extends.moves (full_of parts x) (begun_of parts x) (begun_so parts x stands) at_end))
-      (subst (λ high. Moves told parts.names (full_of parts x ++ share file_state.Open (rest_of parts x ++ take end piece) ∷ []) high wet new)
-      (ap (λ those. full_of parts x ++ share file_state.Closed (rest_of parts x ++ take end piece) ∷ begun_share those) all_after
-      ∙ sym (shares_turn parts x (take bytes piece) (rest_of parts x ++ take end piece) (drop end (take bytes piece)) led))
-      (move.moves_by told parts.names mid.names _ _ wet new extends.names_same (turns.moves (full_of parts x) (rest_of parts x ++ take end piece) last given (move.stays_last parts.current mid.current old wet extends.owned at_end))));
-  keeps = slot_steps.keeps_again old wet new extends.keeps turns.keeps;
-  owned = move.owned_again parts.current mid.current next.current old wet new extends.owned turns.owned;
-  ready = turns.ready;
-} where
-  given : is_given mid.current ≡ true
-  given = ap (λ (those : PartsState). is_given those.current) extends.same
-
-  all_after : mid.waiting ++ past ≡ drop end (take bytes piece)
-  all_after = ap (λ (those : PartsState). those.waiting ++ past) extends.same ∙ is
-
-  names_all : next.names ≡ record parts.names { drawn = next.names.drawn }
-  names_all = names_drawn parts.names mid.names next.names extends.names_same turns.names_same
-
 -- all wait
 
 pub waits_on : (told : Bool) (parts next : PartsState) (piece : List ℕ) (old new : List Slot) (n : ℕ) → LeadsOn parts piece Waits → IsReady parts.current old → n ≡ length piece → next ≡ record parts { left = parts.left - length piece; waiting = parts.waiting ++ piece } → new ≡ old → Took told parts (take n piece) old new next
@@ -388,44 +349,74 @@ begins_stopped told parts next piece bytes old new f leads cut = record {
       (λ at_end. subst (λ low. Moves told parts.names low (full_of parts x ++ share file_state.Closed (begun_of parts x) ∷ []) old new) (sym (low_is parts x led.0)) (ran.1 at_end));
 }
 
-pub ends_stopped : (told : Bool) (parts mid next : PartsState) (piece past : List ℕ) (end bytes slot : ℕ) (old wet new : List Slot) (f : Fault) → LeadsOn parts piece (Ends end bytes) → past ≡ drop end (take bytes piece)
-    → Extended told parts (take end piece) old wet mid slot → TurnsNot told mid past wet new next f → Stopped told parts piece old new next f
-ends_stopped told parts mid next piece past end bytes slot old wet new f leads is extends cut = record {
-  limit_same = cut.limit_same ∙ ap (λ (those : PartsState). those.limit) extends.same;
-  names_same = names_drawn parts.names mid.names next.names extends.names_same cut.names_same;
-  halts = λ x stands at_end.
-      let led = leads (rest_of parts x) stands.lacks in
-      let last : IsLast mid (full_of parts x) = extends.drawn (full_of parts x) (begun_of parts x) (begun_so parts x stands) in
-      move.halts_after told parts.names _ (full_of parts x ++ share file_state.Open (rest_of parts x ++ take end piece) ∷ []) _ old wet new f
-      (shares_grow x stands) (moved x stands at_end)
-      (move.halts_wider told parts.names _ (full_of parts x ++ share file_state.Closed (rest_of parts x ++ take end piece) ∷ begun_share (drop end (take bytes piece))) _ wet new f
-      (subst (λ those. Halts told parts.names (full_of parts x ++ share file_state.Open (rest_of parts x ++ take end piece) ∷ []) (full_of parts x ++ share file_state.Closed (rest_of parts x ++ take end piece) ∷ begun_share those) wet new f) all_after
-      (move.halts_by told parts.names mid.names _ _ wet new f extends.names_same (cut.halts (full_of parts x) (rest_of parts x ++ take end piece) last given (move.stays_last parts.current mid.current old wet extends.owned at_end))))
-      (turned_below parts piece _ _ bytes x led));
-  breaks = move.breaks_later old wet new f extends.keeps cut.breaks;
-  owned = move.owned_again parts.current mid.current next.current old wet new extends.owned cut.owned;
-  short = λ is_short x stands.
-      let led = leads (rest_of parts x) stands.lacks in
-      let last : IsLast mid (full_of parts x) = extends.drawn (full_of parts x) (begun_of parts x) (begun_so parts x stands) in
-      let why = cut.short is_short in
-      let ran = why.1 (full_of parts x) (rest_of parts x ++ take end piece) last given in
-      short_next told parts x piece (rest_of parts x ++ take end piece) (drop end (take bytes piece)) bytes old new led (sym (ap is_some all_after) ∙ why.0)
-      (sym (is_named_drawn parts.names mid.names _ extends.names_same) ∙ ran.0)
-      (λ at_end. move.moves_again told parts.names _ (full_of parts x ++ share file_state.Open (rest_of parts x ++ take end piece) ∷ []) _ old wet new (moved x stands at_end)
-      (move.moves_by told parts.names mid.names _ _ wet new extends.names_same (ran.1 (move.stays_last parts.current mid.current old wet extends.owned at_end))));
-} where
+-- these bytes are the last of the part
+
+module _ (told : Bool) (parts mid : PartsState) (piece past : List ℕ) (end bytes slot : ℕ) (old wet : List Slot)
+    (leads : LeadsOn parts piece (Ends end bytes)) (is : past ≡ drop end (take bytes piece)) (extends : Extended told parts (take end piece) old wet mid slot) where
   given : is_given mid.current ≡ true
   given = ap (λ (those : PartsState). is_given those.current) extends.same
 
   all_after : mid.waiting ++ past ≡ drop end (take bytes piece)
   all_after = ap (λ (those : PartsState). those.waiting ++ past) extends.same ∙ is
 
-  moved : (x : List ℕ) → Stands parts x → IsAtEnd parts.current old → Moves told parts.names (settled_parts parts.limit x) (full_of parts x ++ share file_state.Open (rest_of parts x ++ take end piece) ∷ []) old wet
-  moved x stands at_end = subst (λ begun. Moves told parts.names (settled_parts parts.limit x) (full_of parts x ++ share file_state.Open begun ∷ []) old wet) (all_of parts x (take end piece) stands)
-      (extends.moves (full_of parts x) (begun_of parts x) (begun_so parts x stands) at_end)
+  last_there : (x : List ℕ) → Stands parts x → IsLast mid (full_of parts x)
+  last_there x stands = extends.drawn (full_of parts x) (begun_of parts x) (begun_so parts x stands)
 
-  shares_grow : (x : List ℕ) → Stands parts x → SharesBegin (settled_parts parts.limit x) (full_of parts x ++ share file_state.Open (rest_of parts x ++ take end piece) ∷ [])
-  shares_grow x stands = begun_grows (full_of parts x) (begun_of parts x) (rest_of parts x ++ take end piece) (parts.waiting ++ take end piece, sym (all_of parts x (take end piece) stands))
+  moved : (x : List ℕ) → Stands parts x → IsAtEnd parts.current old
+      → Moves told parts.names (settled_parts parts.limit x) (full_of parts x ++ share file_state.Open (rest_of parts x ++ take end piece) ∷ []) old wet
+  moved x stands at_end =
+      subst (λ begun. Moves told parts.names (settled_parts parts.limit x) (full_of parts x ++ share file_state.Open begun ∷ []) old wet)
+      (all_of parts x (take end piece) stands) (extends.moves (full_of parts x) (begun_of parts x) (begun_so parts x stands) at_end)
+
+  pub ends_part : (next : PartsState) (new : List Slot) → Turned told mid past wet new next → Took told parts (take bytes piece) old new next
+  ends_part next new turns = record {
+    limit_same = ap (λ (those : PartsState). those.limit) turns.same ∙ ap (λ (those : PartsState). those.limit) extends.same;
+    names_same = names_drawn parts.names mid.names next.names extends.names_same turns.names_same;
+    stands = λ x stands.
+        let led = leads (rest_of parts x) stands.lacks in
+        let drawn = turns.drawn (full_of parts x) (rest_of parts x ++ take end piece) (last_there x stands) given in
+        turned_stands parts mid next x (take bytes piece) (rest_of parts x ++ take end piece) (drop end (take bytes piece)) (ap (λ (those : PartsState). those.limit) extends.same) stands led
+        (turns.same ∙ ap (λ those. record mid { names = next.names; left = most mid.limit - length those; has_line = false; waiting = []; current = next.current }) all_after)
+        (drawn.0 ∙ ap (λ those. length (full_of parts x ++ share file_state.Closed (rest_of parts x ++ take end piece) ∷ begun_share those)) all_after)
+        (are_named_drawn mid.names next.names _ turns.names_same ∙ sym (ap (λ those. are_named mid.names (length (full_of parts x ++ share file_state.Closed (rest_of parts x ++ take end piece) ∷ begun_share those))) all_after) ∙ drawn.1)
+        (turns.given ∙ ap is_some all_after);
+    moves = λ x stands at_end.
+        let led = leads (rest_of parts x) stands.lacks in
+        move.moves_again told parts.names _ (full_of parts x ++ share file_state.Open (rest_of parts x ++ take end piece) ∷ []) _ old wet new
+        (moved x stands at_end)
+        (subst (λ high. Moves told parts.names (full_of parts x ++ share file_state.Open (rest_of parts x ++ take end piece) ∷ []) high wet new)
+        (ap (λ those. full_of parts x ++ share file_state.Closed (rest_of parts x ++ take end piece) ∷ begun_share those) all_after
+        ∙ sym (shares_turn parts x (take bytes piece) (rest_of parts x ++ take end piece) (drop end (take bytes piece)) led))
+        (move.moves_by told parts.names mid.names _ _ wet new extends.names_same (turns.moves (full_of parts x) (rest_of parts x ++ take end piece) (last_there x stands) given (move.stays_last parts.current mid.current old wet extends.owned at_end))));
+    keeps = slot_steps.keeps_again old wet new extends.keeps turns.keeps;
+    owned = move.owned_again parts.current mid.current next.current old wet new extends.owned turns.owned;
+    ready = turns.ready;
+  }
+
+  pub ends_stopped : (next : PartsState) (new : List Slot) (f : Fault) → TurnsNot told mid past wet new next f → Stopped told parts piece old new next f
+  ends_stopped next new f cut = record {
+    limit_same = cut.limit_same ∙ ap (λ (those : PartsState). those.limit) extends.same;
+    names_same = names_drawn parts.names mid.names next.names extends.names_same cut.names_same;
+    halts = λ x stands at_end.
+        let led = leads (rest_of parts x) stands.lacks in
+        move.halts_after told parts.names _ (full_of parts x ++ share file_state.Open (rest_of parts x ++ take end piece) ∷ []) _ old wet new f
+        (begun_grows (full_of parts x) (begun_of parts x) (rest_of parts x ++ take end piece) (parts.waiting ++ take end piece, sym (all_of parts x (take end piece) stands)))
+        (moved x stands at_end)
+        (move.halts_wider told parts.names _ (full_of parts x ++ share file_state.Closed (rest_of parts x ++ take end piece) ∷ begun_share (drop end (take bytes piece))) _ wet new f
+        (subst (λ those. Halts told parts.names (full_of parts x ++ share file_state.Open (rest_of parts x ++ take end piece) ∷ []) (full_of parts x ++ share file_state.Closed (rest_of parts x ++ take end piece) ∷ begun_share those) wet new f) all_after
+        (move.halts_by told parts.names mid.names _ _ wet new f extends.names_same (cut.halts (full_of parts x) (rest_of parts x ++ take end piece) (last_there x stands) given (move.stays_last parts.current mid.current old wet extends.owned at_end))))
+        (turned_below parts piece _ _ bytes x led));
+    breaks = move.breaks_later old wet new f extends.keeps cut.breaks;
+    owned = move.owned_again parts.current mid.current next.current old wet new extends.owned cut.owned;
+    short = λ is_short x stands.
+        let led = leads (rest_of parts x) stands.lacks in
+        let why = cut.short is_short in
+        let ran = why.1 (full_of parts x) (rest_of parts x ++ take end piece) (last_there x stands) given in
+        short_next told parts x piece (rest_of parts x ++ take end piece) (drop end (take bytes piece)) bytes old new led (sym (ap is_some all_after) ∙ why.0)
+        (sym (is_named_drawn parts.names mid.names _ extends.names_same) ∙ ran.0)
+        (λ at_end. move.moves_again told parts.names _ (full_of parts x ++ share file_state.Open (rest_of parts x ++ take end piece) ∷ []) _ old wet new (moved x stands at_end)
+        (move.moves_by told parts.names mid.names _ _ wet new extends.names_same (ran.1 (move.stays_last parts.current mid.current old wet extends.owned at_end))));
+  }
 
 pub starts : (end bytes : ℕ) → 0 < end → end ≤ bytes → 0 < bytes
 starts end bytes some within = omega (arith, some, within)

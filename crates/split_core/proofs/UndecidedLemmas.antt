@@ -16,7 +16,7 @@ use Rattle.seg_core.specs.declared.cut.Cut.{Cut}
 use Rattle.seg_core.specs.declared.cut.Cut.TheVariants as cut
 use Rattle.split_core.specs.declared.limit.Limit.{Limit}
 use Rattle.split_core.specs.declared.limit.Limit.TheVariants.{Lines, Bytes, LineBytes}
-use Rattle.split_core.specs.Parts.{whole_lines, most, cut_up, unless_empty, parts, settled_rest, waiting_rest, round_robin, dealt}
+use Rattle.split_core.specs.Parts.{whole_lines, most, cut_up, unless_empty, parts, settled_rest, waiting_rest, dealt}
 use Rattle.split_core.specs.Split.{Plan, share, is_named, are_named, named, file_at, settled_by, is_short, split_work, dealt_files, bytes_in}
 use Rattle.split_core.specs.Splitter.{IsPositive}
 use Rattle.split_core.specs.PartState.{parts_work}
@@ -28,7 +28,7 @@ use Rattle.split_core.specs.laws.PartStateLaws as part_law
 use Rattle.split_core.proofs.PlaceLemmas.{all_dealt}
 use Rattle.split_core.proofs.SectionLemmas.{settled_list, list_all}
 use Rattle.split_core.proofs.AgreedLemmas.{named_bytes, named_more, each_named, whole_files, settled_files, list_count, decides_lines, one_of, delimiters_some, dealt_settled, plan_by}
-use Rattle.split_core.proofs.RoundLemmas.{joined_some}
+use Rattle.split_core.proofs.RoundLemmas.{joined_files}
 
 -- Spots in parts that follow one another
 
@@ -180,8 +180,7 @@ parts_undecided limit names x some are = record {
 -- Lines that are dealt: none waits
 
 dealt_bytes : (delim n : ℕ) (elide : Bool) (x : List ℕ) → 0 < n → length (joined (dealt_files delim elide n x)) ≡ length x
-dealt_bytes delim n true x some = ap length (joined_some (round_robin delim n x)) ∙ all_dealt delim n x some
-dealt_bytes delim n false x some = all_dealt delim n x some
+dealt_bytes delim n elide x some = ap length (joined_files delim elide n x) ∙ all_dealt delim n x some
 
 dealt_decided : (delim n : ℕ) (names : Naming) (x y : List ℕ) (i : ℕ) → i < length x → dealt_spots delim n names (x ++ y) i ≡ dealt_spots delim n names x i
 dealt_decided delim n names x y i less =

@@ -2,7 +2,7 @@
 use Rattle.std.proofs.Common.{◌≡◌, ℕ, ◌+◌, ◌-◌, ◌<◌, ◌≤◌, zero, suc, List, [], ◌∷◌, ◌++◌, length, take, drop, Bool, true, false, cond, ◌&&◌, nat_lt, nat_le, refl, sym, ◌∙◌, ap, subst, arith, length-append, length-drop}
 use Rattle.std.proofs.lemmas.Bool.{false≢true}
 use Rattle.std.proofs.lemmas.Bool.Decides.{nat_tests}
-use Rattle.std.proofs.lemmas.List.{append-nil, take-append-le, drop-append-le, length-take-le}
+use Rattle.std.proofs.lemmas.List.{append-nil, take-append-le, drop-append-le, length-take, length-take-le}
 use Rattle.seg_core.specs.Line.{delimiters, first_lines, after_lines}
 use Rattle.seg_core.proofs.Delimiters.{delimiters-append, delimiters-le-length}
 use Rattle.seg_core.proofs.FirstLines.{first_lines-full, first_lines_then_rest, length-first_lines-le, delimiters-first_lines}
@@ -106,9 +106,7 @@ whole_some delim x some = by (nat_lt 0 (delimiters delim x)) refl where
   by false is = some
 
 length-take_few : (n : ℕ) (x : List ℕ) → length (take n x) ≤ length x
-length-take_few zero x = omega arith
-length-take_few (suc n) [] = omega arith
-length-take_few (suc n) (byte ∷ x) = let few : length (take n x) ≤ length x = length-take_few n x in omega arith
+length-take_few n x = omega (arith, length-take n x)
 
 pub first_within : (limit : Limit) (x : List ℕ) → length (first_part limit x) ≤ length x
 first_within (Lines n delim) x = length-first_lines-le delim n x

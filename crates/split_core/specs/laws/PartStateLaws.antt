@@ -1,6 +1,6 @@
 -- The laws of the work of cutting off one part after another.
-use Rattle.std.proofs.Common.{◌≡◌, ℕ, List, [], ◌++◌, length, map, Bool, true, false, not, cond, Some, None, refl, sym, ◌∙◌, ap}
-use Rattle.std.proofs.lemmas.Bool.{false≢true}
+use Rattle.std.proofs.Common.{◌≡◌, ℕ, List, [], ◌++◌, length, map, Bool, true, false, not, cond, Some, None, sym, ◌∙◌, ap}
+use Rattle.std.proofs.lemmas.Bool.{not-true}
 use Rattle.std.proofs.lemmas.List.{append-nil, length-map}
 use Rattle.ports_core.specs.Name.{Naming}
 use Rattle.ports_core.specs.Work.{IsComplete, IsLawful}
@@ -12,20 +12,16 @@ use Rattle.split_core.specs.Split.{share, are_named, named, only_files, settled_
 use Rattle.split_core.specs.laws.ShareLaws.{part_begins, settled_grow, settled_end, files_settled, files_whole, parts_grow, are_named_more}
 use Rattle.split_core.specs.PartState.{parts_work}
 
-not_named : (b : Bool) → not b ≡ true → b ≡ false
-not_named false is = refl
-not_named true is = absurd (false≢true is)
-
 stays : (limit : Limit) (names : Naming) (x y : List ℕ) → (parts_work limit names).is_complete x ≡ true
     → IsComplete (parts_work limit names) x y
 stays limit names x y short = record {
   still = ap not more;
   settled_stays = ap only_files (files_settled names limit x y none ∙ sym here);
   whole_stays = ap only_files (files_whole names limit x y none ∙ sym here);
-  verdict_stays = ap (λ (has : Bool). cond (not has) (Some Suffixes) None) (more ∙ sym (not_named _ short));
+  verdict_stays = ap (λ (has : Bool). cond (not has) (Some Suffixes) None) (more ∙ sym (not-true _ short));
 } where
   none : are_named names (length (parts limit x)) ≡ false
-  none = sym (ap (are_named names) (length-map (parts limit x) (share Closed))) ∙ not_named _ short
+  none = sym (ap (are_named names) (length-map (parts limit x) (share Closed))) ∙ not-true _ short
 
   more : are_named names (length (map (share Closed) (parts limit (x ++ y)))) ≡ false
   more = ap (are_named names) (length-map (parts limit (x ++ y)) (share Closed))
