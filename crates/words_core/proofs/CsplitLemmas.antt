@@ -1,6 +1,7 @@
 -- Lemmas on what options and operands ask of `csplit`.
 use Rattle.std.proofs.Common.{◌≡◌, ◌-◌, ◌<◌, ◌≤◌, arith, get_or, take, drop, length, map, List, [], ◌∷◌, Result, Ok, Err, IfOk, IfErr, ◌⊎◌, inl, inr, refl, sym, ◌∙◌, ap}
 use Rattle.std.proofs.lemmas.List.{take_rest}
+use Rattle.std.proofs.lemmas.Result.{IfOk-weaker}
 use Rattle.operand_core.specs.Style.{Style}
 use Rattle.ports_core.specs.declared.fault.Fault.{Fault}
 use Rattle.ports_core.specs.declared.fault.Fault.TheVariants.{Memory, Usage}
@@ -33,10 +34,6 @@ pub lacks_operand : (given : Given) (all : List Operand) → map operand_seen al
     → csplit_asked given ≡ Err (Usage MissingOperand 0)
 lacks_operand given all these few = ap (asked_of (style_of given.options)) (sym these) ∙ too_few (style_of given.options) all few
 
-as_meant : (meant : Result CsplitAsked Fault) (one : CsplitAsked) (result : Result CsplitAsked Fault) → meant ≡ Ok one → IfOk result (λ settings. settings ≡ one) → IfOk result (λ settings. meant ≡ Ok settings)
-as_meant meant one (Ok settings) is equal = is ∙ ap (λ asked. Ok asked) (sym equal)
-as_meant meant one (Err fault) is equal = tt
-
 refused : (meant : Result CsplitAsked Fault) (one : CsplitAsked) (result : Result CsplitAsked Fault) → meant ≡ Ok one
     → IfErr result (λ fault. (fault ≡ Memory) ⊎ HasBadOperand one fault) → IfErr result (IsRefused HasBadOperand meant)
 refused meant one (Ok settings) is bad = tt
@@ -55,4 +52,4 @@ settled given options none all style result are these is some more equal bad =
     ap (λ operands. asked_of (style_of given.options) operands) (sym these)
     ∙ ap (λ style. asked_of style (map operand_seen all)) (ap style_of (sym are) ∙ sym is)
     ∙ file_first style none all some more in
-    (as_meant (csplit_asked given) _ result asked equal, refused (csplit_asked given) _ result asked bad)
+    (IfOk-weaker result _ _ (λ settings is. asked ∙ ap (λ those. Ok those) (sym is)) equal, refused (csplit_asked given) _ result asked bad)

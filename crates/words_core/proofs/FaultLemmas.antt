@@ -1,5 +1,5 @@
 -- Lemmas on the word at which a fault stands.
-use Rattle.std.proofs.Common.{◌≡◌, ◌≤◌, ℕ, ◌+◌, ◌==◌, ◌&&◌, Bool, true, false, arith, List, [], ◌∷◌, ◌++◌, length, Option, Some, None, Result, Ok, Err, refl, ap, if◌then◌else◌}
+use Rattle.std.proofs.Common.{◌≡◌, ◌≤◌, ℕ, ◌+◌, ◌==◌, ◌&&◌, arith, List, [], ◌∷◌, ◌++◌, length, Option, Some, None, Result, Ok, Err, refl, ap}
 use Rattle.seg_core.specs.Count.{is_number}
 use Rattle.ports_core.specs.declared.fault.Fault.{Fault}
 use Rattle.ports_core.specs.declared.fault.Fault.TheVariants.{Usage}
@@ -15,7 +15,7 @@ use Rattle.words_core.specs.Value.{Meant, value_in}
 use Rattle.words_core.specs.Given.{Given, bare}
 use Rattle.words_core.specs.Spelling.{Meaning, after_equals, attached, before, cluster, dashed, ended, foremost, given_before, is_equals, lettered, meaning_of, mixed, named, onward, option_lettered, said, spelled}
 use Rattle.std.specs.List.{before_first}
-use Rattle.words_core.proofs.SpellingLemmas.{of_more}
+use Rattle.words_core.proofs.SpellingLemmas.{either, of_more}
 
 -- the option that awaits a value stands at this word or after it
 abbrev Awaits : ℕ → State → Type 0
@@ -59,10 +59,6 @@ stands_named place (Some (choice, takes.Value kind)) (Some text) = stands_said c
 stands_named place (Some (choice, takes.Optional kind)) None = tt
 stands_named place (Some (choice, takes.Optional kind)) (Some text) = stands_said choice place place (value_in kind text)
 
-stands_either : (place : ℕ) (test : Bool) (one other : Result Meaning Fault) → Stands place one → Stands place other → Stands place (if test then one else other)
-stands_either place true one other first second = first
-stands_either place false one other first second = second
-
 stands_dashed : (rows : List OptionRow) (place : ℕ) (rest : List ℕ) → Stands place (dashed rows place rest)
 stands_dashed rows place [] = tt
 stands_dashed rows place (byte ∷ bytes) = stands_named place (option_named rows (before_first is_equals (45 ∷ 45 ∷ byte ∷ bytes))) (after_equals (45 ∷ 45 ∷ byte ∷ bytes))
@@ -71,12 +67,12 @@ stands_mixed : (rows : List OptionRow) (place : ℕ) (word : List ℕ) → Stand
 stands_mixed rows place [] = tt
 stands_mixed rows place (byte ∷ []) = tt
 stands_mixed rows place (byte ∷ next ∷ rest) =
-    stands_either place (byte == 45) _ _ (stands_either place (next == 45) _ _ (stands_dashed rows place rest) (stands_cluster rows place (next ∷ rest))) tt
+    either (Stands place) (byte == 45) _ _ (either (Stands place) (next == 45) _ _ (stands_dashed rows place rest) (stands_cluster rows place (next ∷ rest))) tt
 
 stands_foremost : (rows : List OptionRow) (choice : Choice) (kind : Kind) (place : ℕ) (word : List ℕ) → Stands place (foremost rows choice kind place word)
 stands_foremost rows choice kind place [] = stands_mixed rows place []
 stands_foremost rows choice kind place (byte ∷ text) =
-    stands_either place (byte == 45 && is_number text) _ _ (stands_said choice place place (value_in kind text)) (stands_mixed rows place (byte ∷ text))
+    either (Stands place) (byte == 45 && is_number text) _ _ (stands_said choice place place (value_in kind text)) (stands_mixed rows place (byte ∷ text))
 
 stands_there : (rows : List OptionRow) (state : State) (place : ℕ) (word : List ℕ) → Stands place (meaning_of rows state place word)
 stands_there rows (First choice kind) place word = stands_foremost rows choice kind place word

@@ -6,7 +6,7 @@ use Rattle.seg_core.specs.Count.{count_of, digits_of, is_number}
 use Rattle.seg_core.specs.declared.count.Count.{Count}
 use Rattle.ports_core.specs.declared.fault.Fault.{Fault}
 use Rattle.ports_core.specs.declared.fault.UsageKind.{UsageKind}
-use Rattle.ports_core.specs.declared.fault.UsageKind.TheVariants.{NumberTooLarge, Zero}
+use Rattle.ports_core.specs.declared.fault.UsageKind.TheVariants.{NumberTooLarge}
 use Rattle.ports_core.specs.declared.alphabet.Alphabet.{Alphabet}
 use Rattle.ports_core.specs.declared.alphabet.Alphabet.TheVariants.{Letters, Digits, Hex}
 use Rattle.ports_core.specs.declared.tool.Tool.{Tool}
@@ -35,6 +35,7 @@ use Rattle.words_core.specs.SplitWords.{AreNamed, CanSplit, IsInLimits, IsWidth,
 use Rattle.words_core.specs.Laws.{AreAmong, none, passed, taken}
 use Rattle.words_core.specs.TailWords.{tail_asked}
 use Rattle.words_core.specs.Words.{CanRun, settings_for}
+use Rattle.words_core.proofs.SpellingLemmas.{either}
 
 -- a value, and all of them, within their limits
 
@@ -52,18 +53,14 @@ sound-append : (front options : List GivenOption) → AreSound front → AreSoun
 sound-append [] options first rest = rest
 sound-append (option ∷ front) options first rest = (first.0, sound-append front options first.1 rest)
 
-either : {A : Type 0} (P : A → Type 0) (test : Bool) (one other : A) → P one → P other → P (if test then one else other)
-either P true one other first second = first
-either P false one other first second = second
+by_test : {A : Type 0} (P : A → Type 0) (test : Bool) (one other : A) → (test ≡ true → P one) → (test ≡ false → P other) → P (if test then one else other)
+by_test P true one other first second = first refl
+by_test P false one other first second = second refl
 
 -- the values
 
-unless_zero : (P : ℕ → Type 0) (number : ℕ) (test : Bool) → (number == 0) ≡ test → P number → IfOk (if test then Err Zero else Ok number) (λ n. (1 ≤ n) × P n)
-unless_zero P number true is holds = tt
-unless_zero P number false is holds = (grind (arith, nat_tests), holds)
-
 not_zero-limits : (P : ℕ → Type 0) (number : ℕ) → P number → IfOk (not_zero number) (λ n. (1 ≤ n) × P n)
-not_zero-limits P number holds = unless_zero P number (number == 0) refl holds
+not_zero-limits P number holds = by_test (λ r. IfOk r (λ n. (1 ≤ n) × P n)) (number == 0) _ _ (λ is. tt) (λ is. (grind (arith, nat_tests), holds))
 
 up_to-limit : (limit : ℕ) (number : Result ℕ UsageKind) → IfOk (then_check number (λ those. if nat_le those limit then Ok those else Err NumberTooLarge)) (λ n. n ≤ limit)
 up_to-limit limit (Ok number) = search (rules, tests)
@@ -206,6 +203,13 @@ pub gives : (rows : List OptionRow) (words : List (List ℕ)) (place : ℕ) (sta
     → AreSound given.options × AreAmong given.operands place words
 gives rows words place state given is = subst (GivesAmong place words) is (spelled-gives rows words place state)
 
+-- what each option keeps, all keep
+asked-keeps : {A : Type 0} (by : A → Choice → Meant → A) (P : A → Type 0) → ((asked : A) (choice : Choice) (value : Meant) → P asked → IsSound value → P (by asked choice value))
+    → (options : List GivenOption) (asked : A) → P asked → AreSound options → P (asked_by by asked options)
+asked-keeps by P keeps [] asked holds are = holds
+asked-keeps by P keeps (option ∷ options) asked holds are =
+    asked-keeps by P keeps options (by asked option.choice option.value) (keeps asked option.choice option.value holds are.0) are.1
+
 -- what the options of `split` ask for
 
 split_by-few : (asked : SplitAsked) (choice : Choice) (value : Meant) → asked.width ≤ 255 → IsSound value → (split_by asked choice value).width ≤ 255
@@ -213,10 +217,6 @@ split_by-few asked choice.SuffixLength (Width width) few is = is
 split_by-few asked choice.AdditionalSuffix (Text text) few is = few
 split_by-few asked choice.Separator (Byte byte) few is = few
 split_by-few asked choice value few is = few
-
-split-few : (options : List GivenOption) (asked : SplitAsked) → asked.width ≤ 255 → AreSound options → (asked_by split_by asked options).width ≤ 255
-split-few [] asked few are = few
-split-few (option ∷ options) asked few are = split-few options (split_by asked option.choice option.value) (split_by-few asked option.choice option.value few are.0) are.1
 
 way_in-limits : (value : Meant) (choice : Choice) → IsSound value → IsInLimits (way_in value choice)
 way_in-limits (Size size) choice.Bytes is = is
@@ -240,10 +240,6 @@ then_check-kept P Q (Err fault) next is goes = tt
 
 -- the files that lines are dealt to
 
-where_true : {A : Type 0} (P : A → Type 0) (test : Bool) (one other : A) → (test ≡ true → P one) → P other → P (if test then one else other)
-where_true P true one other first second = first refl
-where_true P false one other first second = second
-
 enough : (alphabet : Alphabet) (files width : ℕ) → names_all alphabet files width ≡ true → files ≤ name_count alphabet width
 enough alphabet files width is = grind (arith, nat_tests)
 
@@ -258,27 +254,23 @@ Serves alphabet files width = (files ≤ name_count alphabet width) × IsWidth w
 
 least-serves : (alphabet : Alphabet) (files : ℕ) → files ≤ 65535 → Serves alphabet files (least_width alphabet files)
 least-serves alphabet files few =
-    where_true (Serves alphabet files) (names_all alphabet files 2) _ _ (λ all. (enough alphabet files 2 all, (omega arith, omega arith)))
-    (where_true (Serves alphabet files) (names_all alphabet files 3) _ _ (λ all. (enough alphabet files 3 all, (omega arith, omega arith)))
-    (where_true (Serves alphabet files) (names_all alphabet files 4) _ _ (λ all. (enough alphabet files 4 all, (omega arith, omega arith)))
-    (five-enough alphabet files few, (omega arith, omega arith))))
-
-by_width : {A : Type 0} (P : A → Type 0) (width : ℕ) (test : Bool) (one other : A) → (width == 0) ≡ test → P one → (1 ≤ width → P other) → P (if test then one else other)
-by_width P width true one other is first second = first
-by_width P width false one other is first second = second (grind (arith, nat_tests))
+    by_test (Serves alphabet files) (names_all alphabet files 2) _ _ (λ all. (enough alphabet files 2 all, (omega arith, omega arith))) (λ no.
+    by_test (Serves alphabet files) (names_all alphabet files 3) _ _ (λ all. (enough alphabet files 3 all, (omega arith, omega arith))) (λ no.
+    by_test (Serves alphabet files) (names_all alphabet files 4) _ _ (λ all. (enough alphabet files 4 all, (omega arith, omega arith))) (λ no.
+    (five-enough alphabet files few, (omega arith, omega arith)))))
 
 free-width : (width : ℕ) → width ≤ 255 → IsWidth (free width).width
-free-width width most = by_width (λ (suffix : Suffix). IsWidth suffix.width) width (width == 0) _ _ refl (omega arith, omega arith) (λ some. (some, most))
+free-width width most = by_test (λ (suffix : Suffix). IsWidth suffix.width) (width == 0) _ _ (λ is. (omega arith, omega arith)) (λ is. (grind (arith, nat_tests), most))
 
 suffix-can : (cut : Cut) (alphabet : Alphabet) (width : ℕ) → IsInLimits cut → width ≤ 255
     → IfOk (suffix_for cut alphabet width) (λ suffix. AreNamed cut alphabet suffix.width × IsWidth suffix.width)
 suffix-can (cut.Lines size) alphabet width is most = (tt, free-width width most)
 suffix-can (cut.Bytes size) alphabet width is most = (tt, free-width width most)
 suffix-can (cut.LineBytes size) alphabet width is most = (tt, free-width width most)
-suffix-can (cut.Round files) alphabet width is most =
+suffix-can (cut.Round files) alphabet width is_in most =
     let P : Result Suffix Fault → Type 0 = λ r. IfOk r (λ suffix. Serves alphabet files suffix.width) in
-    by_width P width (width == 0) _ _ refl (least-serves alphabet files is.1) (λ some.
-    where_true P (names_all alphabet files width) _ _ (λ all. (enough alphabet files width all, (some, most))) tt)
+    by_test P (width == 0) _ _ (λ is. least-serves alphabet files is_in.1) (λ is.
+    by_test P (names_all alphabet files width) _ _ (λ all. (enough alphabet files width all, (grind (arith, nat_tests), most))) (λ no. tt))
 
 -- the line as a whole
 
@@ -287,7 +279,7 @@ asked-can given sound =
     let asked = asked_by split_by no_options given.options in
     then_check-kept IsInLimits CanSplit (way_of given.options) _ (only_way-limits (filter is_way given.options) (ways-sound given.options sound)) (λ cut is.
     then_check-kept (λ suffix. AreNamed cut asked.alphabet suffix.width × IsWidth suffix.width) CanSplit (suffix_for cut asked.alphabet asked.width) _
-    (suffix-can cut asked.alphabet asked.width is (split-few given.options no_options (omega arith) sound)) (λ suffix those.
+    (suffix-can cut asked.alphabet asked.width is (asked-keeps split_by (λ asked. asked.width ≤ 255) split_by-few given.options no_options (omega arith) sound)) (λ suffix those.
     then_check-kept (λ _. ⊤) CanSplit (files_in given.operands) _ (anything (files_in given.operands)) (λ files _.
     record { cut = is; width = those.1; named = those.0 })))
 
@@ -298,17 +290,13 @@ csplit_by-few asked choice.Digits (Width digits) few is = is
 csplit_by-few asked choice.Prefix (Text text) few is = few
 csplit_by-few asked choice value few is = few
 
-csplit-few : (options : List GivenOption) (asked : Style) → asked.digits ≤ 255 → AreSound options → (asked_by csplit_by asked options).digits ≤ 255
-csplit-few [] asked few are = few
-csplit-few (option ∷ options) asked few are = csplit-few options (csplit_by asked option.choice option.value) (csplit_by-few asked option.choice option.value few are.0) are.1
-
 asked_of-few : (style : Style) (operands : List GivenOperand) → style.digits ≤ 255 → IfOk (asked_of style operands) (λ asked. asked.style.digits ≤ 255)
 asked_of-few style [] few = tt
 asked_of-few style (file ∷ []) few = tt
 asked_of-few style (file ∷ operand ∷ operands) few = few
 
 csplit-can : (given : Given) → AreSound given.options → IfOk (csplit_asked given) (λ asked. asked.style.digits ≤ 255)
-csplit-can given sound = asked_of-few (style_of given.options) given.operands (csplit-few given.options plain (omega arith) sound)
+csplit-can given sound = asked_of-few (style_of given.options) given.operands (asked-keeps csplit_by (λ asked. asked.digits ≤ 255) csplit_by-few given.options plain (omega arith) sound)
 
 settled-can : (which : Tool) (given : Given) → AreSound given.options → IfOk (settings_for which given) CanRun
 settled-can tool.Head given sound = tt

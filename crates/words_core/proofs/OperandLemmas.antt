@@ -1,5 +1,6 @@
 -- Lemmas on words that are operands.
-use Rattle.std.proofs.Common.{◌≡◌, ℕ, ◌+◌, ◌==◌, List, [], ◌∷◌, Ok, true, false, not, Bool, codes, refl, ap, if◌then◌else◌}
+use Rattle.std.proofs.Common.{◌≡◌, ℕ, ◌+◌, ◌==◌, List, [], ◌∷◌, Ok, true, codes, refl, ap, if◌then◌else◌}
+use Rattle.std.proofs.lemmas.Bool.{not-true}
 use Rattle.words_core.specs.declared.spelling.State.TheVariants.{Reading, OnlyOperands}
 use Rattle.words_core.specs.Table.{OptionRow}
 use Rattle.words_core.specs.Given.{nothing, one_operand}
@@ -15,14 +16,10 @@ after_the_end rows words place = ap (given_before nothing) (only_operands rows w
 
 -- among options
 
-no_more : (flag : Bool) → not flag ≡ true → flag ≡ false
-no_more true is = absurd (cc)
-no_more false is = refl
-
 pub stands_anywhere : (rows : List OptionRow) (word : List ℕ) (words : List (List ℕ)) (place : ℕ) → is_plain word ≡ true
     → spelled rows (word ∷ words) place Reading ≡ given_before (one_operand word place) (spelled rows words (place + 1) Reading)
 stands_anywhere rows [] words place is = refl
 stands_anywhere rows (byte ∷ []) words place is = refl
 stands_anywhere rows (byte ∷ next ∷ rest) words place is =
     ap (λ test. onward (spelled rows words (place + 1)) (if test then (if next == 45 then dashed rows place rest else cluster rows place (next ∷ rest)) else reading (one_operand (byte ∷ next ∷ rest) place)))
-    (no_more (byte == 45) is)
+    (not-true (byte == 45) is)

@@ -1,5 +1,5 @@
 -- Lemmas on what words spell, word after word.
-use Rattle.std.proofs.Common.{◌≡◌, ℕ, ◌+◌, ◌-◌, ◌<◌, ◌≤◌, Bor, get_or, take, drop, length, map, arith, List, [], ◌∷◌, ◌++◌, Result, Ok, Err, append_assoc, refl, sym, ◌∙◌, ap, inr}
+use Rattle.std.proofs.Common.{◌≡◌, ℕ, ◌+◌, ◌-◌, ◌<◌, ◌≤◌, Bool, true, false, if◌then◌else◌, Bor, get_or, take, drop, length, map, arith, List, [], ◌∷◌, ◌++◌, Result, Ok, Err, append_assoc, refl, sym, ◌∙◌, ap, inr}
 use Rattle.std.proofs.lemmas.List.{take_rest}
 use Rattle.ports_core.specs.declared.fault.Fault.{Fault}
 use Rattle.ports_core.specs.declared.fault.Fault.TheVariants.{Usage}
@@ -12,6 +12,11 @@ use Rattle.words_core.specs.declared.spelling.State.TheVariants.{Awaiting}
 use Rattle.words_core.specs.Table.{OptionRow}
 use Rattle.words_core.specs.Given.{Given, GivenOption, GivenOperand, nothing, joined}
 use Rattle.words_core.specs.Spelling.{Meaning, before, given_before, onward, meaning_of, spelled, ended, Reads}
+
+-- what is so of both is so of either
+pub either : {A : Type 0} (P : A → Type 0) (test : Bool) (one other : A) → P one → P other → P (if test then one else other)
+either P true one other first second = first
+either P false one other first second = second
 
 -- what is given first, and what is given after it
 

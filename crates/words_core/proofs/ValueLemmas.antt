@@ -1,12 +1,10 @@
 -- Lemmas on the ways in which the value of an option is spelled.
-use Rattle.std.proofs.Common.{◌≡◌, ◌≢◌, ℕ, ◌+◌, ◌<◌, ◌==◌, nat_lt, not, Bool, true, false, arith, List, [], ◌∷◌, ◌++◌, length, take, drop, Option, Some, None, Result, Ok, cond, refl, sym, ap, ◌∙◌, if◌then◌else◌}
+use Rattle.std.proofs.Common.{◌≡◌, ◌≢◌, ℕ, ◌+◌, ◌<◌, ◌==◌, nat_lt, not, true, false, arith, List, [], ◌∷◌, ◌++◌, length, take, drop, Option, Some, None, Result, Ok, cond, refl, sym, ap, ◌∙◌}
 use Rattle.std.specs.List.{list_any, position_or_len, before_first, after_first}
-use Rattle.std.proofs.lemmas.Bool.{or_parts}
-use Rattle.std.proofs.lemmas.Bool.Decides.{nat_tests}
-use Rattle.std.proofs.lemmas.List.{length-append}
+use Rattle.std.proofs.lemmas.Bool.{cond-false, cond-true, eq-eqb, lt-ltb, ne_eqb, or_parts}
+use Rattle.std.proofs.lemmas.List.{append-nil, length-append}
 use Rattle.std.proofs.Math.Seq.{take-append_seam, drop-append-add, take-length}
 use Rattle.ports_core.specs.declared.fault.Fault.{Fault}
-use Rattle.ports_core.specs.declared.fault.UsageKind.{UsageKind}
 use Rattle.words_core.specs.declared.table.Choice.{Choice}
 use Rattle.words_core.specs.declared.table.Kind.{Kind}
 use Rattle.words_core.specs.declared.table.Takes.{Takes}
@@ -15,29 +13,17 @@ use Rattle.words_core.specs.declared.spelling.State.TheVariants.{Reading}
 use Rattle.words_core.specs.Table.{OptionRow, option_named}
 use Rattle.words_core.specs.Value.{Meant, value_in}
 use Rattle.words_core.specs.Given.{bare, nothing, one_option}
-use Rattle.words_core.specs.Spelling.{Meaning, after_equals, awaiting, before, given_before, cluster, dashed, is_equals, lettered, long, mixed, named, onward, reading, said, spelled}
+use Rattle.words_core.specs.Spelling.{Meaning, after_equals, awaiting, before, given_before, cluster, dashed, is_equals, lettered, long, mixed, named, onward, said, spelled}
 use Rattle.words_core.specs.Laws.{Gives, IsLetter, IsName, IsSwitch, takes_none}
 use Rattle.words_core.proofs.SpellingLemmas.{given_before-nothing, given_before-onward}
 
-choose : {A : Type 0} (test : Bool) (one other : A) → test ≡ true → (if test then one else other) ≡ one
-choose test one other is = ap (λ those. if those then one else other) is
-
-choose_other : {A : Type 0} (test : Bool) (one other : A) → test ≡ false → (if test then one else other) ≡ other
-choose_other test one other is = ap (λ those. if those then one else other) is
-
 -- a letter
-
-no_hyphen : (letter : ℕ) → letter ≢ 45 → (letter == 45) ≡ false
-no_hyphen letter differs = grind (arith, nat_tests)
-
-is_ascii : (letter : ℕ) → letter < 128 → nat_lt letter 128 ≡ true
-is_ascii letter low = grind (arith, nat_tests)
 
 by_its_letter : (rows : List OptionRow) (letter : ℕ) (choice : Choice) (kind : Kind) (value : List ℕ) (place : ℕ) → IsLetter rows letter choice kind
     → mixed rows place (45 ∷ letter ∷ value) ≡ lettered place value (cluster rows place value) (Some (choice, takes.Value kind))
 by_its_letter rows letter choice kind value place is =
-    choose_other (letter == 45) (dashed rows place value) (cluster rows place (letter ∷ value)) (no_hyphen letter is.no_hyphen)
-    ∙ ap (lettered place value (cluster rows place value)) (choose (nat_lt letter 128) (option_named rows (45 ∷ letter ∷ [])) None (is_ascii letter is.ascii) ∙ is.named)
+    cond-false (letter == 45) (dashed rows place value) (cluster rows place (letter ∷ value)) (ne_eqb letter 45 is.no_hyphen)
+    ∙ ap (lettered place value (cluster rows place value)) (cond-true (nat_lt letter 128) (option_named rows (45 ∷ letter ∷ [])) None (lt-ltb letter 128 is.ascii) ∙ is.named)
 
 -- one that takes no value
 
@@ -48,8 +34,8 @@ given_bare place rest others choice (takes.Value kind) none = absurd (cc)
 
 by_its_switch : (rows : List OptionRow) (letter : ℕ) (choice : Choice) (rest : List ℕ) (place : ℕ) → IsSwitch rows letter choice → mixed rows place (45 ∷ letter ∷ rest) ≡ before (bare choice place) (cluster rows place rest)
 by_its_switch rows letter choice rest place is =
-    choose_other (letter == 45) (dashed rows place rest) (cluster rows place (letter ∷ rest)) (no_hyphen letter is.no_hyphen)
-    ∙ ap (lettered place rest (cluster rows place rest)) (choose (nat_lt letter 128) (option_named rows (45 ∷ letter ∷ [])) None (is_ascii letter is.ascii) ∙ is.named)
+    cond-false (letter == 45) (dashed rows place rest) (cluster rows place (letter ∷ rest)) (ne_eqb letter 45 is.no_hyphen)
+    ∙ ap (lettered place rest (cluster rows place rest)) (cond-true (nat_lt letter 128) (option_named rows (45 ∷ letter ∷ [])) None (lt-ltb letter 128 is.ascii) ∙ is.named)
     ∙ given_bare place rest (cluster rows place rest) choice is.takes is.none
 
 pub switch_together : (rows : List OptionRow) (letter next : ℕ) (choice : Choice) (rest : List ℕ) (words : List (List ℕ)) (place : ℕ) → IsSwitch rows letter choice → next ≢ 45
@@ -57,21 +43,18 @@ pub switch_together : (rows : List OptionRow) (letter next : ℕ) (choice : Choi
 switch_together rows letter next choice rest words place is differs =
     ap (onward (spelled rows words (place + 1))) (by_its_switch rows letter choice (next ∷ rest) place is)
     ∙ sym (given_before-onward (bare choice place) (spelled rows words (place + 1)) (cluster rows place (next ∷ rest)))
-    ∙ ap (λ those. given_before (bare choice place) (onward (spelled rows words (place + 1)) those)) (sym (choose_other (next == 45) (dashed rows place rest) (cluster rows place (next ∷ rest)) (no_hyphen next differs)))
+    ∙ ap (λ those. given_before (bare choice place) (onward (spelled rows words (place + 1)) those)) (sym (cond-false (next == 45) (dashed rows place rest) (cluster rows place (next ∷ rest)) (ne_eqb next 45 differs)))
 
 pub switch_apart : (rows : List OptionRow) (letter : ℕ) (choice : Choice) (words : List (List ℕ)) (place : ℕ) → IsSwitch rows letter choice
     → spelled rows ((45 ∷ letter ∷ []) ∷ words) place Reading ≡ given_before (bare choice place) (spelled rows words (place + 1) Reading)
 switch_apart rows letter choice words place is = ap (onward (spelled rows words (place + 1))) (by_its_switch rows letter choice [] place is)
-
-given_one : (choice : Choice) (option place : ℕ) (meant : Meant) (value : Result Meant UsageKind) → value ≡ Ok meant → said choice option place value ≡ reading (one_option choice meant option)
-given_one choice option place meant value is = ap (said choice option place) is
 
 pub value_attached : (rows : List OptionRow) (letter : ℕ) (choice : Choice) (kind : Kind) (value : List ℕ) (meant : Meant) (words : List (List ℕ)) (place : ℕ)
     → IsLetter rows letter choice kind → value ≢ [] → value_in kind value ≡ Ok meant
     → Gives rows ((45 ∷ letter ∷ value) ∷ words) place choice meant (spelled rows words (place + 1) Reading)
 value_attached rows letter choice kind [] meant words place is some reads = absurd (some refl)
 value_attached rows letter choice kind (byte ∷ value) meant words place is some reads =
-    ap (onward (spelled rows words (place + 1))) (by_its_letter rows letter choice kind (byte ∷ value) place is ∙ given_one choice place place meant (value_in kind (byte ∷ value)) reads)
+    ap (onward (spelled rows words (place + 1))) (by_its_letter rows letter choice kind (byte ∷ value) place is ∙ ap (said choice place place) reads)
 
 -- the next word
 
@@ -80,7 +63,7 @@ awaited : (rows : List OptionRow) (choice : Choice) (kind : Kind) (word value : 
     → Gives rows (word ∷ value ∷ words) place choice meant (spelled rows words (place + 1 + 1) Reading)
 awaited rows choice kind word value meant words place awaits reads =
     ap (onward (spelled rows (value ∷ words) (place + 1))) awaits
-    ∙ ap (λ those. given_before nothing (onward (spelled rows words (place + 1 + 1)) those)) (given_one choice place (place + 1) meant (value_in kind value) reads)
+    ∙ ap (λ those. given_before nothing (onward (spelled rows words (place + 1 + 1)) those)) (ap (said choice place (place + 1)) reads)
     ∙ given_before-nothing nothing (given_before (one_option choice meant place) (spelled rows words (place + 1 + 1) Reading)) refl
 
 pub value_after_letter : (rows : List OptionRow) (letter : ℕ) (choice : Choice) (kind : Kind) (value : List ℕ) (meant : Meant) (words : List (List ℕ)) (place : ℕ)
@@ -91,41 +74,28 @@ value_after_letter rows letter choice kind value meant words place is reads =
 
 -- a long name
 
-one_further : (test : Bool) (n : ℕ) → test ≡ false → cond (not test) (1 + n) 0 ≡ 1 + n
-one_further test n is = ap (λ those. cond (not those) (1 + n) 0) is
-
-place_of_equals : (front value : List ℕ) → list_any is_equals front ≡ false → position_or_len is_equals (front ++ 61 ∷ value) ≡ length front
-place_of_equals [] value none = refl
-place_of_equals (byte ∷ front) value none =
+place_of_equals : (front rest : List ℕ) → list_any is_equals front ≡ false → position_or_len is_equals rest ≡ 0 → position_or_len is_equals (front ++ rest) ≡ length front
+place_of_equals [] rest none here = here
+place_of_equals (byte ∷ front) rest none here =
     let both = or_parts (byte == 61) (list_any is_equals front) none in
-    let rest = place_of_equals front value both.1 in
-    one_further (byte == 61) (position_or_len is_equals (front ++ 61 ∷ value)) both.0 ∙ omega (arith, rest)
+    let past = place_of_equals front rest both.1 here in
+    ap (λ test. cond (not test) (1 + position_or_len is_equals (front ++ rest)) 0) both.0 ∙ omega (arith, past)
 
 no_place : (front : List ℕ) → list_any is_equals front ≡ false → position_or_len is_equals front ≡ length front
-no_place [] none = refl
-no_place (byte ∷ front) none =
-    let both = or_parts (byte == 61) (list_any is_equals front) none in
-    let rest = no_place front both.1 in
-    one_further (byte == 61) (position_or_len is_equals front) both.0 ∙ omega (arith, rest)
-
-differ : (n m : ℕ) → n < m → (n == m) ≡ false
-differ n m below = grind (arith, nat_tests)
-
-alike : (n m : ℕ) → n ≡ m → (n == m) ≡ true
-alike n m is = grind (arith, nat_tests)
+no_place front none = ap (position_or_len is_equals) (sym (append-nil front)) ∙ place_of_equals front [] none refl
 
 equals_in : (front value : List ℕ) → list_any is_equals front ≡ false → after_equals (front ++ 61 ∷ value) ≡ Some value
 equals_in front value none =
-    let place = place_of_equals front value none in
+    let place = place_of_equals front (61 ∷ value) none refl in
     let below : position_or_len is_equals (front ++ 61 ∷ value) < length (front ++ 61 ∷ value) = rw length-append (omega (arith, place)) in
-    choose_other (position_or_len is_equals (front ++ 61 ∷ value) == length (front ++ 61 ∷ value)) None (Some (after_first is_equals (front ++ 61 ∷ value))) (differ _ _ below)
+    cond-false (position_or_len is_equals (front ++ 61 ∷ value) == length (front ++ 61 ∷ value)) None (Some (after_first is_equals (front ++ 61 ∷ value))) (ne_eqb _ _ (λ is. omega (arith, is, below)))
     ∙ ap (λ those. Some those) (ap (λ n. drop (n + 1) (front ++ 61 ∷ value)) place ∙ drop-append-add front (61 ∷ value) 1)
 
 name_in : (front value : List ℕ) → list_any is_equals front ≡ false → before_first is_equals (front ++ 61 ∷ value) ≡ front
-name_in front value none = ap (λ n. take n (front ++ 61 ∷ value)) (place_of_equals front value none) ∙ take-append_seam front (61 ∷ value)
+name_in front value none = ap (λ n. take n (front ++ 61 ∷ value)) (place_of_equals front (61 ∷ value) none refl) ∙ take-append_seam front (61 ∷ value)
 
 no_equals_in : (front : List ℕ) → list_any is_equals front ≡ false → after_equals front ≡ None
-no_equals_in front none = choose (position_or_len is_equals front == length front) None (Some (after_first is_equals front)) (alike _ _ (no_place front none))
+no_equals_in front none = cond-true (position_or_len is_equals front == length front) None (Some (after_first is_equals front)) (eq-eqb _ _ (no_place front none))
 
 all_name : (front : List ℕ) → list_any is_equals front ≡ false → before_first is_equals front ≡ front
 all_name front none = ap (λ n. take n front) (no_place front none) ∙ take-length front
@@ -154,7 +124,7 @@ pub value_after_equals : (rows : List OptionRow) (name : List ℕ) (choice : Cho
     → IsName rows name choice kind → value_in kind value ≡ Ok meant
     → Gives rows ((45 ∷ 45 ∷ name ++ 61 ∷ value) ∷ words) place choice meant (spelled rows words (place + 1) Reading)
 value_after_equals rows name choice kind value meant words place is reads =
-    ap (onward (spelled rows words (place + 1))) (long_value rows name choice kind value place is ∙ given_one choice place place meant (value_in kind value) reads)
+    ap (onward (spelled rows words (place + 1))) (long_value rows name choice kind value place is ∙ ap (said choice place place) reads)
 
 pub value_after_name : (rows : List OptionRow) (name : List ℕ) (choice : Choice) (kind : Kind) (value : List ℕ) (meant : Meant) (words : List (List ℕ)) (place : ℕ)
     → IsName rows name choice kind → value_in kind value ≡ Ok meant
